@@ -1,5 +1,6 @@
 -- The waiters: one list of all of them, and the line of each key in it.
-use Rattle.std.specs.Prelude.{ℕ, List, [], ◌∷◌, Option, Some, None, if◌then◌else◌, ◌==◌, not, ◌+◌, ◌≤◌, ◌≡◌, map, drop, refl}
+use Rattle.std.specs.Prelude.{ℕ, List, [], ◌∷◌, Option, Some, None, if◌then◌else◌, ◌==◌, not, ◌+◌, ◌≤◌, ◌≡◌}
+use Rattle.std.specs.Prelude.{map, drop, refl}
 use Rattle.std.specs.List.{filter}
 use Rattle.core_base.specs.declared.wants.Waiter.{Waiter}
 use Rattle.core_base.specs.declared.wants.Want.{Want}

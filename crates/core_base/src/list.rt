@@ -1,7 +1,8 @@
 //! One list of all waiters.
 ghost use Rattle.std.specs.Prelude.{◌≡◌, ◌≢◌, ◌+◌, ◌≤◌, ◌++◌, length, drop, if◌then◌else◌};
 ghost use Rattle.std.specs.Vec.{vec_len, vec_capacity};
-ghost use Rattle.core_base.specs.Lines.{line, line-from_first, without, without_first, without_key, first_of, threads_of};
+ghost use Rattle.core_base.specs.Lines.{line, line-from_first, without, without_first, without_key};
+ghost use Rattle.core_base.specs.Lines.{first_of, threads_of};
 ghost use Rattle.core_base.specs.Picks.{picked, without_picked};
 ghost use Rattle.core_base.specs.Requeues.{moved_by, requeued};
 ghost use Rattle.core_base.specs.declared.requeues.Requeue.TheVariants.{One, All};

@@ -1,7 +1,9 @@
 //! The queues of all keys.
-ghost use Rattle.std.specs.Prelude.{◌≡◌, ◌≢◌, ℕ, ◌+◌, ◌<◌, ◌≤◌, List, ◌∷◌, ◌++◌, [], IfOk, IfErr, IfSome, MatchOption, length, vec_len, vec_capacity};
+ghost use Rattle.std.specs.Prelude.{◌≡◌, ◌≢◌, ℕ, ◌+◌, ◌<◌, ◌≤◌, List, ◌∷◌, ◌++◌, [], IfOk, IfErr, IfSome};
+ghost use Rattle.std.specs.Prelude.{MatchOption, length, vec_len, vec_capacity};
 ghost use Rattle.core_base.specs.declared.wants.Waiter.{Waiter};
-ghost use Rattle.core_base.specs.Lines.{waiter, line, lines, without, without_first, without_key, first_of, threads_of, queued_under};
+ghost use Rattle.core_base.specs.Lines.{waiter, line, lines, without, without_first, without_key, first_of};
+ghost use Rattle.core_base.specs.Lines.{threads_of, queued_under};
 ghost use Rattle.core_base.specs.Picks.{picked, without_picked};
 ghost use Rattle.core_base.specs.Requeues.{taken_by, moved_by, requeued};
 

@@ -7,7 +7,8 @@ use base.Fraction.{full_share}
 use base.Logic.{SProp, ent, sep, wand, ex, all_e, apply∗}
 use base.Fml.{Fml, ftrue, fsep}
 use types.Logic.{Logic, sem}
-use types.Kit.{‵, raw, ◌⊛◌, some, ◌$◌, ◌∵◌, !, qed, by, move, drop, use1, use2, split, fsplit, fjoin, fpick, fpack, pick, show, frame, each, assume, done}
+use types.Kit.{‵, raw, ◌⊛◌, some, ◌$◌, ◌∵◌, !, qed, by, move, drop, use1, use2, split, fsplit, fjoin, fpick}
+use types.Kit.{fpack, pick, show, frame, each, assume, done}
 use denote.RattleType.{RattleType, Denots}
 use denote.Laws.{Lawful, Is, Typed, shows}
 use denote.Memory.{part_of, part_at, cell_at}
@@ -22,7 +23,8 @@ use Rattle.core_parts.specs.Ownership.{offset}
 use Rattle.core_parts.specs.contracts.place.Place as C
 use Rattle.core_parts.specs.contracts.place.Place.TheInside as inside
 
-module _ {M : Type 1} {𝓤 : Ura M} (𝓛 : Logic 𝓤) (m : Member) (L : Lawful 𝓛 (row_of m)) (d : PermitId) (b o : ℕ) where
+module _ {M : Type 1} {𝓤 : Ura M} (𝓛 : Logic 𝓤) (m : Member) (L : Lawful 𝓛 (row_of m)) (d : PermitId)
+    (b o : ℕ) where
   abbrev Pr : Type 2
   Pr = SProp 𝓤
 
@@ -64,18 +66,30 @@ module _ {M : Type 1} {𝓤 : Ura M} (𝓛 : Logic 𝓤) (m : Member) (L : Lawfu
 
   apart : ⟦ P ⟧ ⊢ ex 𝓤 (λ (x : R.Denot). ⟦ Fields x ⟧)
   unfolding part_of
-  apart = qed 𝓛 (‵ P ∷ []) ∵ fpick ! (λ vs. fsplit ! $ move ! (1 ∷ []) $ fsplit ! $ drop ! $ fpick ! (λ x. move ! (1 ∷ 0 ∷ []) $ fjoin ! $
-      fpack ! (List Val) (λ us. fsep (cell_at full_share Data.mir us b o) (Data.own_val (x, tt) us)) vs $ show ! (λ (z : R.Denot). ⟦ Fields z ⟧) x $ done !))
+  apart = qed 𝓛 (‵ P ∷ []) ∵ fpick ! (λ vs. fsplit ! $ move ! (1 ∷ []) $ fsplit ! $ drop ! $ fpick !
+      (λ x. move ! (1 ∷ 0 ∷ []) $ fjoin ! $
+      fpack ! (List Val) (λ us. fsep (cell_at full_share Data.mir us b o) (Data.own_val (x, tt) us)) vs
+      $ show ! (λ (z : R.Denot). ⟦ Fields z ⟧) x $ done !))
 
   whole : (x : R.Denot) → ⟦ Fields x ⟧ ⊢ ⟦ P ⟧
   unfolding part_of
-  whole x = qed 𝓛 (‵ (Fields x) ∷ []) ∵ fpick ! (λ vs. fsplit ! $ move ! (1 ∷ []) $ peeks ! Data (Is Data) (shows 𝓛 Data) (x, tt) vs (λ is.
-      fpack ! R.Denot (λ z. Data.own_val (z, tt) vs) x $ nothing ! $ fpack ! (Typed Data.mir vs) (λ _. ftrue) ((Struct-Lawful 𝓛 (shape_of ν ks) (L, tt)).typed (x, tt) vs is) $ fjoin ! $ move ! (1 ∷ 0 ∷ []) $ fjoin ! $
-      fpack ! (List Val) (λ us. fsep (cell_at full_share Data.mir us b o) ((C.the_row R).own_val d us)) vs $ done !))
+  whole x = qed 𝓛 (‵ (Fields x) ∷ []) ∵ fpick ! (λ vs. fsplit ! $ move ! (1 ∷ []) $ peeks ! Data (Is Data)
+      (shows 𝓛 Data) (x, tt) vs (λ is.
+      fpack ! R.Denot (λ z. Data.own_val (z, tt) vs) x $ nothing ! $ fpack ! (Typed Data.mir vs) (λ _. ftrue)
+      ((Struct-Lawful 𝓛 (shape_of ν ks) (L, tt)).typed (x, tt) vs is) $ fjoin ! $ move ! (1 ∷ 0 ∷ [])
+      $ fjoin ! $
+      fpack ! (List Val) (λ us. fsep (cell_at full_share Data.mir us b o) ((C.the_row R).own_val d us)) vs
+      $ done !))
 
   pub out : ⟦ P ⟧ ⊢ ex 𝓤 (Out 𝓛 νU [] (R ∷ []) m L b (o + offset R) ⟦ P ⟧)
   out = qed 𝓛 (‵ P ∷ []) ∵ use1 𝓛 (some (λ (x : R.Denot). ‵ (Fields x))) apart $ pick ! (λ x.
-      use1 𝓛 ((‵ (At x) ⊛ ‵ ftrue) ⊛ raw (PartsBack 𝓛 full_share ν ks b o)) (Struct-parts 𝓛 full_share ν ks (L, tt) (x, tt) b o) $ split ! $ split ! $
-      show ! (Out 𝓛 νU [] (R ∷ []) m L b (o + offset R) ⟦ P ⟧) x $ frame ! $ each ! (λ (y : R.Denot). ⟦ At y ⟧ -∗ ⟦ P ⟧) (λ y. assume ! (‵ (At y)) $ move ! (0 ∷ 1 ∷ []) $ fjoin ! $ move ! (1 ∷ []) $
-      use1 𝓛 (raw (⟦ parts_at full_share ks zero (y, tt) b o ⟧ -∗ ⟦ Fields y ⟧)) (all_e 𝓤 (λ (a : Denots (rows_of ks)). ⟦ parts_at full_share ks zero a b o ⟧ -∗ ⟦ part_at Data full_share a b o ⟧) (y, tt)) $
-      move ! (1 ∷ 0 ∷ []) $ use2 𝓛 (‵ (Fields y)) (apply∗ 𝓤 ⟦ parts_at full_share ks zero (y, tt) b o ⟧ ⟦ Fields y ⟧) $ by ! (whole y)))
+      use1 𝓛 ((‵ (At x) ⊛ ‵ ftrue) ⊛ raw (PartsBack 𝓛 full_share ν ks b o))
+      (Struct-parts 𝓛 full_share ν ks (L, tt) (x, tt) b o) $ split ! $ split ! $
+      show ! (Out 𝓛 νU [] (R ∷ []) m L b (o + offset R) ⟦ P ⟧) x $ frame !
+      $ each ! (λ (y : R.Denot). ⟦ At y ⟧ -∗ ⟦ P ⟧) (λ y. assume ! (‵ (At y)) $ move ! (0 ∷ 1 ∷ [])
+      $ fjoin ! $ move ! (1 ∷ []) $
+      use1 𝓛 (raw (⟦ parts_at full_share ks zero (y, tt) b o ⟧ -∗ ⟦ Fields y ⟧))
+      (all_e 𝓤 (λ (a : Denots (rows_of ks)). ⟦ parts_at full_share ks zero a b o ⟧
+      -∗ ⟦ part_at Data full_share a b o ⟧) (y, tt)) $
+      move ! (1 ∷ 0 ∷ []) $ use2 𝓛 (‵ (Fields y)) (apply∗ 𝓤 ⟦ parts_at full_share ks zero (y, tt) b o ⟧
+      ⟦ Fields y ⟧) $ by ! (whole y)))

@@ -1,6 +1,7 @@
 //! The row, its shares, and entries to its places.
 ghost use Rattle.std.specs.Prelude.{◌≡◌, ◌≢◌, ℕ, ◌+◌, ◌-◌, ◌<◌, None, [], ◌∷◌, IfOk, IfSome, MatchResult};
-ghost use Rattle.core_parts.specs.Shares.{FitsShares, Shares, begins, doubles, enters, gains, halved, loses, view};
+ghost use Rattle.core_parts.specs.Shares.{FitsShares, Shares, begins, doubles, enters, gains, halved, loses};
+ghost use Rattle.core_parts.specs.Shares.{view};
 
 use crate::keyed::LOOKS;
 use crate::view::View;

@@ -1,5 +1,6 @@
 -- The queues in which nobody stands.
-use Rattle.std.proofs.Common.{ℕ, zero, suc, ◌≡◌, ◌<◌, ◌^◌, ◌*◌, ◌%◌, List, [], Option, Some, None, length, refl, sym, ap, ◌∙◌, arith}
+use Rattle.std.proofs.Common.{ℕ, zero, suc, ◌≡◌, ◌<◌, ◌^◌, ◌*◌, ◌%◌, List, [], Option, Some, None, length}
+use Rattle.std.proofs.Common.{refl, sym, ap, ◌∙◌, arith}
 use Rattle.std.specs.Prelude.{slice_index_or, replicate}
 use Rattle.std.proofs.lemmas.List.{length-replicate, length-map}
 use Rattle.std.proofs.Math.Nat.{mod-eq_of_lt}
@@ -21,7 +22,8 @@ no_chain : (records : List (Option Record)) (n : ℕ) → chain_from records n N
 no_chain records zero = refl
 no_chain records (suc n) = refl
 
-no_chains : (records : List (Option Record)) (n i : ℕ) → slice_index_or (chains_of records (replicate n None)) i [] ≡ []
+no_chains : (records : List (Option Record)) (n i : ℕ) → slice_index_or (chains_of records (replicate n None))
+    i [] ≡ []
 no_chains records zero i = refl
 no_chains records (suc n) zero = no_chain records (length records)
 no_chains records (suc n) (suc i) = no_chains records n i
@@ -30,7 +32,8 @@ pub nobody : (records : List (Option Record)) (n : ℕ) → joined (chains_of re
 nobody records zero = refl
 nobody records (suc n) = rw (no_chain records (length records)) (nobody records n)
 
-pub opening : (threads bits : ℕ) → IsLinked (replicate threads None) (replicate (2 ^ bits) None) bits (chains_of (replicate threads None) (replicate (2 ^ bits) None))
+pub opening : (threads bits : ℕ) → IsLinked (replicate threads None) (replicate (2 ^ bits) None) bits
+    (chains_of (replicate threads None) (replicate (2 ^ bits) None))
 opening threads bits =
     let records : List (Option Record) = replicate threads None in
     let buckets : List (Option Ends) = replicate (2 ^ bits) None in
@@ -39,8 +42,10 @@ opening threads bits =
       each = length-map buckets (λ (e : Option Ends). chain_from records (length records) (first_in e));
       leads = λ b. rw (no_chains records (2 ^ bits) b, all_none (Ends) (2 ^ bits) b) refl;
       ends = λ b. rw (no_chains records (2 ^ bits) b, all_none (Ends) (2 ^ bits) b) refl;
-      own_bucket = λ b thread key has there. let e : None ≡ Some key = ap key_of_record (sym (all_none (Record) threads thread)) ∙ has in absurd cc;
-      stands = λ thread key has. let e : None ≡ Some key = ap key_of_record (sym (all_none (Record) threads thread)) ∙ has in absurd cc;
+      own_bucket = λ b thread key has there. let e : None ≡ Some key =
+          ap key_of_record (sym (all_none (Record) threads thread)) ∙ has in absurd cc;
+      stands = λ thread key has. let e : None ≡ Some key =
+          ap key_of_record (sym (all_none (Record) threads thread)) ∙ has in absurd cc;
     }
 
 -- a one that is shifted

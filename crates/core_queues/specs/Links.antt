@@ -1,5 +1,6 @@
 -- How records lead from one to the next.
-use Rattle.std.specs.Prelude.{ℕ, zero, suc, List, [], ◌∷◌, ◌++◌, Option, Some, None, ◌^◌, ◌≤◌, ◌≡◌, length, map, slice_index_or, slice_set}
+use Rattle.std.specs.Prelude.{ℕ, zero, suc, List, [], ◌∷◌, ◌++◌, Option, Some, None, ◌^◌, ◌≤◌, ◌≡◌, length}
+use Rattle.std.specs.Prelude.{map, slice_index_or, slice_set}
 use Rattle.core_base.specs.declared.wants.Waiter.{Waiter}
 use Rattle.core_base.specs.declared.wants.Want.{Want}
 use Rattle.core_base.specs.Lines.{waiter, times}

@@ -1,7 +1,9 @@
 //! Hashed buckets, each a chain of records.
-ghost use Rattle.std.specs.Prelude.{◌≡◌, ◌≢◌, ◌<◌, ◌≤◌, ◌++◌, ◌∷◌, [], Some, None, IfSome, IfOk, IfErr, MatchOption, length, slice_set, ◌^◌};
+ghost use Rattle.std.specs.Prelude.{◌≡◌, ◌≢◌, ◌<◌, ◌≤◌, ◌++◌, ◌∷◌, [], Some, None, IfSome, IfOk, IfErr};
+ghost use Rattle.std.specs.Prelude.{MatchOption, length, slice_set, ◌^◌};
 ghost use Rattle.core_queues.specs.Chains.{bucket_of, chain, joined, behind, IsHashed, IsLeast};
-ghost use Rattle.core_base.specs.Lines.{waiter, without, without_first, line, first_of, queued_under, times, lines};
+ghost use Rattle.core_base.specs.Lines.{waiter, without, without_first, line, first_of, queued_under, times};
+ghost use Rattle.core_base.specs.Lines.{lines};
 
 use crate::formula::bucket_among;
 use crate::links::{behind, ends_with, ends_without, link, next, standing, unlink, waiter};

@@ -1,7 +1,9 @@
 //! The second kind of queues.
-ghost use Rattle.std.specs.Prelude.{◌≡◌, ◌≢◌, ◌+◌, ◌<◌, ◌≤◌, ◌∷◌, [], if◌then◌else◌, length, MatchOption, IfSome, Some};
+ghost use Rattle.std.specs.Prelude.{◌≡◌, ◌≢◌, ◌+◌, ◌<◌, ◌≤◌, ◌∷◌, [], if◌then◌else◌, length, MatchOption};
+ghost use Rattle.std.specs.Prelude.{IfSome, Some};
 ghost use Rattle.std.specs.Vec.{vec_len, vec_capacity};
-ghost use Rattle.core_queues.specs.Chains.{bucket_of, chain, joined, behind, IsHashed, rest_of, rest-from_first};
+ghost use Rattle.core_queues.specs.Chains.{bucket_of, chain, joined, behind, IsHashed, rest_of};
+ghost use Rattle.core_queues.specs.Chains.{rest-from_first};
 ghost use Rattle.core_base.specs.Lines.{line, lines, times};
 ghost use Rattle.core_base.specs.Requeues.{moved_by, requeued};
 ghost use Rattle.core_base.specs.declared.requeues.Requeue.TheVariants.{One, All};

@@ -1,7 +1,9 @@
 //! How a thread is put into a chain, and taken out of it.
 ghost use Rattle.std.specs.Prelude.{◌≡◌, ◌<◌, IfSome, length, Some};
 ghost use Rattle.std.specs.Vec.{vec_capacity};
-ghost use Rattle.core_queues.specs.Links.{next_of, next_in, first_in, leading, with_next, record_of, next_behind, waiter_at, unlinked_records, ends_left, linked_records, linked_ends};
+ghost use Rattle.core_queues.specs.Links.{next_of, next_in, first_in, leading, with_next, record_of};
+ghost use Rattle.core_queues.specs.Links.{next_behind, waiter_at, unlinked_records, ends_left};
+ghost use Rattle.core_queues.specs.Links.{linked_records, linked_ends};
 
 use crate::records::{Ends, Record};
 use core_base::{Key, Waiter, Want};

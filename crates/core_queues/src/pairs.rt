@@ -1,5 +1,6 @@
 //! Calls on the queues of two buckets.
-ghost use Rattle.std.specs.Prelude.{◌≡◌, ◌≢◌, ◌+◌, ◌<◌, ◌≤◌, ◌↔◌, None, [], ◌∷◌, ◌++◌, IsTrue, MatchOption, length, if◌then◌else◌};
+ghost use Rattle.std.specs.Prelude.{◌≡◌, ◌≢◌, ◌+◌, ◌<◌, ◌≤◌, ◌↔◌, None, [], ◌∷◌, ◌++◌, IsTrue, MatchOption};
+ghost use Rattle.std.specs.Prelude.{length, if◌then◌else◌};
 ghost use Rattle.core_base.specs.Lines.{waiter, line, lines, without, queued_under};
 ghost use Rattle.core_base.specs.Requeues.{taken_by, moved_by, requeued};
 ghost use Rattle.core_base.specs.declared.requeues.Requeue.TheVariants.{One, All};

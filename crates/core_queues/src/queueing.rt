@@ -1,8 +1,10 @@
 //! The queues of a bucket, and the lists of those that a section took.
-ghost use Rattle.std.specs.Prelude.{◌≡◌, ◌≢◌, ◌<◌, ◌≤◌, [], IfOk, IfErr, IfSome, MatchOption, take, ◌∷◌, ◌++◌, length, not, ◌==◌};
+ghost use Rattle.std.specs.Prelude.{◌≡◌, ◌≢◌, ◌<◌, ◌≤◌, [], IfOk, IfErr, IfSome, MatchOption, take, ◌∷◌};
+ghost use Rattle.std.specs.Prelude.{◌++◌, length, not, ◌==◌};
 ghost use Rattle.std.specs.List.{filter};
 ghost use Rattle.std.specs.Vec.{vec_capacity};
-ghost use Rattle.core_base.specs.Lines.{waiter, line, lines, without, without_first, without_key, first_of, threads_of, queued_under};
+ghost use Rattle.core_base.specs.Lines.{waiter, line, lines, without, without_first, without_key, first_of};
+ghost use Rattle.core_base.specs.Lines.{threads_of, queued_under};
 ghost use Rattle.core_base.specs.Picks.{lock_picked, without_lock_picked};
 ghost use Rattle.core_base.specs.Requeues.{taken_by, moved_by, requeued};
 ghost use Rattle.core_queues.specs.Chains.{bucket_of};

@@ -17,14 +17,21 @@ no_count : (at : ℕ) (owns : List Ownership) → owned at everyone owns ≡ 0 �
 no_count at [] none = refl
 no_count at (x ∷ xs) none = dite (ℕ_discrete x.at at)
     (λ e. absurd (omega (arith, cond_same x.at at 1 e)))
-    (λ ne. omega (arith, cond_other x.at at 1 ne, cond_other x.at at x.count ne, no_count at xs (omega (arith, cond_other x.at at 1 ne))))
+    (λ ne. omega (
+      arith,
+      cond_other x.at at 1 ne,
+      cond_other x.at at x.count ne,
+      no_count at xs (omega (arith, cond_other x.at at 1 ne)),
+    ))
 
-pub no_counts : (at : ℕ) (views : List View) → named at everyone views ≡ 0 → total (λ (v : View). counted at v.owns) views ≡ 0
+pub no_counts : (at : ℕ) (views : List View) → named at everyone views ≡ 0
+    → total (λ (v : View). counted at v.owns) views ≡ 0
 no_counts at [] none = refl
 no_counts at (v ∷ vs) none = omega (arith, no_count at v.owns (omega arith), no_counts at vs (omega arith))
 
 -- an only owner says all that is said
-pub counted-where : (views : List View) (id : ℕ) (v : View) → get_elem? views id ≡ some v → (at count : ℕ) → has (owning_with at count) v.owns ≡ true → named at everyone views ≤ 1
+pub counted-where : (views : List View) (id : ℕ) (v : View) → get_elem? views id ≡ some v → (at count : ℕ)
+    → has (owning_with at count) v.owns ≡ true → named at everyone views ≤ 1
     → count ≡ total (λ (u : View). counted at u.owns) views
 counted-where views id v me at count there one =
     let x = owning_with at count in let rest = without x v.owns in
@@ -34,4 +41,9 @@ counted-where views id v me at count there one =
     let up = term_le (λ (u : View). owned at everyone u.owns) views id v me in
     let others = total-set (λ (u : View). owned at everyone u.owns) views id v blank me in
     let theirs = no_counts at (set views id blank) (omega arith) in
-    omega (arith, no_count at rest (omega arith), total-set (λ (u : View). counted at u.owns) views id v blank me)
+    omega (
+      arith,
+      no_count at rest (omega arith),
+      total-set (λ (u : View). counted at u.owns) views id v blank
+          me,
+    )

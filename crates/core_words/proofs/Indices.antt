@@ -2,7 +2,8 @@
 use Rattle.std.proofs.Common.{◌≡◌, ℕ, ◌%◌, ◌<◌, sym, refl, ap, ◌∙◌, arith}
 use Rattle.core_words.specs.Indices.{rank, word_index, kind_of_rank, word_kind_at, plain}
 use Rattle.core_words.specs.declared.words.WordKind.{WordKind}
-use Rattle.core_words.specs.declared.words.WordKind.TheVariants.{Mutex, RwLock, Condvar, Once, Count, Semaphore}
+use Rattle.core_words.specs.declared.words.WordKind.TheVariants.{Mutex, RwLock, Condvar, Once, Count}
+use Rattle.core_words.specs.declared.words.WordKind.TheVariants.{Semaphore}
 
 pub rank_lt : (kind : WordKind) → rank kind < 8
 rank_lt Mutex = omega arith
@@ -21,13 +22,20 @@ kind_of_rank-rank Count = refl
 kind_of_rank-rank (Semaphore permits) = refl
 
 pub word_kind_at-index : (number : ℕ) (kind : WordKind) → word_kind_at (word_index number kind) ≡ plain kind
-word_kind_at-index number kind = let e : word_index number kind % 8 ≡ rank kind = omega (arith, rank_lt kind) in ap kind_of_rank e ∙ kind_of_rank-rank kind
+word_kind_at-index number kind = let e : word_index number kind % 8 ≡ rank kind = omega (arith, rank_lt kind)
+    in ap kind_of_rank e ∙ kind_of_rank-rank kind
 
-pub index-number : (number number' : ℕ) (kind kind' : WordKind) → word_index number kind ≡ word_index number' kind' → number ≡ number'
+pub index-number : (number number' : ℕ) (kind kind' : WordKind) → word_index number kind ≡ word_index number'
+    kind' → number ≡ number'
 index-number number number' kind kind' e = omega (arith, rank_lt kind, rank_lt kind')
 
-pub index-kind : (number number' : ℕ) (kind kind' : WordKind) → word_index number kind ≡ word_index number' kind' → plain kind ≡ plain kind'
-index-kind number number' kind kind' e = let r : rank kind ≡ rank kind' = omega (arith, rank_lt kind, rank_lt kind') in
+pub index-kind : (number number' : ℕ) (kind kind' : WordKind) → word_index number kind ≡ word_index number'
+    kind' → plain kind ≡ plain kind'
+index-kind number number' kind kind' e = let r : rank kind ≡ rank kind' = omega (
+  arith,
+  rank_lt kind,
+  rank_lt kind',
+) in
     sym (kind_of_rank-rank kind) ∙ ap kind_of_rank r ∙ kind_of_rank-rank kind'
 
 -- a plain mutex is one

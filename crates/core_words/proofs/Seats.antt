@@ -1,5 +1,6 @@
 -- Seats are split and joined: what is named, done and drawn in all stays as it was.
-use Rattle.std.proofs.Common.{◌≡◌, ℕ, ◌+◌, ◌<◌, ◌≤◌, ◌⊎◌, true, cond, eqb, [], ◌∷◌, ◌++◌, ⊎_elim, inl, inr, List, set, sym, ◌∙◌, ap, subst, refl, arith}
+use Rattle.std.proofs.Common.{◌≡◌, ℕ, ◌+◌, ◌<◌, ◌≤◌, ◌⊎◌, true, cond, eqb, [], ◌∷◌, ◌++◌, ⊎_elim, inl, inr}
+use Rattle.std.proofs.Common.{List, set, sym, ◌∙◌, ap, subst, refl, arith}
 use mathlib.Core.Option.{some}
 use lib.ListN.{get_elem?}
 use Rattle.atomic_table.specs.Table.{Splits, Joins}
@@ -37,51 +38,95 @@ abbrev Carries : ℕ → View → Type 0
 Carries words v = MayHaveOut words v.out v.owns
 
 -- a weight of views stays as a seat's view is cut in two
-cut : (f : View → ℕ) (views : List View) (j : ℕ) (v w u : View) → get_elem? views j ≡ some v → f w + f u ≡ f v → total f (set views j w ++ u ∷ []) ≡ total f views
-cut f views j v w u me parts = omega (arith, total-append f (set views j w) (u ∷ []), total-set f views j v w me)
+cut : (f : View → ℕ) (views : List View) (j : ℕ) (v w u : View) → get_elem? views j ≡ some v → f w + f u ≡ f v
+    → total f (set views j w ++ u ∷ []) ≡ total f views
+cut f views j v w u me parts = omega (
+  arith,
+  total-append f (set views j w) (u ∷ []),
+  total-set f views j v w me,
+)
 
 -- a seat keeps a part of its view, and another part goes to a new seat; neither saw more of the counter
-splits : (words family id : ℕ) (v w u : View) → AreParts w u v → w.saw ≤ v.saw → u.saw ≤ v.saw → (Carries words v → Carries words w × Carries words u) → Splits (LotRule words family) id v w u
-splits words family id v w u parts less less' carries s o me = reseated words family s o s.homes (set s.views id w ++ u ∷ [])
+splits : (words family id : ℕ) (v w u : View) → AreParts w u v → w.saw ≤ v.saw → u.saw ≤ v.saw
+    → (Carries words v → Carries words w × Carries words u) → Splits (LotRule words family) id v w u
+splits words family id v w u parts less less' carries s o me = reseated words family s o s.homes
+    (set s.views id w ++ u ∷ [])
     (λ r weight. cut (λ (x : View). owned r weight x.owns) s.views id v w u me (parts.names r weight))
     (λ r. cut (λ (x : View). counted r x.owns) s.views id v w u me (parts.says r))
     (λ r. cut (steps_at r) s.views id v w u me (parts.did r))
     (λ weight. cut (λ (x : View). total weight x.drawn) s.views id v w u me (parts.drawn weight))
     (λ q x e. let old = o.saw id v me in
-    ⊎_elim (λ e₂. ⊎_elim (λ t. omega (arith, ap (λ (y : View). y.saw) t.1)) (λ t. o.saw q x t.1) (at_set s.views id q w x e₂))
+    ⊎_elim (λ e₂. ⊎_elim (λ t. omega (arith, ap (λ (y : View). y.saw) t.1)) (λ t. o.saw q x t.1)
+    (at_set s.views id q w x e₂))
     (λ (t : u ≡ x). omega (arith, ap (λ (y : View). y.saw) t)) (at_snoc (set s.views id w) u x q e))
     (λ q x e. let now = carries (o.carried id v me) in
-    ⊎_elim (λ e₂. ⊎_elim (λ t. subst (Carries words) t.1 now.0) (λ t. o.carried q x t.1) (at_set s.views id q w x e₂))
+    ⊎_elim (λ e₂. ⊎_elim (λ t. subst (Carries words) t.1 now.0) (λ t. o.carried q x t.1)
+    (at_set s.views id q w x e₂))
     (λ (t : u ≡ x). subst (Carries words) t now.1) (at_snoc (set s.views id w) u x q e))
     refl
-    (λ number below none. let r : ℕ = word_index number Mutex in o.permits number below (sym (cut (outs r) s.views id v w u me (parts.out r)) ∙ none))
+    (λ number below none. let r : ℕ = word_index number Mutex
+    in o.permits number below (sym (cut (outs r) s.views id v w u me (parts.out r)) ∙ none))
 
 -- one seat more, which knows nothing
 pub seats_another : (words family id : ℕ) (v : View) → Splits (LotRule words family) id v v blank
 seats_another words family id v = splits words family id v v blank
-    (record { names = λ r weight. omega arith; says = λ r. omega arith; did = λ r. omega arith; drawn = λ weight. omega arith; out = λ r. omega arith }) (omega arith) (omega arith) (λ c. (c, inl refl))
+    (record {
+      names = λ r weight. omega arith;
+      says = λ r. omega arith;
+      did = λ r. omega arith;
+      drawn = λ weight. omega arith;
+      out = λ r. omega arith;
+    }) (omega arith) (omega arith) (λ c. (c, inl refl))
 
 -- a thread that gives up what isn't of the mutex whose permit is out has that permit out still
-keeps_out : (words : ℕ) (v : View) (x : Ownership) → has x v.owns ≡ true → ((r : ℕ) → word_kind_at r ≡ Mutex → cond (eqb x.at r) (exclusive x.owner) 0 ≡ 0) → Carries words v → MayHaveOut words v.out (without x v.owns)
+keeps_out : (words : ℕ) (v : View) (x : Ownership) → has x v.owns ≡ true → ((r : ℕ) → word_kind_at r ≡ Mutex
+    → cond (eqb x.at r) (exclusive x.owner) 0 ≡ 0) → Carries words v → MayHaveOut words v.out
+    (without x v.owns)
 keeps_out words v x there apart carries = ⊎_elim (λ none. inl none)
     (λ t. let j : ℕ = word_index t.0 Mutex in let some' = t.3 in
-    inr (t.0, t.1, t.2, omega (arith, total-without (λ (y : Ownership). cond (eqb y.at j) (exclusive y.owner) 0) x v.owns there, apart j (word_kind_at-index t.0 Mutex))))
+    inr (
+      t.0,
+      t.1,
+      t.2,
+      omega (
+        arith,
+        total-without (λ (y : Ownership). cond (eqb y.at j) (exclusive y.owner)
+            0) x v.owns there,
+        apart j (word_kind_at-index t.0 Mutex),
+      ),
+    ))
     carries
 
 -- one ownership goes to a seat of its own
-pub splits_off : (words family id : ℕ) (v : View) (x : Ownership) → has x v.owns ≡ true → ((r : ℕ) → word_kind_at r ≡ Mutex → cond (eqb x.at r) (exclusive x.owner) 0 ≡ 0) → Splits (LotRule words family) id v (with_out v.out (left_over x v)) (piece x)
-splits_off words family id v x there apart = splits words family id v (with_out v.out (left_over x v)) (piece x) (record {
-  names = λ r weight. omega (arith, total-without (λ (y : Ownership). cond (eqb y.at r) (weight y.owner) 0) x v.owns there);
-  says = λ r. omega (arith, total-without (λ (y : Ownership). cond (eqb y.at r) y.count 0) x v.owns there);
-  did = λ r. omega arith;
-  drawn = λ weight. omega arith;
-  out = λ r. omega arith;
-}) (omega arith) (omega arith) (λ c. (keeps_out words v x there apart c, inl refl))
+pub splits_off : (words family id : ℕ) (v : View) (x : Ownership) → has x v.owns ≡ true
+    → ((r : ℕ) → word_kind_at r ≡ Mutex → cond (eqb x.at r) (exclusive x.owner) 0 ≡ 0)
+    → Splits (LotRule words family) id v (with_out v.out (left_over x v)) (piece x)
+splits_off words family id v x there apart = splits words family id v (with_out v.out (left_over x v))
+    (piece x) (record {
+      names = λ r weight. omega (
+        arith,
+        total-without (λ (y : Ownership). cond (eqb y.at r) (weight y.owner) 0) x
+            v.owns there,
+      );
+      says = λ r. omega (
+        arith,
+        total-without (λ (y : Ownership). cond (eqb y.at r) y.count 0) x v.owns
+            there,
+      );
+      did = λ r. omega arith;
+      drawn = λ weight. omega arith;
+      out = λ r. omega arith;
+    }) (omega arith) (omega arith) (λ c. (keeps_out words v x there apart c, inl refl))
 
 -- the same of any ownership, off a seat that has no permit out
-pub splits_counted : (words family id : ℕ) (v : View) (x : Ownership) → has x v.owns ≡ true → v.out ≡ [] → Splits (LotRule words family) id v (left_over x v) (piece x)
+pub splits_counted : (words family id : ℕ) (v : View) (x : Ownership) → has x v.owns ≡ true → v.out ≡ []
+    → Splits (LotRule words family) id v (left_over x v) (piece x)
 splits_counted words family id v x there none = splits words family id v (left_over x v) (piece x) (record {
-  names = λ r weight. omega (arith, total-without (λ (y : Ownership). cond (eqb y.at r) (weight y.owner) 0) x v.owns there);
+  names = λ r weight. omega (
+    arith,
+    total-without (λ (y : Ownership). cond (eqb y.at r) (weight y.owner) 0) x
+        v.owns there,
+  );
   says = λ r. omega (arith, total-without (λ (y : Ownership). cond (eqb y.at r) y.count 0) x v.owns there);
   did = λ r. omega arith;
   drawn = λ weight. omega arith;
@@ -89,60 +134,103 @@ splits_counted words family id v x there none = splits words family id v (left_o
 }) (omega arith) (omega arith) (λ c. (inl refl, inl refl))
 
 -- an owner keeps the mutex whose permit is out, and all else goes to a seat of its own
-pub keeps_owner : (words family id : ℕ) (v : View) (number : ℕ) → number < words → v.out ≡ word_index number Mutex ∷ [] → has (owning (word_index number Mutex) Exclusive) v.owns ≡ true
-    → let i = word_index number Mutex in Splits (LotRule words family) id v (with_out (i ∷ []) (piece (owning i Exclusive))) (left_over (owning i Exclusive) v)
-keeps_owner words family id v number below out there = let i : ℕ = word_index number Mutex in let x = owning i Exclusive in
+pub keeps_owner : (words family id : ℕ) (v : View) (number : ℕ) → number < words
+    → v.out ≡ word_index number Mutex ∷ [] → has (owning (word_index number Mutex) Exclusive) v.owns ≡ true
+    → let i = word_index number Mutex in Splits (LotRule words family) id v
+    (with_out (i ∷ []) (piece (owning i Exclusive))) (left_over (owning i Exclusive) v)
+keeps_owner words family id v number below out there = let i : ℕ = word_index number Mutex in let x =
+    owning i Exclusive in
     splits words family id v (with_out (i ∷ []) (piece x)) (left_over x v) (record {
-      names = λ r weight. omega (arith, total-without (λ (y : Ownership). cond (eqb y.at r) (weight y.owner) 0) x v.owns there);
-      says = λ r. omega (arith, total-without (λ (y : Ownership). cond (eqb y.at r) y.count 0) x v.owns there);
+      names = λ r weight. omega (
+        arith,
+        total-without (λ (y : Ownership). cond (eqb y.at r) (weight y.owner) 0) x v.owns there,
+      );
+      says = λ r. omega (
+        arith,
+        total-without (λ (y : Ownership). cond (eqb y.at r) y.count 0) x v.owns
+            there,
+      );
       did = λ r. omega arith;
       drawn = λ weight. omega arith;
       out = λ r. omega (arith, ap (total (λ (k : ℕ). cond (eqb k r) 1 0)) out);
-    }) (omega arith) (omega arith) (λ c. (inr (number, below, refl, omega (arith, cond_same i i 1 refl)), inl refl))
+    }) (omega arith) (omega arith) (λ c. (
+      inr (number, below, refl, omega (arith, cond_same i i 1 refl)),
+      inl refl,
+    ))
 
 -- a weight of views stays as a seat takes in what another has, which has nothing then
-paste : (f : View → ℕ) (views : List View) (j k : ℕ) (v w b : View) → f blank ≡ 0 → get_elem? views j ≡ some v → get_elem? (set views j b) k ≡ some w → f v + f w ≡ f b
+paste : (f : View → ℕ) (views : List View) (j k : ℕ) (v w b : View) → f blank ≡ 0 → get_elem? views j ≡ some v
+    → get_elem? (set views j b) k ≡ some w → f v + f w ≡ f b
     → total f (set (set views j b) k blank) ≡ total f views
-paste f views j k v w b none me them parts = omega (arith, total-set f (set views j b) k w blank them, total-set f views j v b me)
+paste f views j k v w b none me them parts = omega (
+  arith,
+  total-set f (set views j b) k w blank them,
+  total-set f views j v b me,
+)
 
 -- a seat takes another's view in with its own; what it saw of the counter one of them saw
-joins : (words family id : ℕ) (v : View) (other : ℕ) (w b : View) → AreParts v w b → (b.saw ≤ v.saw) ⊎ (b.saw ≤ w.saw) → (Carries words v → Carries words b) → Joins (LotRule words family) id v other w b blank
+joins : (words family id : ℕ) (v : View) (other : ℕ) (w b : View) → AreParts v w b → (b.saw ≤ v.saw)
+    ⊎ (b.saw ≤ w.saw) → (Carries words v → Carries words b) → Joins (LotRule words family) id v other w b
+    blank
 joins words family id v other w b parts saw carries s o me apart them =
     let mine = o.saw id v me in let theirs = o.saw other w (sym (set_else s.views id other b apart) ∙ them) in
     reseated words family s o s.homes (set (set s.views id b) other blank)
-    (λ r weight. paste (λ (x : View). owned r weight x.owns) s.views id other v w b refl me them (parts.names r weight))
+    (λ r weight. paste (λ (x : View). owned r weight x.owns) s.views id other v w b refl me them
+    (parts.names r weight))
     (λ r. paste (λ (x : View). counted r x.owns) s.views id other v w b refl me them (parts.says r))
     (λ r. paste (steps_at r) s.views id other v w b refl me them (parts.did r))
-    (λ weight. paste (λ (x : View). total weight x.drawn) s.views id other v w b refl me them (parts.drawn weight))
+    (λ weight. paste (λ (x : View). total weight x.drawn) s.views id other v w b refl me them
+    (parts.drawn weight))
     (λ q x e. ⊎_elim (λ t. omega (arith, ap (λ (y : View). y.saw) t.1))
-    (λ t. ⊎_elim (λ t₂. ⊎_elim (λ h. omega (arith, ap (λ (y : View). y.saw) t₂.1)) (λ h. omega (arith, ap (λ (y : View). y.saw) t₂.1)) saw)
+    (λ t. ⊎_elim (λ t₂. ⊎_elim (λ h. omega (arith, ap (λ (y : View). y.saw) t₂.1))
+    (λ h. omega (arith, ap (λ (y : View). y.saw) t₂.1)) saw)
     (λ t₂. o.saw q x t₂.1) (at_set s.views id q b x t.1))
     (at_set (set s.views id b) other q blank x e))
     (λ q x e. ⊎_elim (λ t. subst (Carries words) t.1 (inl refl))
-    (λ t. ⊎_elim (λ t₂. subst (Carries words) t₂.1 (carries (o.carried id v me))) (λ t₂. o.carried q x t₂.1) (at_set s.views id q b x t.1))
+    (λ t. ⊎_elim (λ t₂. subst (Carries words) t₂.1 (carries (o.carried id v me))) (λ t₂. o.carried q x t₂.1)
+    (at_set s.views id q b x t.1))
     (at_set (set s.views id b) other q blank x e))
     refl
-    (λ number below none. let r : ℕ = word_index number Mutex in o.permits number below (sym (paste (outs r) s.views id other v w b refl me them (parts.out r)) ∙ none))
+    (λ number below none. let r : ℕ = word_index number Mutex
+    in o.permits number below (sym (paste (outs r) s.views id other v w b refl me them (parts.out r))
+    ∙ none))
 
 -- a thread that owns no less may have out what it had
-owns_no_less : (words : ℕ) (out : List ℕ) (owns all : List Ownership) → ((r : ℕ) → owned r exclusive owns ≤ owned r exclusive all) → MayHaveOut words out owns → MayHaveOut words out all
+owns_no_less : (words : ℕ) (out : List ℕ) (owns all : List Ownership)
+    → ((r : ℕ) → owned r exclusive owns ≤ owned r exclusive all) → MayHaveOut words out owns
+    → MayHaveOut words out all
 owns_no_less words out owns all more carries = ⊎_elim (λ none. inl none)
     (λ t. let r : ℕ = word_index t.0 Mutex in let some' = t.3 in inr (t.0, t.1, t.2, omega (arith, more r)))
     carries
 
 -- an ownership comes back, by the view that its seat has
-pub takes_back : (words family id : ℕ) (v : View) (other : ℕ) (x : Ownership) (w : View) → w ≡ piece x → Joins (LotRule words family) id v other w (with_out v.out (takes_in v w)) blank
-takes_back words family id v other x w is = subst (λ (u : View). Joins (LotRule words family) id v other u (with_out v.out (takes_in v u)) blank) (sym is)
+pub takes_back : (words family id : ℕ) (v : View) (other : ℕ) (x : Ownership) (w : View) → w ≡ piece x
+    → Joins (LotRule words family) id v other w (with_out v.out (takes_in v w)) blank
+takes_back words family id v other x w is =
+    subst (λ (u : View). Joins (LotRule words family) id v other u (with_out v.out (takes_in v u)) blank)
+    (sym is)
     (joins words family id v other (piece x) (with_out v.out (takes_in v (piece x)))
-    (record { names = λ r weight. omega arith; says = λ r. omega arith; did = λ r. omega arith; drawn = λ weight. omega arith; out = λ r. omega arith }) (inl (omega arith))
+    (record {
+      names = λ r weight. omega arith;
+      says = λ r. omega arith;
+      did = λ r. omega arith;
+      drawn = λ weight. omega arith;
+      out = λ r. omega arith;
+    }) (inl (omega arith))
     (λ c. owns_no_less words v.out v.owns (x ∷ v.owns) (λ r. omega arith) c))
 
 -- one view goes on with another, which drew nothing: what is out with them together is out still
 module _ (v w : View) (out : List ℕ) (none : w.drawn ≡ []) where
-  all_owned : (r : ℕ) (weight : Owner → ℕ) → owned r weight (w.owns ++ v.owns) ≡ owned r weight v.owns + owned r weight w.owns
-  all_owned r weight = omega (arith, total-append (λ (y : Ownership). cond (eqb y.at r) (weight y.owner) 0) w.owns v.owns)
+  all_owned : (r : ℕ) (weight : Owner → ℕ) → owned r weight (w.owns ++ v.owns) ≡ owned r weight v.owns
+      + owned r weight w.owns
+  all_owned r weight = omega (
+    arith,
+    total-append (λ (y : Ownership). cond (eqb y.at r) (weight y.owner) 0)
+        w.owns v.owns,
+  )
 
-  are_parts : ((r : ℕ) → outs r v + outs r w ≡ total (λ (k : ℕ). cond (eqb k r) 1 0) out) → AreParts v w (with_out out (goes_on_with v w))
+  are_parts : ((r : ℕ) → outs r v + outs r w ≡ total (λ (k : ℕ). cond (eqb k r) 1 0) out)
+      → AreParts v w (with_out out (goes_on_with v w))
   are_parts together = record {
     names = λ r weight. sym (all_owned r weight);
     says = λ r. omega (arith, total-append (λ (y : Ownership). cond (eqb y.at r) y.count 0) w.owns v.owns);
@@ -162,13 +250,20 @@ turned u v w parts = record {
 }
 
 -- all that another seat has done and owns, which drew nothing and has nothing out, comes to a seat
-pub goes_on : (words family id : ℕ) (v : View) (other : ℕ) (w : View) → w.drawn ≡ [] → w.out ≡ [] → Joins (LotRule words family) id v other w (with_out v.out (goes_on_with v w)) blank
-goes_on words family id v other w none nothing = joins words family id v other w (with_out v.out (goes_on_with v w))
+pub goes_on : (words family id : ℕ) (v : View) (other : ℕ) (w : View) → w.drawn ≡ [] → w.out ≡ []
+    → Joins (LotRule words family) id v other w (with_out v.out (goes_on_with v w)) blank
+goes_on words family id v other w none nothing = joins words family id v other w
+    (with_out v.out (goes_on_with v w))
     (are_parts v w v.out none (λ r. omega (arith, none_out r w.out nothing))) (inl (omega arith))
-    (λ c. owns_no_less words v.out v.owns (w.owns ++ v.owns) (λ r. omega (arith, all_owned v w v.out none r exclusive)) c)
+    (λ c. owns_no_less words v.out v.owns (w.owns ++ v.owns)
+    (λ r. omega (arith, all_owned v w v.out none r exclusive)) c)
 
 -- the same, and the seat goes on as that other one, whose permit stays out
-pub goes_on_as : (words family id : ℕ) (w : View) (other : ℕ) (v : View) → w.drawn ≡ [] → v.out ≡ [] → Joins (LotRule words family) id w other v (with_out w.out (goes_on_with v w)) blank
-goes_on_as words family id w other v none nothing = joins words family id w other v (with_out w.out (goes_on_with v w))
-    (turned v w (with_out w.out (goes_on_with v w)) (are_parts v w w.out none (λ r. omega (arith, none_out r v.out nothing)))) (inr (omega arith))
-    (λ c. owns_no_less words w.out w.owns (w.owns ++ v.owns) (λ r. omega (arith, all_owned v w w.out none r exclusive)) c)
+pub goes_on_as : (words family id : ℕ) (w : View) (other : ℕ) (v : View) → w.drawn ≡ [] → v.out ≡ []
+    → Joins (LotRule words family) id w other v (with_out w.out (goes_on_with v w)) blank
+goes_on_as words family id w other v none nothing = joins words family id w other v
+    (with_out w.out (goes_on_with v w))
+    (turned v w (with_out w.out (goes_on_with v w)) (are_parts v w w.out none
+    (λ r. omega (arith, none_out r v.out nothing)))) (inr (omega arith))
+    (λ c. owns_no_less words w.out w.owns (w.owns ++ v.owns)
+    (λ r. omega (arith, all_owned v w w.out none r exclusive)) c)

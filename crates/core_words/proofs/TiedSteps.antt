@@ -1,5 +1,6 @@
 -- The kinds of step on words that are tied to the word of a mutex.
-use Rattle.std.proofs.Common.{◌≡◌, ◌≢◌, inl, inr, ℕ, ◌+◌, ◌^◌, ◌<◌, List, get_or, true, cond, sym, refl, ap, subst, arith, eq-eqb, ne_eqb}
+use Rattle.std.proofs.Common.{◌≡◌, ◌≢◌, inl, inr, ℕ, ◌+◌, ◌^◌, ◌<◌, List, get_or, true, cond, sym, refl, ap}
+use Rattle.std.proofs.Common.{subst, arith, eq-eqb, ne_eqb}
 use mathlib.Core.Logic.{dite}
 use mathlib.Core.Option.{none}
 use native.Mathlib.Decide.{ℕ_discrete}
@@ -23,7 +24,8 @@ use Rattle.core_words.proofs.Keeps.{shows_more}
 use Rattle.core_words.proofs.Stepping.{steps}
 
 -- the law of steps on a condition variable's word
-condvar_step : (at : ℕ) (op : Op) (owns : List Ownership) → ((n : ℕ) → MayTie Condvar at n (apply op n) owns) → MayStep Condvar at op owns
+condvar_step : (at : ℕ) (op : Op) (owns : List Ownership) → ((n : ℕ) → MayTie Condvar at n (apply op n) owns)
+    → MayStep Condvar at op owns
 condvar_step at op owns ok n owners fits code mine agrees = (tt, (λ after same. tt), ok n)
 
 pub condvar_steps : CondvarMaySteps
@@ -38,12 +40,21 @@ condvar_steps at owns = record {
 module _ (mutex : ℕ) (owns : List Ownership) where
   -- the law of steps on a count word: a thread that owns its mutex finds the count that it says, and leaves a
   -- count
-  count_step : (op : Op) (count : ℕ) → has (owning_with (word_index mutex Mutex) count) owns ≡ true → (count < 2 ^ 64 → IsCountCode (apply op count)) → MayStep Count (word_index (mutex + 1) Count) op owns
+  count_step : (op : Op) (count : ℕ) → has (owning_with (word_index mutex Mutex) count) owns ≡ true
+      → (count < 2 ^ 64 → IsCountCode (apply op count)) → MayStep Count (word_index (mutex + 1) Count) op owns
   count_step op count there ok n owners fits code mine agrees =
       let same : mutex_of_count (word_index (mutex + 1) Count) ≡ word_index mutex Mutex = omega arith in
-      let says : has (owning_with (mutex_of_count (word_index (mutex + 1) Count)) count) owns ≡ true = subst (λ (r : ℕ). has (owning_with r count) owns ≡ true) (sym same) there in
-      let is : count ≡ n = agrees.1 count says in
-      (tt, (λ after same. tt), inr (subst (λ (k : ℕ). IsCountCode (apply op k)) is (ok (omega arith)), subst (λ (k : ℕ). has (owning_with (mutex_of_count (word_index (mutex + 1) Count)) k) owns ≡ true) is says))
+      let says : has (owning_with (mutex_of_count (word_index (mutex + 1) Count)) count) owns ≡ true =
+      subst (λ (r : ℕ). has (owning_with r count) owns ≡ true) (sym same) there in
+      let is : count ≡ n = agrees.1 count says in (
+        tt,
+        (λ after same. tt),
+        inr (
+          subst (λ (k : ℕ). IsCountCode (apply op k)) is (ok (omega arith)),
+          subst (λ (k : ℕ). has (owning_with (mutex_of_count (word_index (mutex + 1) Count)) k) owns ≡ true)
+              is says,
+        ),
+      )
 
 pub count_steps : CountMaySteps
 count_steps mutex owns = record {
@@ -52,15 +63,20 @@ count_steps mutex owns = record {
     | inl nothing ↦ absurd (omega arith)
     | inr (thread, times, e, some, few) ↦ inr (thread, times, omega arith, some, few)
   ]);
-  lower = λ count there code. count_step mutex owns (Sub 1) (count + 1) there (λ fits. subst IsCountCode (omega arith) code);
+  lower = λ count there code. count_step mutex owns (Sub 1) (count + 1) there
+      (λ fits. subst IsCountCode (omega arith) code);
   store = λ count m there code. count_step mutex owns (Store m) count there (λ fits. code);
 }
 
 -- a load of a condition variable's word, which tells what it may show
-pub sees_shown_allowed : (words family slots id : ℕ) (me : Me PermitSlot View) (number : ℕ) → number < words → me.1 ≡ slots_of family me.0.out
-    → let i = word_index number Condvar in Allows (LotRule words family) slots id me i (λ n. n) (sees_shown family words number (step slots i 0 0 none) me)
+pub sees_shown_allowed : (words family slots id : ℕ) (me : Me PermitSlot View) (number : ℕ) → number < words
+    → me.1 ≡ slots_of family me.0.out
+    → let i = word_index number Condvar in Allows (LotRule words family) slots id me i (λ n. n)
+    (sees_shown family words number (step slots i 0 0 none) me)
 sees_shown_allowed words family slots id me number below held s o wide at fits =
-    let t = steps words family slots id me number Condvar Load below held ((condvar_steps (word_index number Condvar) me.0.owns).load) s o wide at fits in
+    let t = steps words family slots id me number Condvar Load below held
+    ((condvar_steps (word_index number Condvar) me.0.owns).load) s o wide at fits in
     let n : ℕ = get_or s.words (word_index number Condvar) 0 in
-    let shown : ShowsBeside words number n = shows_more (MayBeShown words number s.views) (λ mutex. (mutex < words) × (mutex ≢ number)) n (λ k h. (h.0, h.1)) (o.shows number below) in
+    let shown : ShowsBeside words number n = shows_more (MayBeShown words number s.views)
+    (λ mutex. (mutex < words) × (mutex ≢ number)) n (λ k h. (h.0, h.1)) (o.shows number below) in
     (t.0, t.1, t.2, t.3, (t.4, shown))

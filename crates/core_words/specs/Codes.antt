@@ -1,9 +1,11 @@
 -- Codes: the owners that the value of a lock's word tells.
 use Rattle.std.specs.Prelude.{◌≡◌, ◌≢◌, ℕ, ◌+◌, ◌*◌, ◌/◌, ◌%◌, ◌^◌, ◌<◌, ◌≤◌, ◌⊎◌}
 use Rattle.core_words.specs.declared.owners.Owner.{Owner}
-use Rattle.core_words.specs.declared.owners.Owner.TheVariants.{Exclusive, Pending, Upgrading, Upgradable, Shared, Runner, Witness}
+use Rattle.core_words.specs.declared.owners.Owner.TheVariants.{Exclusive, Pending, Upgrading, Upgradable}
+use Rattle.core_words.specs.declared.owners.Owner.TheVariants.{Shared, Runner, Witness}
 use Rattle.core_words.specs.declared.words.WordKind.{WordKind}
-use Rattle.core_words.specs.declared.words.WordKind.TheVariants.{Mutex, RwLock, Condvar, Once, Count, Semaphore}
+use Rattle.core_words.specs.declared.words.WordKind.TheVariants.{Mutex, RwLock, Condvar, Once, Count}
+use Rattle.core_words.specs.declared.words.WordKind.TheVariants.{Semaphore}
 
 -- how many owners there are, by a weight of owners
 abbrev pub Owners : Type 0

@@ -1,7 +1,8 @@
 -- The indices of the words of a lot in its table.
 use Rattle.std.specs.Prelude.{ℕ, ◌+◌, ◌-◌, ◌*◌, ◌%◌, cond, ◌==◌}
 use Rattle.core_words.specs.declared.words.WordKind.{WordKind}
-use Rattle.core_words.specs.declared.words.WordKind.TheVariants.{Mutex, RwLock, Condvar, Once, Count, Semaphore}
+use Rattle.core_words.specs.declared.words.WordKind.TheVariants.{Mutex, RwLock, Condvar, Once, Count}
+use Rattle.core_words.specs.declared.words.WordKind.TheVariants.{Semaphore}
 
 -- the greatest lot
 abbrev pub most_words : ℕ

@@ -5,12 +5,16 @@ use Rattle.core_base.specs.declared.ops.Op.{Op}
 use Rattle.core_base.specs.declared.ops.Op.TheVariants.{Load, Store, Swap, Add, Sub, Or, And, Exchange}
 use Rattle.core_words.specs.Indices.{word_index}
 use Rattle.core_words.specs.Views.{owned, owning, owning_with}
-use Rattle.core_words.specs.Steps.{MayStep, CodesWith, HasAll, owns_after_step, has, holding, so_many_shared, without}
-use Rattle.core_words.specs.declared.owners.Owner.TheVariants.{Exclusive, Pending, Upgrading, Upgradable, Shared, Runner, Witness}
+use Rattle.core_words.specs.Steps.{MayStep, CodesWith, HasAll, owns_after_step, has, holding, so_many_shared}
+use Rattle.core_words.specs.Steps.{without}
+use Rattle.core_words.specs.declared.owners.Owner.TheVariants.{Exclusive, Pending, Upgrading, Upgradable}
+use Rattle.core_words.specs.declared.owners.Owner.TheVariants.{Shared, Runner, Witness}
 use Rattle.core_words.specs.declared.owners.Ownership.{Ownership}
-use Rattle.core_words.specs.Codes.{Owners, Codes, IsCountCode, everyone, exclusive, pending, upgrading, upgradable, shared}
+use Rattle.core_words.specs.Codes.{Owners, Codes, IsCountCode, everyone, exclusive, pending, upgrading}
+use Rattle.core_words.specs.Codes.{upgradable, shared}
 use Rattle.core_words.specs.declared.words.WordKind.{WordKind}
-use Rattle.core_words.specs.declared.words.WordKind.TheVariants.{Mutex, RwLock, Once, Condvar, Count, Semaphore}
+use Rattle.core_words.specs.declared.words.WordKind.TheVariants.{Mutex, RwLock, Once, Condvar, Count}
+use Rattle.core_words.specs.declared.words.WordKind.TheVariants.{Semaphore}
 
 -- one owner, and nobody beside it
 abbrev pub IsAlone : WordKind → Owners → Type 0

@@ -5,7 +5,8 @@ use Rattle.core_words.specs.Views.{owning, owning_with, with_out}
 use Rattle.core_words.specs.Steps.{has}
 use Rattle.core_words.specs.Plays.{piece, stepping, takes_in}
 use Rattle.core_words.specs.declared.owners.Owner.{Owner}
-use Rattle.core_words.specs.declared.owners.Owner.TheVariants.{Exclusive, Pending, Upgrading, Upgradable, Shared, Runner, Witness}
+use Rattle.core_words.specs.declared.owners.Owner.TheVariants.{Exclusive, Pending, Upgrading, Upgradable}
+use Rattle.core_words.specs.declared.owners.Owner.TheVariants.{Shared, Runner, Witness}
 use Rattle.core_words.specs.declared.owners.Ownership.{Ownership}
 use Rattle.core_words.specs.declared.views.View.{View}
 use Rattle.core_words.specs.declared.words.Word.{Word}

@@ -1,5 +1,6 @@
 -- The effect of a step on a word on the owners of the word.
-use Rattle.std.specs.Prelude.{◌≡◌, ◌≢◌, ℕ, ◌+◌, ◌%◌, ◌^◌, ◌<◌, ◌≤◌, ◌⊎◌, zero, suc, ◌-◌, ◌/◌, List, [], ◌∷◌, ◌++◌, Bool, true, false, cond, ◌==◌, ◌&&◌, ◌||◌, not, map}
+use Rattle.std.specs.Prelude.{◌≡◌, ◌≢◌, ℕ, ◌+◌, ◌%◌, ◌^◌, ◌<◌, ◌≤◌, ◌⊎◌, zero, suc, ◌-◌, ◌/◌, List, [], ◌∷◌}
+use Rattle.std.specs.Prelude.{◌++◌, Bool, true, false, cond, ◌==◌, ◌&&◌, ◌||◌, not, map}
 use Rattle.core_base.specs.Words.{apply}
 use Rattle.core_base.specs.declared.ops.Op.{Op}
 use Rattle.core_base.specs.declared.ops.Op.TheVariants.{Load, Sub, Exchange}
@@ -7,12 +8,14 @@ use Rattle.core_words.specs.Indices.{word_index, mutex_of_count}
 use Rattle.core_words.specs.Views.{view, total, owned, owning, owning_with}
 use Rattle.core_words.specs.Codes.{Owners, Codes, Shows, IsCountCode}
 use Rattle.core_words.specs.declared.owners.Owner.{Owner}
-use Rattle.core_words.specs.declared.owners.Owner.TheVariants.{Exclusive, Pending, Upgrading, Upgradable, Shared, Runner, Witness}
+use Rattle.core_words.specs.declared.owners.Owner.TheVariants.{Exclusive, Pending, Upgrading, Upgradable}
+use Rattle.core_words.specs.declared.owners.Owner.TheVariants.{Shared, Runner, Witness}
 use Rattle.core_words.specs.declared.owners.Ownership.{Ownership}
 use Rattle.core_words.specs.declared.views.View.{View}
 use Rattle.core_words.specs.declared.views.WordStep.{WordStep}
 use Rattle.core_words.specs.declared.words.WordKind.{WordKind}
-use Rattle.core_words.specs.declared.words.WordKind.TheVariants.{Mutex, RwLock, Once, Condvar, Count, Semaphore}
+use Rattle.core_words.specs.declared.words.WordKind.TheVariants.{Mutex, RwLock, Once, Condvar, Count}
+use Rattle.core_words.specs.declared.words.WordKind.TheVariants.{Semaphore}
 
 -- the ownerships that a step takes from its thread, and those that it brings
 pub record Trade : Type 0 where

@@ -1,5 +1,6 @@
 //! How words are drawn: each once, from a counter that never falls.
-ghost use Rattle.std.specs.Prelude.{◌≡◌, ◌+◌, ◌^◌, ◌<◌, ◌≤◌, ◌++◌, ◌⊎◌, [], ◌∷◌, length, IfOk, MatchOption, MatchResult};
+ghost use Rattle.std.specs.Prelude.{◌≡◌, ◌+◌, ◌^◌, ◌<◌, ◌≤◌, ◌++◌, ◌⊎◌, [], ◌∷◌, length, IfOk, MatchOption};
+ghost use Rattle.std.specs.Prelude.{MatchResult};
 ghost use Rattle.core_words.specs.Lots.{IsSeatOf, IsWordOf};
 ghost use Rattle.core_words.specs.Draws.{IsDrawn, IsDrawRefused, NoPermits};
 ghost use Rattle.core_words.specs.Indices.{permits_in, word_index};

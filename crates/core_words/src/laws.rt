@@ -1,6 +1,10 @@
 //! The laws of the rule for a thread that takes a step, whichever steps other threads take.
-ghost use Rattle.core_words.specs.Laws.{CondvarMaySteps, CountMaySteps, ExclusiveIsAlone, MutexMaySteps, OnceIsKnown, OnceMaySteps, RwLockMaySteps, SemaphoreMaySteps, SemaphoreTrading};
-ghost use Rattle.core_words.specs.RuleLaws.{CountsAnOwner, DrawnOnce, NeverFalls, PermitsAreAllThere, RunsOneAtATime, ShownIsAMutex, UnlockedHasItsPermit, UntouchedIs0};
+ghost use Rattle.core_words.specs.Laws.{CondvarMaySteps, CountMaySteps, ExclusiveIsAlone, MutexMaySteps};
+ghost use Rattle.core_words.specs.Laws.{OnceIsKnown, OnceMaySteps, RwLockMaySteps, SemaphoreMaySteps};
+ghost use Rattle.core_words.specs.Laws.{SemaphoreTrading};
+ghost use Rattle.core_words.specs.RuleLaws.{CountsAnOwner, DrawnOnce, NeverFalls, PermitsAreAllThere};
+ghost use Rattle.core_words.specs.RuleLaws.{RunsOneAtATime, ShownIsAMutex, UnlockedHasItsPermit};
+ghost use Rattle.core_words.specs.RuleLaws.{UntouchedIs0};
 
 /// Proves that an exclusive owner stands beside no other owner, in every word of a mutex or a
 /// reader-writer lock that a step can find.

@@ -1,6 +1,7 @@
 //! The permits of the values that mutexes guard: each lies beside the word of its mutex while that
 //! is unlocked, and is out with a thread that owns it.
-ghost use Rattle.std.specs.Prelude.{IsTrue, ◌↔◌, ◌≡◌, ◌≢◌, ◌⊎◌, ◌%◌, ◌<◌, ◌≤◌, [], ◌∷◌, true, IfOk, MatchOption, MatchResult};
+ghost use Rattle.std.specs.Prelude.{IsTrue, ◌↔◌, ◌≡◌, ◌≢◌, ◌⊎◌, ◌%◌, ◌<◌, ◌≤◌, [], ◌∷◌, true, IfOk};
+ghost use Rattle.std.specs.Prelude.{MatchOption, MatchResult};
 ghost use Rattle.core_base.specs.declared.ops.Op.TheVariants.{Exchange, Or, Sub};
 ghost use Rattle.core_words.specs.Indices.{word_index};
 ghost use Rattle.core_words.specs.Plays.{entering_saw, goes_on_with, left_over, stepping, takes_in};

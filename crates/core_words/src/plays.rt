@@ -2,7 +2,10 @@
 ghost use Rattle.std.specs.Prelude.{ℕ, [], ◌∷◌, List};
 ghost use Rattle.core_words.specs.Rule.{LotRule};
 ghost use Rattle.core_words.specs.Views.{blank, owning, with_out};
-ghost use Rattle.core_words.specs.Plays.{adds, ands, draws, draws_permits, takes_mutex, exchanges, goes_on_with, lays_back, gives_mutex_up, leaves_alone, left_over, loads, looks_at_word, ors, piece, saw_set, sees_free, sees_locked, sees_shown, stores, subs, swaps, takes_in, takes_out, tries_seen};
+ghost use Rattle.core_words.specs.Plays.{adds, ands, draws, draws_permits, takes_mutex, exchanges};
+ghost use Rattle.core_words.specs.Plays.{goes_on_with, lays_back, gives_mutex_up, leaves_alone, left_over};
+ghost use Rattle.core_words.specs.Plays.{loads, looks_at_word, ors, piece, saw_set, sees_free, sees_locked};
+ghost use Rattle.core_words.specs.Plays.{sees_shown, stores, subs, swaps, takes_in, takes_out, tries_seen};
 ghost use Rattle.core_words.specs.declared.owners.Ownership.{Ownership};
 ghost use Rattle.core_words.specs.declared.owners.Owner.TheVariants.{Exclusive};
 ghost use Rattle.core_words.specs.declared.words.WordKind.{WordKind};

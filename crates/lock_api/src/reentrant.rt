@@ -2,10 +2,12 @@
 ghost use Rattle.std.specs.Prelude.{◌≡◌, ◌+◌, Err, IfOk, IfSome, IsOk, MatchOption, MatchResult};
 ghost use Rattle.std.specs.Arc.{arc_value};
 ghost use Rattle.lock_raw.specs.Answers.{IsRefusal};
-ghost use Rattle.lock_raw.specs.Counts.{CountedAgain, CountedLess, CountedMore, CountedOut, CountedOutAlone, SawFull, SawMore, SawOthers, first_count};
+ghost use Rattle.lock_raw.specs.Counts.{CountedAgain, CountedLess, CountedMore, CountedOut, CountedOutAlone};
+ghost use Rattle.lock_raw.specs.Counts.{SawFull, SawMore, SawOthers, first_count};
 ghost use Rattle.lock_api.specs.Reentrant.{Both, Bumped, CameIn, StayedOut, WentOff};
 ghost use Rattle.core_base.specs.declared.faults.Fault.TheVariants.{LockCountFull};
-ghost use Rattle.spec_locks.specs.declared.calls.MutexCall.TheVariants.{Bump, Lock, TryLock, Unlock, UnlockFair};
+ghost use Rattle.spec_locks.specs.declared.calls.MutexCall.TheVariants.{Bump, Lock, TryLock, Unlock};
+ghost use Rattle.spec_locks.specs.declared.calls.MutexCall.TheVariants.{UnlockFair};
 ghost use Rattle.spec_locks.specs.declared.outcomes.Answer.TheVariants as answers;
 
 use core_base::Fault;

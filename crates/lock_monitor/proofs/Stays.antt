@@ -13,6 +13,7 @@ stays_after stays on first next last (inl same) then = subst (λ t. stays t last
 stays_after stays on first next last (inr behind) then = on first next last behind then
 
 -- a refusal is one at last
-pub refused_at_last : {Token : Type 0} (found_full : Token → Token → Type 0) (old new : Token) (fault : Fault) → IsRefusal found_full old new fault → IsRefusedAtLast found_full new fault
+pub refused_at_last : {Token : Type 0} (found_full : Token → Token → Type 0) (old new : Token) (fault : Fault)
+    → IsRefusal found_full old new fault → IsRefusedAtLast found_full new fault
 refused_at_last found_full old new fault (inl refused) = inl refused.0
 refused_at_last found_full old new fault (inr refused) = inr (refused.0, (old, refused.1))

@@ -1,5 +1,6 @@
 //! The mutex with its condition variables.
-ghost use Rattle.std.specs.Prelude.{◌≡◌, ◌<◌, All, IfErr, IfOk, MatchResult, false, length, slice_index_or, true};
+ghost use Rattle.std.specs.Prelude.{◌≡◌, ◌<◌, All, IfErr, IfOk, MatchResult, false, length, slice_index_or};
+ghost use Rattle.std.specs.Prelude.{true};
 ghost use Rattle.std.specs.Arc.{arc_value};
 ghost use Rattle.std.specs.Fn.{FnOnceReturnsAtMut};
 ghost use Rattle.lock_api.specs.Conditions.{WaitedOrNot};

@@ -7,7 +7,8 @@ ghost use Rattle.core_base.specs.Clocks.{HasPassed};
 ghost use Rattle.lock_raw.specs.Answers.{late_answer};
 ghost use Rattle.lock_api.specs.Conditions.{WaitedOrNot};
 ghost use Rattle.lock_api.specs.Guards.{lock_of, value_of};
-ghost use Rattle.lock_monitor.specs.Conditions.{At, CameWaitedAndWent, WaitsAtLast, WaitsOften, WaitsOftenInTime};
+ghost use Rattle.lock_monitor.specs.Conditions.{At, CameWaitedAndWent, WaitsAtLast, WaitsOften};
+ghost use Rattle.lock_monitor.specs.Conditions.{WaitsOftenInTime};
 ghost use Rattle.spec_locks.specs.declared.calls.MutexCall.TheVariants.{Lock, Unlock};
 ghost use Rattle.spec_locks.specs.declared.outcomes.Answer.TheVariants as answers;
 

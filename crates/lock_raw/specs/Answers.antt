@@ -1,5 +1,6 @@
 -- The answers of calls.
-use Rattle.std.specs.Prelude.{◌≡◌, ◌⊎◌, ℕ, Bool, true, false, Option, Some, None, Ok, Err, IfOk, IfSome, MatchResult}
+use Rattle.std.specs.Prelude.{◌≡◌, ◌⊎◌, ℕ, Bool, true, false, Option, Some, None, Ok, Err, IfOk, IfSome}
+use Rattle.std.specs.Prelude.{MatchResult}
 use Rattle.std.specs.declared.result.Result.{Result}
 use Rattle.core_base.specs.declared.faults.Fault.{Fault}
 use Rattle.core_base.specs.declared.faults.Fault.TheVariants as faults

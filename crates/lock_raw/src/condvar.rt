@@ -1,11 +1,13 @@
 //! Raw condition variables, as generic code sees them.
-ghost use Rattle.std.specs.Prelude.{◌≡◌, ◌≢◌, ◌≤◌, ◌+◌, ◌^◌, ℕ, Bool, true, false, MatchOption, MatchResult, IfOk};
+ghost use Rattle.std.specs.Prelude.{◌≡◌, ◌≢◌, ◌≤◌, ◌+◌, ◌^◌, ℕ, Bool, true, false, MatchOption, MatchResult};
+ghost use Rattle.std.specs.Prelude.{IfOk};
 ghost use Rattle.std.specs.Arc.{arc_value};
 ghost use Rattle.std.specs.Duration.{as_nanos};
 ghost use Rattle.core_base.specs.Clocks.{HasElapsed, HasPassed};
 ghost use Rattle.spec_locks.specs.declared.outcomes.Answer.{Answer};
 ghost use Rattle.spec_locks.specs.declared.outcomes.Answer.TheVariants.{No, Number};
-ghost use Rattle.lock_raw.specs.Answers.{GivesBack, GivesBackTimed, IsRefusal, LateByClock, moved_first, notifying_answer, timed_answer, waiting_answer};
+ghost use Rattle.lock_raw.specs.Answers.{GivesBack, GivesBackTimed, IsRefusal, LateByClock, moved_first};
+ghost use Rattle.lock_raw.specs.Answers.{notifying_answer, timed_answer, waiting_answer};
 
 use crate::RawMutex;
 use core_base::{Clock, Fault, to_deadline};

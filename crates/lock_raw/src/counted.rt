@@ -2,7 +2,8 @@
 ghost use Rattle.std.specs.Prelude.{◌≡◌, ℕ, ◌+◌, IfErr, IfOk, IfSome, MatchOption, MatchResult};
 ghost use Rattle.std.specs.Arc.{arc_value};
 ghost use Rattle.lock_raw.specs.Answers.{IsRefusal};
-ghost use Rattle.lock_raw.specs.Counts.{CountedAgain, CountedLess, CountedMore, CountedOut, CountedOutAlone, SawFull, SawMore, SawOthers, first_count};
+ghost use Rattle.lock_raw.specs.Counts.{CountedAgain, CountedLess, CountedMore, CountedOut, CountedOutAlone};
+ghost use Rattle.lock_raw.specs.Counts.{SawFull, SawMore, SawOthers, first_count};
 ghost use Rattle.core_base.specs.declared.faults.Fault.TheVariants.{LockCountFull};
 
 use crate::RawMutex;

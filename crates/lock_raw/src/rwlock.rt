@@ -13,7 +13,8 @@ ghost use Rattle.spec_locks.specs.declared.outcomes.Answer.{Answer};
 ghost use Rattle.spec_locks.specs.declared.outcomes.Answer.TheVariants as answers;
 ghost use Rattle.lock_values.specs.Ownership.{PlaceId};
 ghost use Rattle.core_words.specs.declared.views.View.{View};
-ghost use Rattle.lock_raw.specs.Answers.{IsReadersFull, IsRefusal, TriesOrFull, answer_by, counted_answer, reading_answer};
+ghost use Rattle.lock_raw.specs.Answers.{IsReadersFull, IsRefusal, TriesOrFull, answer_by, counted_answer};
+ghost use Rattle.lock_raw.specs.Answers.{reading_answer};
 
 use crate::rwlock_halves::RawRwLockHalves;
 use core_base::{Clock, Fault};

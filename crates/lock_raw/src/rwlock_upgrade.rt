@@ -8,7 +8,8 @@ ghost use Rattle.spec_locks.specs.declared.calls.Patience.TheVariants.{Patient, 
 ghost use Rattle.spec_locks.specs.declared.calls.RwLockCall.TheVariants.{Enter, Release, Downgrade, Upgrade};
 ghost use Rattle.spec_locks.specs.declared.outcomes.Answer.TheVariants as answers;
 ghost use Rattle.core_words.specs.declared.views.View.{View};
-ghost use Rattle.lock_raw.specs.Answers.{IsReadersFull, TriesOrFull, counted_answer, reading_answer, upgrade_answer};
+ghost use Rattle.lock_raw.specs.Answers.{IsReadersFull, TriesOrFull, counted_answer, reading_answer};
+ghost use Rattle.lock_raw.specs.Answers.{upgrade_answer};
 
 use crate::rwlock::RawRwLock;
 use core_base::{Clock, Fault};

@@ -44,35 +44,60 @@ module _ (a : NamedLft) (R : RattleType) where
   Words = Struct (shape (opened.the_type a R))
 
   pub told : (p : Bor PlaceId) (vs : List Val) → Is Words (p, (tt, tt)) vs → vs ≡ open_val p.ref_ptr ∷ []
-  told p vs is = is.1.0 ∙ ap (λ (ws : List Val). vstruct (of_list (ws ++ (is.0.1.0 ++ []))) ∷ []) is.1.1.0.0 ∙ ap (λ (ws : List Val). vstruct (of_list (vptr p.ref_ptr.0 p.ref_ptr.1 ∷ (ws ++ []))) ∷ []) is.1.1.1.0.1.0
+  told p vs is = is.1.0 ∙ ap (λ (ws : List Val). vstruct (of_list (ws ++ (is.0.1.0 ++ []))) ∷ []) is.1.1.0.0
+      ∙ ap (λ (ws : List Val). vstruct (of_list (vptr p.ref_ptr.0 p.ref_ptr.1 ∷ (ws ++ []))) ∷ [])
+      is.1.1.1.0.1.0
 
   module _ {M : Type 1} {𝓤 : Ura M} (𝓛 : Logic 𝓤) where
     -- the reference is kept
-    pub made : (p : Bor PlaceId) → ent 𝓤 (sem 𝓛 (hidden_shr (place.the_row R) a.lft p.now p.ref_ptr.0 p.ref_ptr.1)) (sem 𝓛 (Words.own_val (p, (tt, tt)) (open_val p.ref_ptr ∷ [])))
-    made p = let v : Val = open_val p.ref_ptr in qed 𝓛 (‵ (hidden_shr (place.the_row R) a.lft p.now p.ref_ptr.0 p.ref_ptr.1) ∷ []) ∵
+    pub made : (p : Bor PlaceId) → ent 𝓤
+        (sem 𝓛 (hidden_shr (place.the_row R) a.lft p.now p.ref_ptr.0 p.ref_ptr.1))
+        (sem 𝓛 (Words.own_val (p, (tt, tt)) (open_val p.ref_ptr ∷ [])))
+    made p = let v : Val = open_val p.ref_ptr
+        in qed 𝓛 (‵ (hidden_shr (place.the_row R) a.lft p.now p.ref_ptr.0 p.ref_ptr.1) ∷ []) ∵
         feq_i ! (List Val) (shr_vals p) (shr_vals p) refl $ fjoin ! $
-        use0 𝓛 (‵ (Here.own_val (record {}) (here_val ∷ []))) (makes_shadow 𝓛 (Here.own_val (record {}) (here_val ∷ [])) (λ uss. (tt, tt)) (tt, (refl, tt))) $ nothing ! $ move ! (1 ∷ 0 ∷ []) $ fjoin ! $
+        use0 𝓛 (‵ (Here.own_val (record {}) (here_val ∷ [])))
+        (makes_shadow 𝓛 (Here.own_val (record {}) (here_val ∷ [])) (λ uss. (tt, tt)) (tt, (refl, tt)))
+        $ nothing ! $ move ! (1 ∷ 0 ∷ []) $ fjoin ! $
         move ! (1 ∷ 0 ∷ []) $ fjoin ! $ feq_i ! (List Val) (v ∷ []) (v ∷ []) refl $ fjoin ! $
-        fpack ! (Valss (ShrRef a.mir a.lft (place.the_row R) ∷ Here ∷ [])) (within (shape (opened.the_type a R)) (p, (tt, tt)) (v ∷ [])) (shr_vals p, (here_val ∷ [], tt)) $ done !
+        fpack ! (Valss (ShrRef a.mir a.lft (place.the_row R) ∷ Here ∷ []))
+        (within (shape (opened.the_type a R)) (p, (tt, tt)) (v ∷ [])) (shr_vals p, (here_val ∷ [], tt))
+        $ done !
 
     pub words_open : Opens 𝓛 Words
-    words_open = (Struct-Copied 𝓛 (shape (opened.the_type a R)) (refl, (refl, tt)) ((shr_ref_copy a (place.the_row R) tt (near_laws R)).copied M 𝓤 𝓛, ((field_copy (marker.the_type RawPtr) tt).copied M 𝓤 𝓛, tt))).opens
+    words_open = (Struct-Copied 𝓛 (shape (opened.the_type a R)) (refl, (refl, tt)) (
+      (shr_ref_copy a (place.the_row R) tt (near_laws R)).copied M 𝓤 𝓛,
+      ((field_copy (marker.the_type RawPtr) tt).copied M 𝓤 𝓛, tt),
+    )).opens
 
 module _ (a : NamedLft) (R : RattleType) where
   abbrev pub SeenWords : RattleType
   SeenWords = Struct (shape (seen.the_type a R))
 
-  pub seen_told : (p : Bor PlaceId) (vs : List Val) → Is SeenWords (p, (tt, tt)) vs → vs ≡ open_val p.ref_ptr ∷ []
-  seen_told p vs is = is.1.0 ∙ ap (λ (ws : List Val). vstruct (of_list (ws ++ (is.0.1.0 ++ []))) ∷ []) is.1.1.0.0 ∙ ap (λ (ws : List Val). vstruct (of_list (vptr p.ref_ptr.0 p.ref_ptr.1 ∷ (ws ++ []))) ∷ []) is.1.1.1.0.1.0
+  pub seen_told : (p : Bor PlaceId) (vs : List Val) → Is SeenWords (p, (tt, tt)) vs → vs ≡ open_val p.ref_ptr
+      ∷ []
+  seen_told p vs is = is.1.0 ∙ ap (λ (ws : List Val). vstruct (of_list (ws ++ (is.0.1.0 ++ []))) ∷ [])
+      is.1.1.0.0 ∙ ap (λ (ws : List Val). vstruct (of_list (vptr p.ref_ptr.0 p.ref_ptr.1 ∷ (ws ++ []))) ∷ [])
+      is.1.1.1.0.1.0
 
   module _ {M : Type 1} {𝓤 : Ura M} (𝓛 : Logic 𝓤) where
     -- the reference is kept
-    pub seen_made : (p : Bor PlaceId) → ent 𝓤 (sem 𝓛 (hidden_shr (place.the_row R) a.lft p.now p.ref_ptr.0 p.ref_ptr.1)) (sem 𝓛 (SeenWords.own_val (p, (tt, tt)) (open_val p.ref_ptr ∷ [])))
-    seen_made p = let v : Val = open_val p.ref_ptr in qed 𝓛 (‵ (hidden_shr (place.the_row R) a.lft p.now p.ref_ptr.0 p.ref_ptr.1) ∷ []) ∵
+    pub seen_made : (p : Bor PlaceId)
+        → ent 𝓤 (sem 𝓛 (hidden_shr (place.the_row R) a.lft p.now p.ref_ptr.0 p.ref_ptr.1))
+        (sem 𝓛 (SeenWords.own_val (p, (tt, tt)) (open_val p.ref_ptr ∷ [])))
+    seen_made p = let v : Val = open_val p.ref_ptr
+        in qed 𝓛 (‵ (hidden_shr (place.the_row R) a.lft p.now p.ref_ptr.0 p.ref_ptr.1) ∷ []) ∵
         feq_i ! (List Val) (shr_vals p) (shr_vals p) refl $ fjoin ! $
-        use0 𝓛 (‵ (Here.own_val (record {}) (here_val ∷ []))) (makes_shadow 𝓛 (Here.own_val (record {}) (here_val ∷ [])) (λ uss. (tt, tt)) (tt, (refl, tt))) $ nothing ! $ move ! (1 ∷ 0 ∷ []) $ fjoin ! $
+        use0 𝓛 (‵ (Here.own_val (record {}) (here_val ∷ [])))
+        (makes_shadow 𝓛 (Here.own_val (record {}) (here_val ∷ [])) (λ uss. (tt, tt)) (tt, (refl, tt)))
+        $ nothing ! $ move ! (1 ∷ 0 ∷ []) $ fjoin ! $
         move ! (1 ∷ 0 ∷ []) $ fjoin ! $ feq_i ! (List Val) (v ∷ []) (v ∷ []) refl $ fjoin ! $
-        fpack ! (Valss (ShrRef a.mir a.lft (place.the_row R) ∷ Here ∷ [])) (within (shape (seen.the_type a R)) (p, (tt, tt)) (v ∷ [])) (shr_vals p, (here_val ∷ [], tt)) $ done !
+        fpack ! (Valss (ShrRef a.mir a.lft (place.the_row R) ∷ Here ∷ []))
+        (within (shape (seen.the_type a R)) (p, (tt, tt)) (v ∷ [])) (shr_vals p, (here_val ∷ [], tt))
+        $ done !
 
     pub seen_words_open : Opens 𝓛 SeenWords
-    seen_words_open = (Struct-Copied 𝓛 (shape (seen.the_type a R)) (refl, (refl, tt)) ((shr_ref_copy a (place.the_row R) tt (near_laws R)).copied M 𝓤 𝓛, ((field_copy (marker.the_type RawPtr) tt).copied M 𝓤 𝓛, tt))).opens
+    seen_words_open = (Struct-Copied 𝓛 (shape (seen.the_type a R)) (refl, (refl, tt)) (
+      (shr_ref_copy a (place.the_row R) tt (near_laws R)).copied M 𝓤 𝓛,
+      ((field_copy (marker.the_type RawPtr) tt).copied M 𝓤 𝓛, tt),
+    )).opens

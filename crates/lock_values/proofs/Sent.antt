@@ -23,7 +23,21 @@ module _ {V : Type 0} (cv : Coded V) (alone among : V → Type 0) (z : TableId) 
   bench_keyless q a [] = tt
   bench_keyless q a (r ∷ rs) = (berth_keyless q a r.0 r.1, bench_keyless (right q) a rs)
 
-  pub state_keyless : (R : RattleType) → IsSend R → IsSync R → (b e : ℕ) (t : Id) (y : PlacePhase V) → Keyless (state cv alone among z R b e t y)
-  state_keyless R s y b e t (read a rs) = ((roster_keyless (rec_coded cv).code t.1.0 0 rs, bench_keyless full_share a rs), ((λ g. (tt, tt)), ((λ x. y.shared x b e (a ∷ t.0)), (λ x. part_keyless R s full_share x b e))))
-  state_keyless R s y b e t (written i v rs) = ((λ _. tt), (roster_keyless (rec_coded cv).code t.1.0 0 rs, (entry_keyless halved z.views_name i _, tt)))
-  state_keyless R s y b e t (clashed i v q j w r) = ((λ _. tt), (entry_keyless halved z.views_name i _, entry_keyless halved z.views_name j _))
+  pub state_keyless : (R : RattleType) → IsSend R → IsSync R → (b e : ℕ) (t : Id) (y : PlacePhase V)
+      → Keyless (state cv alone among z R b e t y)
+  state_keyless R s y b e t (read a rs) = (
+    (roster_keyless (rec_coded cv).code t.1.0 0 rs, bench_keyless full_share a rs),
+    ((λ g. (tt, tt)), ((λ x. y.shared x b e (a ∷ t.0)), (λ x. part_keyless R s full_share x b e))),
+  )
+  state_keyless R s y b e t (written i v rs) = (
+    (λ _. tt),
+    (
+      roster_keyless (rec_coded cv).code t.1.0 0 rs,
+      (
+        entry_keyless halved z.views_name i _,
+        tt,
+      ),
+    ),
+  )
+  state_keyless R s y b e t (clashed i v q j w r) =
+      ((λ _. tt), (entry_keyless halved z.views_name i _, entry_keyless halved z.views_name j _))

@@ -3,7 +3,8 @@ ghost use Rattle.std.specs.Prelude.{◌≡◌, [], ◌∷◌};
 ghost use Rattle.lock_values.specs.Owning.{alone, among};
 ghost use Rattle.core_words.specs.declared.views.View.{View};
 ghost use Rattle.core_words.specs.contracts.views.View.{the_row as view_row};
-ghost use Rattle.lock_values.specs.Ownership.{PlaceId, place_id_coded, place_shares, place_owns, Excluded, seen_owns, open_owns, open_shares};
+ghost use Rattle.lock_values.specs.Ownership.{PlaceId, place_id_coded, place_shares, place_owns, Excluded};
+ghost use Rattle.lock_values.specs.Ownership.{seen_owns, open_owns, open_shares};
 
 use atomic_table::{Badge, Shared, TableRule};
 use core_words::View;

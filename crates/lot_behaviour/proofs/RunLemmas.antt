@@ -1,5 +1,6 @@
 -- Each move of a behaviour is a step of the world, or leaves it as it is.
-use Rattle.std.proofs.Common.{ℕ, zero, suc, ◌≡◌, ◌/◌, ◌%◌, Bool, true, false, Option, Some, None, refl, sym, ap, subst, ◌∙◌}
+use Rattle.std.proofs.Common.{ℕ, zero, suc, ◌≡◌, ◌/◌, ◌%◌, Bool, true, false, Option, Some, None, refl, sym}
+use Rattle.std.proofs.Common.{ap, subst, ◌∙◌}
 use Rattle.std.specs.Prelude.{if◌then◌else◌, nat_lt}
 use Rattle.spec_locks.specs.declared.calls.Turn.TheVariants as turn
 use Rattle.spec_locks.specs.declared.calls.Turn.{Turn}
@@ -15,7 +16,8 @@ use Rattle.lot_scene.specs.Stages.{step_of, is_own}
 use Rattle.lot_behaviour.specs.declared.behaviour.Act.{Act}
 use Rattle.lot_behaviour.specs.declared.behaviour.Act.TheVariants as act
 use Rattle.lot_behaviour.specs.Conducts.{Conduct}
-use Rattle.lot_behaviour.specs.Moves.{SceneState, with_step, stepped_by, or_refused, world_move, closing, acted, own_move, next_at, local_at, thread_move, scene_next}
+use Rattle.lot_behaviour.specs.Moves.{SceneState, with_step, stepped_by, or_refused, world_move, closing}
+use Rattle.lot_behaviour.specs.Moves.{acted, own_move, next_at, local_at, thread_move, scene_next}
 use Rattle.lot_behaviour.specs.Runs.{step_by, own_step, thread_step, listed, steps_taken}
 
 stepped_world : {S : Type 0} (c : Conduct S) (o : Outcome) (s u : SceneState S) (step : Step) (x : S)
@@ -41,7 +43,8 @@ refused_world c (outcome.End a) s step x t told = refl
 acted_world : {S : Type 0} (a : Act) (c : Conduct S) (s : SceneState S) (t : ℕ) (x : S)
     → (acted a c s t x).world ≡ after_steps s.world (listed (step_by a t))
 acted_world (act.Call call) c s t x =
-    refused_world c (step_outcome s.world (step_of t (turn.Begin call))) s (step_of t (turn.Begin call)) x t refl
+    refused_world c (step_outcome s.world (step_of t (turn.Begin call))) s (step_of t (turn.Begin call)) x t
+    refl
 acted_world (act.Close b) c s t x =
     refused_world c (step_outcome s.world (step_of t (closing b))) s (step_of t (closing b)) x t refl
 acted_world (act.Write v n) c s t x = refl

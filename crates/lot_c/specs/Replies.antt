@@ -2,7 +2,8 @@
 use Rattle.std.specs.Prelude.{◌≡◌, ◌≤◌, ◌<◌, ◌⊎◌, ℕ, List, ◌++◌, length, drop, ⊤, Option, None, Some}
 use Rattle.lot_replay.specs.Replay.{IsText, StopsForMemory}
 
--- A text that fits is at the front of the buffer, and the other bytes are as they were. Where it doesn't fit, all
+-- A text that fits is at the front of the buffer, and the other bytes are as they were. Where it doesn't fit,
+-- all
 -- bytes are.
 abbrev pub Delivers : List ℕ → List ℕ → ℕ → List ℕ → ℕ → ℕ → Type 0
 Delivers old new written text ending status =

@@ -1,7 +1,8 @@
 -- Why there is no picture.
 use Rattle.std.specs.Prelude.{Bool, true, false}
 use Rattle.lot_picture.specs.declared.lines.Failure.{Failure}
-use Rattle.lot_picture.specs.declared.lines.Failure.TheVariants.{Malformed, NoMemory, Unread, Undrawn, Unwritten}
+use Rattle.lot_picture.specs.declared.lines.Failure.TheVariants.{Malformed, NoMemory, Unread, Undrawn}
+use Rattle.lot_picture.specs.declared.lines.Failure.TheVariants.{Unwritten}
 use Rattle.lot_draw.specs.declared.start.Unfit.{Unfit}
 use Rattle.lot_draw.specs.declared.start.Unfit as unfit
 

@@ -3,7 +3,8 @@ use Rattle.std.specs.Prelude.{ℕ, Option, Some, None, List, [], ◌∷◌}
 use Rattle.core_base.specs.declared.wants.Want.TheVariants.{Exclusive}
 use Rattle.steps_mutex.specs.declared.places.MutexPlace.{MutexPlace}
 use Rattle.lot_laws.specs.Locations.{Location, location_by}
-pub use Rattle.steps_mutex.specs.MutexDeeds.{enter_deeds, handing_deeds, hand_off_deeds, lock_deeds, mutex_deeds, queued, take_deeds, unlock_deeds}
+pub use Rattle.steps_mutex.specs.MutexDeeds.{enter_deeds, handing_deeds, hand_off_deeds, lock_deeds}
+pub use Rattle.steps_mutex.specs.MutexDeeds.{mutex_deeds, queued, take_deeds, unlock_deeds}
 pub use Rattle.steps_mutex.specs.MutexLaws.{mutex_role, mutex_row}
 pub use Rattle.steps_mutex.specs.MutexProfiles.{mutex_profile, owner, inside, with_retry, carrying}
 pub use Rattle.steps_base.specs.Profiles.{Hand, Of, hand, hand_owner, in_hand}

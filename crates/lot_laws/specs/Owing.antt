@@ -1,7 +1,8 @@
 -- A thread owes a wake on a line by its history: from the step that saw waiters, or from entering the
 -- section, until the section is left.
 use Rattle.steps_base.specs.Rows.{IsDowngrade}
-use Rattle.std.specs.Prelude.{ℕ, Bool, true, false, if◌then◌else◌, ◌==◌, ◌&&◌, ◌||◌, Option, Some, None, ◌≡◌, ◌≢◌, ◌⊎◌, ◌↔◌}
+use Rattle.std.specs.Prelude.{ℕ, Bool, true, false, if◌then◌else◌, ◌==◌, ◌&&◌, ◌||◌, Option, Some, None, ◌≡◌}
+use Rattle.std.specs.Prelude.{◌≢◌, ◌⊎◌, ◌↔◌}
 use Rattle.core_base.specs.declared.wants.Want.TheVariants.{Exclusive, Shared}
 use Rattle.spec_locks.specs.declared.outcomes.Outcome.{Outcome}
 use Rattle.spec_locks.specs.declared.outcomes.Outcome.TheVariants as told

@@ -2,7 +2,8 @@
 -- sort of lock, so that it stays as it is for a further sort.
 use Rattle.steps_base.specs.Rows.{KnowsRights, WakesAside}
 use Rattle.spec_locks.specs.Locks as locks
-use Rattle.std.specs.Prelude.{ℕ, Bool, false, true, None, Option, ◌≡◌, ◌≢◌, ◌≤◌, ◌<◌, ◌-◌, ◌⊎◌, ◌↔◌, Some, ◌*◌, ◌+◌, []}
+use Rattle.std.specs.Prelude.{ℕ, Bool, false, true, None, Option, ◌≡◌, ◌≢◌, ◌≤◌, ◌<◌, ◌-◌, ◌⊎◌, ◌↔◌, Some}
+use Rattle.std.specs.Prelude.{◌*◌, ◌+◌, []}
 use Rattle.core_base.specs.declared.keys.Keys.TheVariants.{One}
 use Rattle.core_base.specs.declared.wants.Want.{Want}
 use Rattle.core_base.specs.declared.ops.Op.TheVariants.{Exchange}
@@ -12,15 +13,18 @@ use Rattle.steps_base.specs.declared.acts.Wakes as wakes
 use Rattle.core_base.specs.declared.notes.Note.TheVariants.{HandOff}
 use Rattle.lot_steps.specs.Steps.{act_of, taker, retries_on}
 use Rattle.lot_machine.specs.Machine.{State, place_at, word_at, filled_at, section_at}
-use Rattle.spec_locks.specs.Locks.{LockState, Sort, Recursive, Once, Rules, Taken, times, standing, readers, count, has_caller}
+use Rattle.spec_locks.specs.Locks.{LockState, Sort, Recursive, Once, Rules, Taken, times, standing, readers}
+use Rattle.spec_locks.specs.Locks.{count, has_caller}
 use Rattle.spec_locks.specs.Onces.{InProgress, IsRunning}
 use Rattle.spec_locks.specs.Codes.{word_by, parked_in, aside_in, has_aside, is_running}
 use Rattle.steps_rwlock.specs.RwLockSteps.{plus}
 use Rattle.steps_once.specs.OnceSteps.{marked}
 use Rattle.spec_locks.specs.Runs.{AreLockStates, CallState, LetsGo, ShowsWaiters}
 use Rattle.spec_locks.specs.Sites.{Line, Main, Second, counts_some, has_readers}
-pub use Rattle.spec_locks.specs.Headline.{want_of, mutex_seen, WakesWaiters, IsOpenNow, HasOrPends, GoesFreely}
-use Rattle.spec_locks.specs.Purposes.{Purpose, Enters, Releases, Converts, Bumps, CallsOnce, Awaits, IsReleasing, MayWait, Waits, Notifies}
+pub use Rattle.spec_locks.specs.Headline.{want_of, mutex_seen, WakesWaiters, IsOpenNow, HasOrPends}
+pub use Rattle.spec_locks.specs.Headline.{GoesFreely}
+use Rattle.spec_locks.specs.Purposes.{Purpose, Enters, Releases, Converts, Bumps, CallsOnce, Awaits}
+use Rattle.spec_locks.specs.Purposes.{IsReleasing, MayWait, Waits, Notifies}
 use Rattle.spec_locks.specs.declared.calls.Patience.TheVariants.{Try}
 use Rattle.lot_laws.specs.Refinement.{RunsClosure, lock_state, locks_of, call_at}
 use Rattle.lot_laws.specs.Locations.{role_on}

@@ -1,5 +1,6 @@
 -- The abstract locks that a world's words, places and queues stand for.
-use Rattle.std.specs.Prelude.{ℕ, Bool, true, false, Option, Some, None, if◌then◌else◌, ◌&&◌, not, ◌+◌, ◌*◌, ◌≡◌, ◌≢◌, ◌⊎◌, length, is_some}
+use Rattle.std.specs.Prelude.{ℕ, Bool, true, false, Option, Some, None, if◌then◌else◌, ◌&&◌, not, ◌+◌, ◌*◌}
+use Rattle.std.specs.Prelude.{◌≡◌, ◌≢◌, ◌⊎◌, length, is_some}
 use Rattle.lot_steps.specs.declared.places.Place.{Place}
 use Rattle.steps_base.specs.Profiles.{Profile, bringing_nobody, taken_from}
 pub use Rattle.steps_base.specs.Calls.{call_by, call_of_two}
@@ -8,10 +9,13 @@ use Rattle.steps_mutex.specs.declared.places.MutexPlace.{MutexPlace}
 use Rattle.steps_base.specs.declared.acts.Act.{Act}
 use Rattle.steps_base.specs.declared.acts.Act.TheVariants.{Enter, Sleep}
 use Rattle.core_base.specs.declared.keys.Keys.{Keys}
-use Rattle.lot_steps.specs.Steps.{act_of, beside_of, looking, called_lock, calls, is_lock, profile, profile_beside}
-pub use Rattle.steps_mutex.specs.MutexProfiles.{mutex_profile, is_bump, entry_purpose, release_purpose, before_entry, before_release}
+use Rattle.lot_steps.specs.Steps.{act_of, beside_of, looking, called_lock, calls, is_lock, profile}
+use Rattle.lot_steps.specs.Steps.{profile_beside}
+pub use Rattle.steps_mutex.specs.MutexProfiles.{mutex_profile, is_bump, entry_purpose, release_purpose}
+pub use Rattle.steps_mutex.specs.MutexProfiles.{before_entry, before_release}
 pub use Rattle.lot_machine.specs.Machine.{runs_closure}
-use Rattle.lot_machine.specs.Machine.{State, place_at, word_at, owners_at, shares_at, kind_at, queue_at, section_at}
+use Rattle.lot_machine.specs.Machine.{State, place_at, word_at, owners_at, shares_at, kind_at, queue_at}
+use Rattle.lot_machine.specs.Machine.{section_at}
 use Rattle.spec_locks.specs.Locks.{LockState, Taken, Rights}
 use Rattle.spec_locks.specs.Runs.{LocksState, CallState, Status, no_call}
 use Rattle.spec_locks.specs.Locks as locks

@@ -1,17 +1,23 @@
 -- The locks of a world, with what each thread does about each.
-use Rattle.std.specs.Prelude.{ℕ, Bool, true, false, Option, Some, None, ◌≡◌, ◌≢◌, ◌<◌, ◌≤◌, ◌-◌, ◌^◌, ◌↔◌, List, [], ◌∷◌, length}
+use Rattle.std.specs.Prelude.{ℕ, Bool, true, false, Option, Some, None, ◌≡◌, ◌≢◌, ◌<◌, ◌≤◌, ◌-◌, ◌^◌, ◌↔◌}
+use Rattle.std.specs.Prelude.{List, [], ◌∷◌, length}
 use Rattle.core_base.specs.declared.wants.Waiter.{Waiter}
 pub use Rattle.core_base.specs.Keys.{key_of}
 use Rattle.core_base.specs.Lines.{times}
 use Rattle.lot_steps.specs.declared.places.Place.{Place}
-use Rattle.lot_steps.specs.declared.places.Place.TheVariants.{Idle, Mutex as OfMutex, RwLock as OfRwLock, Once as OfOnce, Condvar as OfCondvar, Semaphore as OfSemaphore}
+use Rattle.lot_steps.specs.declared.places.Place.TheVariants.{Idle, Mutex as OfMutex, RwLock as OfRwLock}
+use Rattle.lot_steps.specs.declared.places.Place.TheVariants.{Once as OfOnce, Condvar as OfCondvar}
+use Rattle.lot_steps.specs.declared.places.Place.TheVariants.{Semaphore as OfSemaphore}
 use Rattle.core_base.specs.declared.wants.Want.{Want}
-use Rattle.spec_locks.specs.Locks.{Rules, Mutex as OneOwner, Once as OnceSort, Condvar as CondvarSort, Semaphore as SemaphoreSort}
+use Rattle.spec_locks.specs.Locks.{Rules, Mutex as OneOwner, Once as OnceSort, Condvar as CondvarSort}
+use Rattle.spec_locks.specs.Locks.{Semaphore as SemaphoreSort}
 use Rattle.spec_locks.specs.Sites.{Line, Main, Second, Site, IsSite, has_readers, after_deed, Needed}
 use Rattle.spec_locks.specs.Codes.{code, parked_in, aside_in, HasLimit}
 use Rattle.spec_locks.specs.Permits.{HasPermits}
 use Rattle.spec_locks.specs.Purposes.{rules_of}
-use Rattle.lot_machine.specs.Machine.{State, held, place_at, word_at, shares_at, sharers_in_hand, successor_from, want_of_successor, wants_more_in_hand, filled_at, kind_at, queue_at, section_at}
+use Rattle.lot_machine.specs.Machine.{State, held, place_at, word_at, shares_at, sharers_in_hand}
+use Rattle.lot_machine.specs.Machine.{successor_from, want_of_successor, wants_more_in_hand, filled_at}
+use Rattle.lot_machine.specs.Machine.{kind_at, queue_at, section_at}
 use Rattle.lot_machine.specs.Fits.{IsWellFormed}
 use Rattle.spec_locks.specs.Bypass.{AllReleaseFairly}
 use Rattle.lot_laws.specs.Refinement.{RunsClosure, lock_state, locks_of}

@@ -1,5 +1,6 @@
 -- A call whose thread steps alone, and to what it comes.
-use Rattle.std.specs.Prelude.{ℕ, Bool, true, false, if◌then◌else◌, List, Option, Some, None, ◌≡◌, ◌≢◌, ◌≤◌, ◌⊎◌, ◌++◌, ◌∷◌, [], length, replicate}
+use Rattle.std.specs.Prelude.{ℕ, Bool, true, false, if◌then◌else◌, List, Option, Some, None, ◌≡◌, ◌≢◌, ◌≤◌}
+use Rattle.std.specs.Prelude.{◌⊎◌, ◌++◌, ◌∷◌, [], length, replicate}
 use Rattle.core_base.specs.declared.keys.Keys.TheVariants.{One, Two}
 use Rattle.core_base.specs.declared.wants.Want.{Want}
 use Rattle.core_base.specs.declared.wants.Want.TheVariants.{Exclusive, Shared, CallOnce, Wait}
@@ -15,10 +16,13 @@ use Rattle.steps_condvar.specs.declared.places.CondvarPlace.TheVariants.{Look}
 use Rattle.lot_steps.specs.declared.places.Place.{Place}
 use Rattle.lot_steps.specs.declared.places.Place.TheVariants.{Idle, Condvar}
 use Rattle.lot_steps.specs.Steps.{act_of, beside_of, called_lock}
-use Rattle.lot_machine.specs.Machine.{State, place_at, word_at, kind_at, section_at, go_of, after_steps, runs_closure}
-use Rattle.spec_locks.specs.Locks.{Sort, Mutex, Recursive, Rules, LockState, first_thread, Queued, MayEnter, IsBlocked, Owns, count, readers, with_right}
+use Rattle.lot_machine.specs.Machine.{State, place_at, word_at, kind_at, section_at, go_of, after_steps}
+use Rattle.lot_machine.specs.Machine.{runs_closure}
+use Rattle.spec_locks.specs.Locks.{Sort, Mutex, Recursive, Rules, LockState, first_thread, Queued, MayEnter}
+use Rattle.spec_locks.specs.Locks.{IsBlocked, Owns, count, readers, with_right}
 use Rattle.spec_locks.specs.Sites.{Line, Main, Second, has_readers}
-use Rattle.spec_locks.specs.Purposes.{rules_of, Purpose, Enters, Releases, Converts, Bumps, CallsOnce, Awaits, Waits, Notifies}
+use Rattle.spec_locks.specs.Purposes.{rules_of, Purpose, Enters, Releases, Converts, Bumps, CallsOnce, Awaits}
+use Rattle.spec_locks.specs.Purposes.{Waits, Notifies}
 use Rattle.spec_locks.specs.declared.calls.Patience.{Patience}
 use Rattle.spec_locks.specs.declared.calls.Patience.TheVariants.{Patient, Try}
 use Rattle.spec_locks.specs.Codes.{has_parked}

@@ -1,6 +1,7 @@
 -- A run of the world: it leads by its steps from one state to another, and of each step all holds
 -- that is promised of steps.
-use Rattle.std.specs.Prelude.{ℕ, Bool, true, false, ◌==◌, ◌≡◌, ◌≢◌, ◌⊎◌, ◌++◌, Some, List, [], ◌∷◌, is_none, take}
+use Rattle.std.specs.Prelude.{ℕ, Bool, true, false, ◌==◌, ◌≡◌, ◌≢◌, ◌⊎◌, ◌++◌, Some, List, [], ◌∷◌, is_none}
+use Rattle.std.specs.Prelude.{take}
 use Rattle.spec_locks.specs.declared.calls.Access.TheVariants.{Exclusive}
 use Rattle.spec_locks.specs.declared.calls.Call as call
 use Rattle.spec_locks.specs.declared.calls.MutexCall.TheVariants as mutex_call

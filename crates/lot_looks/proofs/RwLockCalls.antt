@@ -1,4 +1,5 @@
--- Looks of each call of a reader-writer lock: a bump enters as any entering call does, and a fair release looks
+-- Looks of each call of a reader-writer lock: a bump enters as any entering call does, and a fair release
+-- looks
 -- at the waiters that it lets in.
 use Rattle.std.proofs.Common.{ℕ, arith, Bool, true, false, Option, Some, None, if◌then◌else◌, ◌==◌, ◌^◌, ◌<◌}
 use Rattle.std.proofs.Common.{◌≡◌, ◌⊎◌, inl, inr, refl, sym, ◌∙◌, ap, subst}
@@ -525,7 +526,7 @@ module _ (l : ℕ) (a : Admission) where
   hands x bumps (handing.Leave any b) sane = never (call_table l a) (HandOver x bumps (handing.Leave any b))
       (leaves x bumps any b)
 
-  -- ---------------------------------------------------------------- a glance, and a thread that was handed the lock
+  -- --------------------------------------------------------- a glance, and a thread that was handed the lock
 
   gave_then : (x : Access) (b : Bool) → Then (if b then At (gives_up_at x) else End answer.Ok) ≡ None
   gave_then access.Shared true = refl

@@ -177,7 +177,7 @@ module _ (w : State) (h : IsWorld w) (t : ℕ) (there : t < length w.places) whe
           subst (λ x. StaysSo x (place_at (state_after_act w t x (act_of x)) t)) (sym two.is)
           (subst (StaysSo (Condvar two.lock two.at)) (sym stood.1) (still_so two.lock two.at stood.0 stood.2))
 
--- ---------------------------------------------------------------- a turn that is no look, and no exchange by one
+-- ------------------------------------------------------------ a turn that is no look, and no exchange by one
 
 -- from a place where its thread has not looked, to one that is no exchange by a look
 module _ (w : State) (t : ℕ) (p o : Place) (all : AllSane w.places) (is : place_at w t ≡ p)

@@ -1,10 +1,13 @@
--- A thread works on the word of the lock that it calls, and only a call of a `Once` runs a closure, while its run is on.
-use Rattle.std.proofs.Common.{ℕ, Bool, true, false, if◌then◌else◌, ◌==◌, not, ◌≡◌, ◌+◌, ◌-◌, ◌*◌, refl, sym, ap, ◌∙◌}
+-- A thread works on the word of the lock that it calls, and only a call of a `Once` runs a closure, while its
+-- run is on.
+use Rattle.std.proofs.Common.{ℕ, Bool, true, false, if◌then◌else◌, ◌==◌, not, ◌≡◌, ◌+◌, ◌-◌, ◌*◌, refl, sym}
+use Rattle.std.proofs.Common.{ap, ◌∙◌}
 use Rattle.core_base.specs.declared.keys.Keys.TheVariants.{One}
 use Rattle.core_base.specs.declared.ops.Op as op
 use Rattle.steps_base.specs.declared.acts.Act.{Act}
 use Rattle.steps_base.specs.declared.acts.Act.TheVariants.{Word, HandOver, Enter}
-use Rattle.steps_mutex.specs.declared.places.MutexPlace.TheVariants.{Lock, TryLock, Unlock, UnlockFair, Bump, HandOff}
+use Rattle.steps_mutex.specs.declared.places.MutexPlace.TheVariants.{Lock, TryLock, Unlock, UnlockFair, Bump}
+use Rattle.steps_mutex.specs.declared.places.MutexPlace.TheVariants.{HandOff}
 use Rattle.steps_mutex.specs.declared.lock.LockAt.TheVariants as lock
 use Rattle.steps_mutex.specs.declared.unlock.UnlockAt.TheVariants as unlock
 use Rattle.steps_mutex.specs.declared.hand_off.HandOffAt.TheVariants as hand_off
@@ -39,7 +42,8 @@ use Rattle.steps_rwlock_fair.specs.declared.hand_over.HandOverAt.{HandOverAt}
 use Rattle.steps_rwlock_fair.specs.declared.hand_over.HandOverAt.TheVariants as handing
 use Rattle.steps_rwlock_fair.specs.declared.hand_over.Taken.{Taken}
 use Rattle.steps_rwlock_fair.specs.declared.handed.HandedAt.TheVariants as handed
-use Rattle.steps_rwlock_fair.specs.FairSteps.{accept_act, call_act, hand_over_act, has_room, parked_as, with_taken, word_without}
+use Rattle.steps_rwlock_fair.specs.FairSteps.{accept_act, call_act, hand_over_act, has_room, parked_as}
+use Rattle.steps_rwlock_fair.specs.FairSteps.{with_taken, word_without}
 use Rattle.steps_base.specs.declared.acts.Reply.TheVariants.{Closed}
 use Rattle.lot_steps.specs.Steps.{act_of, next_place}
 use Rattle.lot_machine.specs.Machine.{State, place_at, runs_closure, can_do, closed_place}
@@ -69,7 +73,8 @@ runs_none l (Word k f) h = refl
 runs_none l (HandOver k f) h = refl
 runs_none l a h = h
 
-decides_own : (l s : ℕ) (a b : Bool) → IsOwn l (if not a then Word l (op.TheVariants.Exchange s (s + 1)) else if b then Word l (op.TheVariants.Exchange 1 3) else Enter (One (2 * l)))
+decides_own : (l s : ℕ) (a b : Bool) → IsOwn l (if not a then Word l (op.TheVariants.Exchange s (s + 1))
+    else if b then Word l (op.TheVariants.Exchange 1 3) else Enter (One (2 * l)))
 decides_own l s false b = refl
 decides_own l s true true = refl
 decides_own l s true false = refl
@@ -80,7 +85,8 @@ rwlock_decides_own l q s decisions.Mark = refl
 rwlock_decides_own l q s decisions.Park = refl
 rwlock_decides_own l q s (decisions.Refuse answer) = refl
 
-counts_own : (l s : ℕ) (b : Bool) → IsOwn l (if b then Enter (One (2 * l + 1)) else Word l (op.TheVariants.Exchange s (plus s 2)))
+counts_own : (l s : ℕ) (b : Bool) → IsOwn l (if b then Enter (One (2 * l + 1))
+    else Word l (op.TheVariants.Exchange s (plus s 2)))
 counts_own l s true = refl
 counts_own l s false = refl
 
@@ -93,7 +99,8 @@ parks_own l a x m parking.Remove = refl
 parks_own l a x m parking.Clear = refl
 parks_own l a x m parking.GiveUp = refl
 
-wakes_own : (l : ℕ) (a : Admission) (q : RwLockPurpose) (m : Line) (to : WakeAt) → IsOwn l (wake_act l a q m to)
+wakes_own : (l : ℕ) (a : Admission) (q : RwLockPurpose) (m : Line) (to : WakeAt)
+    → IsOwn l (wake_act l a q m to)
 wakes_own l a q m waking.Enter = refl
 wakes_own l a q m waking.Take = refl
 wakes_own l a q m (waking.Clear any) = refl
@@ -112,7 +119,9 @@ rwlock_own l a p at.RollBack = refl
 rwlock_own l a p at.GiveWay = refl
 rwlock_own l a p (at.Wake m to) = wakes_own l a p.purpose m to
 
-exchanges_own : (l limit : ℕ) (x : Access) (k : Taken) (s : ℕ) (b : Bool) → IsOwn l (if b then HandOver l (op.TheVariants.Exchange s (with_taken x k s)) else Word l (op.TheVariants.Exchange s (parked_as k.none_left (word_without x s))))
+exchanges_own : (l limit : ℕ) (x : Access) (k : Taken) (s : ℕ) (b : Bool)
+    → IsOwn l (if b then HandOver l (op.TheVariants.Exchange s (with_taken x k s)) else Word l
+    (op.TheVariants.Exchange s (parked_as k.none_left (word_without x s))))
 exchanges_own l limit x k s true = refl
 exchanges_own l limit x k s false = refl
 
@@ -158,12 +167,14 @@ mutex_own l (HandOff b (hand_off.Store false n)) = refl
 mutex_own l (HandOff b (hand_off.Store true n)) = refl
 mutex_own l (HandOff b a) = refl
 
-takes_own : (l s : ℕ) (a b : Bool) → IsOwn l (if a then Word l (op.TheVariants.Exchange s (s - 2)) else if b then Word l (op.TheVariants.Exchange 0 1) else Enter (One (2 * l)))
+takes_own : (l s : ℕ) (a b : Bool) → IsOwn l (if a then Word l (op.TheVariants.Exchange s (s - 2)) else if b
+    then Word l (op.TheVariants.Exchange 0 1) else Enter (One (2 * l)))
 takes_own l s true b = refl
 takes_own l s false true = refl
 takes_own l s false false = refl
 
-tries_own : (l s : ℕ) (a : Bool) → IsOwn l (if a then Word l (op.TheVariants.Exchange s (s - 2)) else Word l op.TheVariants.Load)
+tries_own : (l s : ℕ) (a : Bool) → IsOwn l (if a then Word l (op.TheVariants.Exchange s (s - 2))
+    else Word l op.TheVariants.Load)
 tries_own l s true = refl
 tries_own l s false = refl
 
@@ -214,12 +225,18 @@ runs_one (Mutex l m) h = absurd (let e : false ≡ true = sym (mutex_runs_none l
 runs_one (RwLock l a c) h = absurd (let e : false ≡ true = sym (call_runs_none l a c) ∙ h in cc)
 runs_one (Semaphore l at) h = absurd (let e : false ≡ true = sym (semaphore_runs_none l at) ∙ h in cc)
 runs_one (Condvar l at) h = absurd (let e : false ≡ true = sym (condvar_runs_none l at) ∙ h in cc)
-runs_one (Once l (Run forced (run.Closure poisoned))) h = record { lock = l; forced = forced; poisoned = poisoned; is = refl }
+runs_one (Once l (Run forced (run.Closure poisoned))) h = record {
+  lock = l;
+  forced = forced;
+  poisoned = poisoned;
+  is = refl;
+}
 runs_one (Once l (Run forced (run.Close succeeded))) h = absurd cc
 runs_one (Once l (Run forced (run.Enter succeeded))) h = absurd cc
 runs_one (Once l (Run forced (run.Take succeeded))) h = absurd cc
 runs_one (Once l (Run forced (run.Leave succeeded any))) h = absurd cc
-runs_one (Once l (Look c again (look.Decide seen))) h = absurd (let e : false ≡ true = sym (course_runs_none l seen (course_of c seen)) ∙ h in cc)
+runs_one (Once l (Look c again (look.Decide seen))) h = absurd (let e : false ≡ true =
+    sym (course_runs_none l seen (course_of c seen)) ∙ h in cc)
 runs_one (Once l (Look c again look.Load)) h = absurd cc
 runs_one (Once l (Look c again look.Check)) h = absurd cc
 runs_one (Once l (Look c again (look.Leave parked))) h = absurd cc
@@ -230,5 +247,7 @@ runs_one (Once l (GiveUp again give_up.Clear)) h = absurd cc
 runs_one (Once l (GiveUp again give_up.Leave)) h = absurd cc
 
 -- A thread that closes its run swaps the word next, whatever thread is inside.
-pub closes_freely : (w v : State) (t : ℕ) (succeeded : Bool) → runs_closure (act_of (place_at w t)) ≡ true → can_do v (act_of (closed_place w t succeeded)) ≡ true
-closes_freely w v t succeeded runs = ap (λ p. can_do v (act_of (next_place p (Closed succeeded)))) (runs_one (place_at w t) runs).is
+pub closes_freely : (w v : State) (t : ℕ) (succeeded : Bool) → runs_closure (act_of (place_at w t)) ≡ true
+    → can_do v (act_of (closed_place w t succeeded)) ≡ true
+closes_freely w v t succeeded runs = ap (λ p. can_do v (act_of (next_place p (Closed succeeded))))
+    (runs_one (place_at w t) runs).is

@@ -1,5 +1,8 @@
 -- Each step keeps the shape of a state: its numbers go on naming threads, locks and keys that are there.
-use Rattle.std.proofs.Common.{inl, ◌^◌, ℕ, zero, suc, Bool, true, false, cond, Option, Some, None, if◌then◌else◌, ◌==◌, not, nat_lt, ◌≡◌, ◌*◌, ◌≤◌, ◌<◌, List, [], ◌∷◌, ◌++◌, length, get_or, set, map, drop, refl, ◌∙◌, length-set, get_or-set_same, replicate, sym, ap, subst, arith}
+use Rattle.std.proofs.Common.{inl, ◌^◌, ℕ, zero, suc, Bool, true, false, cond, Option, Some, None}
+use Rattle.std.proofs.Common.{if◌then◌else◌, ◌==◌, not, nat_lt, ◌≡◌, ◌*◌, ◌≤◌, ◌<◌, List, [], ◌∷◌, ◌++◌}
+use Rattle.std.proofs.Common.{length, get_or, set, map, drop, refl, ◌∙◌, length-set, get_or-set_same}
+use Rattle.std.proofs.Common.{replicate, sym, ap, subst, arith}
 use Rattle.std.specs.Prelude.{is_some}
 use Rattle.std.proofs.lemmas.List.{length-replicate}
 use Rattle.std.proofs.lemmas.Bool.{ltb-true}
@@ -12,13 +15,15 @@ use Rattle.core_base.specs.declared.wants.Waiter.{Waiter}
 use Rattle.core_base.specs.declared.wants.Want.{Want}
 use Rattle.core_base.specs.Lines.{waiter, without, first_of}
 use Rattle.steps_base.specs.declared.acts.Act.{Act}
-use Rattle.steps_base.specs.declared.acts.Act.TheVariants.{Word, HandOver, Enter, Park, Stand, Take, Remove, Leave}
+use Rattle.steps_base.specs.declared.acts.Act.TheVariants.{Word, HandOver, Enter, Park, Stand, Take, Remove}
+use Rattle.steps_base.specs.declared.acts.Act.TheVariants.{Leave}
 use Rattle.steps_base.specs.declared.acts.Act.TheVariants as act
 use Rattle.steps_base.specs.declared.acts.Check.{Check}
 use Rattle.steps_base.specs.declared.acts.Wakes.{Wakes}
 use Rattle.steps_base.specs.declared.acts.Wakes as wakes
 use Rattle.steps_base.specs.declared.acts.Reply.{Reply}
-use Rattle.steps_base.specs.declared.acts.Reply.TheVariants.{Value, TakenBy, MovedTo, HandedBy, Late, Woken, Closed}
+use Rattle.steps_base.specs.declared.acts.Reply.TheVariants.{Value, TakenBy, MovedTo, HandedBy, Late, Woken}
+use Rattle.steps_base.specs.declared.acts.Reply.TheVariants.{Closed}
 use Rattle.steps_base.specs.declared.acts.Next.{Next}
 use Rattle.steps_base.specs.declared.acts.Next as next
 use Rattle.spec_locks.specs.declared.calls.Call.{Call}
@@ -43,7 +48,8 @@ use Rattle.steps_semaphore.specs.SemaphoreProfiles.{semaphore_profile}
 use Rattle.steps_semaphore.specs.SemaphoreSteps.{semaphore_next}
 use Rattle.steps_mutex.specs.declared.lock.Entry.{Entry}
 use Rattle.steps_mutex.specs.declared.places.MutexPlace.{MutexPlace}
-use Rattle.steps_mutex.specs.declared.places.MutexPlace.TheVariants.{Lock, TryLock, Unlock, UnlockFair, Bump, HandOff}
+use Rattle.steps_mutex.specs.declared.places.MutexPlace.TheVariants.{Lock, TryLock, Unlock, UnlockFair, Bump}
+use Rattle.steps_mutex.specs.declared.places.MutexPlace.TheVariants.{HandOff}
 use Rattle.steps_mutex.specs.declared.lock.LockAt.{LockAt}
 use Rattle.steps_base.specs.Acts.{takes_effect, holds, outcome_of}
 use Rattle.spec_locks.specs.declared.outcomes.Outcome.{Outcome}
@@ -55,18 +61,34 @@ use Rattle.core_base.specs.declared.lock_picker.LockPicker.{LockPicker}
 use Rattle.core_base.specs.declared.picks.Pick.{Pick}
 use Rattle.core_base.specs.declared.picks.Pick.TheVariants.{Unpark, Skip, Stop}
 use Rattle.core_base.specs.Lines.{threads_of}
-use Rattle.core_base.specs.Picks.{without_picked, without_lock_picked, lock_picked, lock_answer, next_picker, lock_picker}
+use Rattle.core_base.specs.Picks.{without_picked, without_lock_picked, lock_picked, lock_answer, next_picker}
+use Rattle.core_base.specs.Picks.{lock_picker}
 use Rattle.core_base.specs.Requeues.{taken_by, moved_by}
 use Rattle.lot_machine.proofs.QueueLemmas.{told_count}
 use Rattle.steps_mutex.specs.MutexSteps.{is_timed, mutex_next}
 use Rattle.spec_locks.specs.Calls.{lock_in}
 use Rattle.steps_base.specs.Profiles.{in_line}
 use Rattle.spec_locks.specs.Sites.{Main}
-use Rattle.lot_steps.specs.Steps.{is_idle, first_place, act_of, next_place, mutex_goes, rwlock_goes, once_goes, looking, late_key, key_in, HasKeys, condvar_goes, semaphore_goes}
-use Rattle.lot_machine.specs.Machine.{first_word, state_after_hand_over_by, hand_over_told, State, unlocked, opening, kind_at, word_at, place_at, queue_at, put, state_after_operation, state_with_sections, queues_with_last, queues_without_first, queues_without, state_after_park, state_after_reply, place_after_telling, state_after_telling, state_after_hand_over, state_after_taking, state_after_wake, state_after_act, state_after_takes, state_after_take_first, state_after_requeue, queues_requeued, left_in_line, moved_under, moved_threads, listed, places_told, state_after_going, going_outcome, closed_place, state_after_close, close_outcome, can_close, runs_closure, can_do, state_after_go, reply_to, state_after_begin, can_begin, is_open_to, state_after_spin, state_after_late, state_after_late_on, state_after_turn, can_turn, is_possible, after, state_after_look, look_outcome, spin_outcome, can_spin, can_go, go_outcome}
+use Rattle.lot_steps.specs.Steps.{is_idle, first_place, act_of, next_place, mutex_goes, rwlock_goes}
+use Rattle.lot_steps.specs.Steps.{once_goes, looking, late_key, key_in, HasKeys, condvar_goes, semaphore_goes}
+use Rattle.lot_machine.specs.Machine.{first_word, state_after_hand_over_by, hand_over_told, State, unlocked}
+use Rattle.lot_machine.specs.Machine.{opening, kind_at, word_at, place_at, queue_at, put}
+use Rattle.lot_machine.specs.Machine.{state_after_operation, state_with_sections, queues_with_last}
+use Rattle.lot_machine.specs.Machine.{queues_without_first, queues_without, state_after_park}
+use Rattle.lot_machine.specs.Machine.{state_after_reply, place_after_telling, state_after_telling}
+use Rattle.lot_machine.specs.Machine.{state_after_hand_over, state_after_taking, state_after_wake}
+use Rattle.lot_machine.specs.Machine.{state_after_act, state_after_takes, state_after_take_first}
+use Rattle.lot_machine.specs.Machine.{state_after_requeue, queues_requeued, left_in_line, moved_under}
+use Rattle.lot_machine.specs.Machine.{moved_threads, listed, places_told, state_after_going, going_outcome}
+use Rattle.lot_machine.specs.Machine.{closed_place, state_after_close, close_outcome, can_close, runs_closure}
+use Rattle.lot_machine.specs.Machine.{can_do, state_after_go, reply_to, state_after_begin, can_begin}
+use Rattle.lot_machine.specs.Machine.{is_open_to, state_after_spin, state_after_late, state_after_late_on}
+use Rattle.lot_machine.specs.Machine.{state_after_turn, can_turn, is_possible, after, state_after_look}
+use Rattle.lot_machine.specs.Machine.{look_outcome, spin_outcome, can_spin, can_go, go_outcome}
 use Rattle.steps_mutex.specs.declared.lock.LockAt as lock
 use Rattle.steps_base.specs.declared.acts.Whom as whom
-use Rattle.lot_machine.specs.Fits.{ActFits, AllBelow, IsOfItsKind, IsWellFormed, PlaceFits, SameSize, ShowsPlainMutex}
+use Rattle.lot_machine.specs.Fits.{ActFits, AllBelow, IsOfItsKind, IsWellFormed, PlaceFits, SameSize}
+use Rattle.lot_machine.specs.Fits.{ShowsPlainMutex}
 use Rattle.steps_condvar.specs.declared.notify.NotifyAt.{NotifyAt}
 use Rattle.steps_condvar.specs.declared.places.CondvarPlace.{CondvarPlace}
 use Rattle.steps_condvar.specs.declared.places.CondvarPlace.TheVariants.{Wait, Look, Notify}
@@ -88,7 +110,8 @@ pub main_key_there : (w : State) (l : ℕ) → IsWellFormed w → l < length w.l
 main_key_there w l s lt = let n : length w.sections ≡ 2 * length w.locks = s.sections in omega arith
 
 pub main_line_there : (w : State) (l : ℕ) → IsWellFormed w → l < length w.locks → 2 * l < length w.queues
-main_line_there w l s lt = let m : length w.queues ≡ length w.sections = s.queues in let key : 2 * l < length w.sections = main_key_there w l s lt in omega arith
+main_line_there w l s lt = let m : length w.queues ≡ length w.sections = s.queues in let key : 2 * l
+    < length w.sections = main_key_there w l s lt in omega arith
 
 -- ---------------------------------------------------------------- waiters
 
@@ -100,7 +123,8 @@ below_without n t (x ∷ xs) h = either (not (x.thread == t)) (below_without n t
     either true more = (h.0, more)
     either false more = more
 
-below_behind : (n key t : ℕ) (wanted : Want) (xs : List Waiter) → t < n → AllBelow n xs → AllBelow n (xs ++ waiter key t wanted ∷ [])
+below_behind : (n key t : ℕ) (wanted : Want) (xs : List Waiter) → t < n → AllBelow n xs
+    → AllBelow n (xs ++ waiter key t wanted ∷ [])
 below_behind n key t wanted [] lt h = (lt, tt)
 below_behind n key t wanted (x ∷ xs) lt h = (h.0, below_behind n key t wanted xs lt h.1)
 
@@ -112,11 +136,15 @@ below_both : (n : ℕ) (xs ys : List Waiter) → AllBelow n xs → AllBelow n ys
 below_both n [] ys h k = k
 below_both n (x ∷ xs) ys h k = (h.0, below_both n xs ys h.1 k)
 
-below_unpicked : (n : ℕ) (picker : LockPicker) (key : ℕ) (xs : List Waiter) → AllBelow n xs → AllBelow n (without_picked lock_answer next_picker picker key xs)
+below_unpicked : (n : ℕ) (picker : LockPicker) (key : ℕ) (xs : List Waiter) → AllBelow n xs
+    → AllBelow n (without_picked lock_answer next_picker picker key xs)
 below_unpicked n picker key [] h = tt
-below_unpicked n picker key (x ∷ xs) h = either (x.key == key) (lock_answer picker x.want) (below_unpicked n (next_picker picker x.want) key xs h.1) (below_unpicked n picker key xs h.1)
+below_unpicked n picker key (x ∷ xs) h = either (x.key == key) (lock_answer picker x.want)
+    (below_unpicked n (next_picker picker x.want) key xs h.1) (below_unpicked n picker key xs h.1)
   where
-    either : (b : Bool) (answer : Pick) → AllBelow n (without_picked lock_answer next_picker (next_picker picker x.want) key xs) → AllBelow n (without_picked lock_answer next_picker picker key xs) → AllBelow n (if b
+    either : (b : Bool) (answer : Pick)
+        → AllBelow n (without_picked lock_answer next_picker (next_picker picker x.want) key xs)
+        → AllBelow n (without_picked lock_answer next_picker picker key xs) → AllBelow n (if b
         then (elim answer [
           | Unpark ↦ without_picked lock_answer next_picker (next_picker picker x.want) key xs
           | Skip ↦ x ∷ without_picked lock_answer next_picker (next_picker picker x.want) key xs
@@ -136,12 +164,16 @@ below_first : (n : ℕ) (xs : List Waiter) → AllBelow n xs → AllBelow n (mov
 below_first n [] h = tt
 below_first n (x ∷ xs) h = (h.0, tt)
 
-below_requeued : (n key : ℕ) (how : Requeue) (xs : List Waiter) → AllBelow n xs → AllBelow n (moved_under key (moved_by how xs))
-below_requeued n key requeue.TheVariants.One xs h = below_moved n key (moved_by requeue.TheVariants.One xs) (below_first n xs h)
+below_requeued : (n key : ℕ) (how : Requeue) (xs : List Waiter) → AllBelow n xs
+    → AllBelow n (moved_under key (moved_by how xs))
+below_requeued n key requeue.TheVariants.One xs h = below_moved n key (moved_by requeue.TheVariants.One xs)
+    (below_first n xs h)
 below_requeued n key requeue.TheVariants.All xs h = below_moved n key xs h
-below_requeued n key requeue.TheVariants.TakeOneMoveRest xs h = below_moved n key (drop 1 xs) (below_rest n xs h)
+below_requeued n key requeue.TheVariants.TakeOneMoveRest xs h = below_moved n key (drop 1 xs)
+    (below_rest n xs h)
 
-below_behind_requeue : (n : ℕ) (how : Requeue) (xs : List Waiter) → AllBelow n xs → AllBelow n (left_in_line how xs)
+below_behind_requeue : (n : ℕ) (how : Requeue) (xs : List Waiter) → AllBelow n xs
+    → AllBelow n (left_in_line how xs)
 below_behind_requeue n requeue.TheVariants.One xs h = below_rest n xs h
 below_behind_requeue n requeue.TheVariants.All xs h = tt
 below_behind_requeue n requeue.TheVariants.TakeOneMoveRest xs h = tt
@@ -159,9 +191,15 @@ lined : (w : State) → IsWellFormed w → IsLined w
 lined w s = record { few = s.few; sections = s.sections; queues = s.queues; waiting = s.waiting }
 
 put_lined : (w : State) (t : ℕ) (p : Place) → IsLined w → IsLined (put w t p)
-put_lined w t p s = record { few = s.few; sections = s.sections; queues = s.queues; waiting = λ key. rw (length-set w.places t p) (s.waiting key) }
+put_lined w t p s = record {
+  few = s.few;
+  sections = s.sections;
+  queues = s.queues;
+  waiting = λ key. rw (length-set w.places t p) (s.waiting key);
+}
 
-filled_lined : (w : State) (keys : Keys) (who : Option ℕ) → IsLined w → IsLined (state_with_sections w keys who)
+filled_lined : (w : State) (keys : Keys) (who : Option ℕ) → IsLined w
+    → IsLined (state_with_sections w keys who)
 filled_lined w (One key) who s = record {
   few = s.few;
   sections = rw (length-set w.sections key who) s.sections;
@@ -170,12 +208,14 @@ filled_lined w (One key) who s = record {
 }
 filled_lined w (Two first second) who s = record {
   few = s.few;
-  sections = rw (length-set (set w.sections first who) second who, length-set w.sections first who) s.sections;
+  sections = rw (length-set (set w.sections first who) second who, length-set w.sections first who)
+      s.sections;
   queues = rw (length-set (set w.sections first who) second who, length-set w.sections first who) s.queues;
   waiting = s.waiting;
 }
 
-operated_lined : (w : State) (t : ℕ) (p : Place) (l : ℕ) (f : Op) → IsLined w → IsLined (state_after_operation w t p l f)
+operated_lined : (w : State) (t : ℕ) (p : Place) (l : ℕ) (f : Op) → IsLined w
+    → IsLined (state_after_operation w t p l f)
 operated_lined w t p l f s = record {
   few = rw (length-set w.locks l _) s.few;
   sections = rw (length-set w.locks l _) s.sections;
@@ -183,20 +223,32 @@ operated_lined w t p l f s = record {
   waiting = s.waiting;
 }
 
-queues_lined : (w : State) (queues : List (List Waiter)) → IsLined w → length queues ≡ length w.queues → ((key : ℕ) → AllBelow (length w.places) (get_or queues key [])) → IsLined (record w { queues = queues })
-queues_lined w queues s e h = record { few = s.few; sections = s.sections; queues = e ∙ s.queues; waiting = h }
+queues_lined : (w : State) (queues : List (List Waiter)) → IsLined w → length queues ≡ length w.queues
+    → ((key : ℕ) → AllBelow (length w.places) (get_or queues key [])) → IsLined (record w { queues = queues })
+queues_lined w queues s e h = record {
+  few = s.few;
+  sections = s.sections;
+  queues = e ∙ s.queues;
+  waiting = h;
+}
 
-stood_lined : (w : State) (t key : ℕ) (wanted : Want) → IsLined w → t < length w.places → IsLined (record w { queues = queues_with_last w.queues key t wanted })
-stood_lined w t key wanted s lt = queues_lined w (queues_with_last w.queues key t wanted) s (length-set (map (without t) w.queues) key _ ∙ length-map w.queues (without t))
-    (set_all (AllBelow (length w.places)) (map (without t) w.queues) key _ [] (below_behind (length w.places) key t wanted _ lt (others key)) others)
+stood_lined : (w : State) (t key : ℕ) (wanted : Want) → IsLined w → t < length w.places
+    → IsLined (record w { queues = queues_with_last w.queues key t wanted })
+stood_lined w t key wanted s lt = queues_lined w (queues_with_last w.queues key t wanted) s
+    (length-set (map (without t) w.queues) key _ ∙ length-map w.queues (without t))
+    (set_all (AllBelow (length w.places)) (map (without t) w.queues) key _ []
+    (below_behind (length w.places) key t wanted _ lt (others key)) others)
   where
     others : (k : ℕ) → AllBelow (length w.places) (get_or (map (without t) w.queues) k [])
-    others k = rw (get_or-map (without t) w.queues k []) (below_without (length w.places) t (queue_at w k) (s.waiting k))
+    others k = rw (get_or-map (without t) w.queues k []) (below_without (length w.places) t (queue_at w k)
+        (s.waiting k))
 
-parked_lined : (w : State) (t l key : ℕ) (check : Check) (wanted : Want) → IsLined w → t < length w.places → IsLined (state_after_park w t l key check wanted)
+parked_lined : (w : State) (t l key : ℕ) (check : Check) (wanted : Want) → IsLined w → t < length w.places
+    → IsLined (state_after_park w t l key check wanted)
 parked_lined w t l key check wanted s lt = either (holds check (word_at w l))
   where
-    either : (b : Bool) → IsLined (if b then record w { queues = queues_with_last w.queues key t wanted } else w)
+    either : (b : Bool) → IsLined (if b then record w { queues = queues_with_last w.queues key t wanted }
+        else w)
     either false = s
     either true = stood_lined w t key wanted s lt
 
@@ -205,34 +257,60 @@ took_lined w t key s = by_first (first_of (queue_at w key))
   where
     rest : IsLined (record w { queues = queues_without_first w.queues key })
     rest = queues_lined w (queues_without_first w.queues key) s (length-set w.queues key _)
-        (set_all (AllBelow (length w.places)) w.queues key _ [] (below_rest (length w.places) (queue_at w key) (s.waiting key)) s.waiting)
+        (set_all (AllBelow (length w.places)) w.queues key _ [] (below_rest (length w.places) (queue_at w key)
+        (s.waiting key)) s.waiting)
 
-    by_first : (o : Option ℕ) → IsLined (state_after_taking (record w { queues = queues_without_first w.queues key }) t o)
+    by_first : (o : Option ℕ) → IsLined
+        (state_after_taking (record w { queues = queues_without_first w.queues key }) t o)
     by_first None = rest
     by_first (Some u) = put_lined (record w { queues = queues_without_first w.queues key }) u _ rest
 
 -- threads are told something, and lines change
-led_lined : (w : State) (queues : List (List Waiter)) (places : List Place) → IsLined w → length places ≡ length w.places → length queues ≡ length w.queues
-    → ((key : ℕ) → AllBelow (length w.places) (get_or queues key [])) → IsLined (record w { queues = queues; places = places })
-led_lined w queues places s threads lines below = record { few = s.few; sections = s.sections; queues = lines ∙ s.queues; waiting = λ key. rw threads (below key) }
+led_lined : (w : State) (queues : List (List Waiter)) (places : List Place) → IsLined w → length places
+    ≡ length w.places → length queues ≡ length w.queues
+    → ((key : ℕ) → AllBelow (length w.places) (get_or queues key [])) → IsLined (record w {
+      queues = queues;
+      places = places;
+    })
+led_lined w queues places s threads lines below = record {
+  few = s.few;
+  sections = s.sections;
+  queues = lines ∙ s.queues;
+  waiting = λ key. rw threads (below key);
+}
 
-takes_lined : (w : State) (t key : ℕ) (taken : List ℕ) (left : List Waiter) → IsLined w → AllBelow (length w.places) left → IsLined (state_after_takes w t key taken left)
-takes_lined w t key taken left s below = led_lined w (set w.queues key left) (places_told (TakenBy t) taken w.places) s (told_count (TakenBy t) taken w.places) (length-set w.queues key left)
+takes_lined : (w : State) (t key : ℕ) (taken : List ℕ) (left : List Waiter) → IsLined w
+    → AllBelow (length w.places) left → IsLined (state_after_takes w t key taken left)
+takes_lined w t key taken left s below = led_lined w (set w.queues key left)
+    (places_told (TakenBy t) taken w.places) s (told_count (TakenBy t) taken w.places)
+    (length-set w.queues key left)
     (set_all (AllBelow (length w.places)) w.queues key left [] below s.waiting)
 
-requeued_lined : (w : State) (t from to : ℕ) (how : Requeue) → IsLined w → IsLined (state_after_requeue w t from to how)
-requeued_lined w t from to how s = led_lined w (queues_requeued w.queues from to how) (places_told (MovedTo to) (moved_threads how (threads_of (queue_at w from))) (places_told (TakenBy t) (listed (taken_by how (queue_at w from))) w.places)) s
-    (told_count (MovedTo to) (moved_threads how (threads_of (queue_at w from))) (places_told (TakenBy t) (listed (taken_by how (queue_at w from))) w.places) ∙ told_count (TakenBy t) (listed (taken_by how (queue_at w from))) w.places)
+requeued_lined : (w : State) (t from to : ℕ) (how : Requeue) → IsLined w
+    → IsLined (state_after_requeue w t from to how)
+requeued_lined w t from to how s = led_lined w (queues_requeued w.queues from to how)
+    (places_told (MovedTo to) (moved_threads how (threads_of (queue_at w from)))
+    (places_told (TakenBy t) (listed (taken_by how (queue_at w from))) w.places)) s
+    (told_count (MovedTo to) (moved_threads how (threads_of (queue_at w from)))
+    (places_told (TakenBy t) (listed (taken_by how (queue_at w from))) w.places)
+    ∙ told_count (TakenBy t) (listed (taken_by how (queue_at w from))) w.places)
     (length-set (set w.queues from (left_in_line how (queue_at w from))) to _ ∙ length-set w.queues from _)
-    (set_all (AllBelow (length w.places)) (set w.queues from (left_in_line how (queue_at w from))) to _ [] (below_both (length w.places) _ _ (stays to) (below_requeued (length w.places) to how (queue_at w from) (s.waiting from))) stays)
+    (set_all (AllBelow (length w.places)) (set w.queues from (left_in_line how (queue_at w from))) to _ []
+    (below_both (length w.places) _ _ (stays to) (below_requeued (length w.places) to how
+    (queue_at w from) (s.waiting from))) stays)
   where
-    stays : (key : ℕ) → AllBelow (length w.places) (get_or (set w.queues from (left_in_line how (queue_at w from))) key [])
-    stays = set_all (AllBelow (length w.places)) w.queues from (left_in_line how (queue_at w from)) [] (below_behind_requeue (length w.places) how (queue_at w from) (s.waiting from)) s.waiting
+    stays : (key : ℕ) → AllBelow (length w.places)
+        (get_or (set w.queues from (left_in_line how (queue_at w from))) key [])
+    stays = set_all (AllBelow (length w.places)) w.queues from (left_in_line how (queue_at w from)) []
+        (below_behind_requeue (length w.places) how (queue_at w from) (s.waiting from)) s.waiting
 
 removed_lined : (w : State) (t : ℕ) → IsLined w → IsLined (record w { queues = queues_without w.queues t })
-removed_lined w t s = queues_lined w (queues_without w.queues t) s (length-map w.queues (without t)) (λ k. rw (get_or-map (without t) w.queues k []) (below_without (length w.places) t (queue_at w k) (s.waiting k)))
+removed_lined w t s = queues_lined w (queues_without w.queues t) s (length-map w.queues (without t))
+    (λ k. rw (get_or-map (without t) w.queues k []) (below_without (length w.places) t (queue_at w k)
+    (s.waiting k)))
 
-given_lined : (w : State) (t : ℕ) (p : Place) (l : ℕ) (f : Op) → IsLined w → IsLined (state_after_hand_over w t p l f)
+given_lined : (w : State) (t : ℕ) (p : Place) (l : ℕ) (f : Op) → IsLined w
+    → IsLined (state_after_hand_over w t p l f)
 given_lined w t p l f s = record {
   few = rw (length-set w.locks l _) s.few;
   sections = rw (length-set w.locks l _) s.sections;
@@ -241,62 +319,92 @@ given_lined w t p l f s = record {
 }
 
 told_lined : (w : State) (t : ℕ) (reply : Reply) → IsLined w → IsLined (state_after_telling w t reply)
-told_lined w t reply s = record { few = s.few; sections = s.sections; queues = s.queues; waiting = λ key. rw (length-map w.places (place_after_telling t reply)) (s.waiting key) }
+told_lined w t reply s = record {
+  few = s.few;
+  sections = s.sections;
+  queues = s.queues;
+  waiting = λ key. rw (length-map w.places (place_after_telling t reply)) (s.waiting key);
+}
 
 awakened_lined : (w : State) (t : ℕ) (x : Wakes) → IsLined w → IsLined (state_after_wake w t x)
 awakened_lined w t wakes.TheVariants.Nobody s = s
 awakened_lined w t (wakes.TheVariants.All note) s = told_lined w t (Woken note) s
 
-performed_lined : (w : State) (t : ℕ) (p : Place) (act : Act) → IsLined w → t < length w.places → IsLined (state_after_act w t p act)
+performed_lined : (w : State) (t : ℕ) (p : Place) (act : Act) → IsLined w → t < length w.places
+    → IsLined (state_after_act w t p act)
 performed_lined w t p (Word l f) s lt = operated_lined w t p l f s
 performed_lined w t p (HandOver l f) s lt = either (takes_effect f (word_at w l))
   where
     either : (b : Bool) → IsLined (state_after_hand_over_by b w t p l f)
-    either true = told_lined (state_after_hand_over w t p l f) t (hand_over_told w t l) (given_lined w t p l f s)
+    either true = told_lined (state_after_hand_over w t p l f) t (hand_over_told w t l)
+        (given_lined w t p l f s)
     either false = operated_lined w t p l f s
 performed_lined w t p (Enter keys) s lt = filled_lined w keys (Some t) s
 performed_lined w t p (Park l key check wanted) s lt = parked_lined w t l key check wanted s lt
 performed_lined w t p (Stand key wanted) s lt = stood_lined w t key wanted s lt
 performed_lined w t p (Take key whom.TheVariants.First) s lt = took_lined w t key s
-performed_lined w t p (Take key (whom.TheVariants.Picked start recursive)) s lt = takes_lined w t key (threads_of (lock_picked start recursive (queue_at w key))) (without_lock_picked start recursive key (queue_at w key)) s (below_unpicked (length w.places) (lock_picker start recursive) key (queue_at w key) (s.waiting key))
-performed_lined w t p (Take key whom.TheVariants.All) s lt = takes_lined w t key (threads_of (queue_at w key)) [] s tt
+performed_lined w t p (Take key (whom.TheVariants.Picked start recursive)) s lt =
+    takes_lined w t key (threads_of (lock_picked start recursive (queue_at w key)))
+    (without_lock_picked start recursive key (queue_at w key)) s (below_unpicked (length w.places)
+    (lock_picker start recursive) key (queue_at w key) (s.waiting key))
+performed_lined w t p (Take key whom.TheVariants.All) s lt = takes_lined w t key (threads_of (queue_at w key))
+    [] s tt
 performed_lined w t p (act.Requeue from to how) s lt = requeued_lined w t from to how s
 performed_lined w t p (Remove key) s lt = removed_lined w t s
-performed_lined w t p (Leave keys x) s lt = awakened_lined (state_with_sections w keys None) t x (filled_lined w keys None s)
+performed_lined w t p (Leave keys x) s lt = awakened_lined (state_with_sections w keys None) t x
+    (filled_lined w keys None s)
 performed_lined w t p act s lt = s
 
 -- an act changes neither the number of threads nor that of locks
-filled_counts : (w : State) (keys : Keys) (who : Option ℕ) → (length (state_with_sections w keys who).places ≡ length w.places) × (length (state_with_sections w keys who).locks ≡ length w.locks)
+filled_counts : (w : State) (keys : Keys) (who : Option ℕ)
+    → (length (state_with_sections w keys who).places ≡ length w.places)
+    × (length (state_with_sections w keys who).locks ≡ length w.locks)
 filled_counts w (One key) who = (refl, refl)
 filled_counts w (Two first second) who = (refl, refl)
 
-pub performed_counts : (w : State) (t : ℕ) (p : Place) (act : Act) → (length (state_after_act w t p act).places ≡ length w.places) × (length (state_after_act w t p act).locks ≡ length w.locks)
+pub performed_counts : (w : State) (t : ℕ) (p : Place) (act : Act)
+    → (length (state_after_act w t p act).places ≡ length w.places)
+    × (length (state_after_act w t p act).locks ≡ length w.locks)
 performed_counts w t p (Word l f) = (refl, length-set w.locks l _)
 performed_counts w t p (HandOver l f) = either (takes_effect f (word_at w l))
   where
-    either : (b : Bool) → (length (state_after_hand_over_by b w t p l f).places ≡ length w.places) × (length (state_after_hand_over_by b w t p l f).locks ≡ length w.locks)
+    either : (b : Bool) → (length (state_after_hand_over_by b w t p l f).places ≡ length w.places)
+        × (length (state_after_hand_over_by b w t p l f).locks ≡ length w.locks)
     either true = (length-map w.places (place_after_telling t (hand_over_told w t l)), length-set w.locks l _)
     either false = (refl, length-set w.locks l _)
 performed_counts w t p (Enter keys) = filled_counts w keys (Some t)
 performed_counts w t p (Park l key check wanted) = either (holds check (word_at w l))
   where
-    either : (b : Bool) → (length (if b then record w { queues = queues_with_last w.queues key t wanted } else w).places ≡ length w.places) × (length (if b then record w { queues = queues_with_last w.queues key t wanted } else w).locks ≡ length w.locks)
+    either : (b : Bool) → (length (if b then record w { queues = queues_with_last w.queues key t wanted }
+        else w).places ≡ length w.places)
+        × (length (if b then record w { queues = queues_with_last w.queues key t wanted } else w).locks
+        ≡ length w.locks)
     either true = (refl, refl)
     either false = (refl, refl)
 performed_counts w t p (Take key whom.TheVariants.First) = by_first (first_of (queue_at w key))
   where
-    by_first : (o : Option ℕ) → (length (state_after_taking (record w { queues = queues_without_first w.queues key }) t o).places ≡ length w.places) × (length (state_after_taking (record w { queues = queues_without_first w.queues key }) t o).locks ≡ length w.locks)
+    by_first : (o : Option ℕ) → (length
+        (state_after_taking (record w { queues = queues_without_first w.queues key }) t o).places
+        ≡ length w.places) × (length (state_after_taking
+        (record w { queues = queues_without_first w.queues key }) t o).locks ≡ length w.locks)
     by_first None = (refl, refl)
     by_first (Some u) = (length-set w.places u _, refl)
-performed_counts w t p (Take key (whom.TheVariants.Picked start recursive)) = (told_count (TakenBy t) (threads_of (lock_picked start recursive (queue_at w key))) w.places, refl)
-performed_counts w t p (Take key whom.TheVariants.All) = (told_count (TakenBy t) (threads_of (queue_at w key)) w.places, refl)
+performed_counts w t p (Take key (whom.TheVariants.Picked start recursive)) =
+    (told_count (TakenBy t) (threads_of (lock_picked start recursive (queue_at w key))) w.places, refl)
+performed_counts w t p (Take key whom.TheVariants.All) =
+    (told_count (TakenBy t) (threads_of (queue_at w key)) w.places, refl)
 performed_counts w t p (act.Requeue from to how) = (
-  told_count (MovedTo to) (moved_threads how (threads_of (queue_at w from))) (places_told (TakenBy t) (listed (taken_by how (queue_at w from))) w.places)
+  told_count (MovedTo to) (moved_threads how (threads_of (queue_at w from)))
+      (places_told (TakenBy t) (listed (taken_by how (queue_at w from))) w.places)
       ∙ told_count (TakenBy t) (listed (taken_by how (queue_at w from))) w.places,
   refl,
 )
 performed_counts w t p (Leave keys wakes.TheVariants.Nobody) = filled_counts w keys None
-performed_counts w t p (Leave keys (wakes.TheVariants.All note)) = (length-map (state_with_sections w keys None).places (place_after_telling t (Woken note)) ∙ (filled_counts w keys None).0, (filled_counts w keys None).1)
+performed_counts w t p (Leave keys (wakes.TheVariants.All note)) = (
+  length-map (state_with_sections w keys None).places (place_after_telling t (Woken note))
+      ∙ (filled_counts w keys None).0,
+  (filled_counts w keys None).1,
+)
 performed_counts w t p act = (refl, refl)
 
 -- ---------------------------------------------------------------- states
@@ -304,21 +412,38 @@ performed_counts w t p act = (refl, refl)
 pub suits : (w : State) → IsWellFormed w → (t : ℕ) → Suits (length w.locks) (kind_at w) (place_at w t)
 suits w s t = (s.places t, s.kinds t)
 
-shaped : (w : State) → IsLined w → ((t : ℕ) → Suits (length w.locks) (kind_at w) (place_at w t)) → AreShown w → IsWellFormed w
-shaped w s suit shown = record { few = s.few; sections = s.sections; queues = s.queues; places = λ t. (suit t).0; kinds = λ t. (suit t).1; shown = shown; waiting = s.waiting }
+shaped : (w : State) → IsLined w → ((t : ℕ) → Suits (length w.locks) (kind_at w) (place_at w t)) → AreShown w
+    → IsWellFormed w
+shaped w s suit shown = record {
+  few = s.few;
+  sections = s.sections;
+  queues = s.queues;
+  places = λ t. (suit t).0;
+  kinds = λ t. (suit t).1;
+  shown = shown;
+  waiting = s.waiting;
+}
 
-pub put_shaped : (w : State) (t : ℕ) (p : Place) → IsWellFormed w → Suits (length w.locks) (kind_at w) p → IsWellFormed (put w t p)
-put_shaped w t p s h = shaped (put w t p) (put_lined w t p (lined w s)) (set_all (Suits (length w.locks) (kind_at w)) w.places t p Idle h (suits w s)) s.shown
+pub put_shaped : (w : State) (t : ℕ) (p : Place) → IsWellFormed w → Suits (length w.locks) (kind_at w) p
+    → IsWellFormed (put w t p)
+put_shaped w t p s h = shaped (put w t p) (put_lined w t p (lined w s))
+    (set_all (Suits (length w.locks) (kind_at w)) w.places t p Idle h (suits w s)) s.shown
 
-befallen_shaped : (w : State) (t : ℕ) (reply : Reply) → IsWellFormed w → ReplyFits (length w.locks) (kind_at w) (place_at w t) reply → IsWellFormed (state_after_reply w t reply)
-befallen_shaped w t reply s r = put_shaped w t (next_place (place_at w t) reply) s (next_suits (length w.locks) (kind_at w) (place_at w t) reply (suits w s t) r)
+befallen_shaped : (w : State) (t : ℕ) (reply : Reply) → IsWellFormed w → ReplyFits (length w.locks)
+    (kind_at w) (place_at w t) reply → IsWellFormed (state_after_reply w t reply)
+befallen_shaped w t reply s r = put_shaped w t (next_place (place_at w t) reply) s
+    (next_suits (length w.locks) (kind_at w) (place_at w t) reply (suits w s t) r)
 
-filled_shaped : (w : State) (keys : Keys) (who : Option ℕ) → IsWellFormed w → IsWellFormed (state_with_sections w keys who)
-filled_shaped w (One key) who s = shaped (state_with_sections w (One key) who) (filled_lined w (One key) who (lined w s)) (suits w s) s.shown
-filled_shaped w (Two first second) who s = shaped (state_with_sections w (Two first second) who) (filled_lined w (Two first second) who (lined w s)) (suits w s) s.shown
+filled_shaped : (w : State) (keys : Keys) (who : Option ℕ) → IsWellFormed w
+    → IsWellFormed (state_with_sections w keys who)
+filled_shaped w (One key) who s = shaped (state_with_sections w (One key) who)
+    (filled_lined w (One key) who (lined w s)) (suits w s) s.shown
+filled_shaped w (Two first second) who s = shaped (state_with_sections w (Two first second) who)
+    (filled_lined w (Two first second) who (lined w s)) (suits w s) s.shown
 
 -- all that befalls a thread suits it
-befallen_fits : (locks : ℕ) (kinds : ℕ → Kind) (p : Place) (reply : Reply) → Befalls reply → ReplyFits locks kinds p reply
+befallen_fits : (locks : ℕ) (kinds : ℕ → Kind) (p : Place) (reply : Reply) → Befalls reply
+    → ReplyFits locks kinds p reply
 befallen_fits locks kinds p (TakenBy u) h = tt
 befallen_fits locks kinds p (MovedTo key) h = tt
 befallen_fits locks kinds p (HandedBy u alone) h = tt
@@ -334,20 +459,27 @@ module _ (w : State) (t : ℕ) (p : Place) (a : Act) where
 
   -- the locks are as many, and of the same kinds
   suits_then : (q : Place) → Suits (length w.locks) (kind_at w) q → Suits (length done.locks) (kind_at done) q
-  suits_then q h = subst (λ n. Suits n (kind_at done) q) (sym (performed_counts w t p a).1) (subst (λ f. Suits (length w.locks) f q) (sym same_kinds) h)
+  suits_then q h = subst (λ n. Suits n (kind_at done) q) (sym (performed_counts w t p a).1)
+      (subst (λ f. Suits (length w.locks) f q) (sym same_kinds) h)
 
-  shows_then : (v : ℕ) → ShowsPlainMutex (length w.locks) (kind_at w) v → ShowsPlainMutex (length done.locks) (kind_at done) v
-  shows_then v h = subst (λ n. ShowsPlainMutex n (kind_at done) v) (sym (performed_counts w t p a).1) (subst (λ f. ShowsPlainMutex (length w.locks) f v) (sym same_kinds) h)
+  shows_then : (v : ℕ) → ShowsPlainMutex (length w.locks) (kind_at w) v → ShowsPlainMutex (length done.locks)
+      (kind_at done) v
+  shows_then v h = subst (λ n. ShowsPlainMutex n (kind_at done) v) (sym (performed_counts w t p a).1)
+      (subst (λ f. ShowsPlainMutex (length w.locks) f v) (sym same_kinds) h)
 
   performed_suits : IsWellFormed w → (u : ℕ) → Suits (length w.locks) (kind_at w) (place_at done u)
-  performed_suits s u = acted_keeps (Suits (length w.locks) (kind_at w)) w u t p a (λ loud r b q h. next_suits (length w.locks) (kind_at w) q r h (befallen_fits (length w.locks) (kind_at w) q r b)) (suits w s u)
+  performed_suits s u = acted_keeps (Suits (length w.locks) (kind_at w)) w u t p a
+      (λ loud r b q h. next_suits (length w.locks) (kind_at w) q r h (befallen_fits (length w.locks)
+      (kind_at w) q r b)) (suits w s u)
 
   performed_shaped : IsWellFormed w → t < length w.places → Writes w a → IsWellFormed done
-  performed_shaped s lt writes = shaped done (performed_lined w t p a (lined w s) lt) (λ u. suits_then (place_at done u) (performed_suits s u))
+  performed_shaped s lt writes = shaped done (performed_lined w t p a (lined w s) lt)
+      (λ u. suits_then (place_at done u) (performed_suits s u))
       (λ l of. shows_then (word_at done l) (performed_shown w t p a s.shown writes l of))
 
 -- a thread that was there is there after it
-pub acted_there : (w v : State) (t u : ℕ) (p : Place) (act : Act) (b : Bool) → v ≡ (if b then state_after_act w u p act else w) → t < length w.places → t < length v.places
+pub acted_there : (w v : State) (t u : ℕ) (p : Place) (act : Act) (b : Bool)
+    → v ≡ (if b then state_after_act w u p act else w) → t < length w.places → t < length v.places
 acted_there w v t u p act b e lt = rw e (either b)
   where
     either : (b : Bool) → t < length (if b then state_after_act w u p act else w).places
@@ -355,16 +487,22 @@ acted_there w v t u p act b e lt = rw e (either b)
     either false = lt
 
 -- where the reply to the act of a place leads
-pub went : (w v u : State) (t : ℕ) (p : Place) (a : Act) (r : Reply) (b : Bool) → a ≡ act_of p → can_do w a ≡ b
-    → Some r ≡ (if b then Some (reply_to w t a) else None) → v ≡ (if b then state_after_act w t p a else w) → u ≡ put v t (next_place (place_at v t) r)
+pub went : (w v u : State) (t : ℕ) (p : Place) (a : Act) (r : Reply) (b : Bool) → a ≡ act_of p
+    → can_do w a ≡ b
+    → Some r ≡ (if b then Some (reply_to w t a) else None) → v ≡ (if b then state_after_act w t p a else w)
+    → u ≡ put v t (next_place (place_at v t) r)
     → u ≡ (if can_do w (act_of p) then state_after_going w t p else w)
-went w v u t p a r true ea eb er ev eu = rw (← ea, eb) (let same : r ≡ reply_to w t a = cc in rw (eu, ev, same, ea) refl)
+went w v u t p a r true ea eb er ev eu = rw (← ea, eb) (let same : r ≡ reply_to w t a = cc
+    in rw (eu, ev, same, ea) refl)
 went w v u t p a r false ea eb er ev eu = absurd cc
 
-pub went_told : (w v : State) (t : ℕ) (p : Place) (a : Act) (r : Reply) (b : Bool) → a ≡ act_of p → can_do w a ≡ b
-    → Some r ≡ (if b then Some (reply_to w t a) else None) → v ≡ (if b then state_after_act w t p a else w) → (o : Outcome) → o ≡ outcome_of (next_act (place_at v t) r)
+pub went_told : (w v : State) (t : ℕ) (p : Place) (a : Act) (r : Reply) (b : Bool) → a ≡ act_of p
+    → can_do w a ≡ b
+    → Some r ≡ (if b then Some (reply_to w t a) else None) → v ≡ (if b then state_after_act w t p a else w)
+    → (o : Outcome) → o ≡ outcome_of (next_act (place_at v t) r)
     → o ≡ (if can_do w (act_of p) then going_outcome w t p else outcome.TheVariants.NotNow)
-went_told w v t p a r true ea eb er ev o eo = rw (← ea, eb) (let same : r ≡ reply_to w t a = cc in rw (eo, ev, same, ea) refl)
+went_told w v t p a r true ea eb er ev o eo = rw (← ea, eb) (let same : r ≡ reply_to w t a = cc
+    in rw (eo, ev, same, ea) refl)
 went_told w v t p a r false ea eb er ev o eo = absurd cc
 
 abbrev pub IsTimelyReply : Reply → Type 0
@@ -427,21 +565,27 @@ others_see locks kinds (Condvar l (Wait m timed at)) seen h = tt
 others_see locks kinds (Condvar l (Notify all m at)) seen h = tt
 others_see locks kinds (Condvar l (Look all)) seen h = absurd h
 
-others_hear : (locks : ℕ) (kinds : ℕ → Kind) (p : Place) (reply : Reply) → LooksNot p → IsTimelyReply reply → ReplyFits locks kinds p reply
+others_hear : (locks : ℕ) (kinds : ℕ → Kind) (p : Place) (reply : Reply) → LooksNot p → IsTimelyReply reply
+    → ReplyFits locks kinds p reply
 others_hear locks kinds p (Value seen) h timely = others_see locks kinds p seen h
 others_hear locks kinds p Late h timely = absurd timely
 others_hear locks kinds p reply h timely = tt
 
 seeing_fits : (w : State) (t : ℕ) (p : Place) → place_at w t ≡ p → LooksNot p
-    → ReplyFits (length w.locks) (kind_at w) (place_at (state_after_act w t p (act_of p)) t) (reply_to w t (act_of p))
-seeing_fits w t p is not_looking = others_hear (length w.locks) (kind_at w) (place_at (state_after_act w t p (act_of p)) t) (reply_to w t (act_of p))
-    (acted_keeps LooksNot w t t p (act_of p) (λ loud r b q h. looks_not_next q r h) (subst LooksNot (sym is) not_looking)) (replies_timely w t (act_of p))
+    → ReplyFits (length w.locks) (kind_at w) (place_at (state_after_act w t p (act_of p)) t)
+    (reply_to w t (act_of p))
+seeing_fits w t p is not_looking = others_hear (length w.locks) (kind_at w)
+    (place_at (state_after_act w t p (act_of p)) t) (reply_to w t (act_of p))
+    (acted_keeps LooksNot w t t p (act_of p) (λ loud r b q h. looks_not_next q r h)
+    (subst LooksNot (sym is) not_looking)) (replies_timely w t (act_of p))
 
 -- a notification that looks sees a mutex that is there, and any other reply suits any place behind the act
 reply_fits : (w : State) (t : ℕ) (p : Place) → IsWellFormed w → place_at w t ≡ p
-    → ReplyFits (length w.locks) (kind_at w) (place_at (state_after_act w t p (act_of p)) t) (reply_to w t (act_of p))
+    → ReplyFits (length w.locks) (kind_at w) (place_at (state_after_act w t p (act_of p)) t)
+    (reply_to w t (act_of p))
 reply_fits w t (Condvar l (Look all)) s is =
-    let kind : IsOfItsKind (kind_at w) (Condvar l (Look all)) = subst (IsOfItsKind (kind_at w)) is (s.kinds t) in
+    let kind : IsOfItsKind (kind_at w) (Condvar l (Look all)) = subst (IsOfItsKind (kind_at w)) is (s.kinds t)
+    in
     subst (λ q. SeesFit (length w.locks) (kind_at w) q (word_at w l)) (sym is) (s.shown l kind.0)
 reply_fits w t Idle s is = seeing_fits w t Idle is tt
 reply_fits w t (Mutex l at) s is = seeing_fits w t (Mutex l at) is tt
@@ -451,31 +595,42 @@ reply_fits w t (Semaphore l at) s is = seeing_fits w t (Semaphore l at) is tt
 reply_fits w t (Condvar l (Wait m timed at)) s is = seeing_fits w t (Condvar l (Wait m timed at)) is tt
 reply_fits w t (Condvar l (Notify all m at)) s is = seeing_fits w t (Condvar l (Notify all m at)) is tt
 
-went_shaped : (w : State) (t : ℕ) (p : Place) → IsWellFormed w → place_at w t ≡ p → t < length w.places → IsWellFormed (state_after_going w t p)
+went_shaped : (w : State) (t : ℕ) (p : Place) → IsWellFormed w → place_at w t ≡ p → t < length w.places
+    → IsWellFormed (state_after_going w t p)
 went_shaped w t p s is lt =
     let v = state_after_act w t p (act_of p) in
-    put_shaped v t (next_place (place_at v t) (reply_to w t (act_of p))) (performed_shaped w t p (act_of p) s lt (writes w p s (subst (Suits (length w.locks) (kind_at w)) is (suits w s t))))
+    put_shaped v t (next_place (place_at v t) (reply_to w t (act_of p))) (performed_shaped w t p (act_of p) s
+    lt (writes w p s (subst (Suits (length w.locks) (kind_at w)) is (suits w s t))))
     (suits_then w t p (act_of p) (next_place (place_at v t) (reply_to w t (act_of p)))
-    (next_suits (length w.locks) (kind_at w) (place_at v t) (reply_to w t (act_of p)) (performed_suits w t p (act_of p) s t) (reply_fits w t p s is)))
+    (next_suits (length w.locks) (kind_at w) (place_at v t) (reply_to w t (act_of p))
+    (performed_suits w t p (act_of p) s t) (reply_fits w t p s is)))
 
 gone_shaped : (w : State) (t : ℕ) → IsWellFormed w → t < length w.places → IsWellFormed (state_after_go w t)
 gone_shaped w t s lt = went_shaped w t (place_at w t) s refl lt
 
 -- where a closure's answer leads
-pub closed_fits : (w : State) (t : ℕ) (succeeded : Bool) → IsWellFormed w → Suits (length w.locks) (kind_at w) (closed_place w t succeeded)
-closed_fits w t succeeded s = next_suits (length w.locks) (kind_at w) (place_at w t) (Closed succeeded) (suits w s t) tt
+pub closed_fits : (w : State) (t : ℕ) (succeeded : Bool) → IsWellFormed w → Suits (length w.locks) (kind_at w)
+    (closed_place w t succeeded)
+closed_fits w t succeeded s = next_suits (length w.locks) (kind_at w) (place_at w t) (Closed succeeded)
+    (suits w s t) tt
 
-begun_shaped : (w : State) (t : ℕ) (c : Call) → IsWellFormed w → can_begin w t c ≡ true → IsWellFormed (state_after_begin w t c)
-begun_shaped w t c s can = put_shaped w t (first_place (kind_at w (lock_in c)) c) s (call_suits w t c (both (is_idle (place_at w t)) (is_open_to w t c) can).1)
+begun_shaped : (w : State) (t : ℕ) (c : Call) → IsWellFormed w → can_begin w t c ≡ true
+    → IsWellFormed (state_after_begin w t c)
+begun_shaped w t c s can = put_shaped w t (first_place (kind_at w (lock_in c)) c) s
+    (call_suits w t c (both (is_idle (place_at w t)) (is_open_to w t c) can).1)
 
 -- a thread stands where it looks
-pub looking_shaped : (w : State) (t : ℕ) (q : Place) → IsWellFormed w → looking (place_at w t) ≡ Some q → IsWellFormed (put w t q)
-looking_shaped w t q s is = let k = look (place_at w t) q is in put_shaped w t q s (k.fits (length w.locks) (s.places t), k.kind (kind_at w) (s.kinds t))
+pub looking_shaped : (w : State) (t : ℕ) (q : Place) → IsWellFormed w → looking (place_at w t) ≡ Some q
+    → IsWellFormed (put w t q)
+looking_shaped w t q s is = let k = look (place_at w t) q is
+    in put_shaped w t q s (k.fits (length w.locks) (s.places t), k.kind (kind_at w) (s.kinds t))
 
 -- A thread that looks loads the word of a lock that is there.
-pub looks_fit : (w : State) (t : ℕ) (q : Place) → IsWellFormed w → t < length w.places → looking (place_at w t) ≡ Some q → ActFits (put w t q) (act_of (place_at (put w t q) t))
+pub looks_fit : (w : State) (t : ℕ) (q : Place) → IsWellFormed w → t < length w.places
+    → looking (place_at w t) ≡ Some q → ActFits (put w t q) (act_of (place_at (put w t q) t))
 looks_fit w t q s lt is = let k = look (place_at w t) q is in
-    subst (λ p. ActFits (put w t q) (act_of p)) (sym (get_or-set_same w.places t q Idle lt)) (subst (ActFits (put w t q)) (sym k.loads) (k.there (length w.locks) (s.places t)))
+    subst (λ p. ActFits (put w t q) (act_of p)) (sym (get_or-set_same w.places t q Idle lt))
+    (subst (ActFits (put w t q)) (sym k.loads) (k.there (length w.locks) (s.places t)))
 
 below : (locks l : ℕ) → locks ≤ 256 → l < locks → l < 2 ^ 63
 below locks l few lt = omega arith
@@ -491,44 +646,64 @@ has_keys locks (Condvar l (Wait m timed at)) few h = (below locks l few h.0, bel
 has_keys locks (Condvar l (Look all)) few h = (below locks l few h.0, tt)
 has_keys locks (Condvar l (Notify all m at)) few h = (below locks l few h.0, below locks m few h.1)
 
-pub looks_keyed : (w : State) (t : ℕ) (q : Place) → IsWellFormed w → looking (place_at w t) ≡ Some q → HasKeys (place_at (put w t q) t)
-looks_keyed w t q s is = has_keys (length w.locks) (place_at (put w t q) t) s.few ((looking_shaped w t q s is).places t)
+pub looks_keyed : (w : State) (t : ℕ) (q : Place) → IsWellFormed w → looking (place_at w t) ≡ Some q
+    → HasKeys (place_at (put w t q) t)
+looks_keyed w t q s is = has_keys (length w.locks) (place_at (put w t q) t) s.few
+    ((looking_shaped w t q s is).places t)
 
-looks_go : (w : State) (t : ℕ) (q : Place) → t < length w.places → looking (place_at w t) ≡ Some q → can_go (put w t q) t ≡ true
-looks_go w t q lt is = ap (λ p. can_do (put w t q) (act_of p)) (get_or-set_same w.places t q Idle lt) ∙ ap (can_do (put w t q)) (look (place_at w t) q is).loads
+looks_go : (w : State) (t : ℕ) (q : Place) → t < length w.places → looking (place_at w t) ≡ Some q
+    → can_go (put w t q) t ≡ true
+looks_go w t q lt is = ap (λ p. can_do (put w t q) (act_of p)) (get_or-set_same w.places t q Idle lt)
+    ∙ ap (can_do (put w t q)) (look (place_at w t) q is).loads
 
-pub spun : (w v : State) (t : ℕ) (q : Place) → t < length w.places → looking (place_at w t) ≡ Some q → v ≡ (if can_go (put w t q) t then state_after_go (put w t q) t else put w t q) → v ≡ (if can_spin w t then state_after_spin w t else w)
-spun w v t q lt is e = e ∙ ap (λ b. if b then state_after_go (put w t q) t else put w t q) (looks_go w t q lt is) ∙ sym (ap (λ o. if is_some o then state_after_look w t o else w) is)
+pub spun : (w v : State) (t : ℕ) (q : Place) → t < length w.places → looking (place_at w t) ≡ Some q
+    → v ≡ (if can_go (put w t q) t then state_after_go (put w t q) t else put w t q)
+    → v ≡ (if can_spin w t then state_after_spin w t else w)
+spun w v t q lt is e = e ∙ ap (λ b. if b then state_after_go (put w t q) t else put w t q)
+    (looks_go w t q lt is) ∙ sym (ap (λ o. if is_some o then state_after_look w t o else w) is)
 
 -- A thread that looks once more is told so, in the state that it found.
-pub spun_told : {v w : State} → v ≡ w → (t : ℕ) (q : Place) (told : Outcome) → t < length v.places → looking (place_at v t) ≡ Some q → told ≡ (if can_go (put v t q) t then go_outcome (put v t q) t else outcome.TheVariants.NotNow) → told ≡ (if can_spin w t then spin_outcome w t else outcome.TheVariants.NotNow)
-spun_told {v} same t q told lt is e = subst (λ (w : State). told ≡ (if can_spin w t then spin_outcome w t else outcome.TheVariants.NotNow)) same
-    (e ∙ ap (λ b. if b then go_outcome (put v t q) t else outcome.TheVariants.NotNow) (looks_go v t q lt is) ∙ sym (ap (λ o. if is_some o then look_outcome v t o else outcome.TheVariants.NotNow) is))
+pub spun_told : {v w : State} → v ≡ w → (t : ℕ) (q : Place) (told : Outcome) → t < length v.places
+    → looking (place_at v t) ≡ Some q → told ≡ (if can_go (put v t q) t then go_outcome (put v t q) t
+    else outcome.TheVariants.NotNow) → told ≡ (if can_spin w t then spin_outcome w t
+    else outcome.TheVariants.NotNow)
+spun_told {v} same t q told lt is e =
+    subst (λ (w : State). told ≡ (if can_spin w t then spin_outcome w t else outcome.TheVariants.NotNow)) same
+    (e ∙ ap (λ b. if b then go_outcome (put v t q) t else outcome.TheVariants.NotNow) (looks_go v t q lt is)
+    ∙ sym (ap (λ o. if is_some o then look_outcome v t o else outcome.TheVariants.NotNow) is))
 
 spun_shaped : (w : State) (t : ℕ) → IsWellFormed w → t < length w.places → IsWellFormed (state_after_spin w t)
 spun_shaped w t s lt = by_place (looking (place_at w t)) refl
   where
     by_place : (o : Option Place) → looking (place_at w t) ≡ o → IsWellFormed (state_after_look w t o)
     by_place None is = s
-    by_place (Some q) is = gone_shaped (put w t q) t (looking_shaped w t q s is) (rw (length-set w.places t q) lt)
+    by_place (Some q) is = gone_shaped (put w t q) t (looking_shaped w t q s is)
+        (rw (length-set w.places t q) lt)
 
 lated_shaped : (w : State) (t : ℕ) → IsWellFormed w → IsWellFormed (state_after_late w t)
 lated_shaped w t s = by_place (place_at w t) refl
   where
-    asleep : (l : ℕ) (entry : Entry) (retries : Bool) → place_at w t ≡ Mutex l (Lock entry retries lock.TheVariants.Asleep) → (b : Bool) → is_timed entry ≡ b → IsWellFormed (state_after_late_on w t (key_in (Some l) (in_line b Main)))
-    asleep l entry retries e true timed = befallen_shaped (state_with_sections w (One (2 * l)) (Some t)) t Late (filled_shaped w (One (2 * l)) (Some t) s) (rw e timed)
+    asleep : (l : ℕ) (entry : Entry) (retries : Bool) → place_at w t ≡ Mutex l
+        (Lock entry retries lock.TheVariants.Asleep) → (b : Bool) → is_timed entry ≡ b
+        → IsWellFormed (state_after_late_on w t (key_in (Some l) (in_line b Main)))
+    asleep l entry retries e true timed = befallen_shaped (state_with_sections w (One (2 * l)) (Some t)) t
+        Late (filled_shaped w (One (2 * l)) (Some t) s) (rw e timed)
     asleep l entry retries e false timed = s
 
-    locks : (l : ℕ) (entry : Entry) (retries : Bool) (at : LockAt) → place_at w t ≡ Mutex l (Lock entry retries at) → IsWellFormed (state_after_late_on w t (late_key (Mutex l (Lock entry retries at))))
+    locks : (l : ℕ) (entry : Entry) (retries : Bool) (at : LockAt) → place_at w t
+        ≡ Mutex l (Lock entry retries at)
+        → IsWellFormed (state_after_late_on w t (late_key (Mutex l (Lock entry retries at))))
     locks l entry retries lock.TheVariants.Asleep e = asleep l entry retries e (is_timed entry) refl
     locks l entry retries at e = s
 
-    waits : (l : ℕ) (at : CondvarPlace) → place_at w t ≡ Condvar l at → IsWellFormed (state_after_late_on w t (late_key (Condvar l at)))
+    waits : (l : ℕ) (at : CondvarPlace) → place_at w t ≡ Condvar l at
+        → IsWellFormed (state_after_late_on w t (late_key (Condvar l at)))
     waits l (Wait m true (wait.Asleep st)) e = by_key (late_key (Condvar l (Wait m true (wait.Asleep st))))
       where
         by_key : (o : Option ℕ) → IsWellFormed (state_after_late_on w t o)
         by_key None = s
-        by_key (Some key) = befallen_shaped (state_with_sections w (One key) (Some t)) t Late (filled_shaped w (One key) (Some t) s) (rw e refl)
+        by_key (Some key) = befallen_shaped (state_with_sections w (One key) (Some t)) t Late
+            (filled_shaped w (One key) (Some t) s) (rw e refl)
     waits l (Wait m false (wait.Asleep st)) e = s
     waits l (Wait m timed at) e = s
     waits l (Look all) e = s
@@ -546,46 +721,64 @@ lated_shaped w t s = by_place (place_at w t) refl
       where
         by_line : (m : Option Line) → IsWellFormed (state_after_late_on w t (key_in (Some l) m))
         by_line None = s
-        by_line (Some m) = befallen_shaped (state_with_sections w (One (key_of l m)) (Some t)) t Late (filled_shaped w (One (key_of l m)) (Some t) s) (rw e tt)
+        by_line (Some m) = befallen_shaped (state_with_sections w (One (key_of l m)) (Some t)) t Late
+            (filled_shaped w (One (key_of l m)) (Some t) s) (rw e tt)
     by_place (Once l at) e = by_line (once_profile at).late_line
       where
         by_line : (m : Option Line) → IsWellFormed (state_after_late_on w t (key_in (Some l) m))
         by_line None = s
-        by_line (Some m) = befallen_shaped (state_with_sections w (One (key_of l m)) (Some t)) t Late (filled_shaped w (One (key_of l m)) (Some t) s) (rw e tt)
+        by_line (Some m) = befallen_shaped (state_with_sections w (One (key_of l m)) (Some t)) t Late
+            (filled_shaped w (One (key_of l m)) (Some t) s) (rw e tt)
     by_place (Semaphore l at) e = by_line (semaphore_profile at).late_line
       where
         by_line : (m : Option Line) → IsWellFormed (state_after_late_on w t (key_in (Some l) m))
         by_line None = s
-        by_line (Some m) = befallen_shaped (state_with_sections w (One (key_of l m)) (Some t)) t Late (filled_shaped w (One (key_of l m)) (Some t) s) (rw e tt)
+        by_line (Some m) = befallen_shaped (state_with_sections w (One (key_of l m)) (Some t)) t Late
+            (filled_shaped w (One (key_of l m)) (Some t) s) (rw e tt)
     by_place (Condvar l at) e = waits l at e
 
 -- the thread stands behind its closure, and goes on from there
-closing_can : (w : State) (t : ℕ) (succeeded : Bool) → runs_closure (act_of (place_at w t)) ≡ true → can_close w t succeeded ≡ true
+closing_can : (w : State) (t : ℕ) (succeeded : Bool) → runs_closure (act_of (place_at w t)) ≡ true
+    → can_close w t succeeded ≡ true
 closing_can w t succeeded runs = rw (runs, closes_freely w w t succeeded runs) refl
 
 -- A thread whose closure has ended goes on from there.
-goes_closed : (w : State) (t : ℕ) (succeeded : Bool) (q : Place) → t < length w.places → runs_closure (act_of (place_at w t)) ≡ true → q ≡ closed_place w t succeeded
+goes_closed : (w : State) (t : ℕ) (succeeded : Bool) (q : Place) → t < length w.places
+    → runs_closure (act_of (place_at w t)) ≡ true → q ≡ closed_place w t succeeded
     → can_go (put w t q) t ≡ true
 goes_closed w t succeeded q lt runs is =
-    subst (λ p. can_do (put w t q) (act_of p) ≡ true) (sym is ∙ sym (get_or-set_same w.places t q Idle lt)) (closes_freely w (put w t q) t succeeded runs)
+    subst (λ p. can_do (put w t q) (act_of p) ≡ true) (sym is ∙ sym (get_or-set_same w.places t q Idle lt))
+    (closes_freely w (put w t q) t succeeded runs)
 
-pub closed : (w v : State) (t : ℕ) (succeeded : Bool) (q : Place) → t < length w.places → runs_closure (act_of (place_at w t)) ≡ true → q ≡ closed_place w t succeeded
-    → v ≡ (if can_go (put w t q) t then state_after_go (put w t q) t else put w t q) → v ≡ (if can_close w t succeeded then state_after_close w t succeeded else w)
-closed w v t succeeded q lt runs is e = rw (closing_can w t succeeded runs) (subst (λ p. v ≡ state_after_go (put w t p) t) is
-    (e ∙ ap (λ b. if b then state_after_go (put w t q) t else put w t q) (goes_closed w t succeeded q lt runs is)))
+pub closed : (w v : State) (t : ℕ) (succeeded : Bool) (q : Place) → t < length w.places
+    → runs_closure (act_of (place_at w t)) ≡ true → q ≡ closed_place w t succeeded
+    → v ≡ (if can_go (put w t q) t then state_after_go (put w t q) t else put w t q)
+    → v ≡ (if can_close w t succeeded then state_after_close w t succeeded else w)
+closed w v t succeeded q lt runs is e = rw (closing_can w t succeeded runs)
+    (subst (λ p. v ≡ state_after_go (put w t p) t) is
+    (e ∙ ap (λ b. if b then state_after_go (put w t q) t else put w t q) (goes_closed w t succeeded q lt runs
+    is)))
 
-pub closed_told : {v w : State} → v ≡ w → (t : ℕ) (succeeded : Bool) (q : Place) (told : Outcome) → t < length v.places → runs_closure (act_of (place_at v t)) ≡ true → q ≡ closed_place v t succeeded
-    → told ≡ (if can_go (put v t q) t then go_outcome (put v t q) t else outcome.TheVariants.NotNow) → told ≡ (if can_close w t succeeded then close_outcome w t succeeded else outcome.TheVariants.NotNow)
-closed_told {v} same t succeeded q told lt runs is e = subst (λ (w : State). told ≡ (if can_close w t succeeded then close_outcome w t succeeded else outcome.TheVariants.NotNow)) same
+pub closed_told : {v w : State} → v ≡ w → (t : ℕ) (succeeded : Bool) (q : Place) (told : Outcome)
+    → t < length v.places → runs_closure (act_of (place_at v t)) ≡ true → q ≡ closed_place v t succeeded
+    → told ≡ (if can_go (put v t q) t then go_outcome (put v t q) t else outcome.TheVariants.NotNow)
+    → told ≡ (if can_close w t succeeded then close_outcome w t succeeded else outcome.TheVariants.NotNow)
+closed_told {v} same t succeeded q told lt runs is e =
+    subst (λ (w : State). told ≡ (if can_close w t succeeded then close_outcome w t succeeded
+    else outcome.TheVariants.NotNow)) same
     (rw (closing_can v t succeeded runs) (subst (λ p. told ≡ go_outcome (put v t p) t) is
-    (e ∙ ap (λ b. if b then go_outcome (put v t q) t else outcome.TheVariants.NotNow) (goes_closed v t succeeded q lt runs is))))
+    (e ∙ ap (λ b. if b then go_outcome (put v t q) t else outcome.TheVariants.NotNow)
+    (goes_closed v t succeeded q lt runs is))))
 
-closed_shaped : (w : State) (t : ℕ) (succeeded : Bool) → IsWellFormed w → t < length w.places → IsWellFormed (state_after_close w t succeeded)
+closed_shaped : (w : State) (t : ℕ) (succeeded : Bool) → IsWellFormed w → t < length w.places
+    → IsWellFormed (state_after_close w t succeeded)
 closed_shaped w t succeeded s lt =
     let q = closed_place w t succeeded in
-    gone_shaped (put w t q) t (put_shaped w t q s (closed_fits w t succeeded s)) (rw (length-set w.places t q) lt)
+    gone_shaped (put w t q) t (put_shaped w t q s (closed_fits w t succeeded s))
+    (rw (length-set w.places t q) lt)
 
-turned_shaped : (w : State) (t : ℕ) (x : Turn) → IsWellFormed w → t < length w.places → can_turn w t x ≡ true → IsWellFormed (state_after_turn w t x)
+turned_shaped : (w : State) (t : ℕ) (x : Turn) → IsWellFormed w → t < length w.places → can_turn w t x ≡ true
+    → IsWellFormed (state_after_turn w t x)
 turned_shaped w t (turn.TheVariants.Begin c) s lt can = begun_shaped w t c s can
 turned_shaped w t turn.TheVariants.Go s lt can = gone_shaped w t s lt
 turned_shaped w t turn.TheVariants.Spin s lt can = spun_shaped w t s lt
@@ -597,17 +790,24 @@ turned_shaped w t turn.TheVariants.Err s lt can = closed_shaped w t false s lt
 pub after_shaped : (w : State) (s : Step) → IsWellFormed w → IsWellFormed (after w s)
 after_shaped w step s = either (is_possible w step) refl
   where
-    either : (b : Bool) → is_possible w step ≡ b → IsWellFormed (if b then state_after_turn w step.thread step.turn else w)
+    either : (b : Bool) → is_possible w step ≡ b
+        → IsWellFormed (if b then state_after_turn w step.thread step.turn else w)
     either false e = s
-    either true e = let parts = both (nat_lt step.thread (length w.places)) (can_turn w step.thread step.turn) e in
+    either true e = let parts = both (nat_lt step.thread (length w.places)) (can_turn w step.thread step.turn)
+        e in
         turned_shaped w step.thread step.turn s (ltb-true step.thread (length w.places) parts.0) parts.1
 
 -- the opening state has the shape
-pub opening_shaped : (kinds : List Kind) (threads : ℕ) → length kinds ≤ 256 → IsWellFormed (opening kinds threads)
+pub opening_shaped : (kinds : List Kind) (threads : ℕ) → length kinds ≤ 256
+    → IsWellFormed (opening kinds threads)
 opening_shaped kinds threads few = record {
   few = rw (length-map kinds unlocked) few;
   sections = rw (length-replicate {A = Option ℕ} (2 * length kinds) None, length-map kinds unlocked) refl;
-  queues = rw (length-replicate {A = List Waiter} (2 * length kinds) [], length-replicate {A = Option ℕ} (2 * length kinds) None) refl;
+  queues = rw (
+    length-replicate {A = List Waiter} (2 * length kinds) [],
+    length-replicate {A = Option ℕ}
+        (2 * length kinds) None,
+  ) refl;
   places = λ t. rw (idle_at threads t) tt;
   kinds = λ t. rw (idle_at threads t) tt;
   shown = λ l of. inl (unlocked_word kinds l of);
@@ -618,7 +818,9 @@ opening_shaped kinds threads few = record {
     shows_none kind.Condvar of = refl
     shows_none k of = absurd cc
 
-    unlocked_word : (ks : List Kind) (l : ℕ) → is_condvar (get_or (map unlocked ks) l (unlocked kind.Mutex)).kind ≡ true → (get_or (map unlocked ks) l (unlocked kind.Mutex)).word ≡ 0
+    unlocked_word : (ks : List Kind) (l : ℕ)
+        → is_condvar (get_or (map unlocked ks) l (unlocked kind.Mutex)).kind ≡ true
+        → (get_or (map unlocked ks) l (unlocked kind.Mutex)).word ≡ 0
     unlocked_word [] l of = refl
     unlocked_word (k ∷ ks) zero of = shows_none k of
     unlocked_word (k ∷ ks) (suc l) of = unlocked_word ks l of
@@ -639,7 +841,10 @@ went_size w t p =
     record { threads = length-set (state_after_act w t p (act_of p)).places t _ ∙ counts.0; locks = counts.1 }
 
 put_went_size : (w : State) (t : ℕ) (q : Place) → SameSize w (state_after_go (put w t q) t)
-put_went_size w t q = size_more w (put w t q) (state_after_go (put w t q) t) (record { threads = length-set w.places t q; locks = refl })
+put_went_size w t q = size_more w (put w t q) (state_after_go (put w t q) t) (record {
+  threads = length-set w.places t q;
+  locks = refl;
+})
     (went_size (put w t q) t (place_at (put w t q) t))
 
 turned_size : (w : State) (t : ℕ) (x : Turn) → SameSize w (state_after_turn w t x)

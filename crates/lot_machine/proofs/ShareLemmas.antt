@@ -1,5 +1,6 @@
 -- Shared rights that are given one after another.
-use Rattle.std.proofs.Common.{ℕ, zero, suc, ◌≡◌, ◌<◌, ◌≤◌, ◌⊎◌, inl, inr, List, [], ◌∷◌, length, get_or, drop, refl, ap, arith}
+use Rattle.std.proofs.Common.{ℕ, zero, suc, ◌≡◌, ◌<◌, ◌≤◌, ◌⊎◌, inl, inr, List, [], ◌∷◌, length, get_or, drop}
+use Rattle.std.proofs.Common.{refl, ap, arith}
 use Rattle.lot_steps.specs.declared.places.Place.{Place}
 use Rattle.lot_machine.specs.Machine.{shares_given}
 
@@ -15,7 +16,8 @@ given_none t [] = refl
 given_none t (p ∷ ps) = refl
 
 -- nobody is left
-pub given_all : (t i : ℕ) (ps : List Place) (ns : List ℕ) → (length ps ≤ i) ⊎ (length ns ≤ i) → shares_given t (drop i ps) (drop i ns) ≡ drop i ns
+pub given_all : (t i : ℕ) (ps : List Place) (ns : List ℕ) → (length ps ≤ i) ⊎ (length ns ≤ i)
+    → shares_given t (drop i ps) (drop i ns) ≡ drop i ns
 given_all t zero [] ns h = refl
 given_all t (suc i) [] ns h = refl
 given_all t zero (p ∷ ps) [] h = refl

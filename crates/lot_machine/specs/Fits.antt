@@ -1,5 +1,6 @@
 -- A state fits where the numbers in it name threads, locks and keys that are there.
-use Rattle.std.specs.Prelude.{ℕ, Bool, true, false, Option, Some, None, ◌||◌, ◌≡◌, ◌≢◌, ◌<◌, ◌≤◌, ◌*◌, ◌⊎◌, List, [], ◌∷◌, length}
+use Rattle.std.specs.Prelude.{ℕ, Bool, true, false, Option, Some, None, ◌||◌, ◌≡◌, ◌≢◌, ◌<◌, ◌≤◌, ◌*◌, ◌⊎◌}
+use Rattle.std.specs.Prelude.{List, [], ◌∷◌, length}
 use Rattle.core_base.specs.declared.keys.Keys.{Keys}
 use Rattle.core_base.specs.declared.keys.Keys.TheVariants.{One, Two}
 use Rattle.core_base.specs.declared.wants.Waiter.{Waiter}
@@ -7,7 +8,8 @@ use Rattle.spec_locks.specs.declared.kinds.Kind.{Kind}
 use Rattle.spec_locks.specs.declared.kinds.Kind.TheVariants as kind
 use Rattle.spec_locks.specs.Kinds.{is_condvar, is_fair, is_plain_mutex}
 use Rattle.steps_base.specs.declared.acts.Act.{Act}
-use Rattle.steps_base.specs.declared.acts.Act.TheVariants.{Word, HandOver, Enter, Park, Stand, Take, Requeue, Remove, Leave}
+use Rattle.steps_base.specs.declared.acts.Act.TheVariants.{Word, HandOver, Enter, Park, Stand, Take, Requeue}
+use Rattle.steps_base.specs.declared.acts.Act.TheVariants.{Remove, Leave}
 use Rattle.lot_steps.specs.declared.places.Place.{Place}
 use Rattle.lot_steps.specs.declared.places.Place.TheVariants.{Idle, Mutex, RwLock, Once, Condvar, Semaphore}
 use Rattle.steps_mutex.specs.declared.places.MutexPlace.{MutexPlace}

@@ -1,5 +1,7 @@
 -- The machine of the world: its state, and where each step leads.
-use Rattle.std.specs.Prelude.{ℕ, zero, suc, Bool, true, false, Option, Some, None, if◌then◌else◌, ◌==◌, ◌*◌, ◌+◌, ◌%◌, ◌^◌, sum, ◌&&◌, ◌||◌, not, List, [], ◌∷◌, ◌++◌, map, length, take, drop, replicate, nat_lt, is_some, is_none, slice_set, slice_index_or}
+use Rattle.std.specs.Prelude.{ℕ, zero, suc, Bool, true, false, Option, Some, None, if◌then◌else◌, ◌==◌, ◌*◌}
+use Rattle.std.specs.Prelude.{◌+◌, ◌%◌, ◌^◌, sum, ◌&&◌, ◌||◌, not, List, [], ◌∷◌, ◌++◌, map, length, take}
+use Rattle.std.specs.Prelude.{drop, replicate, nat_lt, is_some, is_none, slice_set, slice_index_or}
 use Rattle.core_base.specs.declared.keys.Keys.{Keys}
 use Rattle.core_base.specs.declared.keys.Keys as keys
 use Rattle.core_base.specs.declared.ops.Op.{Op}
@@ -22,13 +24,16 @@ use Rattle.steps_base.specs.declared.owners.Phase.TheVariants as phases
 use Rattle.lot_steps.specs.declared.places.Place.{Place}
 use Rattle.lot_steps.specs.declared.places.Place.TheVariants.{Idle}
 use Rattle.steps_base.specs.declared.acts.Act.{Act}
-use Rattle.steps_base.specs.declared.acts.Act.TheVariants.{Rest, Word, HandOver, Enter, Park, Stand, Take, Remove, Leave, Sleep, Closure, End}
+use Rattle.steps_base.specs.declared.acts.Act.TheVariants.{Rest, Word, HandOver, Enter, Park, Stand, Take}
+use Rattle.steps_base.specs.declared.acts.Act.TheVariants.{Remove, Leave, Sleep, Closure, End}
 use Rattle.steps_base.specs.declared.acts.Act.TheVariants as act
 use Rattle.steps_base.specs.declared.acts.Check.{Check}
 use Rattle.steps_base.specs.declared.acts.Wakes.{Wakes}
 use Rattle.steps_base.specs.declared.acts.Wakes as wakes
 use Rattle.steps_base.specs.declared.acts.Reply.{Reply}
-use Rattle.steps_base.specs.declared.acts.Reply.TheVariants.{Done, Value, Parked, Took, Picked, Requeued, Removed, TakenBy, MovedTo, HandedBy, Late, Woken, Closed}
+use Rattle.steps_base.specs.declared.acts.Reply.TheVariants.{Done, Value, Parked, Took, Picked, Requeued}
+use Rattle.steps_base.specs.declared.acts.Reply.TheVariants.{Removed, TakenBy, MovedTo, HandedBy, Late, Woken}
+use Rattle.steps_base.specs.declared.acts.Reply.TheVariants.{Closed}
 use Rattle.steps_base.specs.declared.acts.Whom.{Whom}
 use Rattle.steps_base.specs.declared.acts.Whom as whom
 use Rattle.spec_locks.specs.declared.calls.Call.{Call}
@@ -41,7 +46,8 @@ use Rattle.spec_locks.specs.Kinds.{has_call, is_plain_mutex}
 use Rattle.steps_base.specs.Acts.{holds, takes_effect, outcome_of}
 use Rattle.steps_base.specs.Owners.{is_thread, with_exclusive}
 use Rattle.spec_locks.specs.Calls.{lock_in, mutex_in, lock_of_right}
-use Rattle.lot_steps.specs.Steps.{first_place, has_right, is_idle, act_of, next_place, next_act, owners_after, shares_after, taker, wants, looking, late_key}
+use Rattle.lot_steps.specs.Steps.{first_place, has_right, is_idle, act_of, next_place, next_act, owners_after}
+use Rattle.lot_steps.specs.Steps.{shares_after, taker, wants, looking, late_key}
 use Rattle.spec_locks.specs.Codes.{fills}
 use Rattle.spec_locks.specs.Locks.{Taken, wants_shared}
 use Rattle.spec_locks.specs.Purposes.{rules_of}

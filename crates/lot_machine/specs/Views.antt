@@ -1,7 +1,9 @@
 -- The owners, waiters and debts that the views of a lock show, in the order of a printed line.
-use Rattle.std.specs.Prelude.{ℕ, Bool, Option, Some, None, if◌then◌else◌, ◌+◌, ◌*◌, List, [], ◌∷◌, ◌++◌, replicate, ◌≡◌, All}
+use Rattle.std.specs.Prelude.{ℕ, Bool, Option, Some, None, if◌then◌else◌, ◌+◌, ◌*◌, List, [], ◌∷◌, ◌++◌}
+use Rattle.std.specs.Prelude.{replicate, ◌≡◌, All}
 use Rattle.steps_base.specs.declared.owners.Owner.{Owner}
-use Rattle.steps_base.specs.declared.owners.Owner.TheVariants.{Exclusive, Pending, Upgradable, Running, Shared}
+use Rattle.steps_base.specs.declared.owners.Owner.TheVariants.{Exclusive, Pending, Upgradable, Running}
+use Rattle.steps_base.specs.declared.owners.Owner.TheVariants.{Shared}
 use Rattle.steps_base.specs.declared.owners.Owners.{Owners}
 use Rattle.steps_base.specs.declared.owners.Pending as pending
 use Rattle.steps_base.specs.Owners.{running_thread}

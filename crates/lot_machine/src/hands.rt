@@ -1,7 +1,9 @@
 //! The threads that a thread has in hand: it has taken them from queues, and has not woken them
 //! yet.
 ghost use Rattle.std.specs.Prelude.{◌≡◌, ◌≤◌, vec_capacity, length, map};
-ghost use Rattle.lot_machine.specs.Machine.{places_told, listed, moved_threads, held, shares_in_hand, sharers_in_hand, wants_more_in_hand, successor_from, want_of_successor, place_after_telling};
+ghost use Rattle.lot_machine.specs.Machine.{places_told, listed, moved_threads, held, shares_in_hand};
+ghost use Rattle.lot_machine.specs.Machine.{sharers_in_hand, wants_more_in_hand, successor_from};
+ghost use Rattle.lot_machine.specs.Machine.{want_of_successor, place_after_telling};
 
 use core_base::{Requeue, Want};
 use lot_steps::{Place, Reply};

@@ -1,6 +1,7 @@
 //! The shared rights of threads, and the owners to which a lock is handed over.
 ghost use Rattle.std.specs.Prelude.{ℕ, ◌≡◌, ◌==◌, IfOk, map, sum, slice_set, slice_index_or, replicate};
-ghost use Rattle.lot_machine.specs.Machine.{shares_given, with_share, held, shares_in_hand, owners_of_successor};
+ghost use Rattle.lot_machine.specs.Machine.{shares_given, with_share, held, shares_in_hand};
+ghost use Rattle.lot_machine.specs.Machine.{owners_of_successor};
 
 use crate::hands::{Successor, shares_in_hand};
 use core_base::Want;

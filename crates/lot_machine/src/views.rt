@@ -1,5 +1,6 @@
 //! The views of a lock: named iterators in the order of a printed line, without memory.
-ghost use Rattle.std.specs.Prelude.{◌≡◌, ◌<◌, ◌^◌, ◌+◌, ◌*◌, ◌++◌, [], MatchOption, IfSome, length, drop, replicate, slice_index_or};
+ghost use Rattle.std.specs.Prelude.{◌≡◌, ◌<◌, ◌^◌, ◌+◌, ◌*◌, ◌++◌, [], MatchOption, IfSome, length, drop};
+ghost use Rattle.std.specs.Prelude.{replicate, slice_index_or};
 ghost use Rattle.std.specs.Iterator.{YieldsFirst, item_count};
 ghost use Rattle.lot_machine.specs.Views.{owners_listed, sharers_listed};
 

@@ -1,5 +1,6 @@
 -- Cells: each says what a thread is to a lock, by the views of their world.
-use Rattle.std.specs.Prelude.{ℕ, Bool, false, Option, Some, None, if◌then◌else◌, ◌+◌, ◌*◌, ◌==◌, ◌||◌, List, [], ◌∷◌}
+use Rattle.std.specs.Prelude.{ℕ, Bool, false, Option, Some, None, if◌then◌else◌, ◌+◌, ◌*◌, ◌==◌, ◌||◌, List}
+use Rattle.std.specs.Prelude.{[], ◌∷◌}
 use Rattle.steps_base.specs.declared.owners.Owner.{Owner}
 use Rattle.core_base.specs.declared.wants.Waiter.{Waiter}
 use Rattle.lot_steps.specs.declared.places.Place.{Place}

@@ -1,7 +1,9 @@
 -- What a thread is about to do.
 use Rattle.std.specs.Prelude.{ℕ}
 use Rattle.steps_base.specs.declared.acts.Act.{Act}
-use Rattle.steps_base.specs.declared.acts.Act.TheVariants.{Rest, Word, HandOver, Enter, Park, Stand, Take, Requeue, Remove, Leave, Sleep, Accept, Closure, End}
+use Rattle.steps_base.specs.declared.acts.Act.TheVariants.{Rest, Word, HandOver, Enter, Park, Stand, Take}
+use Rattle.steps_base.specs.declared.acts.Act.TheVariants.{Requeue, Remove, Leave, Sleep, Accept, Closure}
+use Rattle.steps_base.specs.declared.acts.Act.TheVariants.{End}
 use Rattle.lot_steps.specs.Steps.{act_of}
 use Rattle.lot_machine.specs.Machine.{State, place_at, word_at}
 use Rattle.lot_picture.specs.declared.dues.Due.{Due}

@@ -1,7 +1,9 @@
 -- What a step does to another thread, by what that thread was to a lock before and after it.
-use Rattle.std.specs.Prelude.{ℕ, Bool, true, false, Option, Some, None, if◌then◌else◌, ◌&&◌, not, nat_lt, is_some}
+use Rattle.std.specs.Prelude.{ℕ, Bool, true, false, Option, Some, None, if◌then◌else◌, ◌&&◌, not, nat_lt}
+use Rattle.std.specs.Prelude.{is_some}
 use Rattle.steps_base.specs.declared.owners.Owner.{Owner}
-use Rattle.steps_base.specs.declared.owners.Owner.TheVariants.{Exclusive, Pending, Upgradable, Running, Shared}
+use Rattle.steps_base.specs.declared.owners.Owner.TheVariants.{Exclusive, Pending, Upgradable, Running}
+use Rattle.steps_base.specs.declared.owners.Owner.TheVariants.{Shared}
 use Rattle.lot_picture.specs.declared.cells.Cell.{Cell}
 use Rattle.lot_picture.specs.declared.cells.Deed.{Deed}
 use Rattle.lot_picture.specs.declared.cells.Deed.TheVariants.{Owes, Waits, WaitsAside, Retries, Taken, Calls}

@@ -1,5 +1,6 @@
 -- Each move of a program is a step of the world, or leaves it as it is.
-use Rattle.std.proofs.Common.{ℕ, zero, suc, ◌≡◌, ◌/◌, ◌%◌, Bool, true, false, Option, Some, None, [], ◌∷◌, refl, sym, ap, subst, ◌∙◌}
+use Rattle.std.proofs.Common.{ℕ, zero, suc, ◌≡◌, ◌/◌, ◌%◌, Bool, true, false, Option, Some, None, [], ◌∷◌}
+use Rattle.std.proofs.Common.{refl, sym, ap, subst, ◌∙◌}
 use Rattle.std.specs.Prelude.{if◌then◌else◌, nat_lt}
 use Rattle.spec_locks.specs.declared.calls.Turn.TheVariants as turn
 use Rattle.spec_locks.specs.declared.calls.Turn.{Turn}
@@ -19,45 +20,59 @@ use Rattle.lot_program.specs.declared.program.Instruction.{Instruction}
 use Rattle.lot_program.specs.declared.program.Instruction.TheVariants as instruction
 use Rattle.lot_program.specs.declared.program.Program.{Program}
 use Rattle.lot_program.specs.Programs.{threads_of, instruction_at}
-use Rattle.lot_program.specs.States.{ProgramState, step_of, turning, turned, with_turn, heard, is_barred, stepped_by, or_refused, world_move, late_move, closing, performed, going_on, asserted, is_own, own_move, local_at, thread_move, program_next}
-use Rattle.lot_program.specs.Runs.{go_steps, turn_steps, steps_by, step_by, own_step, thread_step, steps_taken}
+use Rattle.lot_program.specs.States.{ProgramState, step_of, turning, turned, with_turn, heard, is_barred}
+use Rattle.lot_program.specs.States.{stepped_by, or_refused, world_move, late_move, closing, performed}
+use Rattle.lot_program.specs.States.{going_on, asserted, is_own, own_move, local_at, thread_move}
+use Rattle.lot_program.specs.States.{program_next}
+use Rattle.lot_program.specs.Runs.{go_steps, turn_steps, steps_by, step_by, own_step, thread_step}
+use Rattle.lot_program.specs.Runs.{steps_taken}
 use Rattle.lot_program.proofs.TurnLemmas.{gone_world}
 
 -- the world after a turn
-turned_world : (g : Grain) (o : Outcome) (w : State) (step : Step) (l : Local) → step_outcome w step ≡ o → is_barred o ≡ false
+turned_world : (g : Grain) (o : Outcome) (w : State) (step : Step) (l : Local) → step_outcome w step ≡ o
+    → is_barred o ≡ false
     → (turned g o w step l).world ≡ after_steps w (turn_steps g w step)
 turned_world g o w step l told goes =
     gone_world g 64 step.thread (turning (after w step) (heard o l))
-    ∙ ap (λ b. after_steps (after w step) (if b then [] else go_steps g 64 step.thread (after w step))) (sym (ap is_barred told ∙ goes))
+    ∙ ap (λ b. after_steps (after w step) (if b then [] else go_steps g 64 step.thread (after w step)))
+    (sym (ap is_barred told ∙ goes))
 
 -- a turn whose first step isn't possible has only that step
-barred_steps : (g : Grain) (w : State) (step : Step) → step_outcome w step ≡ outcome.NotNow → turn_steps g w step ≡ step ∷ []
+barred_steps : (g : Grain) (w : State) (step : Step) → step_outcome w step ≡ outcome.NotNow
+    → turn_steps g w step ≡ step ∷ []
 barred_steps g w step told =
     ap (λ b. step ∷ (if b then [] else go_steps g 64 step.thread (after w step))) (ap is_barred told)
 
-stepped_world : (g : Grain) (o : Outcome) (s u : ProgramState) (step : Step) (l : Local) → step_outcome s.world step ≡ o
+stepped_world : (g : Grain) (o : Outcome) (s u : ProgramState) (step : Step) (l : Local)
+    → step_outcome s.world step ≡ o
     → stepped_by o g s step l ≡ Some u → u.world ≡ after_steps s.world (turn_steps g s.world step)
 stepped_world g outcome.NotNow s u step l told e = absurd (none_some u e)
 stepped_world g outcome.Step s u step l told e =
-    ap (λ (v : ProgramState). v.world) (sym (some_same (with_turn s step.thread (turned g outcome.Step s.world step l)) u e))
+    ap (λ (v : ProgramState). v.world)
+    (sym (some_same (with_turn s step.thread (turned g outcome.Step s.world step l)) u e))
     ∙ turned_world g outcome.Step s.world step l told refl
 stepped_world g outcome.Sleep s u step l told e =
-    ap (λ (v : ProgramState). v.world) (sym (some_same (with_turn s step.thread (turned g outcome.Sleep s.world step l)) u e))
+    ap (λ (v : ProgramState). v.world)
+    (sym (some_same (with_turn s step.thread (turned g outcome.Sleep s.world step l)) u e))
     ∙ turned_world g outcome.Sleep s.world step l told refl
 stepped_world g (outcome.Closure x) s u step l told e =
-    ap (λ (v : ProgramState). v.world) (sym (some_same (with_turn s step.thread (turned g (outcome.Closure x) s.world step l)) u e))
+    ap (λ (v : ProgramState). v.world)
+    (sym (some_same (with_turn s step.thread (turned g (outcome.Closure x) s.world step l)) u e))
     ∙ turned_world g (outcome.Closure x) s.world step l told refl
 stepped_world g (outcome.End a) s u step l told e =
-    ap (λ (v : ProgramState). v.world) (sym (some_same (with_turn s step.thread (turned g (outcome.End a) s.world step l)) u e))
+    ap (λ (v : ProgramState). v.world)
+    (sym (some_same (with_turn s step.thread (turned g (outcome.End a) s.world step l)) u e))
     ∙ turned_world g (outcome.End a) s.world step l told refl
 
-refused_world : (g : Grain) (o : Outcome) (s : ProgramState) (step : Step) (l : Local) (t : ℕ) → step_outcome s.world step ≡ o
+refused_world : (g : Grain) (o : Outcome) (s : ProgramState) (step : Step) (l : Local) (t : ℕ)
+    → step_outcome s.world step ≡ o
     → (or_refused s t (stepped_by o g s step l)).world ≡ after_steps s.world (turn_steps g s.world step)
 refused_world g outcome.NotNow s step l t told =
     sym (after_stuck s.world step told) ∙ sym (ap (after_steps s.world) (barred_steps g s.world step told))
 refused_world g outcome.Step s step l t told = turned_world g outcome.Step s.world step l told refl
 refused_world g outcome.Sleep s step l t told = turned_world g outcome.Sleep s.world step l told refl
-refused_world g (outcome.Closure x) s step l t told = turned_world g (outcome.Closure x) s.world step l told refl
+refused_world g (outcome.Closure x) s step l t told = turned_world g (outcome.Closure x) s.world step l told
+    refl
 refused_world g (outcome.End a) s step l t told = turned_world g (outcome.End a) s.world step l told refl
 
 gone_world_same : (s : ProgramState) (t : ℕ) (b : Bool) (n : ℕ) → (going_on s t b n).world ≡ s.world
@@ -91,9 +106,11 @@ own_world g s u t (Some i) e =
 -- a move that is a turn in a call
 went_world : (g : Grain) (s u : ProgramState) (t : ℕ) (x : Turn) → world_move g s t x (local_at s t) ≡ Some u
     → u.world ≡ after_steps s.world (turn_steps g s.world (step_of t x))
-went_world g s u t x e = stepped_world g (step_outcome s.world (step_of t x)) s u (step_of t x) (local_at s t) refl e
+went_world g s u t x e = stepped_world g (step_outcome s.world (step_of t x)) s u (step_of t x) (local_at s t)
+    refl e
 
-late_world : (p : Program) (s u : ProgramState) (t : ℕ) (d : Deadlines) → late_move d (world_move p.grain s t turn.Late (local_at s t)) ≡ Some u
+late_world : (p : Program) (s u : ProgramState) (t : ℕ) (d : Deadlines)
+    → late_move d (world_move p.grain s t turn.Late (local_at s t)) ≡ Some u
     → u.world ≡ after_steps s.world (turn_steps p.grain s.world (step_of t turn.Late))
 late_world p s u t Pass e = went_world p.grain s u t turn.Late e
 late_world p s u t Never e = absurd (none_some u e)
@@ -101,8 +118,10 @@ late_world p s u t Never e = absurd (none_some u e)
 thread_world : (p : Program) (s u : ProgramState) (t n : ℕ) → thread_move p s t n ≡ Some u
     → u.world ≡ after_steps s.world (steps_by p.grain s.world (thread_step p s t n))
 thread_world p s u t zero e = by (is_own s.world t) e where
-  by : (b : Bool) → (if b then own_move p.grain s t (instruction_at p t (local_at s t).at) else world_move p.grain s t turn.Go (local_at s t)) ≡ Some u
-      → u.world ≡ after_steps s.world (steps_by p.grain s.world (if b then own_step (instruction_at p t (local_at s t).at) t else Some (step_of t turn.Go)))
+  by : (b : Bool) → (if b then own_move p.grain s t (instruction_at p t (local_at s t).at) else world_move
+      p.grain s t turn.Go (local_at s t)) ≡ Some u
+      → u.world ≡ after_steps s.world (steps_by p.grain s.world
+      (if b then own_step (instruction_at p t (local_at s t).at) t else Some (step_of t turn.Go)))
   by true f = own_world p.grain s u t (instruction_at p t (local_at s t).at) f
   by false f = went_world p.grain s u t turn.Go f
 thread_world p s u t (suc zero) e = went_world p.grain s u t turn.Spin e
@@ -117,6 +136,7 @@ next_world p s u k e = by (nat_lt (k / 3) (threads_of p)) e where
   by false f = absurd (none_some u f)
 
 -- so it stays a world
-pub next_stays : (p : Program) (s u : ProgramState) (k : ℕ) → program_next p s k ≡ Some u → IsWorld s.world → IsWorld u.world
+pub next_stays : (p : Program) (s u : ProgramState) (k : ℕ) → program_next p s k ≡ Some u → IsWorld s.world
+    → IsWorld u.world
 next_stays p s u k e world =
     subst IsWorld (sym (next_world p s u k e)) (world_steps (steps_taken p s k) s.world world)

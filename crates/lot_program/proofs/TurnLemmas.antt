@@ -1,5 +1,6 @@
 -- The turn of a thread in a call, as steps of the world.
-use Rattle.std.proofs.Common.{ℕ, zero, suc, ◌≡◌, ◌<◌, ◌+◌, ◌-◌, Bool, true, false, List, [], ◌∷◌, refl, sym, ap, subst, ◌∙◌, arith}
+use Rattle.std.proofs.Common.{ℕ, zero, suc, ◌≡◌, ◌<◌, ◌+◌, ◌-◌, Bool, true, false, List, [], ◌∷◌, refl, sym}
+use Rattle.std.proofs.Common.{ap, subst, ◌∙◌, arith}
 use Rattle.std.specs.Prelude.{if◌then◌else◌, ◌||◌}
 use Rattle.spec_locks.specs.declared.calls.Turn.TheVariants as turn
 use Rattle.spec_locks.specs.declared.calls.Step.{Step}
@@ -69,9 +70,11 @@ steps_go g t w k below e = ap (λ n. go_steps g n t w) (left k below) ∙ steps_
 
 -- a turn ends by the place, or where the next step isn't possible
 pub ends_there : (g : Grain) (w : State) (t : ℕ)
-    → (is_own w t || (sleeps (act_of (place_at w t)) || is_cut g (place_at w t))) ≡ true → turn_ends g w t ≡ true
+    → (is_own w t || (sleeps (act_of (place_at w t)) || is_cut g (place_at w t))) ≡ true → turn_ends g w t
+    ≡ true
 ends_there g w t e =
-    by (is_own w t) (sleeps (act_of (place_at w t))) (is_cut g (place_at w t)) (is_barred (step_outcome w (step_of t turn.Go))) e
+    by (is_own w t) (sleeps (act_of (place_at w t))) (is_cut g (place_at w t))
+    (is_barred (step_outcome w (step_of t turn.Go))) e
   where
     by : (a b c d : Bool) → (a || (b || c)) ≡ true → (a || (b || (c || d))) ≡ true
     by true b c d e = refl
@@ -79,9 +82,11 @@ ends_there g w t e =
     by false false true d e = refl
     by false false false d e = absurd cc
 
-pub ends_barred : (g : Grain) (w : State) (t : ℕ) → step_outcome w (step_of t turn.Go) ≡ outcome.NotNow → turn_ends g w t ≡ true
+pub ends_barred : (g : Grain) (w : State) (t : ℕ) → step_outcome w (step_of t turn.Go) ≡ outcome.NotNow
+    → turn_ends g w t ≡ true
 ends_barred g w t e =
-    by (is_own w t) (sleeps (act_of (place_at w t))) (is_cut g (place_at w t)) (is_barred (step_outcome w (step_of t turn.Go))) (ap is_barred e)
+    by (is_own w t) (sleeps (act_of (place_at w t))) (is_cut g (place_at w t))
+    (is_barred (step_outcome w (step_of t turn.Go))) (ap is_barred e)
   where
     by : (a b c d : Bool) → d ≡ true → (a || (b || (c || d))) ≡ true
     by true b c d e = refl
@@ -90,7 +95,8 @@ ends_barred g w t e =
     by false false false d e = e
 
 -- an act that is told to be neither sleep nor a closure is none
-pub quiet_act : (a : Act) → (outcome_of a ≡ outcome.Sleep → ⊥) → ((x : OnceState) → outcome_of a ≡ outcome.Closure x → ⊥)
+pub quiet_act : (a : Act) → (outcome_of a ≡ outcome.Sleep → ⊥)
+    → ((x : OnceState) → outcome_of a ≡ outcome.Closure x → ⊥)
     → (runs_closure a ≡ false) × (sleeps a ≡ false)
 quiet_act act.Rest f h = (refl, refl)
 quiet_act (act.Word l op) f h = (refl, refl)
@@ -118,7 +124,8 @@ pub ends_not : (g : Grain) (w : State) (t : ℕ)
     → (is_own w t || (sleeps (act_of (place_at w t)) || is_cut g (place_at w t))) ≡ false
     → (step_outcome w (step_of t turn.Go) ≡ outcome.NotNow → ⊥) → turn_ends g w t ≡ false
 ends_not g w t e told =
-    by (is_own w t) (sleeps (act_of (place_at w t))) (is_cut g (place_at w t)) (is_barred (step_outcome w (step_of t turn.Go))) e
+    by (is_own w t) (sleeps (act_of (place_at w t))) (is_cut g (place_at w t))
+    (is_barred (step_outcome w (step_of t turn.Go))) e
     (told_barred (step_outcome w (step_of t turn.Go)) told)
   where
     by : (a b c d : Bool) → (a || (b || c)) ≡ false → d ≡ false → (a || (b || (c || d))) ≡ false
@@ -134,11 +141,13 @@ chosen_world : (b : Bool) (x y : Turning) (ss : List Step) → y.world ≡ after
 chosen_world true x y ss e = refl
 chosen_world false x y ss e = e
 
-chosen_kept : (b : Bool) (x y : Turning) → IsWorld x.world → IsWorld y.world → IsWorld (if b then x else y).world
+chosen_kept : (b : Bool) (x y : Turning) → IsWorld x.world → IsWorld y.world
+    → IsWorld (if b then x else y).world
 chosen_kept true x y p q = p
 chosen_kept false x y p q = q
 
-chosen_size : (b : Bool) (w : State) (x y : Turning) → SameSize w x.world → SameSize w y.world → SameSize w (if b then x else y).world
+chosen_size : (b : Bool) (w : State) (x y : Turning) → SameSize w x.world → SameSize w y.world
+    → SameSize w (if b then x else y).world
 chosen_size true w x y p q = p
 chosen_size false w x y p q = q
 
@@ -162,17 +171,19 @@ pub gone_size : (g : Grain) (n t : ℕ) (x : Turning) → SameSize x.world (gone
 unfolding gone_on
 gone_size g zero t x = record { threads = refl; locks = refl }
 gone_size g (suc n) t x =
-    chosen_size (turn_ends g x.world t) x.world x (gone_on g n t (gone t x)) (record { threads = refl; locks = refl })
+    chosen_size (turn_ends g x.world t) x.world x (gone_on g n t (gone t x))
+    (record { threads = refl; locks = refl })
     (size_more x.world (after x.world (step_of t turn.Go)) (gone_on g n t (gone t x)).world
     (after_size x.world (step_of t turn.Go)) (gone_size g n t (gone t x)))
 
 -- what is told of a turn that has ended so
-module _ (g : Grain) (t : ℕ) (w v : State) (l k : Local) (e : turning v k ≡ gone_on g 64 t (turning w l)) where
-  pub ended_world : v ≡ (gone_on g 64 t (turning w l)).world
-  ended_world = ap (λ (x : Turning). x.world) e
+module _ (g : Grain) (t : ℕ) (w v : State) (l k : Local) (e : turning v k ≡ gone_on g 64 t (turning w l))
+  where
+    pub ended_world : v ≡ (gone_on g 64 t (turning w l)).world
+    ended_world = ap (λ (x : Turning). x.world) e
 
-  pub ended_local : k ≡ (gone_on g 64 t (turning w l)).local
-  ended_local = ap (λ (x : Turning). x.local) e
+    pub ended_local : k ≡ (gone_on g 64 t (turning w l)).local
+    ended_local = ap (λ (x : Turning). x.local) e
 
-  pub ended_size : SameSize w v
-  ended_size = subst (SameSize w) (sym ended_world) (gone_size g 64 t (turning w l))
+    pub ended_size : SameSize w v
+    ended_size = subst (SameSize w) (sym ended_world) (gone_size g 64 t (turning w l))

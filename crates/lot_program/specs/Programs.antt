@@ -1,5 +1,6 @@
 -- Programs of lock calls: values, tests, and the instructions of a thread.
-use Rattle.std.specs.Prelude.{ℕ, Bool, Option, List, [], map, length, not, ◌==◌, nat_lt, nat_le, slice_index, slice_index_or, true, ◌≡◌, ◌≤◌, All}
+use Rattle.std.specs.Prelude.{ℕ, Bool, Option, List, [], map, length, not, ◌==◌, nat_lt, nat_le, slice_index}
+use Rattle.std.specs.Prelude.{slice_index_or, true, ◌≡◌, ◌≤◌, All}
 use Rattle.std.specs.List.{slice_get}
 use Rattle.spec_locks.specs.declared.outcomes.Answer.{Answer}
 use Rattle.spec_locks.specs.declared.outcomes.Answer.TheVariants as answer
@@ -7,7 +8,8 @@ use Rattle.spec_locks.specs.Kinds.{fits}
 use Rattle.lot_program.specs.declared.program.Value.{Value}
 use Rattle.lot_program.specs.declared.program.Value.TheVariants.{Number, Variable}
 use Rattle.lot_program.specs.declared.program.Comparison.{Comparison}
-use Rattle.lot_program.specs.declared.program.Comparison.TheVariants.{Equal, Unequal, Less, AtMost, Greater, AtLeast}
+use Rattle.lot_program.specs.declared.program.Comparison.TheVariants.{Equal, Unequal, Less, AtMost, Greater}
+use Rattle.lot_program.specs.declared.program.Comparison.TheVariants.{AtLeast}
 use Rattle.lot_program.specs.declared.program.Test.{Test}
 use Rattle.lot_program.specs.declared.program.Told.{Told}
 use Rattle.lot_program.specs.declared.program.Told.TheVariants as told

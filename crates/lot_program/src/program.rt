@@ -1,6 +1,7 @@
 //! Programs of lock calls: for each thread a list of instructions.
 ghost use Rattle.std.specs.Prelude.{◌≡◌, ◌<◌, ◌-◌, ◌^◌, IfSome, All, true, false, length};
-ghost use Rattle.lot_program.specs.Programs.{told_by, told_number, number_of, holds, compares, instruction_at, line_at, IsFit};
+ghost use Rattle.lot_program.specs.Programs.{told_by, told_number, number_of, holds, compares};
+ghost use Rattle.lot_program.specs.Programs.{instruction_at, line_at, IsFit};
 ghost use Rattle.spec_locks.specs.Kinds.{fits};
 ghost use Rattle.lot_program.specs.Runs.{step_by};
 

@@ -9,7 +9,8 @@ use Rattle.lot_replay.specs.Start.{texts_of}
 heads_same : (u v : List ℕ) → ◌≡◌ {A = List (List ℕ)} (u ∷ []) (v ∷ []) → u ≡ v
 heads_same u v e = cc
 
-pub one_word : (args : List (Bor (List ℕ))) (d : Bor (List ℕ)) (job : List ℕ) (b : Bool) → 1 ≤ length args → length args < 2 → b ≡ bytes_eq (get_or args 0 d).now job
+pub one_word : (args : List (Bor (List ℕ))) (d : Bor (List ℕ)) (job : List ℕ) (b : Bool) → 1 ≤ length args
+    → length args < 2 → b ≡ bytes_eq (get_or args 0 d).now job
     → (IsTrue b → texts_of args ≡ job ∷ []) × (texts_of args ≡ job ∷ [] → IsTrue b)
 one_word [] d job b some few e = absurd (omega arith)
 one_word (a ∷ []) d job b some few e = (

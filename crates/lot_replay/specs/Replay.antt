@@ -1,5 +1,6 @@
 -- The text of a schedule, and what `replay` may leave behind.
-use Rattle.std.specs.Prelude.{◌≡◌, ◌≤◌, ℕ, ◌+◌, Bool, true, false, List, [], ◌∷◌, ◌++◌, length, ⊤, Option, None, Some, ◌⊎◌, All}
+use Rattle.std.specs.Prelude.{◌≡◌, ◌≤◌, ℕ, ◌+◌, Bool, true, false, List, [], ◌∷◌, ◌++◌, length, ⊤, Option}
+use Rattle.std.specs.Prelude.{None, Some, ◌⊎◌, All}
 use Rattle.std.specs.Io.KnownBytes.{Appends}
 use Rattle.lot_text.specs.Sent.{SendsFront}
 use Rattle.lot_text.specs.Lines.{lines_of}

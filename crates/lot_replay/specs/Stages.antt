@@ -1,5 +1,6 @@
 -- The lines of a schedule, one after another, and the stages to which they lead.
-use Rattle.std.specs.Prelude.{ℕ, Bool, true, false, ◌&&◌, nat_le, nat_lt, is_none, List, [], ◌∷◌, ◌++◌, length, if◌then◌else◌, Option, None, Some, option_map, option_and_then}
+use Rattle.std.specs.Prelude.{ℕ, Bool, true, false, ◌&&◌, nat_le, nat_lt, is_none, List, [], ◌∷◌, ◌++◌}
+use Rattle.std.specs.Prelude.{length, if◌then◌else◌, Option, None, Some, option_map, option_and_then}
 use Rattle.spec_locks.specs.declared.kinds.Kind.{Kind}
 use Rattle.lot_text.specs.declared.grammar.NamedCall.{NamedCall}
 use Rattle.lot_text.specs.declared.grammar.NamedCall.TheVariants as calling
@@ -14,7 +15,8 @@ use Rattle.spec_locks.specs.declared.calls.CondvarCall.TheVariants as condvar
 use Rattle.spec_locks.specs.declared.calls.OnceCall.{OnceCall}
 use Rattle.spec_locks.specs.declared.calls.OnceCall.TheVariants.{CallOnce, Wait, WaitTimed}
 use Rattle.spec_locks.specs.Kinds.{fits, is_condvar}
-use Rattle.lot_machine.specs.Machine.{State, kind_at, opening, is_possible, after, after_steps, step_outcome, solo}
+use Rattle.lot_machine.specs.Machine.{State, kind_at, opening, is_possible, after, after_steps, step_outcome}
+use Rattle.lot_machine.specs.Machine.{solo}
 use Rattle.lot_world.specs.Drainable.{is_drainable}
 use Rattle.lot_world.specs.Schedules.{schedule_of}
 use Rattle.lot_text.specs.declared.grammar.Command.{Command}

@@ -2,7 +2,8 @@
 ghost use Rattle.std.specs.Prelude.{◌≡◌, ◌<◌, ◌≤◌, ◌+◌, ◌*◌, ◌++◌, ℕ, List, All, length};
 ghost use Rattle.lot_machine.specs.Views.{StandUnder};
 ghost use Rattle.lot_text.specs.Sent.{Puts};
-ghost use Rattle.lot_replay.specs.Shows.{owner_letter, want_letter, owners_text, waiters_text, debtors_text, show_line, show_lines};
+ghost use Rattle.lot_replay.specs.Shows.{owner_letter, want_letter, owners_text, waiters_text, debtors_text};
+ghost use Rattle.lot_replay.specs.Shows.{show_line, show_lines};
 
 use core_base::{Queues, Waiter, Want, main_key};
 use lot_text::{Name, Page};

@@ -5,7 +5,8 @@ ghost use Rattle.lot_text.specs.Lines.{line_len};
 ghost use Rattle.lot_text.specs.Sent.{Puts};
 ghost use Rattle.lot_text.specs.Grammar.{meaning};
 ghost use Rattle.lot_text.specs.Turns.{Says, named_turn};
-ghost use Rattle.lot_replay.specs.Stages.{nothing, declaring, running, acted, action_at, played, obeyed, after_line};
+ghost use Rattle.lot_replay.specs.Stages.{nothing, declaring, running, acted, action_at, played, obeyed};
+ghost use Rattle.lot_replay.specs.Stages.{after_line};
 ghost use Rattle.lot_replay.specs.Sessions.{session_stage, session_world, replay_stage_of, stage_shown};
 ghost use Rattle.lot_replay.specs.Answers.{AnswersTo};
 

@@ -43,8 +43,12 @@ use Rattle.steps_rwlock_fair.specs.declared.places.RwLockCallPlace.{RwLockCallPl
 use Rattle.steps_rwlock_fair.specs.declared.places.RwLockCallPlace.TheVariants as fair
 use Rattle.lot_steps.specs.declared.places.Place.{Place}
 use Rattle.lot_steps.specs.declared.places.Place.TheVariants.{Idle, Mutex, RwLock, Once, Condvar, Semaphore}
-use Rattle.lot_rests.proofs.Ways.{acquire_enters, call_ways, checks, condvar_ways, decides, hand_over_ways, is_park, leaves, loads, lock_enters, lock_ways, mutex_ways, once_ways, park_ways, parks, rwlock_ways, semaphore_ways, waits_in_main, ways}
-use Rattle.lot_rests.proofs.Work.{call_work, condvar_work, hand_off_work, is_release, lock_work, mutex_work, notify_work, once_work, rwlock_work, semaphore_work, unlock_work, wait_work, work, work_after}
+use Rattle.lot_rests.proofs.Ways.{acquire_enters, call_ways, checks, condvar_ways, decides, hand_over_ways}
+use Rattle.lot_rests.proofs.Ways.{is_park, leaves, loads, lock_enters, lock_ways, mutex_ways, once_ways}
+use Rattle.lot_rests.proofs.Ways.{park_ways, parks, rwlock_ways, semaphore_ways, waits_in_main, ways}
+use Rattle.lot_rests.proofs.Work.{call_work, condvar_work, hand_off_work, is_release, lock_work, mutex_work}
+use Rattle.lot_rests.proofs.Work.{notify_work, once_work, rwlock_work, semaphore_work, unlock_work, wait_work}
+use Rattle.lot_rests.proofs.Work.{work, work_after}
 
 -- ---------------------------------------------------------------- work
 
@@ -67,7 +71,8 @@ after_most false again = omega arith
 mutex_work_most : (at : MutexPlace) → mutex_work at ≤ 9
 mutex_work_most (mutex.Lock e again at) = let a = lock_work_most at in omega arith
 mutex_work_most (mutex.Unlock at) = let a = unlock_work_most at in omega arith
-mutex_work_most (mutex.HandOff bumps at) = let a = hand_off_work_most at in let b = after_most bumps 4 in omega arith
+mutex_work_most (mutex.HandOff bumps at) = let a = hand_off_work_most at in let b = after_most bumps 4
+    in omega arith
 mutex_work_most at = omega arith
 
 once_work_most : (at : OncePlace) → once_work at ≤ 21
@@ -107,14 +112,17 @@ rwlock_work_most (at.Wake m waking.Enter) = omega arith
 rwlock_work_most (at.Wake m to) = omega arith
 rwlock_work_most to = omega arith
 
-hand_over_work_most : (x : Access) (bumps : Bool) (to : HandOverAt) → call_work (fair.HandOver x bumps to) ≤ work_after bumps 10 + 5
+hand_over_work_most : (x : Access) (bumps : Bool) (to : HandOverAt) → call_work (fair.HandOver x bumps to)
+    ≤ work_after bumps 10 + 5
 hand_over_work_most x bumps handing.Load = omega arith
 hand_over_work_most x bumps to = omega arith
 
 call_work_most : (c : RwLockCallPlace) → call_work c ≤ 21
 call_work_most (fair.Plain p) = let a = rwlock_work_most p.at in omega arith
-call_work_most (fair.Bump p) = let a = rwlock_work_most p.at in let b = after_most (is_release p.purpose) 10 in omega arith
-call_work_most (fair.HandOver x bumps to) = let a = hand_over_work_most x bumps to in let b = after_most bumps 10 in omega arith
+call_work_most (fair.Bump p) = let a = rwlock_work_most p.at in let b = after_most (is_release p.purpose) 10
+    in omega arith
+call_work_most (fair.HandOver x bumps to) = let a = hand_over_work_most x bumps to in let b =
+    after_most bumps 10 in omega arith
 call_work_most (fair.Handed x how bumps handed.Accept) = omega arith
 call_work_most (fair.Handed x how bumps to) = omega arith
 call_work_most (fair.Glance x) = omega arith
@@ -166,18 +174,23 @@ mutex_ways_most word (mutex.Lock e again at) = lock_ways_most word at
 mutex_ways_most word at = omega arith
 
 once_ways_most : (word : ℕ) (at : OncePlace) → once_ways word at ≤ 5
-once_ways_most word (once.Look c again look.Load) = let a = loads_most (holds (check_of c) word) in omega arith
-once_ways_most word (once.Look c again (look.Decide seen)) = decides_most (is_park (course_of c seen)) (holds (check_of c) word) (word == seen)
+once_ways_most word (once.Look c again look.Load) = let a = loads_most (holds (check_of c) word)
+    in omega arith
+once_ways_most word (once.Look c again (look.Decide seen)) = decides_most (is_park (course_of c seen))
+    (holds (check_of c) word) (word == seen)
 once_ways_most word (once.Look c again look.Check) = checks_most (holds (check_of c) word)
 once_ways_most word (once.Look c again (look.Leave parked)) = leaves_most parked (holds (check_of c) word)
 once_ways_most word (once.Look c again at) = omega arith
 once_ways_most word at = omega arith
 
 semaphore_ways_most : (word : ℕ) (at : SemaphorePlace) → semaphore_ways word at ≤ 5
-semaphore_ways_most word (semaphore.Acquire timed again acquire.Load) = let a = loads_most (word == 1) in omega arith
-semaphore_ways_most word (semaphore.Acquire timed again (acquire.Decide seen)) = decides_most (acquire_enters seen) (word == 1) (word == seen)
+semaphore_ways_most word (semaphore.Acquire timed again acquire.Load) = let a = loads_most (word == 1)
+    in omega arith
+semaphore_ways_most word (semaphore.Acquire timed again (acquire.Decide seen)) =
+    decides_most (acquire_enters seen) (word == 1) (word == seen)
 semaphore_ways_most word (semaphore.Acquire timed again acquire.Check) = checks_most (word == 1)
-semaphore_ways_most word (semaphore.Acquire timed again (acquire.Leave parked)) = leaves_most parked (word == 1)
+semaphore_ways_most word (semaphore.Acquire timed again (acquire.Leave parked)) =
+    leaves_most parked (word == 1)
 semaphore_ways_most word (semaphore.Acquire timed again at) = omega arith
 semaphore_ways_most word (semaphore.Try tries.Load) = omega arith
 semaphore_ways_most word (semaphore.Try (tries.Decide seen)) = alone_most (word == seen)
@@ -199,7 +212,8 @@ park_ways_most waits to = omega arith
 rwlock_ways_most : (a : Admission) (word : ℕ) (p : RwLockPlace) (to : RwLockAt) → rwlock_ways a word p to ≤ 5
 rwlock_ways_most a word p at.First = loads_most (waits_in_main a p word)
 rwlock_ways_most a word p at.Load = let most = loads_most (waits_in_main a p word) in omega arith
-rwlock_ways_most a word p (at.Decide seen) = decides_most (parks (decided a p seen)) (waits_in_main a p word) (word == seen)
+rwlock_ways_most a word p (at.Decide seen) = decides_most (parks (decided a p seen)) (waits_in_main a p word)
+    (word == seen)
 rwlock_ways_most a word p (at.Park to) = park_ways_most (waits_in_main a p word) to
 rwlock_ways_most a word p at.Look = let most = loads_most (leaves_readers word) in omega arith
 rwlock_ways_most a word p (at.Count seen) = decides_most (has_aside seen) (leaves_readers word) (word == seen)

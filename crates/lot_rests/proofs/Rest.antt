@@ -1,5 +1,6 @@
 -- Threads that begin nothing new come to rest.
-use Rattle.std.proofs.Common.{ℕ, Bool, true, false, ◌≡◌, ◌+◌, ◌*◌, ◌≤◌, ◌<◌, ◌⊎◌, nat_lt, inl, inr, List, [], ◌∷◌, ◌++◌, length, refl, sym, ◌∙◌, arith}
+use Rattle.std.proofs.Common.{ℕ, Bool, true, false, ◌≡◌, ◌+◌, ◌*◌, ◌≤◌, ◌<◌, ◌⊎◌, nat_lt, inl, inr, List, []}
+use Rattle.std.proofs.Common.{◌∷◌, ◌++◌, length, refl, sym, ◌∙◌, arith}
 use Rattle.std.proofs.lemmas.Bool.Decides.{nat_tests}
 use Rattle.spec_locks.specs.declared.calls.Step.{Step}
 use Rattle.spec_locks.specs.declared.calls.Turn.TheVariants as turn
@@ -30,16 +31,22 @@ runs_short (s ∷ ss) w h on =
 
 pub left_most : (w : State) → left w ≤ most_steps (length w.places) (length w.locks)
 left_most w =
-    let works : sum_below (length w.places) (work_at w) ≤ 21 * length w.places = sum_most (length w.places) 21 (work_at w) (λ u. work_most (place_at w u)) in
-    let bits : sum_below (length w.locks) (clear_at w) ≤ 2 * length w.locks = sum_most (length w.locks) 2 (clear_at w) (λ l. clear_most (kind_at w l) (word_at w l)) in
-    let short : sum_below (length w.places) (ways_at w) ≤ 5 * length w.places = sum_most (length w.places) 5 (ways_at w) (λ u. ways_most (word_at w) (place_at w u)) in
-    potential_most (length w.places) (length w.locks) (events w) (sum_below (length w.places) (ways_at w)) (omega arith) short
+    let works : sum_below (length w.places) (work_at w) ≤ 21 * length w.places =
+    sum_most (length w.places) 21 (work_at w) (λ u. work_most (place_at w u)) in
+    let bits : sum_below (length w.locks) (clear_at w) ≤ 2 * length w.locks =
+    sum_most (length w.locks) 2 (clear_at w) (λ l. clear_most (kind_at w l) (word_at w l)) in
+    let short : sum_below (length w.places) (ways_at w) ≤ 5 * length w.places =
+    sum_most (length w.places) 5 (ways_at w) (λ u. ways_most (word_at w) (place_at w u)) in
+    potential_most (length w.places) (length w.locks) (events w) (sum_below (length w.places) (ways_at w))
+    (omega arith) short
 
 -- threads that go on one after another
-pub goes_lower : (ts : List ℕ) (w : State) → IsWorld w → AllGo w ts → left (after_goes w ts) + length ts ≤ left w
+pub goes_lower : (ts : List ℕ) (w : State) → IsWorld w → AllGo w ts → left (after_goes w ts) + length ts
+    ≤ left w
 goes_lower [] w h go = omega arith
 goes_lower (t ∷ ts) w h go =
-    let rest : left (after_goes (after w (go_of t)) ts) + length ts ≤ left (after w (go_of t)) = goes_lower ts (after w (go_of t)) (world_after w (go_of t) h) go.1 in
+    let rest : left (after_goes (after w (go_of t)) ts) + length ts ≤ left (after w (go_of t)) =
+    goes_lower ts (after w (go_of t)) (world_after w (go_of t) h) go.1 in
     let falls : left (after w (go_of t)) + 1 ≤ left w = step_falls w (go_of t) h tt go.0 in
     omega arith
 
@@ -51,7 +58,8 @@ pub goes_size : (ts : List ℕ) (w : State) → SameSize w (after_goes w ts)
 goes_size [] w = record { threads = refl; locks = refl }
 goes_size (t ∷ ts) w =
     let first : SameSize w (after w (go_of t)) = after_size w (go_of t) in
-    let rest : SameSize (after w (go_of t)) (after_goes (after w (go_of t)) ts) = goes_size ts (after w (go_of t)) in
+    let rest : SameSize (after w (go_of t)) (after_goes (after w (go_of t)) ts) =
+    goes_size ts (after w (go_of t)) in
     record { threads = rest.threads ∙ first.threads; locks = rest.locks ∙ first.locks }
 
 -- one run after another
@@ -82,7 +90,9 @@ module _ (w : State) (h : IsWorld w) (stuck : NobodyGoes w) where
           → (((locks_of w).stances t).asleep ≡ true) ⊎ (((locks_of w).stances t).in_closure ≡ true)
       by_stance true c asleep closure = inl asleep
       by_stance false true asleep closure = inr closure
-      by_stance false false asleep closure = absurd (let some = (holds_after [] w w h refl).goes t called (asleep, closure) in nobody_may some.0 some.1)
+      by_stance false false asleep closure =
+          absurd (let some = (holds_after [] w w h refl).goes t called (asleep, closure)
+          in nobody_may some.0 some.1)
 
 pub worlds_come_to_rest : WorldsComeToRest
 worlds_come_to_rest w h = record {

@@ -1,12 +1,15 @@
 -- One turn of each thread that can go on, and rounds of them.
-use Rattle.std.proofs.Common.{ℕ, Bool, true, false, if◌then◌else◌, ◌&&◌, ◌||◌, ◌≡◌, ◌+◌, ◌≤◌, ◌<◌, nat_lt, inl, inr, List, [], ◌∷◌, ◌++◌, length, length-append, refl, ap, sym, ◌∙◌, subst, arith}
+use Rattle.std.proofs.Common.{ℕ, Bool, true, false, if◌then◌else◌, ◌&&◌, ◌||◌, ◌≡◌, ◌+◌, ◌≤◌, ◌<◌, nat_lt}
+use Rattle.std.proofs.Common.{inl, inr, List, [], ◌∷◌, ◌++◌, length, length-append, refl, ap, sym, ◌∙◌, subst}
+use Rattle.std.proofs.Common.{arith}
 use Rattle.std.proofs.lemmas.Bool.{cases_eq, cases_lt}
 use Rattle.std.proofs.lemmas.Bool.Decides.{nat_tests}
 use Rattle.spec_locks.specs.declared.outcomes.Outcome.TheVariants as outcome
 use Rattle.steps_base.specs.Acts.{outcome_of}
 use Rattle.steps_base.specs.declared.acts.Act.{Act}
 use Rattle.steps_base.specs.declared.acts.Act.TheVariants.{Sleep, Closure, End}
-use Rattle.lot_machine.specs.Machine.{State, after, can_go, go_of, go_outcome, is_possible, state_after_go, step_outcome}
+use Rattle.lot_machine.specs.Machine.{State, after, can_go, go_of, go_outcome, is_possible, state_after_go}
+use Rattle.lot_machine.specs.Machine.{step_outcome}
 use Rattle.lot_machine.specs.Machine.{filled_at}
 use Rattle.lot_machine.specs.Fits.{SameSize}
 use Rattle.spec_locks.specs.EachState.{Rests}
@@ -26,7 +29,13 @@ pub record GoneSo (w : State) (n : ℕ) (moved : Bool) (v : State) : Type 0 wher
   pub none : moved ≡ false → (v ≡ w) × ((t : ℕ) → t < n → is_possible w (go_of t) ≡ false)
 
 pub nobody_yet : (w : State) → GoneSo w 0 false w
-nobody_yet w = record { threads = []; go = tt; leads = refl; some = λ e. absurd cc; none = λ e. (refl, λ t lt. absurd (omega arith)) }
+nobody_yet w = record {
+  threads = [];
+  go = tt;
+  leads = refl;
+  some = λ e. absurd cc;
+  none = λ e. (refl, λ t lt. absurd (omega arith));
+}
 
 told_turn : (a : Act) → is_turn (outcome_of a) ≡ true
 told_turn (End answer) = refl
@@ -38,11 +47,13 @@ went_turn : (v : State) (n : ℕ) → is_turn (go_outcome v n) ≡ true
 went_turn v n = told_turn _
 
 one_goes : (w v : State) (n : ℕ) (moved b : Bool) → GoneSo w n moved v → is_possible v (go_of n) ≡ b
-    → GoneSo w (n + 1) (is_turn (if b then go_outcome v n else outcome.NotNow) || moved) (if b then state_after_go v n else v)
+    → GoneSo w (n + 1) (is_turn (if b then go_outcome v n else outcome.NotNow) || moved) (if b
+    then state_after_go v n else v)
 one_goes w v n moved true so is = record {
   threads = so.threads ++ n ∷ [];
   go = goes_on so.threads (n ∷ []) w so.go (subst (λ u. is_possible u (go_of n) ≡ true) so.leads is, tt);
-  leads = ap (λ b. if b then state_after_go v n else v) (sym is) ∙ ap (λ u. after u (go_of n)) so.leads ∙ sym (goes_then so.threads (n ∷ []) w);
+  leads = ap (λ b. if b then state_after_go v n else v) (sym is) ∙ ap (λ u. after u (go_of n)) so.leads
+      ∙ sym (goes_then so.threads (n ∷ []) w);
   some = λ e. rw (length-append so.threads (n ∷ [])) (omega arith);
   none = λ e. absurd (let both : true ≡ false = sym (ap (λ b. b || moved) (went_turn v n)) ∙ e in cc);
 }
@@ -65,16 +76,19 @@ pub goes_once : (w v : State) (n : ℕ) (moved : Bool) → GoneSo w n moved v
 goes_once w v n moved so = one_goes w v n moved (is_possible v (go_of n)) so refl
 
 -- all have had their turn
-pub goes_round : (w v : State) (n : ℕ) (moved : Bool) → length w.places ≤ n → GoneSo w n moved v → GoesRound w moved v
+pub goes_round : (w v : State) (n : ℕ) (moved : Bool) → length w.places ≤ n → GoneSo w n moved v
+    → GoesRound w moved v
 goes_round w v n moved all so = record {
   threads = so.threads;
   go = so.go;
   leads = so.leads;
   moved = so.some;
-  stuck = λ e. (let none = so.none e in subst NobodyGoes (sym none.0) (λ t. elim (cases_lt t (length w.places)) [
-    | inl lt ↦ none.1 t (omega arith)
-    | inr ge ↦ ap (λ b. b && can_go w t) (let past : nat_lt t (length w.places) ≡ false = grind (arith, nat_tests) in past)
-  ]));
+  stuck = λ e. (let none = so.none e in subst NobodyGoes (sym none.0)
+      (λ t. elim (cases_lt t (length w.places)) [
+        | inl lt ↦ none.1 t (omega arith)
+        | inr ge ↦ ap (λ b. b && can_go w t) (let past : nat_lt t (length w.places) ≡ false =
+            grind (arith, nat_tests) in past)
+      ]));
 }
 
 -- ---------------------------------------------------------------- rounds
@@ -92,13 +106,15 @@ pub one_round : (w v u : State) (moved : Bool) → HasGone w v → GoesRound v m
 one_round w v u moved so round = record {
   threads = so.threads ++ round.threads;
   go = goes_on so.threads round.threads w so.go (subst (λ x. AllGo x round.threads) so.leads round.go);
-  leads = round.leads ∙ ap (λ x. after_goes x round.threads) so.leads ∙ sym (goes_then so.threads round.threads w);
+  leads = round.leads ∙ ap (λ x. after_goes x round.threads) so.leads
+      ∙ sym (goes_then so.threads round.threads w);
 }
 
 -- a round in which some thread goes on leaves less before the world
 pub round_lowers : (w v : State) → IsWorld w → GoesRound w true v → left v < left w
 round_lowers w v h round =
-    let falls : left (after_goes w round.threads) + length round.threads ≤ left w = goes_lower round.threads w h round.go in
+    let falls : left (after_goes w round.threads) + length round.threads ≤ left w =
+    goes_lower round.threads w h round.go in
     let some : 1 ≤ length round.threads = round.moved refl in
     subst (λ x. left x < left w) (sym round.leads) (omega arith)
 
@@ -117,6 +133,7 @@ settles w v h so stuck = record {
   threads = so.threads;
   go = so.go;
   leads = so.leads;
-  few = (let falls : left (after_goes w so.threads) + length so.threads ≤ left w = goes_lower so.threads w h so.go in let most = left_most w in omega arith);
+  few = (let falls : left (after_goes w so.threads) + length so.threads ≤ left w =
+      goes_lower so.threads w h so.go in let most = left_most w in omega arith);
   stuck = stuck;
 }

@@ -1,6 +1,8 @@
--- A step at a place: it uses an event up, or sets a bit that was clear, or its thread comes nearer to its own next
+-- A step at a place: it uses an event up, or sets a bit that was clear, or its thread comes nearer to its own
+-- next
 -- event while no word and no other thread's place changes.
-use Rattle.std.proofs.Common.{ℕ, Bool, true, false, if◌then◌else◌, ◌==◌, ◌&&◌, not, ◌≡◌, ◌+◌, ◌≤◌, ◌<◌, ◌⊎◌, inr, length, ap, arith}
+use Rattle.std.proofs.Common.{ℕ, Bool, true, false, if◌then◌else◌, ◌==◌, ◌&&◌, not, ◌≡◌, ◌+◌, ◌≤◌, ◌<◌, ◌⊎◌}
+use Rattle.std.proofs.Common.{inr, length, ap, arith}
 use Rattle.std.proofs.lemmas.Bool.Decides.{nat_tests}
 use Rattle.core_base.specs.declared.ops.Op.{Op}
 use Rattle.core_base.specs.declared.ops.Op.TheVariants.{Exchange}
@@ -62,7 +64,8 @@ Goes w a work work2 ways ways2 =
     (work2 + 1 ≤ work) ⊎ ((work2 ≤ work) × (SetsBit w a ⊎ ((is_still w a ≡ true) × (ways2 + 1 ≤ ways))))
 
 -- it comes nearer
-pub nears : {w : State} {a : Act} (work work2 ways ways2 : ℕ) → work2 ≤ work → is_still w a ≡ true → ways2 + 1 ≤ ways
+pub nears : {w : State} {a : Act} (work work2 ways ways2 : ℕ) → work2 ≤ work → is_still w a ≡ true
+    → ways2 + 1 ≤ ways
     → Goes w a work work2 ways ways2
 nears work work2 ways ways2 most still less = inr (most, inr (still, less))
 
@@ -74,7 +77,8 @@ same n = grind (arith, nat_tests)
 pub exchange_fails : (from to x : ℕ) → (x == from) ≡ false → (apply (Exchange from to) x == x) ≡ true
 exchange_fails from to x e = rw e (same x)
 
-pub hand_over_fails : (from to x : ℕ) → (x == from) ≡ false → (not (x == from) && (apply (Exchange from to) x == x)) ≡ true
+pub hand_over_fails : (from to x : ℕ) → (x == from) ≡ false
+    → (not (x == from) && (apply (Exchange from to) x == x)) ≡ true
 hand_over_fails from to x e = rw e (same x)
 
 pub exchanged : (from to x : ℕ) → (x == from) ≡ true → apply (Exchange from to) x ≡ to
@@ -82,6 +86,7 @@ exchanged from to x e = ap (λ b. if b then to else x) e
 
 -- ---------------------------------------------------------------- either way
 
-pub either_less : {A : Type 0} (g : A → ℕ) (b : Bool) (x y : A) (k : ℕ) → g x + 1 ≤ k → g y + 1 ≤ k → g (if b then x else y) + 1 ≤ k
+pub either_less : {A : Type 0} (g : A → ℕ) (b : Bool) (x y : A) (k : ℕ) → g x + 1 ≤ k → g y + 1 ≤ k
+    → g (if b then x else y) + 1 ≤ k
 either_less g true x y k left right = left
 either_less g false x y k left right = right

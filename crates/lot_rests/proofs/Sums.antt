@@ -15,7 +15,8 @@ sum_at_most (suc n) f g h =
     omega arith
 
 -- one is less, and none is more
-pub sum_less : (n t : ℕ) (f g : ℕ → ℕ) → t < n → ((u : ℕ) → g u ≤ f u) → g t + 1 ≤ f t → sum_below n g + 1 ≤ sum_below n f
+pub sum_less : (n t : ℕ) (f g : ℕ → ℕ) → t < n → ((u : ℕ) → g u ≤ f u) → g t + 1 ≤ f t → sum_below n g + 1
+    ≤ sum_below n f
 sum_less zero t f g there h less = absurd (omega arith)
 sum_less (suc n) t f g there h less = elim (cases_eq t n) [
   | inl e ↦
@@ -29,7 +30,8 @@ sum_less (suc n) t f g there h less = elim (cases_eq t n) [
 ]
 
 -- one alone may be more
-pub sum_but_one : (n l k : ℕ) (f g : ℕ → ℕ) → ((u : ℕ) → u ≢ l → g u ≤ f u) → g l ≤ k → sum_below n g ≤ sum_below n f + k
+pub sum_but_one : (n l k : ℕ) (f g : ℕ → ℕ) → ((u : ℕ) → u ≢ l → g u ≤ f u) → g l ≤ k → sum_below n g
+    ≤ sum_below n f + k
 sum_but_one zero l k f g h most = omega arith
 sum_but_one (suc n) l k f g h most = elim (cases_eq n l) [
   | inl e ↦
@@ -44,7 +46,8 @@ sum_but_one (suc n) l k f g h most = elim (cases_eq n l) [
 
 pub sum_most : (n k : ℕ) (f : ℕ → ℕ) → ((u : ℕ) → f u ≤ k) → sum_below n f ≤ k * n
 sum_most zero k f h = omega arith
-sum_most (suc n) k f h = let a : f n ≤ k = h n in let b : sum_below n f ≤ k * n = sum_most n k f h in grind arith
+sum_most (suc n) k f h = let a : f n ≤ k = h n in let b : sum_below n f ≤ k * n = sum_most n k f h
+    in grind arith
 
 -- ---------------------------------------------------------------- before so many threads
 

@@ -1,5 +1,7 @@
--- The steps of a thread to its own next event, by its place and the word of its lock, where no other event comes.
-use Rattle.std.proofs.Common.{ℕ, Bool, true, false, if◌then◌else◌, ◌==◌, ◌&&◌, not, ◌≡◌, ◌+◌, ◌≤◌, refl, arith}
+-- The steps of a thread to its own next event, by its place and the word of its lock, where no other event
+-- comes.
+use Rattle.std.proofs.Common.{ℕ, Bool, true, false, if◌then◌else◌, ◌==◌, ◌&&◌, not, ◌≡◌, ◌+◌, ◌≤◌, refl}
+use Rattle.std.proofs.Common.{arith}
 use Rattle.steps_base.specs.declared.acts.Next.{Next}
 use Rattle.steps_base.specs.declared.acts.Next.TheVariants.{At, End}
 use Rattle.steps_mutex.specs.declared.lock.LockAt.{LockAt}
@@ -53,7 +55,8 @@ use Rattle.lot_steps.specs.declared.places.Place.TheVariants.{Idle, Mutex, RwLoc
 abbrev pub loads : Bool → ℕ
 loads waits = if waits then 4 else 1
 
--- by the value seen last: it enters the section, or tries an exchange, which fails unless the word is so still
+-- by the value seen last: it enters the section, or tries an exchange, which fails unless the word is so
+-- still
 abbrev pub decides : (enters waits same : Bool) → ℕ
 decides enters waits same = if enters then (if waits then 3 else 4) else if same then 0 else loads waits
 
@@ -64,7 +67,8 @@ abbrev pub leaves : (parked waits : Bool) → ℕ
 leaves parked waits = if parked then 1 else loads waits + 1
 
 -- what makes a thread enter the section makes it wait there
-pub looked : (enters waits : Bool) → (enters ≡ true → waits ≡ true) → decides enters waits true + 1 ≤ loads waits
+pub looked : (enters waits : Bool) → (enters ≡ true → waits ≡ true) → decides enters waits true + 1
+    ≤ loads waits
 looked true true h = omega arith
 looked true false h = absurd (let e : false ≡ true = h refl in cc)
 looked false true h = omega arith

@@ -1,5 +1,6 @@
 -- The steps of every call.
-use Rattle.std.specs.Prelude.{ℕ, Bool, true, false, Option, Some, None, if◌then◌else◌, ◌==◌, ◌&&◌, ◌||◌, ◌^◌, ◌<◌}
+use Rattle.std.specs.Prelude.{ℕ, Bool, true, false, Option, Some, None, if◌then◌else◌, ◌==◌, ◌&&◌, ◌||◌, ◌^◌}
+use Rattle.std.specs.Prelude.{◌<◌}
 use Rattle.spec_locks.specs.declared.kinds.Kind.{Kind}
 use Rattle.spec_locks.specs.declared.calls.Call.{Call}
 use Rattle.spec_locks.specs.declared.calls.Call as call
@@ -13,7 +14,8 @@ use Rattle.steps_base.specs.declared.acts.Next.{Next}
 use Rattle.steps_base.specs.declared.acts.Next.TheVariants.{At, End}
 use Rattle.steps_base.specs.declared.owners.Owners.{Owners}
 use Rattle.spec_locks.specs.Kinds.{is_fair}
-use Rattle.steps_mutex.specs.MutexSteps.{mutex_first, mutex_right, mutex_act, mutex_next, mutex_looking, mutex_owners}
+use Rattle.steps_mutex.specs.MutexSteps.{mutex_first, mutex_right, mutex_act, mutex_next, mutex_looking}
+use Rattle.steps_mutex.specs.MutexSteps.{mutex_owners}
 use Rattle.core_base.specs.declared.keys.Line.{Line}
 use Rattle.core_base.specs.declared.wants.Want.{Want}
 use Rattle.core_base.specs.Keys.{key_of}
@@ -29,10 +31,12 @@ use Rattle.steps_once.specs.declared.places.OncePlace.{OncePlace}
 use Rattle.steps_once.specs.OnceSteps.{once_first, once_act, once_next, once_looking, once_owners}
 use Rattle.steps_once.specs.OnceProfiles.{once_profile}
 use Rattle.steps_condvar.specs.declared.places.CondvarPlace.{CondvarPlace}
-use Rattle.steps_condvar.specs.CondvarSteps.{HasMutexKey, condvar_act, condvar_first, condvar_right, condvar_next, condvar_looking, condvar_owners, mutex_beside}
+use Rattle.steps_condvar.specs.CondvarSteps.{HasMutexKey, condvar_act, condvar_first, condvar_right}
+use Rattle.steps_condvar.specs.CondvarSteps.{condvar_next, condvar_looking, condvar_owners, mutex_beside}
 use Rattle.steps_condvar.specs.CondvarProfiles.{condvar_profile, mutex_side}
 use Rattle.steps_semaphore.specs.declared.places.SemaphorePlace.{SemaphorePlace}
-use Rattle.steps_semaphore.specs.SemaphoreSteps.{semaphore_act, semaphore_first, semaphore_looking, semaphore_next, semaphore_right, semaphore_shares}
+use Rattle.steps_semaphore.specs.SemaphoreSteps.{semaphore_act, semaphore_first, semaphore_looking}
+use Rattle.steps_semaphore.specs.SemaphoreSteps.{semaphore_next, semaphore_right, semaphore_shares}
 use Rattle.steps_semaphore.specs.SemaphoreProfiles.{semaphore_profile}
 
 -- where a call of a lock of a kind begins

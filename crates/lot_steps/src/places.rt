@@ -1,7 +1,9 @@
 //! Where a thread stands, and where each step leads it.
 ghost use Rattle.std.specs.Prelude.{◌≡◌};
 ghost use Rattle.steps_base.specs.Acts.{outcome_of};
-ghost use Rattle.lot_steps.specs.Steps.{HasKeys, ShowsKeys, first_place, has_right, act_of, next_place, next_act, owners_after, shares_after, taker, wants, looking, late_key, owes_on, retries_on, is_idle};
+ghost use Rattle.lot_steps.specs.Steps.{HasKeys, ShowsKeys, first_place, has_right, act_of, next_place};
+ghost use Rattle.lot_steps.specs.Steps.{next_act, owners_after, shares_after, taker, wants, looking};
+ghost use Rattle.lot_steps.specs.Steps.{late_key, owes_on, retries_on, is_idle};
 
 use core_base::{Key, Want};
 use spec_locks::{Call, Kind, Outcome};

@@ -1,5 +1,6 @@
 -- A number is read only as it would be printed.
-use Rattle.std.proofs.Common.{◌≡◌, ℕ, ◌+◌, ◌-◌, ◌*◌, ◌^◌, ◌<◌, ◌≤◌, Bool, true, false, cond, List, [], ◌∷◌, Option, None, Some, length, get_or, refl, sym, ap, subst, ◌∙◌, arith}
+use Rattle.std.proofs.Common.{◌≡◌, ℕ, ◌+◌, ◌-◌, ◌*◌, ◌^◌, ◌<◌, ◌≤◌, Bool, true, false, cond, List, [], ◌∷◌}
+use Rattle.std.proofs.Common.{Option, None, Some, length, get_or, refl, sym, ap, subst, ◌∙◌, arith}
 use Rattle.std.specs.Prelude.{decimal}
 use Rattle.std.specs.Int.{IsInRange}
 use Rattle.std.proofs.lemmas.Fmt.{decimal-digits_value}
@@ -17,7 +18,11 @@ value_after n [] = n
 value_after n (c ∷ cs) = value_after (n * 10 + (c - 48)) cs
 
 pub own : IsNumeralModel AreDigits (value_after 0)
-own = numerals_by_fold AreDigits (record { empty = tt; parts = λ c cs h. h; more = λ c cs h k. (h, k) }) value_after (record { empty = λ n. refl; more = λ n c cs h. refl })
+own = numerals_by_fold AreDigits (record {
+  empty = tt;
+  parts = λ c cs h. h;
+  more = λ c cs h k. (h, k);
+}) value_after (record { empty = λ n. refl; more = λ n c cs h. refl })
 
 digit_in : (c : ℕ) → is_digit c ≡ true → IsInRange 48 57 c
 digit_in c e = (grind (arith, nat_tests), grind (arith, nat_tests))
@@ -29,9 +34,13 @@ pub none_some : (n : ℕ) → ◌≡◌ {A = Option ℕ} None (Some n) → ⊥
 none_some n e = cc
 
 reads_digit : (b : Bool) (c : ℕ) (cs : List ℕ) (m n : ℕ) → is_digit c ≡ b → digits_after m (c ∷ cs) ≡ Some n
-    → (digits_after (m * 10 + (c - 48)) cs ≡ Some n → AreDigits cs × (value_after (m * 10 + (c - 48)) cs ≡ n)) → AreDigits (c ∷ cs) × (value_after m (c ∷ cs) ≡ n)
-reads_digit true c cs m n d e rest = let r = rest (sym (ap (λ t. cond t (digits_after (m * 10 + (c - 48)) cs) None) d) ∙ e) in ((digit_in c d, r.0), r.1)
-reads_digit false c cs m n d e rest = absurd (none_some n (sym (ap (λ t. cond t (digits_after (m * 10 + (c - 48)) cs) None) d) ∙ e))
+    → (digits_after (m * 10 + (c - 48)) cs ≡ Some n → AreDigits cs × (value_after (m * 10 + (c - 48)) cs ≡ n))
+    → AreDigits (c ∷ cs) × (value_after m (c ∷ cs) ≡ n)
+reads_digit true c cs m n d e rest = let r =
+    rest (sym (ap (λ t. cond t (digits_after (m * 10 + (c - 48)) cs) None) d) ∙ e)
+    in ((digit_in c d, r.0), r.1)
+reads_digit false c cs m n d e rest =
+    absurd (none_some n (sym (ap (λ t. cond t (digits_after (m * 10 + (c - 48)) cs) None) d) ∙ e))
 
 reads : (cs : List ℕ) (m n : ℕ) → digits_after m cs ≡ Some n → AreDigits cs × (value_after m cs ≡ n)
 reads [] m n e = (tt, some_same m n e)
@@ -44,9 +53,14 @@ pub record Form (word : List ℕ) : Type 0 where
   plain : get_or word 0 0 ≡ 48 → length word ≡ 1
 
 formed : (word : List ℕ) → has_form word ≡ true → Form word
-formed word e = record { some = grind (arith, nat_tests); few = grind (arith, nat_tests); plain = λ h. grind (arith, nat_tests) }
+formed word e = record {
+  some = grind (arith, nat_tests);
+  few = grind (arith, nat_tests);
+  plain = λ h. grind (arith, nat_tests);
+}
 
-number_form : (b : Bool) (word : List ℕ) (n : ℕ) → has_form word ≡ b → number_read word ≡ Some n → (has_form word ≡ true) × (digits_after 0 word ≡ Some n)
+number_form : (b : Bool) (word : List ℕ) (n : ℕ) → has_form word ≡ b → number_read word ≡ Some n
+    → (has_form word ≡ true) × (digits_after 0 word ≡ Some n)
 number_form true word n d e = (d, sym (ap (λ t. cond t (digits_after 0 word) None) d) ∙ e)
 number_form false word n d e = absurd (none_some n (sym (ap (λ t. cond t (digits_after 0 word) None) d) ∙ e))
 
@@ -60,10 +74,13 @@ number_is word n e =
     let f = number_form (has_form word) word n refl e in
     record { digits = (reads word 0 n f.1).0; few = (formed word f.0).few }
 
-pub number_is_decimal : (word : List ℕ) (n : ℕ) → number_read word ≡ Some n → (decimal n ≡ word) × (n < 10 ^ 19)
+pub number_is_decimal : (word : List ℕ) (n : ℕ) → number_read word ≡ Some n → (decimal n ≡ word)
+    × (n < 10 ^ 19)
 number_is_decimal word n e =
     let f = number_form (has_form word) word n refl e in
     let form = formed word f.0 in
     let r = reads word 0 n f.1 in
-    let below : value_after 0 word < 10 ^ 19 = digits_value_short own word 19 r.0 form.few in
-    (ap decimal (sym r.1) ∙ decimal-digits_value own word r.0 form.some form.plain (omega arith), subst (λ v. v < 10 ^ 19) r.1 below)
+    let below : value_after 0 word < 10 ^ 19 = digits_value_short own word 19 r.0 form.few in (
+      ap decimal (sym r.1) ∙ decimal-digits_value own word r.0 form.some form.plain (omega arith),
+      subst (λ v. v < 10 ^ 19) r.1 below,
+    )

@@ -1,5 +1,6 @@
 -- Two texts, byte by byte.
-use Rattle.std.proofs.Common.{◌≡◌, ◌≢◌, ℕ, ◌<◌, Bool, true, false, List, take, length, get_or, refl, sym, ap, ◌∙◌, arith, take_all}
+use Rattle.std.proofs.Common.{◌≡◌, ◌≢◌, ℕ, ◌<◌, Bool, true, false, List, take, length, get_or, refl, sym, ap}
+use Rattle.std.proofs.Common.{◌∙◌, arith, take_all}
 use Rattle.std.specs.Str.{bytes_eq}
 use Rattle.std.proofs.lemmas.List.{get_or-take}
 use Rattle.std.proofs.lemmas.Slice.Eq.{bytes_eq-Decides}
@@ -16,10 +17,14 @@ begins_not text front h = go (begins text front) refl
     go false e = refl
 
 -- one with another byte doesn't
-pub begins_other : (text front : List ℕ) (at : ℕ) → at < length front → get_or text at 0 ≢ get_or front at 0 → false ≡ begins text front
+pub begins_other : (text front : List ℕ) (at : ℕ) → at < length front → get_or text at 0 ≢ get_or front at 0
+    → false ≡ begins text front
 begins_other text front at within other =
-    begins_not text front (λ e. other (sym (get_or-take (length front) text at 0 within) ∙ ap (λ l. get_or l at 0) e))
+    begins_not text front (λ e. other (sym (get_or-take (length front) text at 0 within)
+    ∙ ap (λ l. get_or l at 0) e))
 
-pub begins_all : (text front : List ℕ) (at : ℕ) → at ≡ length front → take at text ≡ take at front → true ≡ begins text front
+pub begins_all : (text front : List ℕ) (at : ℕ) → at ≡ length front → take at text ≡ take at front
+    → true ≡ begins text front
 begins_all text front at e h =
-    sym ((bytes_eq-Decides (take (length front) text) front).1 (ap (λ n. take n text) (sym e) ∙ h ∙ take_all at front (omega (arith, e))))
+    sym ((bytes_eq-Decides (take (length front) text) front).1 (ap (λ n. take n text) (sym e) ∙ h
+    ∙ take_all at front (omega (arith, e))))

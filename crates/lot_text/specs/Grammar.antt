@@ -1,5 +1,7 @@
 -- The meaning of a line.
-use Rattle.std.specs.Prelude.{ℕ, ◌+◌, ◌-◌, ◌*◌, Bool, true, false, not, ◌&&◌, ◌||◌, List, [], ◌∷◌, length, slice_index, nat_lt, nat_le, ◌==◌, if◌then◌else◌, codes, Option, None, Some, option_map, option_and_then}
+use Rattle.std.specs.Prelude.{ℕ, ◌+◌, ◌-◌, ◌*◌, Bool, true, false, not, ◌&&◌, ◌||◌, List, [], ◌∷◌, length}
+use Rattle.std.specs.Prelude.{slice_index, nat_lt, nat_le, ◌==◌, if◌then◌else◌, codes, Option, None, Some}
+use Rattle.std.specs.Prelude.{option_map, option_and_then}
 use Rattle.std.specs.List.{slice_split}
 use Rattle.std.specs.Str.{bytes_eq}
 use Rattle.spec_locks.specs.declared.kinds.Kind.{Kind}
@@ -7,7 +9,8 @@ use Rattle.spec_locks.specs.declared.kinds.Kind as kind
 use Rattle.spec_locks.specs.declared.calls.MutexCall.{MutexCall}
 use Rattle.spec_locks.specs.declared.calls.MutexCall as mutex
 use Rattle.spec_locks.specs.declared.calls.RwLockCall.{RwLockCall}
-use Rattle.spec_locks.specs.declared.calls.RwLockCall.TheVariants.{Enter, Release, ReleaseFair, Downgrade, Upgrade, Bump}
+use Rattle.spec_locks.specs.declared.calls.RwLockCall.TheVariants.{Enter, Release, ReleaseFair, Downgrade}
+use Rattle.spec_locks.specs.declared.calls.RwLockCall.TheVariants.{Upgrade, Bump}
 use Rattle.spec_locks.specs.declared.calls.OnceCall.{OnceCall}
 use Rattle.spec_locks.specs.declared.calls.OnceCall.TheVariants.{CallOnce, Wait, WaitTimed}
 use Rattle.spec_locks.specs.declared.calls.SemaphoreCall.{SemaphoreCall}
@@ -199,7 +202,8 @@ calling_command_of a b c d =
     (option_and_then (λ call. option_and_then (calling_turn_of b call) (name_of d)) c)
 
 -- the words of a line with a meaning: `show`, `drain`, `threads N`, `T TURN`, `lock NAME KIND`,
--- `lock NAME KIND LIMIT`, `lock NAME semaphore PERMITS`, `T begin CALL NAME`, `T do CALL NAME`, and of a wait on a condition
+-- `lock NAME KIND LIMIT`, `lock NAME semaphore PERMITS`, `T begin CALL NAME`, `T do CALL NAME`, and of a wait
+-- on a condition
 -- variable `T begin CALL NAME MUTEX`, `T do CALL NAME MUTEX`
 abbrev pub command_of : List (List ℕ) → Option Command
 command_of (a ∷ []) =

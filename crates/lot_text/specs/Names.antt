@@ -1,5 +1,6 @@
 -- The names of locks.
-use Rattle.std.specs.Prelude.{ℕ, ◌≡◌, ◌<◌, slice_index_or, Bool, false, ◌-◌, ◌==◌, ◌&&◌, ◌||◌, List, [], ◌∷◌, ◌++◌, length, nat_le, nat_lt, replicate, Option, Some, None, if◌then◌else◌}
+use Rattle.std.specs.Prelude.{ℕ, ◌≡◌, ◌<◌, slice_index_or, Bool, false, ◌-◌, ◌==◌, ◌&&◌, ◌||◌, List, [], ◌∷◌}
+use Rattle.std.specs.Prelude.{◌++◌, length, nat_le, nat_lt, replicate, Option, Some, None, if◌then◌else◌}
 use Rattle.std.specs.List.{before_first, list_all, position}
 use Rattle.std.specs.Str.{bytes_eq}
 

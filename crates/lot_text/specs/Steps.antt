@@ -1,5 +1,6 @@
 -- Steps as a schedule has them, and the lines of a drain.
-use Rattle.std.specs.Prelude.{ℕ, true, false, List, [], ◌++◌, ◌≡◌, ◌<◌, ◌^◌, codes, decimal, Option, None, Some, slice_index_or, IfSome}
+use Rattle.std.specs.Prelude.{ℕ, true, false, List, [], ◌++◌, ◌≡◌, ◌<◌, ◌^◌, codes, decimal, Option, None}
+use Rattle.std.specs.Prelude.{Some, slice_index_or, IfSome}
 use Rattle.spec_locks.specs.declared.calls.Access.{Access}
 use Rattle.spec_locks.specs.declared.calls.Access.TheVariants as access
 use Rattle.spec_locks.specs.declared.calls.Call.{Call}

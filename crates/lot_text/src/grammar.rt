@@ -1,7 +1,13 @@
 //! The meaning of a line.
-ghost use Rattle.std.specs.Prelude.{ℕ, List, Some, decimal, ◌^◌, ◌≡◌, ◌≢◌, ◌<◌, ◌≤◌, [], ◌∷◌, length, take, slice_index, All, MatchOption};
+ghost use Rattle.std.specs.Prelude.{ℕ, List, Some, decimal, ◌^◌, ◌≡◌, ◌≢◌, ◌<◌, ◌≤◌, [], ◌∷◌, length, take};
+ghost use Rattle.std.specs.Prelude.{slice_index, All, MatchOption};
 ghost use Rattle.lot_text.specs.Names.{name_of};
-ghost use Rattle.lot_text.specs.Grammar.{words_of, number_read, digits_after, kind_of, rwlock_kind_of, limited_kind_of, mutex_call_of, entering_call_of, fair_call_of, other_call_of, once_call_of, semaphore_call_of, notification_of, wait_of, call_of, turn_of, closing_turn_of, calling_turn_of, lock_command, turn_command, calling_command_of, command_of, meaning};
+ghost use Rattle.lot_text.specs.Grammar.{words_of, number_read, digits_after, kind_of, rwlock_kind_of};
+ghost use Rattle.lot_text.specs.Grammar.{limited_kind_of, mutex_call_of, entering_call_of, fair_call_of};
+ghost use Rattle.lot_text.specs.Grammar.{other_call_of, once_call_of, semaphore_call_of, notification_of};
+ghost use Rattle.lot_text.specs.Grammar.{wait_of, call_of, turn_of, closing_turn_of, calling_turn_of};
+ghost use Rattle.lot_text.specs.Grammar.{lock_command, turn_command, calling_command_of, command_of};
+ghost use Rattle.lot_text.specs.Grammar.{meaning};
 
 use crate::names::Name;
 use crate::words::is_text;

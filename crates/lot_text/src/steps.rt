@@ -1,7 +1,11 @@
 //! Steps as a schedule has them, and the lines of a drain.
 ghost use Rattle.std.specs.Prelude.{◌≡◌};
 ghost use Rattle.lot_text.specs.Sent.{Puts};
-ghost use Rattle.lot_text.specs.Steps.{mutex_word, read_word, upgradable_word, write_word, enter_word, release_word, fair_release_word, bump_word, downgrade_word, upgrade_word, rwlock_word, once_word, semaphore_word, condvar_word, call_word, name_at, beside_text, call_text, turn_text, step_text, drain_line, drain_refused_line, StepsAreReadBack};
+ghost use Rattle.lot_text.specs.Steps.{mutex_word, read_word, upgradable_word, write_word, enter_word};
+ghost use Rattle.lot_text.specs.Steps.{release_word, fair_release_word, bump_word, downgrade_word};
+ghost use Rattle.lot_text.specs.Steps.{upgrade_word, rwlock_word, once_word, semaphore_word, condvar_word};
+ghost use Rattle.lot_text.specs.Steps.{call_word, name_at, beside_text, call_text, turn_text, step_text};
+ghost use Rattle.lot_text.specs.Steps.{drain_line, drain_refused_line, StepsAreReadBack};
 
 use crate::names::Name;
 use crate::output::Page;

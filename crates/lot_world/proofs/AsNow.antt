@@ -4,7 +4,9 @@ use Rattle.spec_locks.specs.Locks.{LockState, Rules, Sort, Semaphore, OfOnce, pu
 use Rattle.core_base.specs.declared.wants.Want.TheVariants.{Exclusive, Shared}
 use Rattle.spec_locks.specs.Onces.{Start, Finish, Fail, Rest, TakeAll}
 use Rattle.spec_locks.specs.Locks.{Enter, Leave, Convert, HandOff}
-use Rattle.spec_locks.specs.Sites.{Role, Site, IsSite, Deed, Mark, Clear, Bring, Case, Main, Second, has_readers, is_full, after_deed, Needed, IsOpen, IsDebtorRole, shares_less}
+use Rattle.spec_locks.specs.Sites.{Role, Site, IsSite, Deed, Mark, Clear, Bring, Case, Main, Second}
+use Rattle.spec_locks.specs.Sites.{has_readers, is_full, after_deed, Needed, IsOpen, IsDebtorRole}
+use Rattle.spec_locks.specs.Sites.{shares_less}
 use Rattle.spec_locks.proofs.SiteKeeps.{deed_keeps}
 use Rattle.lot_world.specs.Drained.{EachDeedKeepsNow}
 
@@ -13,7 +15,8 @@ abbrev pub with_filled : Bool → Site → Site
 with_filled b s = record s { filled = b }
 
 -- the needs of a deed don't speak of that memory
-pub needed_all : (r : Rules) (d : Deed) (s : Site) (t : ℕ) (b : Bool) → Needed r d s t → Needed r d (with_filled b s) t
+pub needed_all : (r : Rules) (d : Deed) (s : Site) (t : ℕ) (b : Bool) → Needed r d s t
+    → Needed r d (with_filled b s) t
 needed_all r (Case (Enter x)) s t b n = n
 needed_all r (Case (Leave x)) s t b n = n
 needed_all r (Case (OfOnce (Start forced))) s t b n = n
@@ -26,11 +29,13 @@ needed_all r (Bring taken moved) s t b n = n
 needed_all r d s t b n = n
 
 -- nor does what it leads to, but for that memory
-shares_less_all : (sort : Sort) (s : Site) (d : Role) (b : Bool) → shares_less sort (with_filled b s) d ≡ shares_less sort s d
+shares_less_all : (sort : Sort) (s : Site) (d : Role) (b : Bool) → shares_less sort (with_filled b s) d
+    ≡ shares_less sort s d
 shares_less_all Semaphore s d b = refl
 shares_less_all sort s d b = refl
 
-pub led : (r : Rules) (d : Deed) (s : Site) (t : ℕ) (b c : Bool) → with_filled c (after_deed r d (with_filled b s) t) ≡ with_filled c (after_deed r d s t)
+pub led : (r : Rules) (d : Deed) (s : Site) (t : ℕ) (b c : Bool)
+    → with_filled c (after_deed r d (with_filled b s) t) ≡ with_filled c (after_deed r d s t)
 led r (Mark Main) s t b c = refl
 led r (Mark Second) s t b c = refl
 led r (Clear Main) s t b c = refl
@@ -55,11 +60,13 @@ led r (Case (OfOnce TakeAll)) s t b c = refl
 led r (Case case) s t b c = refl
 led r d s t b c = refl
 
-led_lock : (r : Rules) (d : Deed) (s : Site) (t : ℕ) (b : Bool) → (after_deed r d (with_filled b s) t).lock ≡ (after_deed r d s t).lock
+led_lock : (r : Rules) (d : Deed) (s : Site) (t : ℕ) (b : Bool) → (after_deed r d (with_filled b s) t).lock
+    ≡ (after_deed r d s t).lock
 led_lock r d s t b = ap (λ (x : Site). x.lock) (led r d s t b true)
 
 -- the note before, and the note now
-noted : (r : Rules) (d : Deed) (s : Site) (t : ℕ) (b : Bool) → b ≡ false → is_full r (after_deed r d s t).lock ≡ false
+noted : (r : Rules) (d : Deed) (s : Site) (t : ℕ) (b : Bool) → b ≡ false → is_full r (after_deed r d s t).lock
+    ≡ false
     → (after_deed r d (with_filled b s) t).filled ≡ false
 noted r (Mark Main) s t b e f = e
 noted r (Mark Second) s t b e f = e
@@ -94,7 +101,8 @@ another r s b h full spare = record {
         → (t : ℕ) × IsDebtorRole r.sort (s.role t)
     by_spare some is_open (inl room) = h.main some is_open room
     by_spare (inl some) is_open (inr none) = absurd (some none.0)
-    by_spare (inr brings) is_open (inr none) = absurd (let mutex = (h.brought brings.0 brings.1).2 in let readers = none.1 in let g : has_readers r.sort ≡ false = ap has_readers mutex in cc)
+    by_spare (inr brings) is_open (inr none) = absurd (let mutex = (h.brought brings.0 brings.1).2
+        in let readers = none.1 in let g : has_readers r.sort ≡ false = ap has_readers mutex in cc)
 
 pub keeps_now : EachDeedKeepsNow
 keeps_now r d s t h n empty =
@@ -119,8 +127,12 @@ keeps_now r d s t h n empty =
     readers_of true e f = e
     readers_of false e f = absurd (let g : b ≡ false = rw e refl in cc)
 
-    by_full : (c : Bool) → b ≡ c → now ≡ false → (next.filled ≡ false) ⊎ ((next.lock.queue ≡ []) × (has_readers r.sort ≡ true))
-    by_full true e f = inr (ap (λ (x : LockState). x.queue) (led_lock r d s t b) ∙ empty e, readers_of (has_readers r.sort) refl e)
+    by_full : (c : Bool) → b ≡ c → now ≡ false → (next.filled ≡ false) ⊎ ((next.lock.queue ≡ [])
+        × (has_readers r.sort ≡ true))
+    by_full true e f = inr (
+      ap (λ (x : LockState). x.queue) (led_lock r d s t b) ∙ empty e,
+      readers_of (has_readers r.sort) refl e,
+    )
     by_full false e f = inl (noted r d s t b e f)
 
     spare : now ≡ false → (next.filled ≡ false) ⊎ ((next.lock.queue ≡ []) × (has_readers r.sort ≡ true))

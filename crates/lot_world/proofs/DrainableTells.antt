@@ -1,5 +1,6 @@
 -- The test tells whether a world may be drained.
-use Rattle.std.proofs.Common.{ℕ, zero, suc, Bool, true, false, Option, Some, None, length, ◌≡◌, ◌+◌, ◌<◌, ◌≤◌, refl, sym, ap, subst, arith, inl, inr}
+use Rattle.std.proofs.Common.{ℕ, zero, suc, Bool, true, false, Option, Some, None, length, ◌≡◌, ◌+◌, ◌<◌, ◌≤◌}
+use Rattle.std.proofs.Common.{refl, sym, ap, subst, arith, inl, inr}
 use Rattle.std.specs.Prelude.{IsTrue, ◌↔◌, ◌==◌, ◌||◌, ◌&&◌, not, nat_le, nat_lt, slice_index}
 use Rattle.std.proofs.lemmas.Bool.{cases_lt}
 use Rattle.std.proofs.lemmas.Bool.Decides.{nat_tests, Decides-eqb}
@@ -26,7 +27,8 @@ use Rattle.lot_machine.specs.Machine.{State, filled_at, kind_at, owners_at, plac
 use Rattle.lot_laws.specs.Refinement.{call_state, lock_state}
 use Rattle.lot_laws.specs.SitesOf.{IsWorld}
 use Rattle.lot_world.specs.Drains.{Drains, HasNoneBefore, HasOneLock, IsDrainable, IsFew, PendsInCall, number}
-use Rattle.lot_world.specs.Drainable.{all_hold_few, are_below, gain_of, has_only, has_owners, holds_few, is_below, is_drainable, may_pend, pending_thread}
+use Rattle.lot_world.specs.Drainable.{all_hold_few, are_below, gain_of, has_only, has_owners, holds_few}
+use Rattle.lot_world.specs.Drainable.{is_below, is_drainable, may_pend, pending_thread}
 use Rattle.lot_world.proofs.GainsTell.{OwnsHanded, mutex_pends, mutex_tells, rwlock_pends, rwlock_tells}
 
 -- ---------------------------------------------------------------- tests
@@ -91,7 +93,8 @@ IsOfOwners (place.Condvar l v) = ⊥
 
 place_tells : (p : Place) (rights : ℕ → Rights) → IsOfOwners p → Owns p (rights 0) → IsFew (rights 0)
     → ((has_only (gain_of p) (rights 0) ≡ true) ↔ HasNoneBefore (call_state p rights))
-    × (((may_pend p || ((rights 0).pending == 0)) ≡ true) ↔ PendsInCall (call_state p rights).purpose (rights 0))
+    × (((may_pend p || ((rights 0).pending == 0)) ≡ true) ↔ PendsInCall (call_state p rights).purpose
+    (rights 0))
 place_tells place.Idle rights h owns few = ((λ e. tt, λ u. refl), Decides-eqb (rights 0).pending 0)
 place_tells (place.Mutex zero m) rights h owns few = (mutex_tells m rights few owns, mutex_pends m rights)
 place_tells (place.Mutex (suc l) m) rights h owns few = absurd (omega (arith, h))
@@ -101,7 +104,8 @@ place_tells (place.Once l o) rights h owns few = absurd h
 place_tells (place.Semaphore l o) rights h owns few = absurd h
 place_tells (place.Condvar l v) rights h owns few = absurd h
 
-holds_tells : (p : Place) (rights : ℕ → Rights) → IsOfOwners p → Owns p (rights 0) → (holds_few p (rights 0) ≡ true) ↔ Holds p rights
+holds_tells : (p : Place) (rights : ℕ → Rights) → IsOfOwners p → Owns p (rights 0)
+    → (holds_few p (rights 0) ≡ true) ↔ Holds p rights
 holds_tells p rights h owns = (there, back)
   where
     r : Rights
@@ -109,8 +113,10 @@ holds_tells p rights h owns = (there, back)
 
     there : holds_few p r ≡ true → Holds p rights
     there e =
-        let few = le_true (number r) 1 (left (nat_le (number r) 1) ((may_pend p || (r.pending == 0)) && has_only (gain_of p) r) e) in
-        let others = right (nat_le (number r) 1) ((may_pend p || (r.pending == 0)) && has_only (gain_of p) r) e in
+        let few = le_true (number r) 1
+        (left (nat_le (number r) 1) ((may_pend p || (r.pending == 0)) && has_only (gain_of p) r) e) in
+        let others = right (nat_le (number r) 1) ((may_pend p || (r.pending == 0)) && has_only (gain_of p) r)
+        e in
         let tells = place_tells p rights h owns few in
         record {
           few = few;
@@ -121,8 +127,10 @@ holds_tells p rights h owns = (there, back)
     back : Holds p rights → holds_few p r ≡ true
     back k =
         let tells = place_tells p rights h owns k.few in
-        both (nat_le (number r) 1) ((may_pend p || (r.pending == 0)) && has_only (gain_of p) r) (true_le (number r) 1 k.few)
-        (both (may_pend p || (r.pending == 0)) (has_only (gain_of p) r) (tells.1.1 k.unpending) (tells.0.1 k.none_before))
+        both (nat_le (number r) 1) ((may_pend p || (r.pending == 0)) && has_only (gain_of p) r)
+        (true_le (number r) 1 k.few)
+        (both (may_pend p || (r.pending == 0)) (has_only (gain_of p) r) (tells.1.1 k.unpending)
+        (tells.0.1 k.none_before))
 
 -- ---------------------------------------------------------------- all threads
 
@@ -132,13 +140,16 @@ here w t = holds_few (place_at w t) (rights_of (lock_state w 0) t)
 each_of : (w : State) (t n u : ℕ) → all_hold_few w t n ≡ true → t ≤ u → u < t + n → here w u ≡ true
 each_of w t zero u h low high = absurd (omega (arith, low, high))
 each_of w t (suc n) u h low high = elim (cases_lt t u) [
-  | inl later ↦ each_of w (suc t) n u (right (here w t) (all_hold_few w (suc t) n) h) (omega (arith, later)) (omega (arith, high))
-  | inr now ↦ subst (λ v. here w v ≡ true) (omega (arith, low, now)) (left (here w t) (all_hold_few w (suc t) n) h)
+  | inl later ↦ each_of w (suc t) n u (right (here w t) (all_hold_few w (suc t) n) h) (omega (arith, later))
+      (omega (arith, high))
+  | inr now ↦ subst (λ v. here w v ≡ true) (omega (arith, low, now))
+      (left (here w t) (all_hold_few w (suc t) n) h)
 ]
 
 all_of : (w : State) (t n : ℕ) → ((u : ℕ) → t ≤ u → u < t + n → here w u ≡ true) → all_hold_few w t n ≡ true
 all_of w t zero h = refl
-all_of w t (suc n) h = both (here w t) (all_hold_few w (suc t) n) (h t (omega arith) (omega arith)) (all_of w (suc t) n (λ u low high. h u (omega (arith, low)) (omega (arith, high))))
+all_of w t (suc n) h = both (here w t) (all_hold_few w (suc t) n) (h t (omega arith) (omega arith))
+    (all_of w (suc t) n (λ u low high. h u (omega (arith, low)) (omega (arith, high))))
 
 -- ---------------------------------------------------------------- owners
 
@@ -156,7 +167,8 @@ past_thread : (o : Option ℕ) (n t : ℕ) → is_below o n ≡ true → n ≤ t
 past_thread None n t h past = refl
 past_thread (Some u) n t h past = let low = lt_true u n h in grind (arith, nat_tests)
 
-past_pending : (o : Option owners.Pending) (n t : ℕ) → is_below (pending_thread o) n ≡ true → n ≤ t → one_if_pending t (pending_owner o) ≡ 0
+past_pending : (o : Option owners.Pending) (n t : ℕ) → is_below (pending_thread o) n ≡ true → n ≤ t
+    → one_if_pending t (pending_owner o) ≡ 0
 past_pending None n t h past = refl
 past_pending (Some p) n t h past = let low = lt_true p.thread n h in grind (arith, nat_tests)
 
@@ -167,7 +179,8 @@ below_thread (Some u) n h = elim (cases_lt u n) [
   | inr high ↦ let none = h u high in absurd (grind (arith, nat_tests))
 ]
 
-below_pending : (o : Option owners.Pending) (n : ℕ) → ((t : ℕ) → n ≤ t → one_if_pending t (pending_owner o) ≡ 0) → is_below (pending_thread o) n ≡ true
+below_pending : (o : Option owners.Pending) (n : ℕ) → ((t : ℕ) → n ≤ t → one_if_pending t (pending_owner o)
+    ≡ 0) → is_below (pending_thread o) n ≡ true
 below_pending None n h = refl
 below_pending (Some p) n h = elim (cases_lt p.thread n) [
   | inl low ↦ true_lt p.thread n low
@@ -203,20 +216,28 @@ no_condvar kind.Condvar h d = d
 no_condvar kind.Once h d = d
 no_condvar (kind.Semaphore permits) h d = d
 
-pub of_owners : (n : ℕ) (kinds : ℕ → Kind) (p : Place) → n ≡ 1 → Drains (rules_of (kinds 0)).sort → PlaceFits n p → IsOfItsKind kinds p → IsOfOwners p
+pub of_owners : (n : ℕ) (kinds : ℕ → Kind) (p : Place) → n ≡ 1 → Drains (rules_of (kinds 0)).sort
+    → PlaceFits n p → IsOfItsKind kinds p → IsOfOwners p
 of_owners n kinds place.Idle one d fits is = tt
 of_owners n kinds (place.Mutex l m) one d fits is = omega (arith, one, fits.0)
 of_owners n kinds (place.RwLock l a c) one d fits is = omega (arith, one, fits)
-of_owners n kinds (place.Once l o) one d fits is = let first : l ≡ 0 = omega (arith, one, fits) in no_once (kinds 0) (subst (λ k. is_once (kinds k) ≡ true) first is) d
-of_owners n kinds (place.Semaphore l o) one d fits is = let first : l ≡ 0 = omega (arith, one, fits) in no_semaphore (kinds 0) (subst (λ k. is_semaphore (kinds k) ≡ true) first is) d
-of_owners n kinds (place.Condvar l v) one d fits is = let first : l ≡ 0 = omega (arith, one, fits.0) in no_condvar (kinds 0) (subst (λ k. is_condvar (kinds k) ≡ true) first is.0) d
+of_owners n kinds (place.Once l o) one d fits is = let first : l ≡ 0 = omega (arith, one, fits)
+    in no_once (kinds 0) (subst (λ k. is_once (kinds k) ≡ true) first is) d
+of_owners n kinds (place.Semaphore l o) one d fits is = let first : l ≡ 0 = omega (arith, one, fits)
+    in no_semaphore (kinds 0) (subst (λ k. is_semaphore (kinds k) ≡ true) first is) d
+of_owners n kinds (place.Condvar l v) one d fits is = let first : l ≡ 0 = omega (arith, one, fits.0)
+    in no_condvar (kinds 0) (subst (λ k. is_condvar (kinds k) ≡ true) first is.0) d
 
 counts_itself : (o : Option ℕ) (t : ℕ) → o ≡ Some t → 1 ≤ one_if_thread t o
 counts_itself o t e = subst (λ x. 1 ≤ one_if_thread t x) (sym e) (grind (arith, nat_tests))
 
-owns_handed : (w : State) (t : ℕ) (e : Entry) (retries : Bool) (la : LockAt) → IsWorld w → place_at w t ≡ place.Mutex 0 (mutex.Lock e retries la) → OwnsHanded (mutex.Lock e retries la) (rights_of (lock_state w 0) t)
-owns_handed w t e retries (lock.Handed by) world is h = counts_itself (owners_at w 0).exclusive t ((world.steady.sites.site 0).held t (Has Exclusive) (ap (λ p. (role_on p 0).claims) is))
-owns_handed w t e retries lock.Accept world is h = counts_itself (owners_at w 0).exclusive t ((world.steady.sites.site 0).held t (Has Exclusive) (ap (λ p. (role_on p 0).claims) is))
+owns_handed : (w : State) (t : ℕ) (e : Entry) (retries : Bool) (la : LockAt) → IsWorld w → place_at w t
+    ≡ place.Mutex 0 (mutex.Lock e retries la) → OwnsHanded (mutex.Lock e retries la)
+    (rights_of (lock_state w 0) t)
+owns_handed w t e retries (lock.Handed by) world is h = counts_itself (owners_at w 0).exclusive t
+    ((world.steady.sites.site 0).held t (Has Exclusive) (ap (λ p. (role_on p 0).claims) is))
+owns_handed w t e retries lock.Accept world is h = counts_itself (owners_at w 0).exclusive t
+    ((world.steady.sites.site 0).held t (Has Exclusive) (ap (λ p. (role_on p 0).claims) is))
 owns_handed w t e retries lock.First world is h = absurd cc
 owns_handed w t e retries lock.Load world is h = absurd cc
 owns_handed w t e retries (lock.Decide seen) world is h = absurd cc
@@ -228,7 +249,8 @@ owns_handed w t e retries lock.Remove world is h = absurd cc
 owns_handed w t e retries lock.Clear world is h = absurd cc
 owns_handed w t e retries lock.GiveUp world is h = absurd cc
 
-owns_at : (w : State) (t : ℕ) (p : Place) → IsWorld w → IsOfOwners p → place_at w t ≡ p → Owns p (rights_of (lock_state w 0) t)
+owns_at : (w : State) (t : ℕ) (p : Place) → IsWorld w → IsOfOwners p → place_at w t ≡ p
+    → Owns p (rights_of (lock_state w 0) t)
 owns_at w t place.Idle world h is = tt
 owns_at w t (place.Mutex zero (mutex.Lock e retries la)) world h is = owns_handed w t e retries la world is
 owns_at w t (place.Mutex zero mutex.TryLock) world h is = tt
@@ -243,30 +265,44 @@ owns_at w t (place.Semaphore l o) world h is = absurd h
 owns_at w t (place.Condvar l v) world h is = absurd h
 
 -- tells what one thread holds, by its place
-one_tells : (w : State) (t : ℕ) → IsWorld w → HasOneLock w → (here w t ≡ true) ↔ Holds (place_at w t) (λ l. rights_of (lock_state w l) t)
+one_tells : (w : State) (t : ℕ) → IsWorld w → HasOneLock w → (here w t ≡ true) ↔ Holds (place_at w t)
+    (λ l. rights_of (lock_state w l) t)
 one_tells w t world single =
-    let own = of_owners (length w.locks) (kind_at w) (place_at w t) single.one single.sort (world.shaped.places t) (world.shaped.kinds t) in
-    holds_tells (place_at w t) (λ l. rights_of (lock_state w l) t) own (owns_at w t (place_at w t) world own refl)
+    let own = of_owners (length w.locks) (kind_at w) (place_at w t) single.one single.sort
+    (world.shaped.places t) (world.shaped.kinds t) in
+    holds_tells (place_at w t) (λ l. rights_of (lock_state w l) t) own (owns_at w t (place_at w t) world own
+    refl)
 
-past_rights : (w : State) (t : ℕ) → IsWorld w → are_below (owners_at w 0) (length w.places) ≡ true → length w.places ≤ t → rights_of (lock_state w 0) t ≡ no_rights
+past_rights : (w : State) (t : ℕ) → IsWorld w → are_below (owners_at w 0) (length w.places) ≡ true
+    → length w.places ≤ t → rights_of (lock_state w 0) t ≡ no_rights
 past_rights w t world below past =
     let o = owners_at w 0 in
     let n = length w.places in
-    let others = right (is_below o.exclusive n) (is_below (pending_thread o.pending) n && is_below o.upgradable n) below in
-    let exclusive = past_thread o.exclusive n t (left (is_below o.exclusive n) (is_below (pending_thread o.pending) n && is_below o.upgradable n) below) past in
-    let pending = past_pending o.pending n t (left (is_below (pending_thread o.pending) n) (is_below o.upgradable n) others) past in
-    let upgradable = past_thread o.upgradable n t (right (is_below (pending_thread o.pending) n) (is_below o.upgradable n) others) past in
-    let shared : slice_index (shares_at w 0) t ≡ 0 = get_or_past (shares_at w 0) t 0 (omega (arith, world.steady.numbers.threads 0, past)) in
+    let others = right (is_below o.exclusive n) (is_below (pending_thread o.pending) n && is_below
+    o.upgradable n) below in
+    let exclusive = past_thread o.exclusive n t (left (is_below o.exclusive n)
+    (is_below (pending_thread o.pending) n && is_below o.upgradable n) below) past in
+    let pending = past_pending o.pending n t (left (is_below (pending_thread o.pending) n)
+    (is_below o.upgradable n) others) past in
+    let upgradable = past_thread o.upgradable n t (right (is_below (pending_thread o.pending) n)
+    (is_below o.upgradable n) others) past in
+    let shared : slice_index (shares_at w 0) t ≡ 0 = get_or_past (shares_at w 0) t 0
+    (omega (arith, world.steady.numbers.threads 0, past)) in
     λ i. record { exclusive = exclusive i; pending = pending i; upgradable = upgradable i; shared = shared i }
 
 past_idle : (w : State) (t : ℕ) → length w.places ≤ t → place_at w t ≡ place.Idle
 past_idle w t past = get_or_past w.places t place.Idle past
 
 -- a thread that isn't there holds nothing
-past_holds : (w : State) (t : ℕ) → length w.places ≤ t → rights_of (lock_state w 0) t ≡ no_rights → Holds (place_at w t) (λ l. rights_of (lock_state w l) t)
+past_holds : (w : State) (t : ℕ) → length w.places ≤ t → rights_of (lock_state w 0) t ≡ no_rights
+    → Holds (place_at w t) (λ l. rights_of (lock_state w l) t)
 past_holds w t past none =
     let rights : ℕ → Rights = λ l. rights_of (lock_state w l) t in
-    subst (λ p. Holds p rights) (sym (past_idle w t past)) (record { few = subst IsFew (sym none) (omega arith); none_before = tt; unpending = ap (λ (r : Rights). r.pending) none })
+    subst (λ p. Holds p rights) (sym (past_idle w t past)) (record {
+      few = subst IsFew (sym none) (omega arith);
+      none_before = tt;
+      unpending = ap (λ (r : Rights). r.pending) none;
+    })
 
 abbrev each_test : State → Bool
 each_test w = all_hold_few w 0 (length w.places)
@@ -300,7 +336,8 @@ drainable_tells w world = (there, back)
         } in
         let holds : (t : ℕ) → Holds (place_at w t) (λ l. rights_of (lock_state w l) t) = λ t.
         elim (cases_lt t (length w.places)) [
-          | inl within ↦ (one_tells w t world single).0 (each_of w 0 (length w.places) t each (omega arith) (omega (arith, within)))
+          | inl within ↦ (one_tells w t world single).0 (each_of w 0 (length w.places) t each (omega arith)
+              (omega (arith, within)))
           | inr past ↦ past_holds w t past (past_rights w t world below past)
         ] in record {
           lock = single;
@@ -317,10 +354,16 @@ drainable_tells w world = (there, back)
         let o = owners_at w 0 in
         let n = length w.places in
         let below =
-        both (is_below o.exclusive n) (is_below (pending_thread o.pending) n && is_below o.upgradable n) (below_thread o.exclusive n (λ t past. ap (λ (r : Rights). r.exclusive) (d.past t past)))
-        (both (is_below (pending_thread o.pending) n) (is_below o.upgradable n) (below_pending o.pending n (λ t past. ap (λ (r : Rights). r.pending) (d.past t past)))
+        both (is_below o.exclusive n) (is_below (pending_thread o.pending) n && is_below o.upgradable n)
+        (below_thread o.exclusive n (λ t past. ap (λ (r : Rights). r.exclusive) (d.past t past)))
+        (both (is_below (pending_thread o.pending) n) (is_below o.upgradable n)
+        (below_pending o.pending n (λ t past. ap (λ (r : Rights). r.pending) (d.past t past)))
         (below_thread o.upgradable n (λ t past. ap (λ (r : Rights). r.upgradable) (d.past t past)))) in
-        let each = all_of w 0 n (λ t low high. (one_tells w t world d.lock).1 (record { few = d.few t; none_before = d.none_before t; unpending = d.unpending t })) in
+        let each = all_of w 0 n (λ t low high. (one_tells w t world d.lock).1 (record {
+          few = d.few t;
+          none_before = d.none_before t;
+          unpending = d.unpending t;
+        })) in
         both (length w.locks == 1) (thread_test w) ((Decides-eqb (length w.locks) 1).1 d.lock.one)
         (both (nat_le 1 n) (kind_test w) (true_le 1 n d.some)
         (both (has_owners (kind_at w 0)) (filled_test w) ((owners_drain (kind_at w 0)).1 d.lock.sort)

@@ -16,7 +16,8 @@ use Rattle.steps_rwlock.specs.declared.places.RwLockAt.TheVariants as at
 use Rattle.steps_rwlock.specs.declared.purposes.RwLockPurpose.{RwLockPurpose}
 use Rattle.steps_rwlock.specs.declared.purposes.RwLockPurpose.TheVariants as purpose
 use Rattle.steps_rwlock.specs.RwLockDeeds.{role_at, retried_want}
-use Rattle.steps_rwlock_fair.specs.declared.places.RwLockCallPlace.TheVariants.{Plain, Glance, HandOver, Bump, Handed}
+use Rattle.steps_rwlock_fair.specs.declared.places.RwLockCallPlace.TheVariants.{Plain, Glance, HandOver, Bump}
+use Rattle.steps_rwlock_fair.specs.declared.places.RwLockCallPlace.TheVariants.{Handed}
 use Rattle.steps_rwlock_fair.specs.declared.hand_over.HandOverAt.TheVariants as handing
 use Rattle.lot_steps.specs.declared.places.Place.{Place}
 use Rattle.lot_steps.specs.declared.places.Place.TheVariants.{Idle, Mutex, RwLock, Once, Condvar, Semaphore}
@@ -26,7 +27,8 @@ use Rattle.lot_world.specs.Second.{left_inside}
 use Rattle.lot_world.specs.Leaving.{LeavesSecond}
 
 abbrev Falls : State → ℕ → Place → Type 0
-Falls w t p = (can_do w (act_of p) ≡ true) × (left_inside (next_place p (reply_to w t (act_of p))) < left_inside p) × (left_inside p ≤ 3)
+Falls w t p = (can_do w (act_of p) ≡ true) × (left_inside (next_place p (reply_to w t (act_of p)))
+    < left_inside p) × (left_inside p ≤ 3)
 
 abbrev plain_at : ℕ → Admission → RwLockPurpose → Bool → RwLockAt → Place
 plain_at l a q b to = RwLock l a (Plain (record { purpose = q; retries = b; at = to }))
@@ -34,7 +36,8 @@ plain_at l a q b to = RwLock l a (Plain (record { purpose = q; retries = b; at =
 abbrev bump_at : ℕ → Admission → RwLockPurpose → Bool → RwLockAt → Place
 bump_at l a q b to = RwLock l a (Bump (record { purpose = q; retries = b; at = to }))
 
-plain_falls : (w : State) (t l : ℕ) (a : Admission) (q : RwLockPurpose) (b : Bool) (to : RwLockAt) (again : Option Want)
+plain_falls : (w : State) (t l : ℕ) (a : Admission) (q : RwLockPurpose) (b : Bool) (to : RwLockAt)
+    (again : Option Want)
     → (role_at again q to).inside ≡ Some Second → Falls w t (plain_at l a q b to)
 plain_falls w t l a q b (at.Aside parking.Check) again h = (refl, omega arith, omega arith)
 plain_falls w t l a q b (at.Aside (parking.Leave true)) again h = (refl, omega arith, omega arith)
@@ -68,7 +71,8 @@ plain_falls w t l a q b at.Marked again h = absurd cc
 plain_falls w t l a q b at.RollBack again h = absurd cc
 plain_falls w t l a q b at.GiveWay again h = absurd cc
 
-bump_falls : (w : State) (t l : ℕ) (a : Admission) (q : RwLockPurpose) (b : Bool) (to : RwLockAt) (again : Option Want)
+bump_falls : (w : State) (t l : ℕ) (a : Admission) (q : RwLockPurpose) (b : Bool) (to : RwLockAt)
+    (again : Option Want)
     → (role_at again q to).inside ≡ Some Second → Falls w t (bump_at l a q b to)
 bump_falls w t l a q b (at.Aside parking.Check) again h = (refl, omega arith, omega arith)
 bump_falls w t l a q b (at.Aside (parking.Leave true)) again h = (refl, omega arith, omega arith)
@@ -78,9 +82,12 @@ bump_falls w t l a q b (at.Aside parking.Clear) again h = (refl, omega arith, om
 bump_falls w t l a q b (at.Aside parking.GiveUp) again h = (refl, omega arith, omega arith)
 bump_falls w t l a q b (at.Wake Second waking.Take) again h = (refl, omega arith, omega arith)
 bump_falls w t l a q b (at.Wake Second (waking.Clear any)) again h = (refl, omega arith, omega arith)
-bump_falls w t l a (purpose.Release access.Shared) b (at.Wake Second (waking.Leave any)) again h = (refl, omega arith, omega arith)
-bump_falls w t l a (purpose.Release access.Upgradable) b (at.Wake Second (waking.Leave any)) again h = (refl, omega arith, omega arith)
-bump_falls w t l a (purpose.Release access.Exclusive) b (at.Wake Second (waking.Leave any)) again h = (refl, omega arith, omega arith)
+bump_falls w t l a (purpose.Release access.Shared) b (at.Wake Second (waking.Leave any)) again h =
+    (refl, omega arith, omega arith)
+bump_falls w t l a (purpose.Release access.Upgradable) b (at.Wake Second (waking.Leave any)) again h =
+    (refl, omega arith, omega arith)
+bump_falls w t l a (purpose.Release access.Exclusive) b (at.Wake Second (waking.Leave any)) again h =
+    (refl, omega arith, omega arith)
 bump_falls w t l a q b (at.Wake Second (waking.Leave any)) again h = (refl, omega arith, omega arith)
 bump_falls w t l a q b (at.Aside parking.Asleep) again h = absurd cc
 bump_falls w t l a q b (at.Aside (parking.Taken by)) again h = absurd cc
@@ -105,7 +112,8 @@ bump_falls w t l a q b at.Marked again h = absurd cc
 bump_falls w t l a q b at.RollBack again h = absurd cc
 bump_falls w t l a q b at.GiveWay again h = absurd cc
 
-lock_never : (l : ℕ) (e : _) (retries : Bool) (to : LockAt) → (profile (Mutex l (mutex.Lock e retries to))).role.inside ≡ Some Second → ⊥
+lock_never : (l : ℕ) (e : _) (retries : Bool) (to : LockAt)
+    → (profile (Mutex l (mutex.Lock e retries to))).role.inside ≡ Some Second → ⊥
 lock_never l e retries lock.Check h = cc
 lock_never l e retries (lock.Leave parked) h = cc
 lock_never l e retries lock.Remove h = cc
@@ -128,8 +136,10 @@ leaves_second w t (Mutex l (mutex.HandOff bumps hand_off.Enter)) stands h = absu
 leaves_second w t (Mutex l (mutex.HandOff bumps hand_off.Take)) stands h = absurd cc
 leaves_second w t (Mutex l (mutex.HandOff bumps (hand_off.Store any none_left))) stands h = absurd cc
 leaves_second w t (Mutex l (mutex.HandOff bumps (hand_off.Leave any))) stands h = absurd cc
-leaves_second w t (RwLock l a (Plain p)) stands h = plain_falls w t l a p.purpose p.retries p.at (retried_want p) h
-leaves_second w t (RwLock l a (Bump p)) stands h = bump_falls w t l a p.purpose p.retries p.at (retried_want p) h
+leaves_second w t (RwLock l a (Plain p)) stands h = plain_falls w t l a p.purpose p.retries p.at
+    (retried_want p) h
+leaves_second w t (RwLock l a (Bump p)) stands h = bump_falls w t l a p.purpose p.retries p.at
+    (retried_want p) h
 leaves_second w t (RwLock l a (Glance x)) stands h = absurd cc
 leaves_second w t (RwLock l a (HandOver x b handing.Load)) stands h = absurd cc
 leaves_second w t (RwLock l a (HandOver x b (handing.Free seen))) stands h = absurd cc

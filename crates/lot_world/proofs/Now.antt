@@ -1,9 +1,15 @@
 -- A lock is kept as if it had never been full, over the deeds of a step.
-use Rattle.std.proofs.Common.{ℕ, Bool, true, false, Option, Some, None, if◌then◌else◌, ◌==◌, ◌||◌, ◌≡◌, ◌⊎◌, List, [], ◌∷◌, inl, inr, refl, sym, ◌∙◌, ap, subst}
+use Rattle.std.proofs.Common.{ℕ, Bool, true, false, Option, Some, None, if◌then◌else◌, ◌==◌, ◌||◌, ◌≡◌, ◌⊎◌}
+use Rattle.std.proofs.Common.{List, [], ◌∷◌, inl, inr, refl, sym, ◌∙◌, ap, subst}
 use Rattle.core_base.specs.declared.wants.Want.TheVariants.{Exclusive, Upgradable, Shared}
 use Rattle.spec_locks.specs.Onces.{Start, Finish, Fail, Rest, TakeAll}
-use Rattle.spec_locks.specs.Locks.{LockState, LockCase, Pending, Rules, Enter, Pend, Settle, Leave, Convert, Park, Aside, TakeFirst, TakeAside, TakePicked, Wake, HandOff, Late, Rollback, OfOnce, OfCondvar, SeeOwner, Look, Show, Hide, after_case, readers, with_owner, without_owner, pending_for, falling_back}
-use Rattle.spec_locks.specs.Sites.{Site, IsSite, Deed, Begin, End, In, Out, Mark, Clear, FindNobody, MarkOwned, MarkBrought, Bring, Send, LeaveLine, Case, Main, Second, has_readers, is_full, after_deed}
+use Rattle.spec_locks.specs.Locks.{LockState, LockCase, Pending, Rules, Enter, Pend, Settle, Leave, Convert}
+use Rattle.spec_locks.specs.Locks.{Park, Aside, TakeFirst, TakeAside, TakePicked, Wake, HandOff, Late}
+use Rattle.spec_locks.specs.Locks.{Rollback, OfOnce, OfCondvar, SeeOwner, Look, Show, Hide, after_case}
+use Rattle.spec_locks.specs.Locks.{readers, with_owner, without_owner, pending_for, falling_back}
+use Rattle.spec_locks.specs.Sites.{Site, IsSite, Deed, Begin, End, In, Out, Mark, Clear, FindNobody}
+use Rattle.spec_locks.specs.Sites.{MarkOwned, MarkBrought, Bring, Send, LeaveLine, Case, Main, Second}
+use Rattle.spec_locks.specs.Sites.{has_readers, is_full, after_deed}
 use Rattle.spec_locks.proofs.Hands.{is_handed}
 use Rattle.lot_laws.specs.MutexDeeds.{Act}
 use Rattle.lot_laws.specs.SitesOf.{ActsNeeded, after_acts}
@@ -13,18 +19,22 @@ use Rattle.lot_world.specs.Now.{AllKeep, HasOneCase, IsOneFollowed, KeepsLock, S
 
 -- ---------------------------------------------------------------- the memory of having been full is apart
 
-needed_list : (r : Rules) (ds : List Act) (s : Site) (b : Bool) → ActsNeeded r ds s → ActsNeeded r ds (with_filled b s)
+needed_list : (r : Rules) (ds : List Act) (s : Site) (b : Bool) → ActsNeeded r ds s
+    → ActsNeeded r ds (with_filled b s)
 needed_list r [] s b n = n
 needed_list r (a ∷ ds) s b n = (
   needed_all r a.deed s a.by b n.0,
-  subst (ActsNeeded r ds) (sym (led r a.deed s a.by b (after_deed r a.deed (with_filled b s) a.by).filled)) (needed_list r ds (after_deed r a.deed s a.by) (after_deed r a.deed (with_filled b s) a.by).filled n.1),
+  subst (ActsNeeded r ds) (sym (led r a.deed s a.by b (after_deed r a.deed (with_filled b s) a.by).filled))
+      (needed_list r ds (after_deed r a.deed s a.by) (after_deed r a.deed (with_filled b s) a.by).filled n.1),
 )
 
-led_list : (r : Rules) (ds : List Act) (s : Site) (b c : Bool) → with_filled c (after_acts r ds (with_filled b s)) ≡ with_filled c (after_acts r ds s)
+led_list : (r : Rules) (ds : List Act) (s : Site) (b c : Bool)
+    → with_filled c (after_acts r ds (with_filled b s)) ≡ with_filled c (after_acts r ds s)
 led_list r [] s b c = refl
 led_list r (a ∷ ds) s b c =
     let d = (after_deed r a.deed (with_filled b s) a.by).filled in
-    ap (λ x. with_filled c (after_acts r ds x)) (led r a.deed s a.by b d) ∙ led_list r ds (after_deed r a.deed s a.by) d c
+    ap (λ x. with_filled c (after_acts r ds x)) (led r a.deed s a.by b d)
+    ∙ led_list r ds (after_deed r a.deed s a.by) d c
 
 -- ---------------------------------------------------------------- deeds that leave the lock
 
@@ -65,7 +75,8 @@ by_pending s v t (Some p) e = either p.falls_back
     either true = e
     either false = e
 
-case_stays : (r : Rules) (case : LockCase) (s : LockState) (t : ℕ) → s.queue ≡ [] → Stays r s (after_case r case s t)
+case_stays : (r : Rules) (case : LockCase) (s : LockState) (t : ℕ) → s.queue ≡ []
+    → Stays r s (after_case r case s t)
 case_stays r (Enter Exclusive) s t e = inl e
 case_stays r (Enter Upgradable) s t e = inl e
 case_stays r (Enter Shared) s t e = inl e
@@ -78,17 +89,21 @@ case_stays r (Leave Shared) s t e = inl e
 case_stays r (Leave x) s t e = inl e
 case_stays r (Convert Exclusive Exclusive) s t e = inl (queue_of (readers (without_owner t Exclusive s) == 0))
   where
-    queue_of : (b : Bool) → (if b then with_owner t Exclusive (without_owner t Exclusive s) else pending_for t true (without_owner t Exclusive s)).queue ≡ []
+    queue_of : (b : Bool) → (if b then with_owner t Exclusive (without_owner t Exclusive s) else pending_for t
+        true (without_owner t Exclusive s)).queue ≡ []
     queue_of true = e
     queue_of false = e
-case_stays r (Convert Upgradable Exclusive) s t e = inl (queue_of (readers (without_owner t Upgradable s) == 0))
+case_stays r (Convert Upgradable Exclusive) s t e =
+    inl (queue_of (readers (without_owner t Upgradable s) == 0))
   where
-    queue_of : (b : Bool) → (if b then with_owner t Exclusive (without_owner t Upgradable s) else pending_for t true (without_owner t Upgradable s)).queue ≡ []
+    queue_of : (b : Bool) → (if b then with_owner t Exclusive (without_owner t Upgradable s)
+        else pending_for t true (without_owner t Upgradable s)).queue ≡ []
     queue_of true = e
     queue_of false = e
 case_stays r (Convert Shared Exclusive) s t e = inl (queue_of (readers (without_owner t Shared s) == 0))
   where
-    queue_of : (b : Bool) → (if b then with_owner t Exclusive (without_owner t Shared s) else pending_for t true (without_owner t Shared s)).queue ≡ []
+    queue_of : (b : Bool) → (if b then with_owner t Exclusive (without_owner t Shared s) else pending_for t
+        true (without_owner t Shared s)).queue ≡ []
     queue_of true = e
     queue_of false = e
 case_stays r (Convert x Exclusive) s t e = inl (queue_of (readers s == 0))
@@ -130,16 +145,22 @@ case_stays r (SeeOwner owned) s t e = inr refl
 moved_on : (r : Rules) (s u v : LockState) → v ≡ u → Stays r s u → Stays r s v
 moved_on r s u v e h = subst (Stays r s) (sym e) h
 
-list_stays : (r : Rules) (ds : List Act) (s : Site) → HasOneCase ds → s.lock.queue ≡ [] → Stays r s.lock (after_acts r ds s).lock
+list_stays : (r : Rules) (ds : List Act) (s : Site) → HasOneCase ds → s.lock.queue ≡ []
+    → Stays r s.lock (after_acts r ds s).lock
 list_stays r [] s one e = inl e
 list_stays r (a ∷ ds) s one e = by_deed (λ v k f. list_stays r ds v k f) a.deed one
   where
-    by_deed : ((v : Site) → HasOneCase ds → v.lock.queue ≡ [] → Stays r v.lock (after_acts r ds v).lock) → (d : Deed) → IsOneFollowed d (AllKeep ds) (HasOneCase ds) → Stays r s.lock (after_acts r ds (after_deed r d s a.by)).lock
-    by_deed rec (Case case) keep = moved_on r s.lock (after_case r case s.lock a.by) _ (keeps_all r ds (after_deed r (Case case) s a.by) keep).lock (case_stays r case s.lock a.by e)
-    by_deed rec Out keep = moved_on r s.lock _ _ (keeps_all r ds (after_deed r Out s a.by) keep).lock (inr refl)
+    by_deed : ((v : Site) → HasOneCase ds → v.lock.queue ≡ [] → Stays r v.lock (after_acts r ds v).lock)
+        → (d : Deed) → IsOneFollowed d (AllKeep ds) (HasOneCase ds)
+        → Stays r s.lock (after_acts r ds (after_deed r d s a.by)).lock
+    by_deed rec (Case case) keep = moved_on r s.lock (after_case r case s.lock a.by) _
+        (keeps_all r ds (after_deed r (Case case) s a.by) keep).lock (case_stays r case s.lock a.by e)
+    by_deed rec Out keep = moved_on r s.lock _ _ (keeps_all r ds (after_deed r Out s a.by) keep).lock
+        (inr refl)
     by_deed rec (Bring taken moved) keep = absurd keep
     by_deed rec (Send all) keep = absurd keep
-    by_deed rec LeaveLine keep = moved_on r s.lock _ _ (keeps_all r ds (after_deed r LeaveLine s a.by) keep).lock (inr refl)
+    by_deed rec LeaveLine keep = moved_on r s.lock _ _ (keeps_all r ds (after_deed r LeaveLine s a.by)
+        keep).lock (inr refl)
     by_deed rec (Mark Main) more = rec (after_deed r (Mark Main) s a.by) more e
     by_deed rec (Mark Second) more = rec (after_deed r (Mark Second) s a.by) more e
     by_deed rec (Clear Main) more = rec (after_deed r (Clear Main) s a.by) more e
@@ -152,14 +173,19 @@ list_stays r (a ∷ ds) s one e = by_deed (λ v k f. list_stays r ds v k f) a.de
     by_deed rec MarkBrought more = rec (after_deed r MarkBrought s a.by) more e
 
 -- noted in these deeds, it is full behind them
-list_noted : (r : Rules) (ds : List Act) (s : Site) → HasOneCase ds → s.filled ≡ false → is_full r (after_acts r ds s).lock ≡ false → (after_acts r ds s).filled ≡ false
+list_noted : (r : Rules) (ds : List Act) (s : Site) → HasOneCase ds → s.filled ≡ false
+    → is_full r (after_acts r ds s).lock ≡ false → (after_acts r ds s).filled ≡ false
 list_noted r [] s one none free = none
 list_noted r (a ∷ ds) s one none free = by_deed (λ v k f g. list_noted r ds v k f g) a.deed one free
   where
-    by_deed : ((v : Site) → HasOneCase ds → v.filled ≡ false → is_full r (after_acts r ds v).lock ≡ false → (after_acts r ds v).filled ≡ false) → (d : Deed) → IsOneFollowed d (AllKeep ds) (HasOneCase ds) → is_full r (after_acts r ds (after_deed r d s a.by)).lock ≡ false → (after_acts r ds (after_deed r d s a.by)).filled ≡ false
+    by_deed : ((v : Site) → HasOneCase ds → v.filled ≡ false → is_full r (after_acts r ds v).lock ≡ false
+        → (after_acts r ds v).filled ≡ false) → (d : Deed) → IsOneFollowed d (AllKeep ds) (HasOneCase ds)
+        → is_full r (after_acts r ds (after_deed r d s a.by)).lock ≡ false
+        → (after_acts r ds (after_deed r d s a.by)).filled ≡ false
     by_deed rec (Case case) keep f =
         let same = keeps_all r ds (after_deed r (Case case) s a.by) keep in
-        same.filled ∙ ap (λ b. b || is_full r (after_case r case s.lock a.by)) none ∙ sym (ap (is_full r) same.lock) ∙ f
+        same.filled ∙ ap (λ b. b || is_full r (after_case r case s.lock a.by)) none
+        ∙ sym (ap (is_full r) same.lock) ∙ f
     by_deed rec Out keep f = (keeps_all r ds (after_deed r Out s a.by) keep).filled ∙ none
     by_deed rec (Bring taken moved) keep f = absurd keep
     by_deed rec (Send all) keep f = absurd keep
@@ -199,7 +225,8 @@ step_keeps_now r s ds shared one h needed empty =
     same : is_full r next.lock ≡ now
     same = ap (is_full r) same_lock
 
-    by_full : (c : Bool) → b ≡ c → now ≡ false → (next.filled ≡ false) ⊎ ((next.lock.queue ≡ []) × (has_readers r.sort ≡ true))
+    by_full : (c : Bool) → b ≡ c → now ≡ false → (next.filled ≡ false) ⊎ ((next.lock.queue ≡ [])
+        × (has_readers r.sort ≡ true))
     by_full true e f = elim (list_stays r ds s one (empty e)) [
       | inl none ↦ inr (ap (λ (x : LockState). x.queue) same_lock ∙ none, shared)
       | inr full ↦ absurd (let g : ◌≡◌ {A = Bool} true false = sym e ∙ sym full ∙ f in cc)

@@ -1,5 +1,7 @@
 -- Each step while a lock is drained leaves it as if it had never been full.
-use Rattle.std.proofs.Common.{ℕ, zero, suc, Bool, true, false, Option, Some, None, if◌then◌else◌, ◌==◌, nat_lt, ◌≡◌, ◌≢◌, ◌<◌, List, [], ◌∷◌, ◌++◌, length, inl, inr, refl, sym, ◌∙◌, ap, subst, arith}
+use Rattle.std.proofs.Common.{ℕ, zero, suc, Bool, true, false, Option, Some, None, if◌then◌else◌, ◌==◌}
+use Rattle.std.proofs.Common.{nat_lt, ◌≡◌, ◌≢◌, ◌<◌, List, [], ◌∷◌, ◌++◌, length, inl, inr, refl, sym, ◌∙◌}
+use Rattle.std.proofs.Common.{ap, subst, arith}
 use Rattle.std.proofs.lemmas.Bool.{ltb-true}
 use Rattle.core_base.specs.declared.ops.Op.{Op}
 use Rattle.spec_locks.specs.declared.kinds.Kind.{Kind}
@@ -11,7 +13,8 @@ use Rattle.steps_base.specs.Acts.{takes_effect}
 use Rattle.spec_locks.specs.Deeds.{AreOneCase, KeepLock}
 use Rattle.spec_locks.specs.Locks.{Rules, Taken}
 use Rattle.spec_locks.specs.Purposes.{rules_of}
-use Rattle.spec_locks.specs.Sites.{IsSite, Deed, Begin, Out, Bring, Send, LeaveLine, Case, has_readers, is_full}
+use Rattle.spec_locks.specs.Sites.{IsSite, Deed, Begin, Out, Bring, Send, LeaveLine, Case, has_readers}
+use Rattle.spec_locks.specs.Sites.{is_full}
 use Rattle.steps_rwlock.specs.declared.places.Admission.{Admission}
 use Rattle.steps_rwlock_fair.specs.declared.places.RwLockCallPlace.{RwLockCallPlace}
 use Rattle.steps_rwlock_fair.specs.declared.hand_over.Taken.{Taken as Counted}
@@ -23,7 +26,9 @@ use Rattle.steps_rwlock_fair.proofs.FairActs.{fair_acts_move}
 use Rattle.lot_steps.specs.declared.places.Place.{Place}
 use Rattle.lot_steps.specs.declared.places.Place.TheVariants.{Idle, Mutex, RwLock, Once, Condvar, Semaphore}
 use Rattle.lot_steps.specs.Steps.{act_of, next_place}
-use Rattle.lot_machine.specs.Machine.{State, after, can_do, can_go, go_of, is_possible, kind_at, place_at, put, reply_to, state_after_act, state_after_go, state_after_going, unshared_then, word_at}
+use Rattle.lot_machine.specs.Machine.{State, after, can_do, can_go, go_of, is_possible, kind_at, place_at}
+use Rattle.lot_machine.specs.Machine.{put, reply_to, state_after_act, state_after_go, state_after_going}
+use Rattle.lot_machine.specs.Machine.{unshared_then, word_at}
 use Rattle.lot_machine.specs.Fits.{IsWellFormed}
 use Rattle.lot_machine.proofs.Shape.{both}
 use Rattle.lot_laws.specs.Refinement.{taken_at}
@@ -76,7 +81,8 @@ keeps_have : (ys : List deeds.Act) → AllKeep ys → HasOneCase ys
 keeps_have [] k = tt
 keeps_have (a ∷ ys) k = followed a.deed (AllKeep ys) (HasOneCase ys) k.0 (keeps_have ys k.1)
 
-one_of : (t : ℕ) (ds : List Deed) (ys : List deeds.Act) → AreOneCase ds → AllKeep ys → HasOneCase (acts t ds ++ ys)
+one_of : (t : ℕ) (ds : List Deed) (ys : List deeds.Act) → AreOneCase ds → AllKeep ys
+    → HasOneCase (acts t ds ++ ys)
 one_of t [] ys one keep = keeps_have ys keep
 one_of t (Case case ∷ ds) ys one keep = append_keep (acts t ds) ys (keep_of t ds one) keep
 one_of t (Out ∷ ds) ys one keep = append_keep (acts t ds) ys (keep_of t ds one) keep
@@ -97,13 +103,18 @@ claims_keep : (t : ℕ) (alone : Bool) (u : ℕ) (o : Option Taken) → AllKeep 
 claims_keep t alone u None = tt
 claims_keep t alone u (Some h) = either (h.by == t)
   where
-    either : (b : Bool) → AllKeep (if b then record { by = u; deed = Begin (Some (claim_handed alone h.want)) } ∷ [] else [])
+    either : (b : Bool) → AllKeep (if b then record {
+      by = u;
+      deed = Begin (Some (claim_handed alone h.want));
+    } ∷ [] else [])
     either true = (tt, tt)
     either false = tt
 
-given_keep : (t : ℕ) (alone : Bool) (taken : ℕ → Option Taken) (n : ℕ) → AllKeep (claims_given t alone taken n)
+given_keep : (t : ℕ) (alone : Bool) (taken : ℕ → Option Taken) (n : ℕ)
+    → AllKeep (claims_given t alone taken n)
 given_keep t alone taken zero = tt
-given_keep t alone taken (suc n) = append_keep (claim_of t alone n (taken n)) (claims_given t alone taken n) (claims_keep t alone n (taken n)) (given_keep t alone taken n)
+given_keep t alone taken (suc n) = append_keep (claim_of t alone n (taken n)) (claims_given t alone taken n)
+    (claims_keep t alone n (taken n)) (given_keep t alone taken n)
 
 -- ---------------------------------------------------------------- a step at a reader-writer lock
 
@@ -113,40 +124,55 @@ pub record Led (w v : State) (l : ℕ) : Type 0 where
   pub goes : Goes w v l ds
   pub one : HasOneCase ds
 
-module _ (w : State) (t l : ℕ) (a : Admission) (c : RwLockCallPlace) (steady : IsInductive w) (shape : IsWellFormed w)
-    (there : t < length w.places) (lt : l < length w.locks) (is : place_at w t ≡ RwLock l a c) (counted : AreCounted w) where
+module _ (w : State) (t l : ℕ) (a : Admission) (c : RwLockCallPlace) (steady : IsInductive w)
+    (shape : IsWellFormed w)
+    (there : t < length w.places) (lt : l < length w.locks) (is : place_at w t ≡ RwLock l a c)
+    (counted : AreCounted w) where
   abbrev leads : Act → State
   leads y = go_by w t (RwLock l a c) y
 
   may : CallStands a c
   may = stands w t l a c steady shape there lt is
 
-  plain : ((k : ℕ) (op : Op) → call_act l a c ≢ act.HandOver k op) → can_do w (call_act l a c) ≡ true → Led w (leads (call_act l a c)) l
+  plain : ((k : ℕ) (op : Op) → call_act l a c ≢ act.HandOver k op) → can_do w (call_act l a c) ≡ true
+      → Led w (leads (call_act l a c)) l
   plain hands_nothing can =
       let from = goes_unhanded w t l a c steady shape there lt is hands_nothing can in
-      record { ds = acts t (call_deeds a c from.whom (reply_to w t (call_act l a c))); goes = from.goes; one = one_alone t (call_deeds a c from.whom (reply_to w t (call_act l a c))) from.tells.one }
+      record {
+        ds = acts t (call_deeds a c from.whom (reply_to w t (call_act l a c)));
+        goes = from.goes;
+        one = one_alone t (call_deeds a c from.whom (reply_to w t (call_act l a c))) from.tells.one;
+      }
 
-  module _ (k : Counted) (is_k : in_hand_of c ≡ Some k) (op : Op) (e : call_act l a c ≡ act.HandOver l op) where
-    abbrev heir : Option ℕ
-    heir = whom w t l a c steady shape there lt is k is_k (counted t l a c k is is_k) op e
+  module _ (k : Counted) (is_k : in_hand_of c ≡ Some k) (op : Op) (e : call_act l a c ≡ act.HandOver l op)
+    where
+      abbrev heir : Option ℕ
+      heir = whom w t l a c steady shape there lt is k is_k (counted t l a c k is is_k) op e
 
-    told_one : AreOneCase (call_deeds a c heir (Value (word_at w l)))
-    told_one = (hands_tell w t l a c steady shape there lt is k is_k (counted t l a c k is is_k) op e).one
+      told_one : AreOneCase (call_deeds a c heir (Value (word_at w l)))
+      told_one = (hands_tell w t l a c steady shape there lt is k is_k (counted t l a c k is is_k) op e).one
 
-    abbrev given : List deeds.Act
-    given = claims_given t (unshared_then w t l) (λ u. taken_at (place_at w u) l) (length w.places)
+      abbrev given : List deeds.Act
+      given = claims_given t (unshared_then w t l) (λ u. taken_at (place_at w u) l) (length w.places)
 
-    by_effect : (b : Bool) → takes_effect op (word_at w l) ≡ b → Led w (leads (act.HandOver l op)) l
-    by_effect true takes = record {
-      ds = acts t (call_deeds a c heir (Value (word_at w l))) ++ given;
-      goes = subst (λ q. Goes w (put (state_after_act w t (RwLock l a c) (act.HandOver l op)) t (next_place q (Value (word_at w l)))) l (acts t (call_deeds a c heir (Value (word_at w l))) ++ given)) is (hands_goes w t l a c steady shape there lt is k is_k (counted t l a c k is is_k) op e takes);
-      one = one_of t (call_deeds a c heir (Value (word_at w l))) given told_one (given_keep t (unshared_then w t l) (λ u. taken_at (place_at w u) l) (length w.places));
-    }
-    by_effect false fails = record {
-      ds = acts t (call_deeds a c heir (Value (word_at w l)));
-      goes = subst (λ q. Goes w (put (state_after_act w t (RwLock l a c) (act.HandOver l op)) t (next_place q (Value (word_at w l)))) l (acts t (call_deeds a c heir (Value (word_at w l))))) is (hands_fails w t l a c steady shape there lt is k is_k (counted t l a c k is is_k) op e fails);
-      one = one_alone t (call_deeds a c heir (Value (word_at w l))) told_one;
-    }
+      by_effect : (b : Bool) → takes_effect op (word_at w l) ≡ b → Led w (leads (act.HandOver l op)) l
+      by_effect true takes = record {
+        ds = acts t (call_deeds a c heir (Value (word_at w l))) ++ given;
+        goes = subst (λ q. Goes w (put (state_after_act w t (RwLock l a c) (act.HandOver l op)) t
+            (next_place q (Value (word_at w l)))) l (acts t (call_deeds a c heir (Value (word_at w l)))
+            ++ given)) is (hands_goes w t l a c steady shape there lt is k is_k (counted t l a c k is is_k) op
+            e
+            takes);
+        one = one_of t (call_deeds a c heir (Value (word_at w l))) given told_one
+            (given_keep t (unshared_then w t l) (λ u. taken_at (place_at w u) l) (length w.places));
+      }
+      by_effect false fails = record {
+        ds = acts t (call_deeds a c heir (Value (word_at w l)));
+        goes = subst (λ q. Goes w (put (state_after_act w t (RwLock l a c) (act.HandOver l op)) t
+            (next_place q (Value (word_at w l)))) l (acts t (call_deeds a c heir (Value (word_at w l))))) is
+            (hands_fails w t l a c steady shape there lt is k is_k (counted t l a c k is is_k) op e fails);
+        one = one_alone t (call_deeds a c heir (Value (word_at w l))) told_one;
+      }
 
   led : can_do w (call_act l a c) ≡ true → Led w (leads (call_act l a c)) l
   led can = by_act (call_act l a c) refl
@@ -154,9 +180,11 @@ module _ (w : State) (t l : ℕ) (a : Admission) (c : RwLockCallPlace) (steady :
       by_act : (y : Act) → call_act l a c ≡ y → Led w (leads (call_act l a c)) l
       by_act (act.HandOver k op) e =
           let n = gives_counted l k a c op may e in
-          let same_lock : k ≡ l = (subst (CallMoves l a.recursive (call_move a c) (call_hears a c)) e (fair_acts_move l a c may)).0 in
+          let same_lock : k ≡ l = (subst (CallMoves l a.recursive (call_move a c) (call_hears a c)) e
+          (fair_acts_move l a c may)).0 in
           let here_now : call_act l a c ≡ act.HandOver l op = e ∙ ap (λ j. act.HandOver j op) same_lock in
-          subst (λ y. Led w (leads y) l) (sym here_now) (by_effect n.0 n.1 op here_now (takes_effect op (word_at w l)) refl)
+          subst (λ y. Led w (leads y) l) (sym here_now) (by_effect n.0 n.1 op here_now
+          (takes_effect op (word_at w l)) refl)
       by_act y e = plain (λ k op f. let g : y ≡ act.HandOver k op = sym e ∙ f in cc) can
 
   -- where it may go on, that is where it goes
@@ -177,14 +205,17 @@ module _ (w : State) (t : ℕ) (h : IsDraining w) (strict : IsStrict w) where
 
   -- a lock that nobody shares was never full
   unshared : has_readers (rules_in v 0).sort ≡ false → Now v
-  unshared e = another (rules_in v 0) (site_of v 0) (is_full (rules_in v 0) (site_of v 0).lock) (order.world.steady.sites.site 0) (λ f. f) (λ f. inl (order.world.steady.sites.unfilled 0 e))
+  unshared e = another (rules_in v 0) (site_of v 0) (is_full (rules_in v 0) (site_of v 0).lock)
+      (order.world.steady.sites.site 0) (λ f. f) (λ f. inl (order.world.steady.sites.unfilled 0 e))
 
   -- the deeds say so
-  pub by_deeds : (x : State) → rules_in x 0 ≡ rules_in w 0 → has_readers (rules_in w 0).sort ≡ true → Led w x 0 → Now x
+  pub by_deeds : (x : State) → rules_in x 0 ≡ rules_in w 0 → has_readers (rules_in w 0).sort ≡ true
+      → Led w x 0 → Now x
   by_deeds x same readers d =
       subst (λ r. IsSite r (as_now r (site_of x 0))) (sym same)
       (subst (λ y. IsSite (rules_in w 0) (as_now (rules_in w 0) y)) (sym d.goes.follows.site)
-      (step_keeps_now (rules_in w 0) (site_of w 0) d.ds readers d.one h.now d.goes.follows.needed (full_is_empty w strict)))
+      (step_keeps_now (rules_in w 0) (site_of w 0) d.ds readers d.one h.now d.goes.follows.needed
+      (full_is_empty w strict)))
 
   same_rules : rules_in v 0 ≡ rules_in w 0
   same_rules = ap rules_of (after_kinds w (go_of t) 0)
@@ -202,16 +233,26 @@ module _ (w : State) (t : ℕ) (h : IsDraining w) (strict : IsStrict w) where
   shared readers = by_possible (is_possible w (go_of t)) refl
     where
       went : t < length w.places → can_go w t ≡ true → Now (state_after_go w t)
-      went there can = by_place (place_at w t) refl (strict.ordered.world.shaped.places t) (strict.ordered.world.steady.stands.calls t)
+      went there can = by_place (place_at w t) refl (strict.ordered.world.shaped.places t)
+          (strict.ordered.world.steady.stands.calls t)
         where
-          by_place : (p : Place) → place_at w t ≡ p → Rattle.lot_machine.specs.Fits.PlaceFits (length w.locks) p → FitsItsLock w p → Now (state_after_go w t)
-          by_place Idle is fits of = absurd (let e : can_do w (act_of Idle) ≡ true = ap (λ q. can_do w (act_of q)) (sym is) ∙ can in cc)
-          by_place (Mutex l at) is fits of = absurd (unmutexed (kind_at w l) of (subst (λ j. has_readers (rules_in w j).sort ≡ true) (let z : l < 1 = (let n = strict.ordered.lock.one in let q = fits.0 in omega arith) in let e : 0 ≡ l = omega arith in e) readers))
+          by_place : (p : Place) → place_at w t ≡ p → Rattle.lot_machine.specs.Fits.PlaceFits (length w.locks)
+              p → FitsItsLock w p → Now (state_after_go w t)
+          by_place Idle is fits of = absurd (let e : can_do w (act_of Idle) ≡ true =
+              ap (λ q. can_do w (act_of q)) (sym is) ∙ can in cc)
+          by_place (Mutex l at) is fits of =
+              absurd (unmutexed (kind_at w l) of (subst (λ j. has_readers (rules_in w j).sort ≡ true)
+              (let z : l < 1 = (let n = strict.ordered.lock.one in let q = fits.0 in omega arith)
+              in let e : 0 ≡ l = omega arith in e) readers))
           by_place (RwLock l a c) is fits of =
               let zero_is : l ≡ 0 = (let n = strict.ordered.lock.one in omega arith) in
               let can_now : can_do w (call_act l a c) ≡ true = ap (λ q. can_do w (act_of q)) (sym is) ∙ can in
-              let there_led = led w t l a c strict.ordered.world.steady strict.ordered.world.shaped there fits is strict.ordered.world.counted can_now in
-              let at_zero : Led w (state_after_go w t) 0 = subst (Led w (state_after_go w t)) zero_is (subst (λ x. Led w x l) (sym (goes_there w t l a c strict.ordered.world.steady strict.ordered.world.shaped there fits is strict.ordered.world.counted can_now)) there_led) in
+              let there_led = led w t l a c strict.ordered.world.steady strict.ordered.world.shaped there fits
+              is strict.ordered.world.counted can_now in
+              let at_zero : Led w (state_after_go w t) 0 = subst (Led w (state_after_go w t)) zero_is
+              (subst (λ x. Led w x l) (sym (goes_there w t l a c strict.ordered.world.steady
+              strict.ordered.world.shaped there fits is strict.ordered.world.counted can_now)) there_led)
+              in
               by_deeds (state_after_go w t) (ap rules_of (at_zero.goes.follows.kinds 0)) readers at_zero
           by_place (Once l at) is fits of = absurd (elim (here w strict.ordered t) [
             | inl idle ↦ let e : Once l at ≡ Idle = sym is ∙ idle in cc
@@ -227,7 +268,8 @@ module _ (w : State) (t : ℕ) (h : IsDraining w) (strict : IsStrict w) where
           ])
 
       by_possible : (b : Bool) → is_possible w (go_of t) ≡ b → Now (if b then state_after_go w t else w)
-      by_possible true e = let parts = both (nat_lt t (length w.places)) (can_go w t) e in went (ltb-true t (length w.places) parts.0) parts.1
+      by_possible true e = let parts = both (nat_lt t (length w.places)) (can_go w t) e
+          in went (ltb-true t (length w.places) parts.0) parts.1
       by_possible false e = h.now
 
   by_sort : (b : Bool) → has_readers (rules_in w 0).sort ≡ b → Now v

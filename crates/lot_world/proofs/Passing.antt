@@ -1,4 +1,5 @@
--- Where a bit is left in the word of a lock that nobody owns, a thread takes the lock alone and releases it fairly: the word is 0 then.
+-- Where a bit is left in the word of a lock that nobody owns, a thread takes the lock alone and releases it
+-- fairly: the word is 0 then.
 use Rattle.std.proofs.Common.{ℕ, true, false, None, refl}
 use Rattle.core_base.specs.declared.ops.Op.TheVariants as op
 use Rattle.spec_locks.specs.declared.calls.Access.TheVariants as access
@@ -22,7 +23,8 @@ use Rattle.lot_steps.specs.declared.places.Place.{Place}
 use Rattle.lot_steps.specs.declared.places.Place.TheVariants.{Mutex, RwLock}
 use Rattle.lot_machine.specs.Machine.{State}
 use Rattle.lot_laws.proofs.alone.Leads.{LeadsSurely}
-use Rattle.lot_world.proofs.Passes.{Ended, Passes, by_hand, into, none_first, none_picked, on_word, out_of, word_ends}
+use Rattle.lot_world.proofs.Passes.{Ended, Passes, by_hand, into, none_first, none_picked, on_word, out_of}
+use Rattle.lot_world.proofs.Passes.{word_ends}
 
 module _ (k : Kind) where
   -- the run of the thread from a place on, where the word is v, ends with the word e
@@ -53,7 +55,11 @@ module _ (k : Kind) where
 
   module _ (a : Admission) where
     abbrev writes : RwLockAt → Place
-    writes to = RwLock 0 a (Plain (record { purpose = purpose.Enter access.Exclusive patience.Patient; retries = false; at = to }))
+    writes to = RwLock 0 a (Plain (record {
+      purpose = purpose.Enter access.Exclusive patience.Patient;
+      retries = false;
+      at = to;
+    }))
 
     pub write_runs_1 : Runs 4 (writes at.First) 1 9
     write_runs_1 w f = on_word k w _ 1 f 3 9 (op.Exchange 0 8) refl refl

@@ -33,7 +33,8 @@ use Rattle.steps_rwlock.specs.declared.purposes.RwLockPurpose.{RwLockPurpose}
 use Rattle.steps_rwlock.specs.declared.purposes.RwLockPurpose.TheVariants as purpose
 use Rattle.steps_rwlock.specs.RwLockProfiles.{purpose_by}
 use Rattle.steps_rwlock_fair.specs.declared.places.RwLockCallPlace.{RwLockCallPlace}
-use Rattle.steps_rwlock_fair.specs.declared.places.RwLockCallPlace.TheVariants.{Plain, Glance, HandOver, Bump, Handed}
+use Rattle.steps_rwlock_fair.specs.declared.places.RwLockCallPlace.TheVariants.{Plain, Glance, HandOver, Bump}
+use Rattle.steps_rwlock_fair.specs.declared.places.RwLockCallPlace.TheVariants.{Handed}
 use Rattle.steps_rwlock_fair.specs.FairProfiles.{call_profile}
 use Rattle.lot_steps.specs.declared.places.Place.{Place}
 use Rattle.lot_steps.specs.declared.places.Place.TheVariants.{Idle, Mutex, RwLock, Once, Condvar, Semaphore}
@@ -83,18 +84,21 @@ place_own (Condvar l at) stands of = absurd stands
 
 -- ---------------------------------------------------------------- no call of such a lock runs a closure
 
-decides_plain : (l : ℕ) (q : RwLockPurpose) (seen : ℕ) (d : Decision) → runs_closure (decided_act l q seen d) ≡ false
+decides_plain : (l : ℕ) (q : RwLockPurpose) (seen : ℕ) (d : Decision) → runs_closure (decided_act l q seen d)
+    ≡ false
 decides_plain l q seen decisions.Take = refl
 decides_plain l q seen decisions.Mark = refl
 decides_plain l q seen decisions.Park = refl
 decides_plain l q seen (decisions.Refuse answer) = refl
 
-either_plain : (b : Bool) (x y : Act) → runs_closure x ≡ false → runs_closure y ≡ false → runs_closure (if b then x else y) ≡ false
+either_plain : (b : Bool) (x y : Act) → runs_closure x ≡ false → runs_closure y ≡ false
+    → runs_closure (if b then x else y) ≡ false
 either_plain true x y h k = h
 either_plain false x y h k = k
 
 lock_plain : (l : ℕ) (to : LockAt) → runs_closure (steps.lock_act l to) ≡ false
-lock_plain l (lock.Decide seen) = either_plain (not (steps.is_locked seen)) _ _ refl (either_plain (seen == 1) _ _ refl refl)
+lock_plain l (lock.Decide seen) = either_plain (not (steps.is_locked seen)) _ _ refl
+    (either_plain (seen == 1) _ _ refl refl)
 lock_plain l lock.Check = refl
 lock_plain l to = refl
 
@@ -109,7 +113,11 @@ hand_off_plain l to = refl
 
 act_plain : (l : ℕ) (a : Admission) (q : RwLockPurpose) (b : Bool) (to : RwLockAt)
     → runs_closure (act_at l a (record { purpose = q; retries = b; at = to }) to) ≡ false
-act_plain l a q b (at.Decide seen) = decides_plain l q seen (decided a (record { purpose = q; retries = b; at = at.Decide seen }) seen)
+act_plain l a q b (at.Decide seen) = decides_plain l q seen (decided a (record {
+  purpose = q;
+  retries = b;
+  at = at.Decide seen;
+}) seen)
 act_plain l a q b (at.Park parking.Check) = refl
 act_plain l a q b (at.Park to) = refl
 act_plain l a q b (at.Count seen) = either_plain (has_aside seen) _ _ refl refl
@@ -119,7 +127,8 @@ act_plain l a q b (at.Wake m waking.Enter) = refl
 act_plain l a q b (at.Wake m to) = refl
 act_plain l a q b to = refl
 
-hand_over_plain : (l : ℕ) (a : Admission) (x : Access) (to : HandOverAt) → runs_closure (hand_over_act l a x to) ≡ false
+hand_over_plain : (l : ℕ) (a : Admission) (x : Access) (to : HandOverAt)
+    → runs_closure (hand_over_act l a x to) ≡ false
 hand_over_plain l a x (handing.Exchange k seen) = either_plain (has_room a.limit k seen) _ _ refl refl
 hand_over_plain l a x handing.Load = refl
 hand_over_plain l a x to = refl

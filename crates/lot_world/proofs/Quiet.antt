@@ -1,5 +1,7 @@
 -- Where everybody rests, and nobody owns between calls, a drain is over.
-use Rattle.std.proofs.Common.{ℕ, suc, Bool, true, false, Option, Some, None, ◌&&◌, ◌≡◌, ◌≢◌, ◌+◌, ◌≤◌, ◌<◌, ◌⊎◌, List, [], ◌∷◌, length, map, nat_le, inl, inr, refl, sym, ◌∙◌, ap, subst, arith}
+use Rattle.std.proofs.Common.{ℕ, suc, Bool, true, false, Option, Some, None, ◌&&◌, ◌≡◌, ◌≢◌, ◌+◌, ◌≤◌, ◌<◌}
+use Rattle.std.proofs.Common.{◌⊎◌, List, [], ◌∷◌, length, map, nat_le, inl, inr, refl, sym, ◌∙◌, ap, subst}
+use Rattle.std.proofs.Common.{arith}
 use Rattle.std.specs.Prelude.{slice_index, sum}
 use Rattle.std.proofs.lemmas.Bool.Decides.{nat_tests}
 use Rattle.core_base.specs.declared.wants.Waiter.{Waiter}
@@ -7,7 +9,8 @@ use Rattle.core_base.specs.Lines.{first_of, times}
 use Rattle.steps_base.specs.declared.acts.Act.TheVariants as act
 use Rattle.spec_locks.proofs.HandLimits.{sum_cons}
 use Rattle.spec_locks.specs.Picks.{queued_of}
-use Rattle.spec_locks.specs.Locks.{LockState, Pending, Rights, Rules, count, one_if_pending, one_if_thread, one_if_some, readers, rights_of}
+use Rattle.spec_locks.specs.Locks.{LockState, Pending, Rights, Rules, count, one_if_pending, one_if_thread}
+use Rattle.spec_locks.specs.Locks.{one_if_some, readers, rights_of}
 use Rattle.spec_locks.specs.Runs.{no_rights}
 use Rattle.spec_locks.specs.Sites.{Line, Main, Second, has_readers, is_full}
 use Rattle.lot_steps.specs.declared.places.Place.{Place}
@@ -23,7 +26,8 @@ use Rattle.lot_world.specs.Few.{HasFew}
 use Rattle.lot_world.proofs.Drained.{resting_is_empty}
 use Rattle.lot_world.specs.Sleepers.{BeganWithFew, without_pending}
 use Rattle.lot_world.specs.Waits.{MayStandAt}
-use Rattle.lot_world.proofs.Sleepers.{pending_own_nothing, sleepers_own_nothing, sleepers_rest, sleepers_stand}
+use Rattle.lot_world.proofs.Sleepers.{pending_own_nothing, sleepers_own_nothing, sleepers_rest}
+use Rattle.lot_world.proofs.Sleepers.{sleepers_stand}
 use Rattle.lot_world.specs.Quiet.{HasOneLock, IsDraining, IsQuiet, QuietIsOver}
 
 -- a thread is in no call, or in one of the lock
@@ -33,10 +37,14 @@ OnlyHere p = (p ≡ Idle) ⊎ ((called_lock p ≡ Some 0) × MayStandAt p)
 number_of : (l n : ℕ) → n ≡ 1 → l < n → l ≡ 0
 number_of l n e lt = omega arith
 
-pub only_here : (w : State) → HasOneLock w → (p : Place) → PlaceFits (length w.locks) p → FitsItsLock w p → OnlyHere p
+pub only_here : (w : State) → HasOneLock w → (p : Place) → PlaceFits (length w.locks) p → FitsItsLock w p
+    → OnlyHere p
 only_here w lock Idle there fits = inl refl
 only_here w lock (Mutex l at) there fits = inr (ap Some (number_of l (length w.locks) lock.one there.0), tt)
-only_here w lock (RwLock l a c) there fits = inr (ap Some (number_of l (length w.locks) lock.one there), fits.1)
+only_here w lock (RwLock l a c) there fits = inr (
+  ap Some (number_of l (length w.locks) lock.one there),
+  fits.1,
+)
 only_here w lock (Once l at) there fits = absurd (
     let e : l ≡ 0 = number_of l (length w.locks) lock.one there in
     let f = subst (λ j. (rules_in w j).sort ≡ Rattle.spec_locks.specs.Locks.Once) e fits in
@@ -52,10 +60,15 @@ only_here w lock (Condvar l at) there fits = absurd (
 
 -- its call's beginning
 pub began : (p : Place) (rights : ℕ → Rights) → called_lock p ≡ Some 0 → MayStandAt p
-    → HasFew (call_state p rights).purpose ((call_state p rights).former 0) (rights 0) → BeganWithFew 0 p rights
+    → HasFew (call_state p rights).purpose ((call_state p rights).former 0) (rights 0)
+    → BeganWithFew 0 p rights
 began Idle rights of stands few = absurd cc
-began (Mutex l at) rights of stands few = subst (λ j. HasFew (Some ((profile (Mutex l at)).purpose j)) ((profile (Mutex l at)).former j rights 0) (rights 0)) (let e : l ≡ 0 = cc in e) few
-began (RwLock l a c) rights of stands few = subst (λ j. HasFew (Some ((profile (RwLock l a c)).purpose j)) ((profile (RwLock l a c)).former j rights 0) (rights 0)) (let e : l ≡ 0 = cc in e) few
+began (Mutex l at) rights of stands few =
+    subst (λ j. HasFew (Some ((profile (Mutex l at)).purpose j)) ((profile (Mutex l at)).former j rights 0)
+    (rights 0)) (let e : l ≡ 0 = cc in e) few
+began (RwLock l a c) rights of stands few =
+    subst (λ j. HasFew (Some ((profile (RwLock l a c)).purpose j)) ((profile (RwLock l a c)).former j rights
+    0) (rights 0)) (let e : l ≡ 0 = cc in e) few
 began (Once l at) rights of stands few = absurd stands
 began (Semaphore l at) rights of stands few = absurd stands
 began (Condvar l at) rights of stands few = absurd stands
@@ -65,7 +78,8 @@ calls_here p of = ap (is_lock 0) of
 
 pub zero_sum : (xs : List ℕ) → ((t : ℕ) → slice_index xs t ≡ 0) → sum xs ≡ 0
 zero_sum [] h = refl
-zero_sum (x ∷ xs) h = let all : sum (x ∷ xs) ≡ x + sum xs = sum_cons x xs in let first : x ≡ 0 = h 0 in let rest : sum xs ≡ 0 = zero_sum xs (λ t. h (suc t)) in omega arith
+zero_sum (x ∷ xs) h = let all : sum (x ∷ xs) ≡ x + sum xs = sum_cons x xs in let first : x ≡ 0 = h 0
+    in let rest : sum xs ≡ 0 = zero_sum xs (λ t. h (suc t)) in omega arith
 
 none_queued : (q : List Waiter) → map queued_of q ≡ [] → q ≡ []
 none_queued [] e = refl
@@ -86,7 +100,8 @@ module _ (w : State) (draining : IsDraining w) (quiet : IsQuiet w) where
   rights t l = rights_of (lock_state w l) t
 
   here : (t : ℕ) → OnlyHere (place_at w t)
-  here t = only_here w draining.lock (place_at w t) (draining.world.shaped.places t) (draining.world.steady.stands.calls t)
+  here t = only_here w draining.lock (place_at w t) (draining.world.shaped.places t)
+      (draining.world.steady.stands.calls t)
 
   -- a thread in no call, or asleep, with what its place says
   record Sleeps (t : ℕ) : Type 0 where
@@ -108,24 +123,35 @@ module _ (w : State) (draining : IsDraining w) (quiet : IsQuiet w) where
 
   resting : (t : ℕ) → IsResting (role_on (place_at w t) 0)
   resting t = elim (idle_or t) [
-    | inl idle ↦ subst (λ p. IsResting (role_on p 0)) (sym idle) (record { wakes = refl; carries = refl; covers = refl; retries = refl })
-    | inr h ↦ subst IsResting (sym (let e : role_on (place_at w t) 0 ≡ (profile (place_at w t)).role = rw (calls_here (place_at w t) h.of) refl in e)) (sleepers_rest (place_at w t) h.stands h.asleep).0
+    | inl idle ↦ subst (λ p. IsResting (role_on p 0)) (sym idle) (record {
+      wakes = refl;
+      carries = refl;
+      covers = refl;
+      retries = refl;
+    })
+    | inr h ↦ subst IsResting (sym (let e : role_on (place_at w t) 0 ≡ (profile (place_at w t)).role =
+        rw (calls_here (place_at w t) h.of) refl in e)) (sleepers_rest (place_at w t) h.stands h.asleep).0
   ]
 
   -- nobody has anybody in hand
   no_carrier : (t : ℕ) (b : Bool) → (location_at (place_at w t) 0).carries ≡ Some b → ⊥
   no_carrier t b e = elim (idle_or t) [
-    | inl idle ↦ let f : (location_at Idle 0).carries ≡ Some b = subst (λ p. (location_at p 0).carries ≡ Some b) idle e in let g : ◌≡◌ {A = Option Bool} None (Some b) = f in cc
-    | inr h ↦ let row = sleepers_stand (place_at w t) h.stands h.asleep in let g : ◌≡◌ {A = Option Bool} None (Some b) = sym row.carries ∙ sym (ap (λ x. x.carries) (location_here t h)) ∙ e in cc
+    | inl idle ↦ let f : (location_at Idle 0).carries ≡ Some b =
+        subst (λ p. (location_at p 0).carries ≡ Some b) idle e in let g : ◌≡◌ {A = Option Bool} None
+        (Some b) = f in cc
+    | inr h ↦ let row = sleepers_stand (place_at w t) h.stands h.asleep in let g : ◌≡◌ {A = Option Bool} None
+        (Some b) = sym row.carries ∙ sym (ap (λ x. x.carries) (location_here t h)) ∙ e in cc
   ]
 
   -- a thread that sleeps stands in a line
-  in_line : (t : ℕ) → Sleeps t → ((profile (place_at w t)).stands ≡ Some Main) ⊎ ((profile (place_at w t)).stands ≡ Some Second)
+  in_line : (t : ℕ) → Sleeps t → ((profile (place_at w t)).stands ≡ Some Main)
+      ⊎ ((profile (place_at w t)).stands ≡ Some Second)
   in_line t h = elim (sleepers_stand (place_at w t) h.stands h.asleep).somewhere [
     | inl main ↦ inl main
     | inr more ↦ elim more [
       | inl second ↦ inr second
-      | inr held ↦ absurd (no_carrier held.0 held.1 (draining.world.steady.stands.hands.taken held.0 t 0 held.1 (ap (λ x. x.hand) (location_here t h) ∙ held.2)))
+      | inr held ↦ absurd (no_carrier held.0 held.1 (draining.world.steady.stands.hands.taken held.0 t 0
+          held.1 (ap (λ x. x.hand) (location_here t h) ∙ held.2)))
     ]
   ]
 
@@ -133,12 +159,19 @@ module _ (w : State) (draining : IsDraining w) (quiet : IsQuiet w) where
   few_of t h = began (place_at w t) (rights t) h.of h.stands (draining.few t)
 
   -- a thread owns nothing, unless it stands aside and is pending
-  owns : (t : ℕ) → (rights t 0 ≡ no_rights) ⊎ ((without_pending (rights t 0) ≡ no_rights) × Sleeps t × ((profile (place_at w t)).stands ≡ Some Second))
+  owns : (t : ℕ) → (rights t 0 ≡ no_rights) ⊎ ((without_pending (rights t 0) ≡ no_rights) × Sleeps t
+      × ((profile (place_at w t)).stands ≡ Some Second))
   owns t = elim (idle_or t) [
     | inl idle ↦ inl (quiet.idle t idle)
     | inr h ↦ elim (in_line t h) [
-      | inl main ↦ inl (sleepers_own_nothing 0 (place_at w t) (rights t) h.stands h.of main h.asleep (few_of t h))
-      | inr second ↦ inr (pending_own_nothing 0 (place_at w t) (rights t) h.stands h.of second h.asleep (few_of t h), h, second)
+      | inl main ↦ inl (sleepers_own_nothing 0 (place_at w t) (rights t) h.stands h.of main h.asleep
+          (few_of t h))
+      | inr second ↦ inr (
+        pending_own_nothing 0 (place_at w t) (rights t) h.stands h.of second h.asleep
+            (few_of t h),
+        h,
+        second,
+      )
     ]
   ]
 
@@ -150,29 +183,43 @@ module _ (w : State) (draining : IsDraining w) (quiet : IsQuiet w) where
 
   no_exclusive : (o : Option ℕ) → s.exclusive ≡ o → s.exclusive ≡ None
   no_exclusive None e = e
-  no_exclusive (Some t) e = absurd (let z : one_if_thread t s.exclusive ≡ 0 = ap (λ (r : Rights). r.exclusive) (own_none t) in let o : one_if_thread t (Some t) ≡ 1 = grind (arith, nat_tests) in let f : one_if_thread t s.exclusive ≡ one_if_thread t (Some t) = ap (one_if_thread t) e in omega arith)
+  no_exclusive (Some t) e = absurd (let z : one_if_thread t s.exclusive ≡ 0 =
+      ap (λ (r : Rights). r.exclusive) (own_none t) in let o : one_if_thread t (Some t) ≡ 1 =
+      grind (arith, nat_tests) in let f : one_if_thread t s.exclusive ≡ one_if_thread t (Some t) =
+      ap (one_if_thread t) e in omega arith)
 
   no_upgradable : (o : Option ℕ) → s.upgradable ≡ o → s.upgradable ≡ None
   no_upgradable None e = e
-  no_upgradable (Some t) e = absurd (let z : one_if_thread t s.upgradable ≡ 0 = ap (λ (r : Rights). r.upgradable) (own_none t) in let o : one_if_thread t (Some t) ≡ 1 = grind (arith, nat_tests) in let f : one_if_thread t s.upgradable ≡ one_if_thread t (Some t) = ap (one_if_thread t) e in omega arith)
+  no_upgradable (Some t) e = absurd (let z : one_if_thread t s.upgradable ≡ 0 =
+      ap (λ (r : Rights). r.upgradable) (own_none t) in let o : one_if_thread t (Some t) ≡ 1 =
+      grind (arith, nat_tests) in let f : one_if_thread t s.upgradable ≡ one_if_thread t (Some t) =
+      ap (one_if_thread t) e in omega arith)
 
   no_readers : readers s ≡ 0
   no_readers = zero_sum s.shared (λ t. ap (λ (r : Rights). r.shared) (own_none t))
 
   -- how often it stands there
-  stands_aside : (t : ℕ) → Sleeps t → (profile (place_at w t)).stands ≡ Some Second → times t (queue_at w (key_of 0 Second)) ≡ 1
-  stands_aside t h second = draining.world.steady.stands.lines t 0 Second ∙ ap (λ x. stood_in x Second) (ap (λ x. x.stands) (location_here t h) ∙ second)
+  stands_aside : (t : ℕ) → Sleeps t → (profile (place_at w t)).stands ≡ Some Second
+      → times t (queue_at w (key_of 0 Second)) ≡ 1
+  stands_aside t h second = draining.world.steady.stands.lines t 0 Second ∙ ap (λ x. stood_in x Second)
+      (ap (λ x. x.stands) (location_here t h) ∙ second)
 
-  stands_main : (t : ℕ) → Sleeps t → (profile (place_at w t)).stands ≡ Some Main → times t (queue_at w (key_of 0 Main)) ≡ 1
-  stands_main t h main = draining.world.steady.stands.lines t 0 Main ∙ ap (λ x. stood_in x Main) (ap (λ x. x.stands) (location_here t h) ∙ main)
+  stands_main : (t : ℕ) → Sleeps t → (profile (place_at w t)).stands ≡ Some Main
+      → times t (queue_at w (key_of 0 Main)) ≡ 1
+  stands_main t h main = draining.world.steady.stands.lines t 0 Main ∙ ap (λ x. stood_in x Main)
+      (ap (λ x. x.stands) (location_here t h) ∙ main)
 
   somebody_aside : (o : Option Pending) → s.pending ≡ o → s.pending ≢ None → s.aside ≢ None
   somebody_aside None e some away = some e
   somebody_aside (Some p) e some away = elim (owns p.thread) [
-    | inl none ↦ let z : one_if_pending p.thread s.pending ≡ 0 = ap (λ (r : Rights). r.pending) none in let o : one_if_pending p.thread (Some p) ≡ 1 = grind (arith, nat_tests) in let f : one_if_pending p.thread s.pending ≡ one_if_pending p.thread (Some p) = ap (one_if_pending p.thread) e in absurd (omega arith)
+    | inl none ↦ let z : one_if_pending p.thread s.pending ≡ 0 = ap (λ (r : Rights). r.pending) none
+        in let o : one_if_pending p.thread (Some p) ≡ 1 = grind (arith, nat_tests)
+        in let f : one_if_pending p.thread s.pending ≡ one_if_pending p.thread (Some p) =
+        ap (one_if_pending p.thread) e in absurd (omega arith)
     | inr more ↦ let one = stands_aside p.thread more.1 more.2 in
         let none : queue_at w (key_of 0 Second) ≡ [] = none_first (queue_at w (key_of 0 Second)) away in
-        let z : times p.thread (queue_at w (key_of 0 Second)) ≡ times p.thread [] = ap (times p.thread) none in
+        let z : times p.thread (queue_at w (key_of 0 Second)) ≡ times p.thread [] = ap (times p.thread) none
+        in
         absurd (omega arith)
   ]
 
@@ -194,7 +241,8 @@ module _ (w : State) (draining : IsDraining w) (quiet : IsQuiet w) where
       grind (arith, nat_tests)
 
   emptied : IsEmptied s
-  emptied = resting_is_empty rules (as_now rules (site_of w 0)) draining.now draining.lock.sort resting owns_nothing (unfilled (has_readers rules.sort) refl)
+  emptied = resting_is_empty rules (as_now rules (site_of w 0)) draining.now draining.lock.sort resting
+      owns_nothing (unfilled (has_readers rules.sort) refl)
 
   main_empty : queue_at w (key_of 0 Main) ≡ []
   main_empty = none_queued (queue_at w (key_of 0 Main)) emptied.queue
@@ -206,8 +254,10 @@ module _ (w : State) (draining : IsDraining w) (quiet : IsQuiet w) where
   all_idle t = elim (idle_or t) [
     | inl idle ↦ idle
     | inr h ↦ elim (in_line t h) [
-      | inl main ↦ let one = stands_main t h main in let z : times t (queue_at w (key_of 0 Main)) ≡ times t [] = ap (times t) main_empty in absurd (omega arith)
-      | inr second ↦ let one = stands_aside t h second in let z : times t (queue_at w (key_of 0 Second)) ≡ times t [] = ap (times t) second_empty in absurd (omega arith)
+      | inl main ↦ let one = stands_main t h main in let z : times t (queue_at w (key_of 0 Main))
+          ≡ times t [] = ap (times t) main_empty in absurd (omega arith)
+      | inr second ↦ let one = stands_aside t h second in let z : times t (queue_at w (key_of 0 Second))
+          ≡ times t [] = ap (times t) second_empty in absurd (omega arith)
     ]
   ]
 

@@ -1,5 +1,7 @@
--- Owners are threads that are there, and a pending thread is in a call that waits for a right, in every world of one lock that was reached.
-use Rattle.std.proofs.Common.{ℕ, zero, suc, Bool, true, false, Option, Some, None, ◌≡◌, ◌≤◌, ◌<◌, List, [], ◌∷◌, length, inl, inr, refl, sym, ◌∙◌, ap, subst, arith}
+-- Owners are threads that are there, and a pending thread is in a call that waits for a right, in every world
+-- of one lock that was reached.
+use Rattle.std.proofs.Common.{ℕ, zero, suc, Bool, true, false, Option, Some, None, ◌≡◌, ◌≤◌, ◌<◌, List, []}
+use Rattle.std.proofs.Common.{◌∷◌, length, inl, inr, refl, sym, ◌∙◌, ap, subst, arith}
 use Rattle.std.specs.Prelude.{All, replicate, slice_index, sum}
 use Rattle.std.proofs.lemmas.Bool.{cases_eq}
 use Rattle.std.proofs.lemmas.List.{get_or_past, length-replicate}
@@ -17,8 +19,10 @@ use Rattle.spec_locks.specs.declared.kinds.Kind.TheVariants as kind
 use Rattle.spec_locks.specs.Calls.{lock_in}
 use Rattle.spec_locks.specs.Kinds.{fits}
 use Rattle.spec_locks.specs.Locks.{LockState, Rights, opening_lock, rights_of}
-use Rattle.spec_locks.specs.Purposes.{MayWait, Purpose, Enters, Releases, Converts, Bumps, CallsOnce, Awaits, Waits, Notifies, mutex_purpose, purpose_of, rules_of, rwlock_purpose}
-use Rattle.spec_locks.specs.Runs.{CallState, Does, GoesOn, IsOpening, LocksState, MayTurn, Stays, no_rights, rights_in}
+use Rattle.spec_locks.specs.Purposes.{MayWait, Purpose, Enters, Releases, Converts, Bumps, CallsOnce, Awaits}
+use Rattle.spec_locks.specs.Purposes.{Waits, Notifies, mutex_purpose, purpose_of, rules_of, rwlock_purpose}
+use Rattle.spec_locks.specs.Runs.{CallState, Does, GoesOn, IsOpening, LocksState, MayTurn, Stays, no_rights}
+use Rattle.spec_locks.specs.Runs.{rights_in}
 use Rattle.lot_steps.specs.declared.places.Place.TheVariants.{Idle}
 use Rattle.lot_machine.specs.Machine.{State, after, after_steps, opening, place_at, step_outcome}
 use Rattle.lot_machine.specs.Fits.{SameSize}
@@ -55,7 +59,8 @@ pub record IsReached (w : State) : Type 0 where
 
 -- ---------------------------------------------------------------- a call begins
 
-mutex_new : (fair : Bool) (l : ℕ) (c : MutexCall) (r : Rights) → r.pending ≡ 0 → BeganUnpending (Some (mutex_purpose fair l c)) r r
+mutex_new : (fair : Bool) (l : ℕ) (c : MutexCall) (r : Rights) → r.pending ≡ 0
+    → BeganUnpending (Some (mutex_purpose fair l c)) r r
 mutex_new fair l mutex_call.Lock r h = h
 mutex_new fair l mutex_call.LockTimed r h = h
 mutex_new fair l mutex_call.TryLock r h = h
@@ -63,7 +68,8 @@ mutex_new fair l mutex_call.Unlock r h = (h, h)
 mutex_new fair l mutex_call.UnlockFair r h = (h, h)
 mutex_new fair l mutex_call.Bump r h = h
 
-rwlock_new : (l : ℕ) (c : RwLockCall) (r : Rights) → r.pending ≡ 0 → BeganUnpending (Some (rwlock_purpose l c)) r r
+rwlock_new : (l : ℕ) (c : RwLockCall) (r : Rights) → r.pending ≡ 0
+    → BeganUnpending (Some (rwlock_purpose l c)) r r
 rwlock_new l (rwlock_call.Enter x how) r h = h
 rwlock_new l (rwlock_call.Release x) r h = (h, h)
 rwlock_new l (rwlock_call.Downgrade d) r h = h
@@ -71,7 +77,8 @@ rwlock_new l (rwlock_call.Upgrade how) r h = h
 rwlock_new l (rwlock_call.ReleaseFair x) r h = (h, h)
 rwlock_new l (rwlock_call.Bump x) r h = h
 
-call_new : (k : Kind) (c : Call) (r : Rights) → Drains (rules_of k).sort → r.pending ≡ 0 → BeganUnpending (purpose_of k c) r r
+call_new : (k : Kind) (c : Call) (r : Rights) → Drains (rules_of k).sort → r.pending ≡ 0
+    → BeganUnpending (purpose_of k c) r r
 call_new kind.Mutex (call.Mutex l c) r d h = mutex_new false l c r h
 call_new kind.Fair (call.Mutex l c) r d h = mutex_new true l c r h
 call_new (kind.RwLock limit) (call.RwLock l c) r d h = rwlock_new l c r h
@@ -98,7 +105,8 @@ module _ (w : State) (h : IsReached w) (s : Step) where
 
   one : IsOfOneLock (locks_of w) 0
   one = record {
-    calls = λ u p e. called_here (place_at w u) (λ l. rights_of (lock_state w l) u) p (only_here w h.lock (place_at w u) (h.world.shaped.places u) (h.world.steady.stands.calls u)) e;
+    calls = λ u p e. called_here (place_at w u) (λ l. rights_of (lock_state w l) u) p
+        (only_here w h.lock (place_at w u) (h.world.shaped.places u) (h.world.steady.stands.calls u)) e;
     standing = λ u stands idle. subst (λ p. MayWait p 0) idle (kept.waiting u 0 stands);
   }
 
@@ -115,31 +123,48 @@ module _ (w : State) (h : IsReached w) (s : Step) where
 
   goes_on : t < length w.places → GoesOn (locks_of w) t (step_outcome w s) (locks_of v) → AreKept
   goes_on there goes = record {
-    past = λ u ge. others_own (locks_of w) (locks_of v) t (step_outcome w s) kept.state one waiters h.began goes u
+    past = λ u ge. others_own (locks_of w) (locks_of v) t (step_outcome w s) kept.state one waiters h.began
+        goes u
         (λ e. let lt : t < length w.places = there in let g : length w.places ≤ u = ge in omega arith)
-        (subst (λ p. MayWait p 0 → ⊥) (sym (ap (λ p. (call_state p (λ l. rights_of (lock_state w l) u)).purpose) (get_or_past w.places u Idle ge))) (λ f. f))
+        (subst (λ p. MayWait p 0 → ⊥)
+        (sym (ap (λ p. (call_state p (λ l. rights_of (lock_state w l) u)).purpose)
+        (get_or_past w.places u Idle ge))) (λ f. f))
         ∙ h.past u ge;
-    began = unpending_go_on (locks_of w) (locks_of v) t (step_outcome w s) kept.state one waiters h.began goes;
+    began = unpending_go_on (locks_of w) (locks_of v) t (step_outcome w s) kept.state one waiters h.began
+        goes;
   }
 
-  stays : (c : CallState) → Stays (locks_of w) t c (step_outcome w s) (locks_of v) → BeganUnpending c.purpose (c.former 0) (rights_in (locks_of w) t 0) → AreKept
+  stays : (c : CallState) → Stays (locks_of w) t c (step_outcome w s) (locks_of v)
+      → BeganUnpending c.purpose (c.former 0) (rights_in (locks_of w) t 0) → AreKept
   stays c same began = record {
     past = λ u ge. ap (λ (x : LockState). rights_of x u) (same.locks 0) ∙ h.past u ge;
     began = λ u. elim (cases_eq u t) [
-      | inl e ↦ subst (λ j. BeganUnpending ((locks_of v).calls j).purpose (((locks_of v).calls j).former 0) (rights_in (locks_of v) j 0)) (sym e)
-          (subst (λ (y : CallState). BeganUnpending y.purpose (y.former 0) (rights_in (locks_of v) t 0)) (sym (same.calls t ∙ put_same (locks_of w).calls t c))
-          (subst (λ (x : LockState). BeganUnpending c.purpose (c.former 0) (rights_of x t)) (sym (same.locks 0)) began))
-      | inr ne ↦ subst (λ (y : CallState). BeganUnpending y.purpose (y.former 0) (rights_in (locks_of v) u 0)) (sym (same.calls u ∙ put_other (locks_of w).calls t c u ne))
-          (subst (λ (x : LockState). BeganUnpending ((locks_of w).calls u).purpose (((locks_of w).calls u).former 0) (rights_of x u)) (sym (same.locks 0)) (h.began u))
+      | inl e ↦ subst (λ j. BeganUnpending ((locks_of v).calls j).purpose (((locks_of v).calls j).former 0)
+          (rights_in (locks_of v) j 0)) (sym e)
+          (subst (λ (y : CallState). BeganUnpending y.purpose (y.former 0) (rights_in (locks_of v) t 0))
+          (sym (same.calls t ∙ put_same (locks_of w).calls t c))
+          (subst (λ (x : LockState). BeganUnpending c.purpose (c.former 0) (rights_of x t))
+          (sym (same.locks 0)) began))
+      | inr ne ↦ subst (λ (y : CallState). BeganUnpending y.purpose (y.former 0) (rights_in (locks_of v) u 0))
+          (sym (same.calls u ∙ put_other (locks_of w).calls t c u ne))
+          (subst (λ (x : LockState). BeganUnpending ((locks_of w).calls u).purpose
+          (((locks_of w).calls u).former 0) (rights_of x u)) (sym (same.locks 0)) (h.began u))
     ];
   }
 
-  by_turn : (x : Turn) → MayTurn (locks_of w) t x → Does (locks_of w) t x (step_outcome w s) (locks_of v) → AreKept
+  by_turn : (x : Turn) → MayTurn (locks_of w) t x → Does (locks_of w) t x (step_outcome w s) (locks_of v)
+      → AreKept
   by_turn (turn.Begin c) may does =
-      let none : (rights_in (locks_of w) t 0).pending ≡ 0 = subst (λ p. BeganUnpending p (((locks_of w).calls t).former 0) (rights_in (locks_of w) t 0)) may.idle (h.began t) in
-      let here : 0 ≡ lock_in c = (let lt : lock_in c < length w.locks = may.lock in let n : length w.locks ≡ 1 = h.lock.one in omega arith) in
-      stays _ does (subst (λ l. Drains (rules_of ((locks_of w).kinds l)).sort → BeganUnpending (purpose_of ((locks_of w).kinds l) c) (rights_in (locks_of w) t 0) (rights_in (locks_of w) t 0)) here
-      (λ d. call_new ((locks_of w).kinds 0) c (rights_in (locks_of w) t 0) d none) (subst (λ l. Drains (rules_of ((locks_of w).kinds l)).sort) here h.lock.sort))
+      let none : (rights_in (locks_of w) t 0).pending ≡ 0 =
+      subst (λ p. BeganUnpending p (((locks_of w).calls t).former 0) (rights_in (locks_of w) t 0))
+      may.idle (h.began t) in
+      let here : 0 ≡ lock_in c = (let lt : lock_in c < length w.locks = may.lock in let n : length w.locks
+      ≡ 1 = h.lock.one in omega arith) in
+      stays _ does (subst (λ l. Drains (rules_of ((locks_of w).kinds l)).sort
+      → BeganUnpending (purpose_of ((locks_of w).kinds l) c) (rights_in (locks_of w) t 0)
+      (rights_in (locks_of w) t 0)) here
+      (λ d. call_new ((locks_of w).kinds 0) c (rights_in (locks_of w) t 0) d none)
+      (subst (λ l. Drains (rules_of ((locks_of w).kinds l)).sort) here h.lock.sort))
   by_turn turn.Go may does = goes_on (turner_there w t turn.Go may) does
   by_turn turn.Spin may does = goes_on (turner_there w t turn.Spin may) does.goes
   by_turn turn.Late may does = stays _ does (h.began t)
@@ -176,15 +201,18 @@ reached w (s ∷ ss) h = reached (after w s) ss (reached_after w h s)
 
 -- ---------------------------------------------------------------- the opening
 
-one_fits : (k : Kind) (threads : ℕ) → fits k threads ≡ true → All (λ (x : Kind). fits x threads ≡ true) (k ∷ [])
+one_fits : (k : Kind) (threads : ℕ) → fits k threads ≡ true → All (λ (x : Kind). fits x threads ≡ true)
+    (k ∷ [])
 one_fits k threads fit zero d lt = fit
 one_fits k threads fit (suc i) d lt = absurd (omega arith)
 
 nobody_owns : (n t : ℕ) → rights_of (opening_lock n) t ≡ no_rights
 nobody_owns n t = rights_are (rights_of (opening_lock n) t) no_rights refl refl refl
-    (let a : slice_index (replicate n 0) t ≤ sum (replicate n 0) = index_sum (replicate n 0) t in let b : sum (replicate n 0) ≡ 0 = no_readers n in omega arith)
+    (let a : slice_index (replicate n 0) t ≤ sum (replicate n 0) = index_sum (replicate n 0) t
+    in let b : sum (replicate n 0) ≡ 0 = no_readers n in omega arith)
 
-module _ (k : Kind) (threads : ℕ) (drains : Drains (rules_of k).sort) (some : 1 ≤ threads) (fit : fits k threads ≡ true) where
+module _ (k : Kind) (threads : ℕ) (drains : Drains (rules_of k).sort) (some : 1 ≤ threads)
+    (fit : fits k threads ≡ true) where
   abbrev first : State
   first = opening (k ∷ []) threads
 
@@ -206,7 +234,9 @@ module _ (k : Kind) (threads : ℕ) (drains : Drains (rules_of k).sort) (some : 
     lock = record { one = refl; sort = drains };
     some = subst (λ n. 1 ≤ n) (sym (length-replicate threads Idle)) some;
     past = λ t ge. rights_none t;
-    began = λ t. subst (λ (c : CallState). BeganUnpending c.purpose (c.former 0) (rights_in (locks_of first) t 0)) (sym (opens.calls t)) (ap (λ (r : Rights). r.pending) (rights_none t));
+    began = λ t. subst (λ (c : CallState). BeganUnpending c.purpose (c.former 0)
+        (rights_in (locks_of first) t 0)) (sym (opens.calls t)) (ap (λ (r : Rights). r.pending)
+        (rights_none t));
   }
 
 -- ---------------------------------------------------------------- the conditions that a drain sets owners

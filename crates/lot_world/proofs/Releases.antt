@@ -1,5 +1,7 @@
 -- A thread that owns between its calls releases, and there is less before the drain.
-use Rattle.std.proofs.Common.{ℕ, zero, suc, Bool, true, false, Option, Some, None, if◌then◌else◌, ◌==◌, ◌&&◌, not, is_none, ◌≡◌, ◌≢◌, ◌≤◌, ◌<◌, ◌⊎◌, length, inl, inr, refl, sym, ◌∙◌, ap, subst, arith, get_or-set_other}
+use Rattle.std.proofs.Common.{ℕ, zero, suc, Bool, true, false, Option, Some, None, if◌then◌else◌, ◌==◌, ◌&&◌}
+use Rattle.std.proofs.Common.{not, is_none, ◌≡◌, ◌≢◌, ◌≤◌, ◌<◌, ◌⊎◌, length, inl, inr, refl, sym, ◌∙◌, ap}
+use Rattle.std.proofs.Common.{subst, arith, get_or-set_other}
 use Rattle.std.proofs.lemmas.Bool.Decides.{nat_tests}
 use Rattle.core_base.specs.declared.wants.Want.{Want}
 use Rattle.core_base.specs.declared.wants.Want.TheVariants.{Exclusive, Upgradable, Shared, Wait, CallOnce}
@@ -12,13 +14,16 @@ use Rattle.steps_base.specs.declared.acts.Act.TheVariants as act
 use Rattle.std.specs.Prelude.{slice_index}
 use Rattle.spec_locks.specs.Locks.{LockState, Owns, one_if_thread, Rights, rights_of, standing, with_right}
 use Rattle.spec_locks.specs.Purposes.{MayWait, Purpose, Releases}
-use Rattle.spec_locks.specs.Runs.{AnswerHolds, Agrees, CallState, GoesOn, HasRight, LocksState, MayBegin, Stays, going_on, new_call, no_rights, purpose_at, rights_in, unless_ended, woken}
+use Rattle.spec_locks.specs.Runs.{AnswerHolds, Agrees, CallState, GoesOn, HasRight, LocksState, MayBegin}
+use Rattle.spec_locks.specs.Runs.{Stays, going_on, new_call, no_rights, purpose_at, rights_in, unless_ended}
+use Rattle.spec_locks.specs.Runs.{woken}
 use Rattle.lot_steps.specs.declared.places.Place.{Place}
 use Rattle.lot_steps.specs.declared.places.Place.TheVariants.{Idle}
 use Rattle.lot_steps.specs.Steps.{act_of, is_idle}
 use Rattle.spec_locks.specs.Calls.{lock_in}
 use Rattle.lot_steps.specs.Steps.{first_place}
-use Rattle.lot_machine.specs.Machine.{State, after, go_of, is_possible, kind_at, place_at, section_at, state_after_begin, step_outcome}
+use Rattle.lot_machine.specs.Machine.{State, after, go_of, is_possible, kind_at, place_at, section_at}
+use Rattle.lot_machine.specs.Machine.{state_after_begin, step_outcome}
 use Rattle.lot_machine.specs.Fits.{SameSize}
 use Rattle.lot_machine.proofs.Shape.{after_size}
 use Rattle.lot_laws.specs.Promises.{IsHandedOverIn, IsKept}
@@ -30,7 +35,8 @@ use Rattle.lot_world.specs.Drained.{Drains}
 use Rattle.lot_world.specs.Few.{HasFew, IsFew, IsPlain, number}
 use Rattle.lot_world.specs.Potential.{GoesAlone, one_if}
 use Rattle.lot_world.proofs.Few.{began_same, few_begin, less, rights_are}
-use Rattle.lot_world.specs.Turns.{EachReleaseFalls, IsOrdered, NobodyInside, after_release, awake, begin_of, weight, weight_of}
+use Rattle.lot_world.specs.Turns.{EachReleaseFalls, IsOrdered, NobodyInside, after_release, awake, begin_of}
+use Rattle.lot_world.specs.Turns.{weight, weight_of}
 use Rattle.lot_world.proofs.Outside.{each_turn_leaves}
 use Rattle.lot_world.proofs.Turns.{each_turn_falls, here, idle_call, ordered, rests, solo_keeps, stepped}
 
@@ -42,19 +48,22 @@ right_now w t = rights_of (lock_state w 0) t
 -- it is in its call, or has ended it without a right
 record GivesUp (t : ℕ) (x : Want) (fair : Bool) (w : State) : Type 0 where
   pub ordered_now : IsOrdered w
-  pub either : (((call_at w t).purpose ≡ Some (Releases 0 x fair)) × ((call_at w t).former 0 ≡ with_right x no_rights))
+  pub either : (((call_at w t).purpose ≡ Some (Releases 0 x fair))
+      × ((call_at w t).former 0 ≡ with_right x no_rights))
       ⊎ (((call_at w t).purpose ≡ None) × (right_now w t ≡ no_rights))
 
 same : (t : ℕ) → (t == t) ≡ true
 same t = grind (arith, nat_tests)
 
 module _ (t : ℕ) (x : Want) (fair : Bool) (w : State) (h : IsOrdered w)
-    (calling : (call_at w t).purpose ≡ Some (Releases 0 x fair)) (before : (call_at w t).former 0 ≡ with_right x no_rights) where
+    (calling : (call_at w t).purpose ≡ Some (Releases 0 x fair)) (before : (call_at w t).former 0
+    ≡ with_right x no_rights) where
   abbrev led : State
   led = after w (go_of t)
 
   abbrev Now : Type 0
-  Now = (((call_at led t).purpose ≡ Some (Releases 0 x fair)) × ((call_at led t).former 0 ≡ with_right x no_rights))
+  Now = (((call_at led t).purpose ≡ Some (Releases 0 x fair))
+      × ((call_at led t).former 0 ≡ with_right x no_rights))
       ⊎ (((call_at led t).purpose ≡ None) × (right_now led t ≡ no_rights))
 
   -- where it goes on
@@ -62,52 +71,77 @@ module _ (t : ℕ) (x : Want) (fair : Bool) (w : State) (h : IsOrdered w)
     abbrev then_call : CallState
     then_call = going_on goes.event (call_at w t)
 
-    told : call_at led t ≡ unless_ended (step_outcome w (go_of t)) (woken (locks_of w) t goes.event t then_call)
-    told = goes.calls t ∙ ap (λ b. if b then unless_ended (step_outcome w (go_of t)) (woken (locks_of w) t goes.event t then_call) else woken (locks_of w) t goes.event t (call_at w t)) (same t)
+    told : call_at led t ≡ unless_ended (step_outcome w (go_of t)) (woken (locks_of w) t goes.event t
+        then_call)
+    told = goes.calls t ∙ ap (λ b. if b then unless_ended (step_outcome w (go_of t))
+        (woken (locks_of w) t goes.event t then_call) else woken (locks_of w) t goes.event t (call_at w t))
+        (same t)
 
     went_on : call_at led t ≡ woken (locks_of w) t goes.event t then_call → Now
     went_on e = let alike = began_same (locks_of w) t goes.event (call_at w t) in
-        inl (ap (λ (c : CallState). c.purpose) e ∙ alike.purpose ∙ calling, ap (λ (c : CallState). c.former 0) e ∙ ap (λ (f : ℕ → Rights). f 0) alike.former ∙ before)
+        inl (
+          ap (λ (c : CallState). c.purpose) e ∙ alike.purpose ∙ calling,
+          ap (λ (c : CallState). c.former 0) e ∙ ap (λ (f : ℕ → Rights). f 0) alike.former ∙ before,
+        )
 
     then_same : (then_call.purpose ≡ Some (Releases 0 x fair)) × (then_call.former 0 ≡ with_right x no_rights)
-    then_same = let alike = Rattle.lot_world.proofs.Few.going_same goes.event (call_at w t) in (alike.purpose ∙ calling, ap (λ (f : ℕ → Rights). f 0) alike.former ∙ before)
+    then_same = let alike = Rattle.lot_world.proofs.Few.going_same goes.event (call_at w t)
+        in (alike.purpose ∙ calling, ap (λ (f : ℕ → Rights). f 0) alike.former ∙ before)
 
-    lost : (a : Answer) → AnswerHolds (Some (Releases 0 x fair)) (locks_of led) t then_call a → right_now led t ≡ no_rights
+    lost : (a : Answer) → AnswerHolds (Some (Releases 0 x fair)) (locks_of led) t then_call a
+        → right_now led t ≡ no_rights
     lost answer.Ok holds = less x (right_now led t) no_rights (holds 0 ∙ then_same.1)
     lost a holds = absurd holds
 
     by_outcome : (o : Outcome) → step_outcome w (go_of t) ≡ o → Now
     by_outcome (outcome.End a) e =
-        let agreed : Agrees t then_call (outcome.End a) (locks_of led) = subst (λ o. Agrees t then_call o (locks_of led)) e goes.agrees in
+        let agreed : Agrees t then_call (outcome.End a) (locks_of led) =
+        subst (λ o. Agrees t then_call o (locks_of led)) e goes.agrees in
         inr (
-          ap (λ (c : CallState). c.purpose) (told ∙ ap (λ o. unless_ended o (woken (locks_of w) t goes.event t then_call)) e),
+          ap (λ (c : CallState). c.purpose) (told
+              ∙ ap (λ o. unless_ended o (woken (locks_of w) t goes.event t then_call)) e),
           lost a (subst (λ q. AnswerHolds q (locks_of led) t then_call a) then_same.0 agreed.0),
         )
-    by_outcome outcome.NotNow e = went_on (told ∙ ap (λ o. unless_ended o (woken (locks_of w) t goes.event t then_call)) e)
-    by_outcome outcome.Step e = went_on (told ∙ ap (λ o. unless_ended o (woken (locks_of w) t goes.event t then_call)) e)
-    by_outcome outcome.Sleep e = went_on (told ∙ ap (λ o. unless_ended o (woken (locks_of w) t goes.event t then_call)) e)
-    by_outcome (outcome.Closure found) e = went_on (told ∙ ap (λ o. unless_ended o (woken (locks_of w) t goes.event t then_call)) e)
+    by_outcome outcome.NotNow e =
+        went_on (told ∙ ap (λ o. unless_ended o (woken (locks_of w) t goes.event t then_call)) e)
+    by_outcome outcome.Step e = went_on (told
+        ∙ ap (λ o. unless_ended o (woken (locks_of w) t goes.event t then_call)) e)
+    by_outcome outcome.Sleep e = went_on (told
+        ∙ ap (λ o. unless_ended o (woken (locks_of w) t goes.event t then_call)) e)
+    by_outcome (outcome.Closure found) e =
+        went_on (told ∙ ap (λ o. unless_ended o (woken (locks_of w) t goes.event t then_call)) e)
 
   in_call : Now
   in_call = elim (stepped w t h).1 [
     | inl did ↦ by_outcome did.1 (step_outcome w (go_of t)) refl
-    | inr refused ↦ inl (ap (λ (y : LocksState). (y.calls t).purpose) refused.1.1 ∙ calling, ap (λ (y : LocksState). (y.calls t).former 0) refused.1.1 ∙ before)
+    | inr refused ↦ inl (
+      ap (λ (y : LocksState). (y.calls t).purpose) refused.1.1 ∙ calling,
+      ap (λ (y : LocksState). (y.calls t).former 0) refused.1.1 ∙ before,
+    )
   ]
 
-gives_step : (t : ℕ) (x : Want) (fair : Bool) (w : State) → GivesUp t x fair w → GivesUp t x fair (after w (go_of t))
+gives_step : (t : ℕ) (x : Want) (fair : Bool) (w : State) → GivesUp t x fair w
+    → GivesUp t x fair (after w (go_of t))
 gives_step t x fair w h = record { ordered_now = ordered w t h.ordered_now; either = by_call h.either }
   where
-    by_call : (((call_at w t).purpose ≡ Some (Releases 0 x fair)) × ((call_at w t).former 0 ≡ with_right x no_rights)) ⊎ (((call_at w t).purpose ≡ None) × (right_now w t ≡ no_rights))
-        → (((call_at (after w (go_of t)) t).purpose ≡ Some (Releases 0 x fair)) × ((call_at (after w (go_of t)) t).former 0 ≡ with_right x no_rights))
+    by_call : (((call_at w t).purpose ≡ Some (Releases 0 x fair))
+        × ((call_at w t).former 0 ≡ with_right x no_rights)) ⊎ (((call_at w t).purpose ≡ None)
+        × (right_now w t ≡ no_rights))
+        → (((call_at (after w (go_of t)) t).purpose ≡ Some (Releases 0 x fair))
+        × ((call_at (after w (go_of t)) t).former 0 ≡ with_right x no_rights))
         ⊎ (((call_at (after w (go_of t)) t).purpose ≡ None) × (right_now (after w (go_of t)) t ≡ no_rights))
     by_call (inl calling) = in_call t x fair w h.ordered_now calling.0 calling.1
     by_call (inr over) = elim (stepped w t h.ordered_now).1 [
       | inl did ↦ absurd (did.1.called over.0)
-      | inr refused ↦ inr (ap (λ (y : LocksState). (y.calls t).purpose) refused.1.1 ∙ over.0, ap (λ (y : LocksState). rights_of (y.locks 0) t) refused.1.1 ∙ over.1)
+      | inr refused ↦ inr (
+        ap (λ (y : LocksState). (y.calls t).purpose) refused.1.1 ∙ over.0,
+        ap (λ (y : LocksState). rights_of (y.locks 0) t) refused.1.1 ∙ over.1,
+      )
     ]
 
 -- a release never sleeps
-never_asleep : (w : State) (t : ℕ) (x : Want) (fair : Bool) → IsOrdered w → (call_at w t).purpose ≡ Some (Releases 0 x fair) → act_of (place_at w t) ≡ act.Sleep → ⊥
+never_asleep : (w : State) (t : ℕ) (x : Want) (fair : Bool) → IsOrdered w → (call_at w t).purpose
+    ≡ Some (Releases 0 x fair) → act_of (place_at w t) ≡ act.Sleep → ⊥
 never_asleep w t x fair h calling asleep =
     let kept : IsKept w = world_kept w h.world in
     let handed : IsHandedOverIn w t = kept.handing t (asleep, nowhere) in
@@ -118,7 +152,8 @@ never_asleep w t x fair h calling asleep =
       where
         by_number : (n : ℕ) → standing t (lock_state w l) ≡ n → standing t (lock_state w l) ≡ 0
         by_number zero e = e
-        by_number (suc n) e = absurd (let kept : IsKept w = world_kept w h.world in subst (λ p. MayWait p l) calling (kept.waiting t l (omega arith)))
+        by_number (suc n) e = absurd (let kept : IsKept w = world_kept w h.world
+            in subst (λ p. MayWait p l) calling (kept.waiting t l (omega arith)))
 
 -- ---------------------------------------------------------------- it begins
 
@@ -126,7 +161,8 @@ pub one_thread : (t : ℕ) → one_if_thread t (Some t) ≡ 1
 one_thread t = grind (arith, nat_tests)
 
 -- an owner that has few owns that and no more
-pub only_right : (s : LockState) (t : ℕ) (x : Want) → Owns s t x → IsFew (rights_of s t) → rights_of s t ≡ with_right x no_rights
+pub only_right : (s : LockState) (t : ℕ) (x : Want) → Owns s t x → IsFew (rights_of s t) → rights_of s t
+    ≡ with_right x no_rights
 only_right s t Exclusive owns few =
     let one : one_if_thread t s.exclusive ≡ 1 = ap (one_if_thread t) owns ∙ one_thread t in
     rights_are (rights_of s t) (with_right Exclusive no_rights) one (omega arith) (omega arith) (omega arith)
@@ -135,7 +171,8 @@ only_right s t Upgradable owns few =
     rights_are (rights_of s t) (with_right Upgradable no_rights) (omega arith) (omega arith) one (omega arith)
 only_right s t Shared owns few =
     let some : 1 ≤ slice_index s.shared t = owns in
-    rights_are (rights_of s t) (with_right Shared no_rights) (omega arith) (omega arith) (omega arith) (omega arith)
+    rights_are (rights_of s t) (with_right Shared no_rights) (omega arith) (omega arith) (omega arith)
+    (omega arith)
 only_right s t Wait owns few = absurd owns
 only_right s t CallOnce owns few = absurd owns
 
@@ -151,7 +188,8 @@ module _ (w : State) (t : ℕ) (c : Call) (x : Want) (fair : Bool) (h : IsOrdere
   begun_step : IsTurn (locks_of w) (begin_of t c) (step_outcome w (begin_of t c)) (locks_of b)
   begun_step = after_step w (begin_of t c) h.world.shaped h.world.steady h.world.counted h.world.condvars
 
-  pub begins : Stays (locks_of w) t (new_call (purpose_at (locks_of w) c) (rights_in (locks_of w) t)) (step_outcome w (begin_of t c)) (locks_of b)
+  pub begins : Stays (locks_of w) t (new_call (purpose_at (locks_of w) c) (rights_in (locks_of w) t))
+      (step_outcome w (begin_of t c)) (locks_of b)
   begins = elim begun_step.1 [
     | inl did ↦ did.1
     | inr refused ↦ absurd (refused.0 may)
@@ -177,9 +215,11 @@ module _ (w : State) (t : ℕ) (c : Call) (x : Want) (fair : Bool) (h : IsOrdere
     world = world_after w (begin_of t c) h.world;
     lock = record {
       one = let size : SameSize w b = after_size w (begin_of t c) in size.locks ∙ h.lock.one;
-      sort = subst (λ k. Drains (Rattle.spec_locks.specs.Purposes.rules_of k).sort) (sym (after_kinds w (begin_of t c) 0)) h.lock.sort;
+      sort = subst (λ k. Drains (Rattle.spec_locks.specs.Purposes.rules_of k).sort)
+          (sym (after_kinds w (begin_of t c) 0)) h.lock.sort;
     };
-    few = few_begin (locks_of w) (locks_of b) 0 t c (step_outcome w (begin_of t c)) h.few was_idle (rw releases refl) may.right begins;
+    few = few_begin (locks_of w) (locks_of b) 0 t c (step_outcome w (begin_of t c)) h.few was_idle
+        (rw releases refl) may.right begins;
   }
 
   -- nothing else changes
@@ -198,10 +238,13 @@ module _ (w : State) (t : ℕ) (c : Call) (x : Want) (fair : Bool) (h : IsOrdere
       either false = refl
 
   pub new_calling : call_at b t ≡ new_call (Some (Releases 0 x fair)) (rights_in (locks_of w) t)
-  new_calling = begins.calls t ∙ ap (λ y. if y then new_call (purpose_at (locks_of w) c) (rights_in (locks_of w) t) else (locks_of w).calls t) (same t) ∙ ap (λ q. new_call q (rights_in (locks_of w) t)) releases
+  new_calling = begins.calls t ∙ ap (λ y. if y then new_call (purpose_at (locks_of w) c)
+      (rights_in (locks_of w) t) else (locks_of w).calls t) (same t)
+      ∙ ap (λ q. new_call q (rights_in (locks_of w) t)) releases
 
   busy : is_idle (place_at b t) ≡ false
-  busy = idle_call (place_at b t) (λ l. rights_of (lock_state b l) t) (here b ordered_begun t) ∙ ap (λ (y : CallState). is_none y.purpose) new_calling
+  busy = idle_call (place_at b t) (λ l. rights_of (lock_state b l) t) (here b ordered_begun t)
+      ∙ ap (λ (y : CallState). is_none y.purpose) new_calling
 
   up : awake b t ≡ true
   up = by_sleep (sleeps (act_of (place_at b t))) refl
@@ -211,7 +254,9 @@ module _ (w : State) (t : ℕ) (c : Call) (x : Want) (fair : Bool) (h : IsOrdere
 
       by_sleep : (q : Bool) → sleeps (act_of (place_at b t)) ≡ q → awake b t ≡ true
       by_sleep false e = bits (is_idle (place_at b t)) (sleeps (act_of (place_at b t))) busy e
-      by_sleep true e = absurd (let s : step_outcome w (begin_of t c) ≡ outcome.Sleep = ((begun_step.0.told (λ f. let g : outcome.Step ≡ outcome.NotNow = sym begins.told ∙ f in cc)).1 e) in let g : outcome.Step ≡ outcome.Sleep = sym begins.told ∙ s in cc)
+      by_sleep true e = absurd (let s : step_outcome w (begin_of t c) ≡ outcome.Sleep =
+          ((begun_step.0.told (λ f. let g : outcome.Step ≡ outcome.NotNow = sym begins.told ∙ f in cc)).1 e)
+          in let g : outcome.Step ≡ outcome.Sleep = sym begins.told ∙ s in cc)
 
   outside_begun : NobodyInside b
   outside_begun key = same_sections key ∙ outside key
@@ -225,13 +270,19 @@ module _ (w : State) (t : ℕ) (c : Call) (x : Want) (fair : Bool) (h : IsOrdere
   given_up : GivesUp t x fair done
   given_up = solo_keeps (GivesUp t x fair) t (gives_step t x fair) 64 b outcome.NotNow (record {
     ordered_now = ordered_begun;
-    either = inl (ap (λ (y : CallState). y.purpose) new_calling, ap (λ (y : CallState). y.former 0) new_calling ∙ own_right);
+    either = inl (
+      ap (λ (y : CallState). y.purpose) new_calling,
+      ap (λ (y : CallState). y.former 0)
+          new_calling ∙ own_right,
+    );
   })
 
   over : ((call_at done t).purpose ≡ None) × (right_now done t ≡ no_rights)
   over = elim given_up.either [
     | inl calling ↦ elim (rests b t ordered_begun outside_begun up) [
-      | inl idle ↦ absurd (let e : (call_at done t).purpose ≡ None = subst (λ p. (call_state p (λ l. rights_of (lock_state done l) t)).purpose ≡ None) (sym idle) refl in let g : ◌≡◌ {A = Option Purpose} None (Some (Releases 0 x fair)) = sym e ∙ calling.0 in cc)
+      | inl idle ↦ absurd (let e : (call_at done t).purpose ≡ None =
+          subst (λ p. (call_state p (λ l. rights_of (lock_state done l) t)).purpose ≡ None) (sym idle) refl
+          in let g : ◌≡◌ {A = Option Purpose} None (Some (Releases 0 x fair)) = sym e ∙ calling.0 in cc)
       | inr asleep ↦ absurd (never_asleep done t x fair fell.0 calling.0 asleep)
     ]
     | inr ended ↦ ended
@@ -239,15 +290,18 @@ module _ (w : State) (t : ℕ) (c : Call) (x : Want) (fair : Bool) (h : IsOrdere
 
   nothing_left : weight done t ≡ 0
   nothing_left =
-      let idle : is_idle (place_at done t) ≡ true = idle_call (place_at done t) (λ l. rights_of (lock_state done l) t) (here done fell.0 t) ∙ ap is_none over.0 in
+      let idle : is_idle (place_at done t) ≡ true = idle_call (place_at done t)
+      (λ l. rights_of (lock_state done l) t) (here done fell.0 t) ∙ ap is_none over.0 in
       weighs (place_at done t) (right_now done t) no_rights idle over.1
 
   one_before : weight w t ≡ 1
   one_before =
-      let idle : is_idle (place_at w t) ≡ true = idle_call (place_at w t) (λ l. rights_of (lock_state w l) t) (here w h t) ∙ ap is_none was_idle in
+      let idle : is_idle (place_at w t) ≡ true = idle_call (place_at w t) (λ l. rights_of (lock_state w l) t)
+      (here w h t) ∙ ap is_none was_idle in
       weighs (place_at w t) (right_now w t) (with_right x no_rights) idle own_right ∙ counts x owned
     where
-      counts : (x : Want) → Owns (lock_state w 0) t x → one_if (not (number (with_right x no_rights) == 0)) ≡ 1
+      counts : (x : Want) → Owns (lock_state w 0) t x → one_if (not (number (with_right x no_rights) == 0))
+          ≡ 1
       counts Exclusive o = refl
       counts Upgradable o = refl
       counts Shared o = refl
@@ -255,7 +309,8 @@ module _ (w : State) (t : ℕ) (c : Call) (x : Want) (fair : Bool) (h : IsOrdere
       counts CallOnce o = absurd o
 
   others_weigh : (u : ℕ) → u ≢ t → weight done u ≡ weight w u
-  others_weigh u ne = fell.1.others u ne ∙ (λ i. weight_of (same_places u ne i) (rights_of (begins.locks 0 i) u))
+  others_weigh u ne = fell.1.others u ne
+      ∙ (λ i. weight_of (same_places u ne i) (rights_of (begins.locks 0 i) u))
 
   there : t < length w.places
   there = may.thread
@@ -263,10 +318,12 @@ module _ (w : State) (t : ℕ) (c : Call) (x : Want) (fair : Bool) (h : IsOrdere
 pub each_release_falls : EachReleaseFalls
 each_release_falls w t c x fair h outside may releases = (
   (fell w t c x fair h outside may releases).0,
-  each_turn_leaves (after w (begin_of t c)) t (ordered_begun w t c x fair h outside may releases) (outside_begun w t c x fair h outside may releases) (up w t c x fair h outside may releases),
+  each_turn_leaves (after w (begin_of t c)) t (ordered_begun w t c x fair h outside may releases)
+      (outside_begun w t c x fair h outside may releases) (up w t c x fair h outside may releases),
   record {
     there = there w t c x fair h outside may releases;
     others = others_weigh w t c x fair h outside may releases;
-    goes = inr (let none = nothing_left w t c x fair h outside may releases in let one = one_before w t c x fair h outside may releases in omega arith);
+    goes = inr (let none = nothing_left w t c x fair h outside may releases in let one =
+        one_before w t c x fair h outside may releases in omega arith);
   },
 )

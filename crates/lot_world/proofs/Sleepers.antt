@@ -1,5 +1,6 @@
 -- A thread that sleeps: what it has, and what it does.
-use Rattle.std.proofs.Common.{ℕ, Bool, true, false, Option, Some, None, if◌then◌else◌, ◌==◌, ◌≡◌, ◌≢◌, ◌+◌, ◌-◌, inl, inr, refl, sym, ◌∙◌, ap, subst, arith}
+use Rattle.std.proofs.Common.{ℕ, Bool, true, false, Option, Some, None, if◌then◌else◌, ◌==◌, ◌≡◌, ◌≢◌, ◌+◌}
+use Rattle.std.proofs.Common.{◌-◌, inl, inr, refl, sym, ◌∙◌, ap, subst, arith}
 use Rattle.std.proofs.lemmas.Bool.Decides.{nat_tests}
 use Rattle.spec_locks.specs.Codes.{has_aside}
 use Rattle.spec_locks.specs.Locks.{Rights, putting, with_right}
@@ -32,7 +33,8 @@ use Rattle.steps_rwlock.specs.RwLockDeeds.{role_at, retried_want}
 use Rattle.steps_rwlock.specs.RwLockProfiles.{stands_at}
 use Rattle.steps_rwlock.specs.RwLockProfiles as rows
 use Rattle.steps_rwlock_fair.specs.FairCalls.{IsOfBump}
-use Rattle.steps_rwlock_fair.specs.declared.places.RwLockCallPlace.TheVariants.{Plain, Glance, HandOver, Bump, Handed}
+use Rattle.steps_rwlock_fair.specs.declared.places.RwLockCallPlace.TheVariants.{Plain, Glance, HandOver, Bump}
+use Rattle.steps_rwlock_fair.specs.declared.places.RwLockCallPlace.TheVariants.{Handed}
 use Rattle.steps_rwlock_fair.specs.declared.handed.HandedAt.{HandedAt}
 use Rattle.steps_rwlock_fair.specs.declared.handed.HandedAt.TheVariants as handed
 use Rattle.steps_rwlock_fair.specs.FairSteps.{accept_act}
@@ -40,7 +42,8 @@ use Rattle.lot_steps.specs.declared.places.Place.TheVariants.{Idle, Mutex, RwLoc
 use Rattle.lot_steps.specs.Steps.{act_of, profile}
 use Rattle.lot_world.specs.Drained.{IsResting}
 use Rattle.lot_world.proofs.Waits.{decided_sleeps, either_sleeps, hand_off_wakes, handing_wakes, unlock_wakes}
-use Rattle.lot_world.specs.Sleepers.{BeganWithFew, PendingOwnNothing, SleepersOwnNothing, SleepersRest, SleepersStand, StandsSomewhere, without_pending}
+use Rattle.lot_world.specs.Sleepers.{BeganWithFew, PendingOwnNothing, SleepersOwnNothing, SleepersRest}
+use Rattle.lot_world.specs.Sleepers.{SleepersStand, StandsSomewhere, without_pending}
 
 abbrev RestsOutside : Role → Type 0
 RestsOutside d = IsResting d × (d.inside ≡ None)
@@ -49,15 +52,40 @@ RestsOutside d = IsResting d × (d.inside ≡ None)
 
 lock_rests : (l : ℕ) (e : Entry) (retries : Bool) (to : LockAt) → steps.lock_act l to ≡ act.Sleep
     → RestsOutside (profile (Mutex l (mutex.Lock e retries to))).role
-lock_rests l e retries lock.Asleep h = (record { wakes = refl; carries = refl; covers = refl; retries = refl }, refl)
-lock_rests l e retries (lock.Taken by) h = (record { wakes = refl; carries = refl; covers = refl; retries = refl }, refl)
-lock_rests l e retries (lock.Handed by) h = (record { wakes = refl; carries = refl; covers = refl; retries = refl }, refl)
+lock_rests l e retries lock.Asleep h = (
+  record {
+    wakes = refl;
+    carries = refl;
+    covers = refl;
+    retries = refl;
+  },
+  refl,
+)
+lock_rests l e retries (lock.Taken by) h = (
+  record {
+    wakes = refl;
+    carries = refl;
+    covers = refl;
+    retries = refl;
+  },
+  refl,
+)
+lock_rests l e retries (lock.Handed by) h = (
+  record {
+    wakes = refl;
+    carries = refl;
+    covers = refl;
+    retries = refl;
+  },
+  refl,
+)
 lock_rests l e retries lock.First h = absurd cc
 lock_rests l e retries lock.Load h = absurd cc
 lock_rests l e retries (lock.Decide seen) h = absurd (decides seen h)
   where
     decides : (seen : ℕ) → steps.lock_act l (lock.Decide seen) ≢ act.Sleep
-    decides seen = either_sleeps (Rattle.std.proofs.Common.not (steps.is_locked seen)) _ _ (λ e. cc) (either_sleeps (seen == 1) _ _ (λ e. cc) (λ e. cc))
+    decides seen = either_sleeps (Rattle.std.proofs.Common.not (steps.is_locked seen)) _ _ (λ e. cc)
+        (either_sleeps (seen == 1) _ _ (λ e. cc) (λ e. cc))
 lock_rests l e retries lock.Check h = absurd cc
 lock_rests l e retries (lock.Leave parked) h = absurd cc
 lock_rests l e retries lock.Accept h = absurd cc
@@ -70,10 +98,42 @@ lock_rests l e retries lock.GiveUp h = absurd cc
 rwlock_rests : (l : ℕ) (a : Admission) (q : RwLockPurpose) (b : Bool) (to : RwLockAt)
     → act_at l a (record { purpose = q; retries = b; at = to }) to ≡ act.Sleep
     → (again : Option Want) → RestsOutside (role_at again q to)
-rwlock_rests l a q b (at.Park parking.Asleep) h again = (record { wakes = refl; carries = refl; covers = refl; retries = refl }, refl)
-rwlock_rests l a q b (at.Park (parking.Taken by)) h again = (record { wakes = refl; carries = refl; covers = refl; retries = refl }, refl)
-rwlock_rests l a q b (at.Aside parking.Asleep) h again = (record { wakes = refl; carries = refl; covers = refl; retries = refl }, refl)
-rwlock_rests l a q b (at.Aside (parking.Taken by)) h again = (record { wakes = refl; carries = refl; covers = refl; retries = refl }, refl)
+rwlock_rests l a q b (at.Park parking.Asleep) h again = (
+  record {
+    wakes = refl;
+    carries = refl;
+    covers = refl;
+    retries = refl;
+  },
+  refl,
+)
+rwlock_rests l a q b (at.Park (parking.Taken by)) h again = (
+  record {
+    wakes = refl;
+    carries = refl;
+    covers = refl;
+    retries = refl;
+  },
+  refl,
+)
+rwlock_rests l a q b (at.Aside parking.Asleep) h again = (
+  record {
+    wakes = refl;
+    carries = refl;
+    covers = refl;
+    retries = refl;
+  },
+  refl,
+)
+rwlock_rests l a q b (at.Aside (parking.Taken by)) h again = (
+  record {
+    wakes = refl;
+    carries = refl;
+    covers = refl;
+    retries = refl;
+  },
+  refl,
+)
 rwlock_rests l a q b (at.Park parking.Check) h again = absurd cc
 rwlock_rests l a q b (at.Park (parking.Leave parked)) h again = absurd cc
 rwlock_rests l a q b (at.Park parking.Remove) h again = absurd cc
@@ -86,9 +146,14 @@ rwlock_rests l a q b (at.Aside parking.Clear) h again = absurd cc
 rwlock_rests l a q b (at.Aside parking.GiveUp) h again = absurd cc
 rwlock_rests l a q b at.First h again = absurd cc
 rwlock_rests l a q b at.Load h again = absurd cc
-rwlock_rests l a q b (at.Decide seen) h again = absurd (decided_sleeps l q seen (decided a (record { purpose = q; retries = b; at = at.Decide seen }) seen) h)
+rwlock_rests l a q b (at.Decide seen) h again = absurd (decided_sleeps l q seen (decided a (record {
+  purpose = q;
+  retries = b;
+  at = at.Decide seen;
+}) seen) h)
 rwlock_rests l a q b at.Look h again = absurd cc
-rwlock_rests l a q b (at.Count seen) h again = absurd (either_sleeps (has_aside seen) _ _ (λ k. cc) (λ k. cc) h)
+rwlock_rests l a q b (at.Count seen) h again =
+    absurd (either_sleeps (has_aside seen) _ _ (λ k. cc) (λ k. cc) h)
 rwlock_rests l a q b at.Marked h again = absurd cc
 rwlock_rests l a q b at.RollBack h again = absurd cc
 rwlock_rests l a q b at.GiveWay h again = absurd cc
@@ -103,8 +168,17 @@ accept_wakes l access.Shared h = cc
 accept_wakes l access.Upgradable h = cc
 
 handed_rests : (l : ℕ) (a : Admission) (x : Access) (how : Patience) (b : Bool) (to : HandedAt)
-    → act_of (RwLock l a (Handed x how b to)) ≡ act.Sleep → RestsOutside (profile (RwLock l a (Handed x how b to))).role
-handed_rests l a x how b (handed.Asleep by alone) h = (record { wakes = refl; carries = refl; covers = refl; retries = refl }, refl)
+    → act_of (RwLock l a (Handed x how b to)) ≡ act.Sleep
+    → RestsOutside (profile (RwLock l a (Handed x how b to))).role
+handed_rests l a x how b (handed.Asleep by alone) h = (
+  record {
+    wakes = refl;
+    carries = refl;
+    covers = refl;
+    retries = refl;
+  },
+  refl,
+)
 handed_rests l a x how b handed.Accept h = absurd (accept_wakes l x h)
 
 pub sleepers_rest : SleepersRest
@@ -126,14 +200,21 @@ sleepers_rest (Condvar l to) stands h = absurd stands
 
 -- ---------------------------------------------------------------- the rights that it owns
 
-rights_are : (r s : Rights) → r.exclusive ≡ s.exclusive → r.pending ≡ s.pending → r.upgradable ≡ s.upgradable → r.shared ≡ s.shared → r ≡ s
+rights_are : (r s : Rights) → r.exclusive ≡ s.exclusive → r.pending ≡ s.pending → r.upgradable ≡ s.upgradable
+    → r.shared ≡ s.shared → r ≡ s
 rights_are r s a b c d = λ i. record { exclusive = a i; pending = b i; upgradable = c i; shared = d i }
 
 -- one right less on both sides
 pub less : (x : Want) (r s : Rights) → with_right x r ≡ with_right x s → r ≡ s
-less Exclusive r s e = rights_are r s (let a : r.exclusive + 1 ≡ s.exclusive + 1 = ap (λ (y : Rights). y.exclusive) e in omega arith) (ap (λ (y : Rights). y.pending) e) (ap (λ (y : Rights). y.upgradable) e) (ap (λ (y : Rights). y.shared) e)
-less Upgradable r s e = rights_are r s (ap (λ (y : Rights). y.exclusive) e) (ap (λ (y : Rights). y.pending) e) (let a : r.upgradable + 1 ≡ s.upgradable + 1 = ap (λ (y : Rights). y.upgradable) e in omega arith) (ap (λ (y : Rights). y.shared) e)
-less Shared r s e = rights_are r s (ap (λ (y : Rights). y.exclusive) e) (ap (λ (y : Rights). y.pending) e) (ap (λ (y : Rights). y.upgradable) e) (let a : r.shared + 1 ≡ s.shared + 1 = ap (λ (y : Rights). y.shared) e in omega arith)
+less Exclusive r s e = rights_are r s (let a : r.exclusive + 1 ≡ s.exclusive + 1 =
+    ap (λ (y : Rights). y.exclusive) e in omega arith) (ap (λ (y : Rights). y.pending) e)
+    (ap (λ (y : Rights). y.upgradable) e) (ap (λ (y : Rights). y.shared) e)
+less Upgradable r s e = rights_are r s (ap (λ (y : Rights). y.exclusive) e) (ap (λ (y : Rights). y.pending) e)
+    (let a : r.upgradable + 1 ≡ s.upgradable + 1 = ap (λ (y : Rights). y.upgradable) e in omega arith)
+    (ap (λ (y : Rights). y.shared) e)
+less Shared r s e = rights_are r s (ap (λ (y : Rights). y.exclusive) e) (ap (λ (y : Rights). y.pending) e)
+    (ap (λ (y : Rights). y.upgradable) e) (let a : r.shared + 1 ≡ s.shared + 1 =
+    ap (λ (y : Rights). y.shared) e in omega arith)
 less Wait r s e = e
 less CallOnce r s e = e
 
@@ -141,7 +222,8 @@ pub here : {A : Type 0} (f : ℕ → A) (l : ℕ) (x : A) → putting f l x l �
 here f l x = ap (λ b. if b then x else f l) (let e : (l == l) ≡ true = grind (arith, nat_tests) in e)
 
 -- a bump has given its right up
-pub given_up : (x : Want) (l : ℕ) (rights : ℕ → Rights) → one_more_at l x rights l ≡ with_right x no_rights → rights l ≡ no_rights
+pub given_up : (x : Want) (l : ℕ) (rights : ℕ → Rights) → one_more_at l x rights l ≡ with_right x no_rights
+    → rights l ≡ no_rights
 given_up x l rights e = less x (rights l) no_rights (sym (here rights l (with_right x (rights l))) ∙ e)
 
 main_lock : (l : ℕ) (e : Entry) (retries : Bool) (to : LockAt) (rights : ℕ → Rights)
@@ -157,9 +239,14 @@ main_lock l e retries to rights stands h few = absurd cc
 same_lock : (l k : ℕ) → ◌≡◌ {A = Option ℕ} (Some l) (Some k) → l ≡ k
 same_lock l k e = cc
 
-main_rwlock : (l : ℕ) (a : Admission) (q : RwLockPurpose) (b : Bool) (to : RwLockAt) (rights : ℕ → Rights) → StandsAt q b to
+main_rwlock : (l : ℕ) (a : Admission) (q : RwLockPurpose) (b : Bool) (to : RwLockAt) (rights : ℕ → Rights)
+    → StandsAt q b to
     → stands_at to ≡ Some Main → act_at l a (record { purpose = q; retries = b; at = to }) to ≡ act.Sleep
-    → BeganWithFew l (RwLock l a (Plain (record { purpose = q; retries = b; at = to }))) rights → rights l ≡ no_rights
+    → BeganWithFew l (RwLock l a (Plain (record {
+      purpose = q;
+      retries = b;
+      at = to;
+    }))) rights → rights l ≡ no_rights
 main_rwlock l a (purpose.Enter x how) b (at.Park to) rights stands s h few = few
 main_rwlock l a (purpose.Enter x how) b (at.Aside (parking.Leave true)) rights stands s h few = absurd cc
 main_rwlock l a (purpose.Enter x how) b (at.Aside (parking.Leave false)) rights stands s h few = absurd cc
@@ -179,9 +266,14 @@ main_rwlock l a q b (at.Aside (parking.Leave false)) rights stands s h few = abs
 main_rwlock l a q b (at.Aside to) rights stands s h few = absurd cc
 main_rwlock l a q b to rights stands s h few = absurd cc
 
-main_bump : (l : ℕ) (a : Admission) (q : RwLockPurpose) (b : Bool) (to : RwLockAt) (rights : ℕ → Rights) → StandsAt q b to
+main_bump : (l : ℕ) (a : Admission) (q : RwLockPurpose) (b : Bool) (to : RwLockAt) (rights : ℕ → Rights)
+    → StandsAt q b to
     → stands_at to ≡ Some Main → act_at l a (record { purpose = q; retries = b; at = to }) to ≡ act.Sleep
-    → BeganWithFew l (RwLock l a (Bump (record { purpose = q; retries = b; at = to }))) rights → rights l ≡ no_rights
+    → BeganWithFew l (RwLock l a (Bump (record {
+      purpose = q;
+      retries = b;
+      at = to;
+    }))) rights → rights l ≡ no_rights
 main_bump l a (purpose.Enter x how) b (at.Park to) rights stands s h few = given_up (wanted x) l rights few
 main_bump l a (purpose.Upgrade Try) b (at.Park to) rights stands s h few = absurd stands
 main_bump l a (purpose.Upgrade Patient) b (at.Park to) rights stands s h few = absurd stands
@@ -197,20 +289,28 @@ main_bump l a q b to rights stands s h few = absurd cc
 
 pub sleepers_own_nothing : SleepersOwnNothing
 sleepers_own_nothing l Idle rights stands of s h few = absurd cc
-sleepers_own_nothing l (Mutex k (mutex.Lock e retries to)) rights stands of s h few = main_lock l e retries to rights s (sleeps_there to h) (few_there few)
+sleepers_own_nothing l (Mutex k (mutex.Lock e retries to)) rights stands of s h few =
+    main_lock l e retries to rights s (sleeps_there to h) (few_there few)
   where
     sleeps_there : (to : LockAt) → steps.lock_act k to ≡ act.Sleep → steps.lock_act l to ≡ act.Sleep
     sleeps_there to h = subst (λ j. steps.lock_act j to ≡ act.Sleep) (same_lock k l of) h
 
-    few_there : BeganWithFew l (Mutex k (mutex.Lock e retries to)) rights → BeganWithFew l (Mutex l (mutex.Lock e retries to)) rights
-    few_there few = subst (λ j. BeganWithFew l (Mutex j (mutex.Lock e retries to)) rights) (same_lock k l of) few
+    few_there : BeganWithFew l (Mutex k (mutex.Lock e retries to)) rights
+        → BeganWithFew l (Mutex l (mutex.Lock e retries to)) rights
+    few_there few = subst (λ j. BeganWithFew l (Mutex j (mutex.Lock e retries to)) rights) (same_lock k l of)
+        few
 sleepers_own_nothing l (Mutex k mutex.TryLock) rights stands of s h few = absurd cc
 sleepers_own_nothing l (Mutex k (mutex.Unlock to)) rights stands of s h few = absurd (unlock_wakes k to h)
 sleepers_own_nothing l (Mutex k mutex.UnlockFair) rights stands of s h few = absurd cc
 sleepers_own_nothing l (Mutex k mutex.Bump) rights stands of s h few = absurd cc
-sleepers_own_nothing l (Mutex k (mutex.HandOff bumps to)) rights stands of s h few = absurd (hand_off_wakes k to h)
-sleepers_own_nothing l (RwLock k a (Plain p)) rights stands of s h few = subst (λ j. act_at j a p p.at ≡ act.Sleep → rights l ≡ no_rights) (sym (same_lock k l of)) (λ g. main_rwlock l a p.purpose p.retries p.at rights stands.place s g few) h
-sleepers_own_nothing l (RwLock k a (Bump p)) rights stands of s h few = subst (λ j. act_at j a p p.at ≡ act.Sleep → rights l ≡ no_rights) (sym (same_lock k l of)) (λ g. main_bump l a p.purpose p.retries p.at rights stands.0.place s g few) h
+sleepers_own_nothing l (Mutex k (mutex.HandOff bumps to)) rights stands of s h few =
+    absurd (hand_off_wakes k to h)
+sleepers_own_nothing l (RwLock k a (Plain p)) rights stands of s h few =
+    subst (λ j. act_at j a p p.at ≡ act.Sleep → rights l ≡ no_rights) (sym (same_lock k l of))
+    (λ g. main_rwlock l a p.purpose p.retries p.at rights stands.place s g few) h
+sleepers_own_nothing l (RwLock k a (Bump p)) rights stands of s h few =
+    subst (λ j. act_at j a p p.at ≡ act.Sleep → rights l ≡ no_rights) (sym (same_lock k l of))
+    (λ g. main_bump l a p.purpose p.retries p.at rights stands.0.place s g few) h
 sleepers_own_nothing l (RwLock k a (Handed x how b to)) rights stands of s h few = absurd cc
 sleepers_own_nothing l (RwLock k a (Glance x)) rights stands of s h few = absurd cc
 sleepers_own_nothing l (RwLock k a (HandOver x b to)) rights stands of s h few = absurd cc
@@ -221,20 +321,29 @@ sleepers_own_nothing l (Condvar k to) rights stands of s h few = absurd stands
 -- ---------------------------------------------------------------- sleepers in the second queue
 
 pending_only : (r : Rights) → record r { pending = r.pending - 1 } ≡ no_rights → without_pending r ≡ no_rights
-pending_only r e = rights_are (without_pending r) no_rights (ap (λ (y : Rights). y.exclusive) e) refl (ap (λ (y : Rights). y.upgradable) e) (ap (λ (y : Rights). y.shared) e)
+pending_only r e = rights_are (without_pending r) no_rights (ap (λ (y : Rights). y.exclusive) e) refl
+    (ap (λ (y : Rights). y.upgradable) e) (ap (λ (y : Rights). y.shared) e)
 
-aside_enters : (l : ℕ) (rights : ℕ → Rights) → rows.without_pending l rights l ≡ no_rights → without_pending (rights l) ≡ no_rights
+aside_enters : (l : ℕ) (rights : ℕ → Rights) → rows.without_pending l rights l ≡ no_rights
+    → without_pending (rights l) ≡ no_rights
 aside_enters l rights e = pending_only (rights l) (sym (here rights l _) ∙ e)
 
-aside_gave : (x : Want) (l : ℕ) (rights : ℕ → Rights) → one_more_at l x (rows.without_pending l rights) l ≡ with_right x no_rights
+aside_gave : (x : Want) (l : ℕ) (rights : ℕ → Rights) → one_more_at l x (rows.without_pending l rights) l
+    ≡ with_right x no_rights
     → without_pending (rights l) ≡ no_rights
 aside_gave x l rights e = aside_enters l rights (given_up x l (rows.without_pending l rights) e)
 
-aside_plain : (l : ℕ) (a : Admission) (q : RwLockPurpose) (b : Bool) (to : RwLockAt) (rights : ℕ → Rights) → StandsAt q b to
+aside_plain : (l : ℕ) (a : Admission) (q : RwLockPurpose) (b : Bool) (to : RwLockAt) (rights : ℕ → Rights)
+    → StandsAt q b to
     → stands_at to ≡ Some Second → act_at l a (record { purpose = q; retries = b; at = to }) to ≡ act.Sleep
-    → BeganWithFew l (RwLock l a (Plain (record { purpose = q; retries = b; at = to }))) rights → without_pending (rights l) ≡ no_rights
+    → BeganWithFew l (RwLock l a (Plain (record {
+      purpose = q;
+      retries = b;
+      at = to;
+    }))) rights → without_pending (rights l) ≡ no_rights
 aside_plain l a (purpose.Enter x how) b (at.Aside to) rights stands s h few = aside_enters l rights few
-aside_plain l a (purpose.Upgrade how) b (at.Aside to) rights stands s h few = aside_gave Upgradable l rights few
+aside_plain l a (purpose.Upgrade how) b (at.Aside to) rights stands s h few =
+    aside_gave Upgradable l rights few
 aside_plain l a (purpose.Release access.Shared) b (at.Aside to) rights stands s h few = absurd stands
 aside_plain l a (purpose.Release access.Upgradable) b (at.Aside to) rights stands s h few = absurd stands
 aside_plain l a (purpose.Release access.Exclusive) b (at.Aside to) rights stands s h few = absurd stands
@@ -244,10 +353,16 @@ aside_plain l a q b (at.Park (parking.Leave false)) rights stands s h few = absu
 aside_plain l a q b (at.Park to) rights stands s h few = absurd cc
 aside_plain l a q b to rights stands s h few = absurd cc
 
-aside_bump : (l : ℕ) (a : Admission) (q : RwLockPurpose) (b : Bool) (to : RwLockAt) (rights : ℕ → Rights) → StandsAt q b to → IsOfBump q b
+aside_bump : (l : ℕ) (a : Admission) (q : RwLockPurpose) (b : Bool) (to : RwLockAt) (rights : ℕ → Rights)
+    → StandsAt q b to → IsOfBump q b
     → stands_at to ≡ Some Second → act_at l a (record { purpose = q; retries = b; at = to }) to ≡ act.Sleep
-    → BeganWithFew l (RwLock l a (Bump (record { purpose = q; retries = b; at = to }))) rights → without_pending (rights l) ≡ no_rights
-aside_bump l a (purpose.Enter x how) b (at.Aside to) rights stands bumps s h few = aside_gave (wanted x) l rights few
+    → BeganWithFew l (RwLock l a (Bump (record {
+      purpose = q;
+      retries = b;
+      at = to;
+    }))) rights → without_pending (rights l) ≡ no_rights
+aside_bump l a (purpose.Enter x how) b (at.Aside to) rights stands bumps s h few =
+    aside_gave (wanted x) l rights few
 aside_bump l a (purpose.Upgrade how) b (at.Aside to) rights stands bumps s h few = absurd bumps
 aside_bump l a (purpose.Release access.Shared) b (at.Aside to) rights stands bumps s h few = absurd stands
 aside_bump l a (purpose.Release access.Upgradable) b (at.Aside to) rights stands bumps s h few = absurd stands
@@ -258,21 +373,29 @@ aside_bump l a q b (at.Park (parking.Leave false)) rights stands bumps s h few =
 aside_bump l a q b (at.Park to) rights stands bumps s h few = absurd cc
 aside_bump l a q b to rights stands bumps s h few = absurd cc
 
-lock_aside : (l : ℕ) (e : Entry) (retries : Bool) (to : LockAt) → (profile (Mutex l (mutex.Lock e retries to))).stands ≡ Some Second → steps.lock_act l to ≡ act.Sleep → ⊥
+lock_aside : (l : ℕ) (e : Entry) (retries : Bool) (to : LockAt)
+    → (profile (Mutex l (mutex.Lock e retries to))).stands ≡ Some Second → steps.lock_act l to ≡ act.Sleep → ⊥
 lock_aside l e retries lock.Asleep s h = cc
 lock_aside l e retries (lock.Leave parked) s h = cc
 lock_aside l e retries to s h = cc
 
 pub pending_own_nothing : PendingOwnNothing
 pending_own_nothing l Idle rights stands of s h few = absurd cc
-pending_own_nothing l (Mutex k (mutex.Lock e retries to)) rights stands of s h few = absurd (lock_aside k e retries to s h)
+pending_own_nothing l (Mutex k (mutex.Lock e retries to)) rights stands of s h few =
+    absurd (lock_aside k e retries to s h)
 pending_own_nothing l (Mutex k mutex.TryLock) rights stands of s h few = absurd cc
 pending_own_nothing l (Mutex k (mutex.Unlock to)) rights stands of s h few = absurd (unlock_wakes k to h)
 pending_own_nothing l (Mutex k mutex.UnlockFair) rights stands of s h few = absurd cc
 pending_own_nothing l (Mutex k mutex.Bump) rights stands of s h few = absurd cc
-pending_own_nothing l (Mutex k (mutex.HandOff bumps to)) rights stands of s h few = absurd (hand_off_wakes k to h)
-pending_own_nothing l (RwLock k a (Plain p)) rights stands of s h few = subst (λ j. act_at j a p p.at ≡ act.Sleep → without_pending (rights l) ≡ no_rights) (sym (same_lock k l of)) (λ g. aside_plain l a p.purpose p.retries p.at rights stands.place s g few) h
-pending_own_nothing l (RwLock k a (Bump p)) rights stands of s h few = subst (λ j. act_at j a p p.at ≡ act.Sleep → without_pending (rights l) ≡ no_rights) (sym (same_lock k l of)) (λ g. aside_bump l a p.purpose p.retries p.at rights stands.0.place stands.1 s g few) h
+pending_own_nothing l (Mutex k (mutex.HandOff bumps to)) rights stands of s h few =
+    absurd (hand_off_wakes k to h)
+pending_own_nothing l (RwLock k a (Plain p)) rights stands of s h few =
+    subst (λ j. act_at j a p p.at ≡ act.Sleep → without_pending (rights l) ≡ no_rights)
+    (sym (same_lock k l of)) (λ g. aside_plain l a p.purpose p.retries p.at rights stands.place s g few) h
+pending_own_nothing l (RwLock k a (Bump p)) rights stands of s h few =
+    subst (λ j. act_at j a p p.at ≡ act.Sleep → without_pending (rights l) ≡ no_rights)
+    (sym (same_lock k l of)) (λ g. aside_bump l a p.purpose p.retries p.at rights stands.0.place stands.1 s g
+    few) h
 pending_own_nothing l (RwLock k a (Handed x how b to)) rights stands of s h few = absurd cc
 pending_own_nothing l (RwLock k a (Glance x)) rights stands of s h few = absurd cc
 pending_own_nothing l (RwLock k a (HandOver x b to)) rights stands of s h few = absurd cc
@@ -289,7 +412,9 @@ lock_stands l e retries (lock.Taken by) h = record { carries = refl; somewhere =
 lock_stands l e retries (lock.Handed by) h = record { carries = refl; somewhere = inr (inr (by, true, refl)) }
 lock_stands l e retries lock.First h = absurd cc
 lock_stands l e retries lock.Load h = absurd cc
-lock_stands l e retries (lock.Decide seen) h = absurd (either_sleeps (Rattle.std.proofs.Common.not (steps.is_locked seen)) _ _ (λ e. cc) (either_sleeps (seen == 1) _ _ (λ e. cc) (λ e. cc)) h)
+lock_stands l e retries (lock.Decide seen) h =
+    absurd (either_sleeps (Rattle.std.proofs.Common.not (steps.is_locked seen)) _ _ (λ e. cc)
+    (either_sleeps (seen == 1) _ _ (λ e. cc) (λ e. cc)) h)
 lock_stands l e retries lock.Check h = absurd cc
 lock_stands l e retries (lock.Leave parked) h = absurd cc
 lock_stands l e retries lock.Accept h = absurd cc
@@ -301,9 +426,15 @@ plain_stands : (l : ℕ) (a : Admission) (q : RwLockPurpose) (b : Bool) (to : Rw
     → act_at l a (record { purpose = q; retries = b; at = to }) to ≡ act.Sleep
     → StandsSomewhere (profile (RwLock l a (Plain (record { purpose = q; retries = b; at = to }))))
 plain_stands l a q b (at.Park parking.Asleep) h = record { carries = refl; somewhere = inl refl }
-plain_stands l a q b (at.Park (parking.Taken by)) h = record { carries = refl; somewhere = inr (inr (by, false, refl)) }
+plain_stands l a q b (at.Park (parking.Taken by)) h = record {
+  carries = refl;
+  somewhere = inr (inr (by, false, refl));
+}
 plain_stands l a q b (at.Aside parking.Asleep) h = record { carries = refl; somewhere = inr (inl refl) }
-plain_stands l a q b (at.Aside (parking.Taken by)) h = record { carries = refl; somewhere = inr (inr (by, false, refl)) }
+plain_stands l a q b (at.Aside (parking.Taken by)) h = record {
+  carries = refl;
+  somewhere = inr (inr (by, false, refl));
+}
 plain_stands l a q b (at.Park parking.Check) h = absurd cc
 plain_stands l a q b (at.Park (parking.Leave parked)) h = absurd cc
 plain_stands l a q b (at.Park parking.Remove) h = absurd cc
@@ -316,7 +447,11 @@ plain_stands l a q b (at.Aside parking.Clear) h = absurd cc
 plain_stands l a q b (at.Aside parking.GiveUp) h = absurd cc
 plain_stands l a q b at.First h = absurd cc
 plain_stands l a q b at.Load h = absurd cc
-plain_stands l a q b (at.Decide seen) h = absurd (decided_sleeps l q seen (decided a (record { purpose = q; retries = b; at = at.Decide seen }) seen) h)
+plain_stands l a q b (at.Decide seen) h = absurd (decided_sleeps l q seen (decided a (record {
+  purpose = q;
+  retries = b;
+  at = at.Decide seen;
+}) seen) h)
 plain_stands l a q b at.Look h = absurd cc
 plain_stands l a q b (at.Count seen) h = absurd (either_sleeps (has_aside seen) _ _ (λ k. cc) (λ k. cc) h)
 plain_stands l a q b at.Marked h = absurd cc
@@ -328,8 +463,12 @@ plain_stands l a q b (at.Wake m (waking.Clear any)) h = absurd cc
 plain_stands l a q b (at.Wake m (waking.Leave any)) h = absurd cc
 
 handed_stands : (l : ℕ) (a : Admission) (x : Access) (how : Patience) (b : Bool) (to : HandedAt)
-    → act_of (RwLock l a (Handed x how b to)) ≡ act.Sleep → StandsSomewhere (profile (RwLock l a (Handed x how b to)))
-handed_stands l a x how b (handed.Asleep by alone) h = record { carries = refl; somewhere = inr (inr (by, true, refl)) }
+    → act_of (RwLock l a (Handed x how b to)) ≡ act.Sleep
+    → StandsSomewhere (profile (RwLock l a (Handed x how b to)))
+handed_stands l a x how b (handed.Asleep by alone) h = record {
+  carries = refl;
+  somewhere = inr (inr (by, true, refl));
+}
 handed_stands l a x how b handed.Accept h = absurd (accept_wakes l x h)
 
 pub sleepers_stand : SleepersStand
@@ -341,7 +480,11 @@ sleepers_stand (Mutex l mutex.UnlockFair) stands h = absurd cc
 sleepers_stand (Mutex l mutex.Bump) stands h = absurd cc
 sleepers_stand (Mutex l (mutex.HandOff bumps to)) stands h = absurd (hand_off_wakes l to h)
 sleepers_stand (RwLock l a (Plain p)) stands h = plain_stands l a p.purpose p.retries p.at h
-sleepers_stand (RwLock l a (Bump p)) stands h = let s = plain_stands l a p.purpose p.retries p.at h in record { carries = s.carries; somewhere = s.somewhere }
+sleepers_stand (RwLock l a (Bump p)) stands h = let s = plain_stands l a p.purpose p.retries p.at h
+    in record {
+      carries = s.carries;
+      somewhere = s.somewhere;
+    }
 sleepers_stand (RwLock l a (Handed x how b to)) stands h = handed_stands l a x how b to h
 sleepers_stand (RwLock l a (Glance x)) stands h = absurd cc
 sleepers_stand (RwLock l a (HandOver x b to)) stands h = absurd (handing_wakes l a x to h)

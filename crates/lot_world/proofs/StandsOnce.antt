@@ -1,5 +1,6 @@
 -- A thread stands under one key, once, and each waiter under its own.
-use Rattle.std.proofs.Common.{ℕ, zero, suc, Bool, true, false, cond, Option, Some, None, ◌≡◌, ◌≢◌, ◌≤◌, ◌⊎◌, inl, inr, List, [], ◌∷◌, refl, sym, ap, ◌∙◌, subst, arith}
+use Rattle.std.proofs.Common.{ℕ, zero, suc, Bool, true, false, cond, Option, Some, None, ◌≡◌, ◌≢◌, ◌≤◌, ◌⊎◌}
+use Rattle.std.proofs.Common.{inl, inr, List, [], ◌∷◌, refl, sym, ap, ◌∙◌, subst, arith}
 use Rattle.std.proofs.lemmas.Bool.{eqb-true}
 use Rattle.std.proofs.lemmas.List.Elements.{All-cons, All-nil}
 use Rattle.core_base.specs.declared.keys.Line.{Line}
@@ -96,7 +97,8 @@ in_no_line true m e h = absurd cc
 in_no_line false m e h = absurd (omega (arith, h))
 
 -- a thread stands at the lock that it calls, or at the mutex beside it, and not at both
-not_both : (p : Place) (m n : Line) → 1 ≤ stood_in (location p).stands m → 1 ≤ stood_in (location_by (profile_beside p)).stands n → ⊥
+not_both : (p : Place) (m n : Line) → 1 ≤ stood_in (location p).stands m → 1
+    ≤ stood_in (location_by (profile_beside p)).stands n → ⊥
 not_both place.Idle m n h k = absurd (omega (arith, k))
 not_both (place.Mutex l at) m n h k = absurd (omega (arith, k))
 not_both (place.RwLock l a at) m n h k = absurd (omega (arith, k))
@@ -114,10 +116,13 @@ same_lock (Some own) l k h e = sym (eqb-true own l h) ∙ eqb-true own k e
 -- where it stands
 data StandsAt (p : Place) (l : ℕ) (m : Line) : Type 0 where
   called : is_lock l (called_lock p) ≡ true → 1 ≤ stood_in (location p).stands m → StandsAt p l m
-  beside : is_lock l (beside_of p) ≡ true → 1 ≤ stood_in (location_by (profile_beside p)).stands m → StandsAt p l m
+  beside : is_lock l (beside_of p) ≡ true → 1 ≤ stood_in (location_by (profile_beside p)).stands m
+      → StandsAt p l m
 
-by_tests : (p : Place) (l : ℕ) (m : Line) (a b : Bool) → is_lock l (called_lock p) ≡ a → is_lock l (beside_of p) ≡ b
-    → 1 ≤ stood_in (cond a (location p) (cond b (location_by (profile_beside p)) nowhere)).stands m → StandsAt p l m
+by_tests : (p : Place) (l : ℕ) (m : Line) (a b : Bool) → is_lock l (called_lock p) ≡ a
+    → is_lock l (beside_of p) ≡ b
+    → 1 ≤ stood_in (cond a (location p) (cond b (location_by (profile_beside p)) nowhere)).stands m
+    → StandsAt p l m
 by_tests p l m true b e f h = called e h
 by_tests p l m false true e f h = beside f h
 by_tests p l m false false e f h = absurd (omega (arith, h))
@@ -135,10 +140,12 @@ one_line (Some Second) Second Main h e = absurd (omega (arith, e))
 one_line (Some Second) Main n h e = absurd (omega (arith, h))
 
 one_key : (p : Place) (l k : ℕ) (m n : Line) → StandsAt p l m → StandsAt p k n → key_of l m ≡ key_of k n
-one_key p l k m n (called a h) (called b e) = ap (λ j. key_of j m) (same_lock (called_lock p) l k a b) ∙ ap (key_of k) (one_line (location p).stands m n h e)
+one_key p l k m n (called a h) (called b e) = ap (λ j. key_of j m) (same_lock (called_lock p) l k a b)
+    ∙ ap (key_of k) (one_line (location p).stands m n h e)
 one_key p l k m n (called a h) (beside b e) = absurd (not_both p m n h e)
 one_key p l k m n (beside a h) (called b e) = absurd (not_both p n m e h)
-one_key p l k m n (beside a h) (beside b e) = ap (λ j. key_of j m) (same_lock (beside_of p) l k a b) ∙ ap (key_of k) (one_line (location_by (profile_beside p)).stands m n h e)
+one_key p l k m n (beside a h) (beside b e) = ap (λ j. key_of j m) (same_lock (beside_of p) l k a b)
+    ∙ ap (key_of k) (one_line (location_by (profile_beside p)).stands m n h e)
 
 none_if : (n : ℕ) → (1 ≤ n → ⊥) → n ≡ 0
 none_if zero h = refl
@@ -147,28 +154,37 @@ none_if (suc n) h = absurd (h (omega arith))
 pub stand_once : (w : State) → IsWorld w → StandOnce w
 stand_once w world = record { once = once; nowhere_else = nowhere_else }
   where
-    counted : (t key : ℕ) → let k = key_at key in times t (queue_at w key) ≡ stood_in (location_at (place_at w t) k.lock).stands k.line
-    counted t key = let k = key_at key in ap (λ n. times t (queue_at w n)) k.is ∙ world.steady.stands.lines t k.lock k.line
+    counted : (t key : ℕ) → let k = key_at key in times t (queue_at w key)
+        ≡ stood_in (location_at (place_at w t) k.lock).stands k.line
+    counted t key = let k = key_at key in ap (λ n. times t (queue_at w n)) k.is
+        ∙ world.steady.stands.lines t k.lock k.line
 
     once : (t key : ℕ) → times t (queue_at w key) ≤ 1
-    once t key = let k = key_at key in subst (λ n. n ≤ 1) (sym (counted t key)) (stood_once (location_at (place_at w t) k.lock).stands k.line)
+    once t key = let k = key_at key in subst (λ n. n ≤ 1) (sym (counted t key))
+        (stood_once (location_at (place_at w t) k.lock).stands k.line)
 
-    there : (t key : ℕ) → 1 ≤ times t (queue_at w key) → let k = key_at key in StandsAt (place_at w t) k.lock k.line
-    there t key h = let k = key_at key in stands_at (place_at w t) k.lock k.line (subst (λ n. 1 ≤ n) (counted t key) h)
+    there : (t key : ℕ) → 1 ≤ times t (queue_at w key) → let k = key_at key
+        in StandsAt (place_at w t) k.lock k.line
+    there t key h = let k = key_at key in stands_at (place_at w t) k.lock k.line
+        (subst (λ n. 1 ≤ n) (counted t key) h)
 
-    nowhere_else : (t key other : ℕ) → 1 ≤ times t (queue_at w key) → other ≢ key → times t (queue_at w other) ≡ 0
+    nowhere_else : (t key other : ℕ) → 1 ≤ times t (queue_at w key) → other ≢ key → times t (queue_at w other)
+        ≡ 0
     nowhere_else t key other h ne = none_if (times t (queue_at w other)) (λ twice.
         let k = key_at key in
         let o = key_at other in
-        ne (o.is ∙ one_key (place_at w t) o.lock k.lock o.line k.line (there t other twice) (there t key h) ∙ sym k.is))
+        ne (o.is ∙ one_key (place_at w t) o.lock k.lock o.line k.line (there t other twice) (there t key h)
+        ∙ sym k.is))
 
 -- ---------------------------------------------------------------- each waiter stands under its key
 
-keyed : (at : ℕ → ℕ → Location) (l : ℕ) (m : Line) (q : List Waiter) → AreWaiting at l m q → StandUnder (key_of l m) q
+keyed : (at : ℕ → ℕ → Location) (l : ℕ) (m : Line) (q : List Waiter) → AreWaiting at l m q
+    → StandUnder (key_of l m) q
 keyed at l m [] h = All-nil (λ (x : Waiter). x.key ≡ key_of l m)
 keyed at l m (x ∷ q) h = All-cons (λ (y : Waiter). y.key ≡ key_of l m) x q h.0.0 (keyed at l m q h.1)
 
 pub stand_under : (w : State) → IsWorld w → (key : ℕ) → StandUnder key (queue_at w key)
 stand_under w world key =
     let k = key_at key in
-    subst (λ n. StandUnder n (queue_at w n)) (sym k.is) (keyed (locations_of (place_at w)) k.lock k.line (queue_at w (key_of k.lock k.line)) (world.steady.stands.waits k.lock k.line))
+    subst (λ n. StandUnder n (queue_at w n)) (sym k.is) (keyed (locations_of (place_at w)) k.lock k.line
+    (queue_at w (key_of k.lock k.line)) (world.steady.stands.waits k.lock k.line))

@@ -1,6 +1,7 @@
 -- Calls that only wait tell nobody anything and go on to wait; whatever befalls a thread changes nothing of
 -- that; a thread that sleeps only waits.
-use Rattle.std.proofs.Common.{ℕ, Bool, true, false, Option, Some, None, if◌then◌else◌, ◌==◌, not, ◌≡◌, ◌≢◌, refl, sym, ◌∙◌, ap}
+use Rattle.std.proofs.Common.{ℕ, Bool, true, false, Option, Some, None, if◌then◌else◌, ◌==◌, not, ◌≡◌, ◌≢◌}
+use Rattle.std.proofs.Common.{refl, sym, ◌∙◌, ap}
 use Rattle.spec_locks.specs.Codes.{count_in, has_aside}
 use Rattle.core_base.specs.declared.keys.Line.{Line}
 use Rattle.core_base.specs.declared.keys.Line.TheVariants.{Main, Second}
@@ -15,7 +16,8 @@ use Rattle.steps_base.specs.declared.acts.Act.TheVariants as act
 use Rattle.steps_base.specs.declared.acts.Next.{Next}
 use Rattle.steps_base.specs.declared.acts.Next.TheVariants.{At, End}
 use Rattle.steps_base.specs.declared.acts.Reply.{Reply}
-use Rattle.steps_base.specs.declared.acts.Reply.TheVariants.{Done, Value, Parked, Took, Picked, Removed, TakenBy, HandedBy, Late, Woken}
+use Rattle.steps_base.specs.declared.acts.Reply.TheVariants.{Done, Value, Parked, Took, Picked, Removed}
+use Rattle.steps_base.specs.declared.acts.Reply.TheVariants.{TakenBy, HandedBy, Late, Woken}
 use Rattle.steps_mutex.specs.declared.lock.LockAt.{LockAt}
 use Rattle.steps_mutex.specs.declared.lock.LockAt.TheVariants as lock
 use Rattle.steps_mutex.specs.declared.unlock.UnlockAt.{UnlockAt}
@@ -39,14 +41,19 @@ use Rattle.steps_rwlock.specs.declared.places.RwLockPlace.{RwLockPlace}
 use Rattle.steps_rwlock.specs.declared.purposes.RwLockPurpose.{RwLockPurpose}
 use Rattle.steps_rwlock.specs.declared.purposes.RwLockPurpose.TheVariants as purpose
 use Rattle.steps_rwlock.specs.RwLockCalls.{StandsAt}
-use Rattle.steps_rwlock.specs.RwLockSteps.{act_at, came_in_for, after_count, decided, decided_act, exchanged_next, looked, looked_by, missed, next_at, park_next, patience_at, rwlock_next}
+use Rattle.steps_rwlock.specs.RwLockSteps.{act_at, came_in_for, after_count, decided, decided_act}
+use Rattle.steps_rwlock.specs.RwLockSteps.{exchanged_next, looked, looked_by, missed, next_at, park_next}
+use Rattle.steps_rwlock.specs.RwLockSteps.{patience_at, rwlock_next}
 use Rattle.steps_rwlock_fair.specs.declared.places.RwLockCallPlace.{RwLockCallPlace}
-use Rattle.steps_rwlock_fair.specs.declared.places.RwLockCallPlace.TheVariants.{Plain, Glance, HandOver, Bump, Handed}
+use Rattle.steps_rwlock_fair.specs.declared.places.RwLockCallPlace.TheVariants.{Plain, Glance, HandOver, Bump}
+use Rattle.steps_rwlock_fair.specs.declared.places.RwLockCallPlace.TheVariants.{Handed}
 use Rattle.steps_rwlock_fair.specs.declared.handed.HandedAt.{HandedAt}
 use Rattle.steps_rwlock_fair.specs.declared.handed.HandedAt.TheVariants as handed
 use Rattle.steps_rwlock_fair.specs.declared.hand_over.HandOverAt.{HandOverAt}
 use Rattle.steps_rwlock_fair.specs.declared.hand_over.HandOverAt.TheVariants as handing
-use Rattle.steps_rwlock_fair.specs.FairSteps.{bump_next, call_next, given, glances, handed_by, handed_next, hand_over_act, has_room, woken_with, handed_woken, hand_over_next, plain_next, unless_given}
+use Rattle.steps_rwlock_fair.specs.FairSteps.{bump_next, call_next, given, glances, handed_by, handed_next}
+use Rattle.steps_rwlock_fair.specs.FairSteps.{hand_over_act, has_room, woken_with, handed_woken}
+use Rattle.steps_rwlock_fair.specs.FairSteps.{hand_over_next, plain_next, unless_given}
 use Rattle.lot_steps.specs.declared.places.Place.TheVariants.{Idle, Mutex, RwLock, Once, Condvar, Semaphore}
 use Rattle.steps_once.specs.declared.places.OncePlace.{OncePlace}
 use Rattle.steps_once.specs.OnceSteps.{once_next}
@@ -57,7 +64,9 @@ use Rattle.steps_condvar.specs.declared.places.CondvarPlace.{CondvarPlace}
 use Rattle.steps_condvar.specs.CondvarSteps.{condvar_next}
 use Rattle.lot_steps.specs.Steps.{act_of, condvar_goes, mutex_goes, next_place, once_goes, rwlock_goes}
 use Rattle.lot_machine.proofs.Acted.{Befalls, tells}
-use Rattle.lot_world.specs.Waits.{NothingBefallsWaiting, SleepersWait, WaitersGoOnWaiting, WaitersOnlyWait, waits_or_idle, waits_aside, waits_entering, waits_for, waits_rwlock, waits_upgrading}
+use Rattle.lot_world.specs.Waits.{NothingBefallsWaiting, SleepersWait, WaitersGoOnWaiting, WaitersOnlyWait}
+use Rattle.lot_world.specs.Waits.{waits_or_idle, waits_aside, waits_entering, waits_for, waits_rwlock}
+use Rattle.lot_world.specs.Waits.{waits_upgrading}
 
 -- whichever of two it is
 either_is : {A : Type 0} (P : A → Type 0) (b : Bool) (x y : A) → P x → P y → P (if b then x else y)
@@ -70,7 +79,8 @@ IsSilent a = tells a ≡ false
 -- ---------------------------------------------------------------- the thread that a waiter names
 
 lock_silent : (l : ℕ) (to : LockAt) → IsSilent (steps.lock_act l to)
-lock_silent l (lock.Decide seen) = either_is IsSilent (not (steps.is_locked seen)) _ _ refl (either_is IsSilent (seen == 1) _ _ refl refl)
+lock_silent l (lock.Decide seen) = either_is IsSilent (not (steps.is_locked seen)) _ _ refl
+    (either_is IsSilent (seen == 1) _ _ refl refl)
 lock_silent l lock.Check = refl
 lock_silent l to = refl
 
@@ -82,7 +92,11 @@ place_silent : (l : ℕ) (a : Admission) (q : RwLockPurpose) (b : Bool) (to : Rw
     → IsSilent (act_at l a (record { purpose = q; retries = b; at = to }) to)
 place_silent l a q b at.First h = refl
 place_silent l a q b at.Load h = refl
-place_silent l a q b (at.Decide seen) h = decided_silent l q seen (decided a (record { purpose = q; retries = b; at = at.Decide seen }) seen)
+place_silent l a q b (at.Decide seen) h = decided_silent l q seen (decided a (record {
+  purpose = q;
+  retries = b;
+  at = at.Decide seen;
+}) seen)
 place_silent l a q b (at.Park parking.Check) h = refl
 place_silent l a q b (at.Park to) h = refl
 place_silent l a q b at.Look h = refl
@@ -97,7 +111,8 @@ place_silent l a (purpose.Upgrade how) b (at.Wake m to) h = absurd cc
 place_silent l a (purpose.Release x) b (at.Wake m to) h = absurd cc
 place_silent l a (purpose.Downgrade d) b (at.Wake m to) h = absurd cc
 
-handed_silent : (l : ℕ) (a : Admission) (x : Access) (how : Patience) (b : Bool) (to : HandedAt) → IsSilent (act_of (RwLock l a (Handed x how b to)))
+handed_silent : (l : ℕ) (a : Admission) (x : Access) (how : Patience) (b : Bool) (to : HandedAt)
+    → IsSilent (act_of (RwLock l a (Handed x how b to)))
 handed_silent l a x how b (handed.Asleep by alone) = refl
 handed_silent l a access.Exclusive how b handed.Accept = refl
 handed_silent l a x how b handed.Accept = refl
@@ -147,8 +162,10 @@ module _ (a : Admission) (q : RwLockPurpose) (b : Bool) (was : RwLockAt)
   came_waits x e = tt
 
   exchanged_waits : (expected seen : ℕ) (d : Decision) → NextWaits (exchanged_next a p expected seen d)
-  exchanged_waits expected seen decisions.Take = either_is NextWaits (seen == expected) _ _ (came_waits q refl) (looked_waits seen)
-  exchanged_waits expected seen decisions.Mark = either_is NextWaits (seen == expected) _ _ (waiting (at.Decide _) refl) (looked_waits seen)
+  exchanged_waits expected seen decisions.Take = either_is NextWaits (seen == expected) _ _
+      (came_waits q refl) (looked_waits seen)
+  exchanged_waits expected seen decisions.Mark = either_is NextWaits (seen == expected) _ _
+      (waiting (at.Decide _) refl) (looked_waits seen)
   exchanged_waits expected seen d = looked_waits seen
 
   parked_waits : (to : ParkAt) (r : Reply) → IsNotLate r → NextWaits (park_next p Main to r)
@@ -170,7 +187,8 @@ module _ (a : Admission) (q : RwLockPurpose) (b : Bool) (was : RwLockAt)
   parked_waits parking.Clear r h = waiting (at.Park parking.Clear) refl
   parked_waits parking.GiveUp r h = waiting (at.Park parking.GiveUp) refl
 
-  aside_waits : (to : ParkAt) (r : Reply) → waits_aside to ≡ true → IsNotLate r → NextWaits (park_next p Second to r)
+  aside_waits : (to : ParkAt) (r : Reply) → waits_aside to ≡ true → IsNotLate r
+      → NextWaits (park_next p Second to r)
   aside_waits parking.Check (Parked parked) w h = waiting (at.Aside (parking.Leave parked)) refl
   aside_waits (parking.Leave true) Done w h = waiting (at.Aside parking.Asleep) refl
   aside_waits (parking.Leave false) Done w h = waiting at.Look refl
@@ -184,8 +202,10 @@ module _ (a : Admission) (q : RwLockPurpose) (b : Bool) (was : RwLockAt)
   aside_waits (parking.Taken by) r w h = waiting (at.Aside (parking.Taken by)) refl
   aside_waits to r w h = absurd cc
 
-  entering_waits : (to : RwLockAt) (r : Reply) → waits_entering to ≡ true → IsNotLate r → NextWaits (next_at a p to r)
-  entering_waits at.First (Value seen) w h = either_is NextWaits (seen == 0) _ _ tt (missed_waits (patience_at p))
+  entering_waits : (to : RwLockAt) (r : Reply) → waits_entering to ≡ true → IsNotLate r
+      → NextWaits (next_at a p to r)
+  entering_waits at.First (Value seen) w h = either_is NextWaits (seen == 0) _ _ tt
+      (missed_waits (patience_at p))
   entering_waits at.First r w h = waiting at.First refl
   entering_waits at.Load (Value seen) w h = looked_waits seen
   entering_waits at.Load r w h = waiting at.Load refl
@@ -195,7 +215,8 @@ module _ (a : Admission) (q : RwLockPurpose) (b : Bool) (was : RwLockAt)
   entering_waits (at.Park to) r w h = parked_waits to r h
   entering_waits at.Look (Value seen) w h = counted_waits seen
   entering_waits at.Look r w h = waiting at.Look refl
-  entering_waits (at.Count expected) (Value seen) w h = either_is NextWaits (seen == expected) _ _ (waiting at.Marked refl) (counted_waits seen)
+  entering_waits (at.Count expected) (Value seen) w h = either_is NextWaits (seen == expected) _ _
+      (waiting at.Marked refl) (counted_waits seen)
   entering_waits (at.Count expected) Done w h = waiting (at.Aside parking.Check) refl
   entering_waits (at.Count expected) r w h = waiting (at.Count expected) refl
   entering_waits at.Marked Done w h = waiting (at.Aside parking.Check) refl
@@ -218,7 +239,8 @@ module _ (a : Admission) (how : Patience) (b : Bool) (was : RwLockAt) where
   waiting_up (at.Aside to) h = h
   waiting_up to h = refl
 
-  upgrading_waits : (to : RwLockAt) (r : Reply) → waits_for upgrades to ≡ true → IsNotLate r → NextWaits (next_at a up to r)
+  upgrading_waits : (to : RwLockAt) (r : Reply) → waits_for upgrades to ≡ true → IsNotLate r
+      → NextWaits (next_at a up to r)
   upgrading_waits at.GiveWay (Value seen) w h = either_is NextWaits (count_in seen == 1) _ _ tt refl
   upgrading_waits at.GiveWay r w h = refl
   upgrading_waits at.RollBack r w h = absurd cc
@@ -226,15 +248,18 @@ module _ (a : Admission) (how : Patience) (b : Bool) (was : RwLockAt) where
   upgrading_waits (at.Aside to) r w h = entering_waits a upgrades b was waiting_up (at.Aside to) r w h
   upgrading_waits at.First r w h = entering_waits a upgrades b was waiting_up at.First r refl h
   upgrading_waits at.Load r w h = entering_waits a upgrades b was waiting_up at.Load r refl h
-  upgrading_waits (at.Decide seen) r w h = entering_waits a upgrades b was waiting_up (at.Decide seen) r refl h
+  upgrading_waits (at.Decide seen) r w h = entering_waits a upgrades b was waiting_up (at.Decide seen) r refl
+      h
   upgrading_waits (at.Park to) r w h = entering_waits a upgrades b was waiting_up (at.Park to) r refl h
   upgrading_waits at.Look r w h = entering_waits a upgrades b was waiting_up at.Look r refl h
   upgrading_waits (at.Count seen) r w h = entering_waits a upgrades b was waiting_up (at.Count seen) r refl h
   upgrading_waits at.Marked r w h = entering_waits a upgrades b was waiting_up at.Marked r refl h
 
-next_waits : (a : Admission) (q : RwLockPurpose) (b : Bool) (to : RwLockAt) (r : Reply) → waits_for q to ≡ true → IsNotLate r
+next_waits : (a : Admission) (q : RwLockPurpose) (b : Bool) (to : RwLockAt) (r : Reply) → waits_for q to
+    ≡ true → IsNotLate r
     → NextWaits (next_at a (record { purpose = q; retries = b; at = to }) to r)
-next_waits a (purpose.Enter x how) b to r w h = entering_waits a (purpose.Enter x how) b to (λ t e. e) to r w h
+next_waits a (purpose.Enter x how) b to r w h = entering_waits a (purpose.Enter x how) b to (λ t e. e) to r w
+    h
 next_waits a (purpose.Upgrade how) b to r w h = upgrading_waits a how b to to r w h
 next_waits a (purpose.Release x) b to r w h = absurd cc
 next_waits a (purpose.Downgrade d) b to r w h = absurd cc
@@ -245,18 +270,21 @@ abbrev CallWaits : Next RwLockCallPlace → Type 0
 CallWaits (At c) = waits_rwlock c ≡ true
 CallWaits (End answer) = Unit {0}
 
-goes_waits : (l : ℕ) (a : Admission) (n : Next RwLockCallPlace) → CallWaits n → waits_or_idle (rwlock_goes l a n) ≡ true
+goes_waits : (l : ℕ) (a : Admission) (n : Next RwLockCallPlace) → CallWaits n
+    → waits_or_idle (rwlock_goes l a n) ≡ true
 goes_waits l a (At c) h = h
 goes_waits l a (End answer) h = refl
 
-woken_waits : (x : Access) (how : Patience) (b alone : Bool) → waits_rwlock (handed_woken x how b alone) ≡ true
+woken_waits : (x : Access) (how : Patience) (b alone : Bool) → waits_rwlock (handed_woken x how b alone)
+    ≡ true
 woken_waits access.Exclusive how b true = refl
 woken_waits access.Exclusive how true false = refl
 woken_waits access.Exclusive how false false = refl
 woken_waits access.Shared how b alone = refl
 woken_waits access.Upgradable how b alone = refl
 
-handed_waits : (x : Access) (how : Patience) (b : Bool) (to : HandedAt) (r : Reply) → CallWaits (handed_next x how b to r)
+handed_waits : (x : Access) (how : Patience) (b : Bool) (to : HandedAt) (r : Reply)
+    → CallWaits (handed_next x how b to r)
 handed_waits x how b (handed.Asleep by alone) (Woken note.HandOff) = woken_waits x how b alone
 handed_waits x how b (handed.Asleep by alone) r = refl
 handed_waits x how b handed.Accept Done = tt
@@ -267,7 +295,8 @@ abbrev GivenWaits : Option RwLockCallPlace → Type 0
 GivenWaits None = Unit {0}
 GivenWaits (Some c) = waits_rwlock c ≡ true
 
-handed_given : (b : Bool) (q : RwLockPurpose) (to : RwLockAt) (by : ℕ) (alone : Bool) → GivenWaits (handed_by b q to by alone)
+handed_given : (b : Bool) (q : RwLockPurpose) (to : RwLockAt) (by : ℕ) (alone : Bool)
+    → GivenWaits (handed_by b q to by alone)
 handed_given b (purpose.Enter x how) (at.Park (parking.Taken u)) by alone = refl
 handed_given b (purpose.Enter x how) (at.Park to) by alone = tt
 handed_given b (purpose.Enter x how) to by alone = tt
@@ -285,7 +314,8 @@ given_waits b p (Woken note.HandOff) = woken_given b p.purpose p.at
 given_waits b p (Woken note.Normal) = tt
 given_waits b p r = tt
 
-unless_waits : (o : Option RwLockCallPlace) (n : Next RwLockCallPlace) → GivenWaits o → CallWaits n → CallWaits (unless_given o n)
+unless_waits : (o : Option RwLockCallPlace) (n : Next RwLockCallPlace) → GivenWaits o → CallWaits n
+    → CallWaits (unless_given o n)
 unless_waits None n g h = h
 unless_waits (Some c) n g h = g
 
@@ -300,12 +330,14 @@ bump_waits (purpose.Release access.Upgradable) (End answer) h = refl
 bump_waits (purpose.Release access.Exclusive) (End answer) h = refl
 bump_waits q (End answer) h = tt
 
-mutex_waits : (l : ℕ) (e : Entry) (retries : Bool) (n : Next LockAt) → waits_or_idle (mutex_goes l (steps.in_lock e retries n)) ≡ true
+mutex_waits : (l : ℕ) (e : Entry) (retries : Bool) (n : Next LockAt)
+    → waits_or_idle (mutex_goes l (steps.in_lock e retries n)) ≡ true
 mutex_waits l e retries (At to) = refl
 mutex_waits l e retries (End answer) = refl
 
 try_waits : (l : ℕ) (r : Reply) → waits_or_idle (mutex_goes l (steps.try_next r)) ≡ true
-try_waits l (Value seen) = either_is (λ (n : Next MutexPlace). waits_or_idle (mutex_goes l n) ≡ true) (steps.is_locked seen) _ _ refl refl
+try_waits l (Value seen) = either_is (λ (n : Next MutexPlace). waits_or_idle (mutex_goes l n) ≡ true)
+    (steps.is_locked seen) _ _ refl refl
 try_waits l r = refl
 
 once_waits : (l : ℕ) (n : Next OncePlace) → waits_or_idle (once_goes l n) ≡ true
@@ -322,12 +354,18 @@ condvar_waits l (End answer) = refl
 
 pub waiters_go_on_waiting : WaitersGoOnWaiting
 waiters_go_on_waiting Idle r late h = refl
-waiters_go_on_waiting (Mutex l (mutex.Lock e retries to)) r late h = mutex_waits l e _ (steps.next_lock e to r)
+waiters_go_on_waiting (Mutex l (mutex.Lock e retries to)) r late h =
+    mutex_waits l e _ (steps.next_lock e to r)
 waiters_go_on_waiting (Mutex l mutex.TryLock) r late h = try_waits l r
 waiters_go_on_waiting (Mutex l to) r late h = absurd cc
-waiters_go_on_waiting (RwLock l a (Plain p)) r late h = goes_waits l a (call_next a (Plain p) r) (unless_waits (given false p r) _ (given_waits false p r) (plain_waits (rwlock_next a p r) (next_waits a p.purpose p.retries p.at r h late)))
-waiters_go_on_waiting (RwLock l a (Bump p)) r late h = goes_waits l a (call_next a (Bump p) r) (unless_waits (given true p r) _ (given_waits true p r) (bump_waits p.purpose (rwlock_next a p r) (next_waits a p.purpose p.retries p.at r h late)))
-waiters_go_on_waiting (RwLock l a (Handed x how b to)) r late h = goes_waits l a (call_next a (Handed x how b to) r) (handed_waits x how b to r)
+waiters_go_on_waiting (RwLock l a (Plain p)) r late h = goes_waits l a (call_next a (Plain p) r)
+    (unless_waits (given false p r) _ (given_waits false p r) (plain_waits (rwlock_next a p r)
+    (next_waits a p.purpose p.retries p.at r h late)))
+waiters_go_on_waiting (RwLock l a (Bump p)) r late h = goes_waits l a (call_next a (Bump p) r)
+    (unless_waits (given true p r) _ (given_waits true p r) (bump_waits p.purpose (rwlock_next a p r)
+    (next_waits a p.purpose p.retries p.at r h late)))
+waiters_go_on_waiting (RwLock l a (Handed x how b to)) r late h =
+    goes_waits l a (call_next a (Handed x how b to) r) (handed_waits x how b to r)
 waiters_go_on_waiting (RwLock l a c) r late h = absurd cc
 waiters_go_on_waiting (Once l to) r late h = once_waits l (once_next to r)
 waiters_go_on_waiting (Semaphore l to) r late h = semaphore_waits l (semaphore_next to r)
@@ -339,7 +377,8 @@ pub either_sleeps : (b : Bool) (x y : Act) → x ≢ act.Sleep → y ≢ act.Sle
 either_sleeps true x y h k = h
 either_sleeps false x y h k = k
 
-pub decided_sleeps : (l : ℕ) (q : RwLockPurpose) (seen : ℕ) (d : Decision) → decided_act l q seen d ≢ act.Sleep
+pub decided_sleeps : (l : ℕ) (q : RwLockPurpose) (seen : ℕ) (d : Decision) → decided_act l q seen d
+    ≢ act.Sleep
 decided_sleeps l q seen decisions.Take h = cc
 decided_sleeps l q seen decisions.Mark h = cc
 decided_sleeps l q seen decisions.Park h = cc
@@ -368,7 +407,11 @@ sleeping l a q b (at.Aside parking.Clear) stands h = absurd cc
 sleeping l a q b (at.Aside parking.GiveUp) stands h = absurd cc
 sleeping l a q b at.First stands h = absurd cc
 sleeping l a q b at.Load stands h = absurd cc
-sleeping l a q b (at.Decide seen) stands h = absurd (decided_sleeps l q seen (decided a (record { purpose = q; retries = b; at = at.Decide seen }) seen) h)
+sleeping l a q b (at.Decide seen) stands h = absurd (decided_sleeps l q seen (decided a (record {
+  purpose = q;
+  retries = b;
+  at = at.Decide seen;
+}) seen) h)
 sleeping l a q b at.Look stands h = absurd cc
 sleeping l a q b (at.Count seen) stands h = absurd (either_sleeps (has_aside seen) _ _ (λ k. cc) (λ k. cc) h)
 sleeping l a q b at.Marked stands h = absurd cc
@@ -379,14 +422,16 @@ sleeping l a q b (at.Wake m waking.Take) stands h = absurd cc
 sleeping l a q b (at.Wake m (waking.Clear any)) stands h = absurd cc
 sleeping l a q b (at.Wake m (waking.Leave any)) stands h = absurd cc
 
-pub handing_wakes : (l : ℕ) (a : Admission) (x : Access) (to : HandOverAt) → hand_over_act l a x to ≢ act.Sleep
+pub handing_wakes : (l : ℕ) (a : Admission) (x : Access) (to : HandOverAt) → hand_over_act l a x to
+    ≢ act.Sleep
 handing_wakes l a x handing.Load h = cc
 handing_wakes l a x (handing.Free seen) h = cc
 handing_wakes l a x handing.Enter h = cc
 handing_wakes l a x handing.Take h = cc
 handing_wakes l a x (handing.Store k) h = cc
 handing_wakes l a x (handing.Look k) h = cc
-handing_wakes l a x (handing.Exchange k seen) h = either_sleeps (has_room a.limit k seen) _ _ (λ e. cc) (λ e. cc) h
+handing_wakes l a x (handing.Exchange k seen) h = either_sleeps (has_room a.limit k seen) _ _ (λ e. cc)
+    (λ e. cc) h
 handing_wakes l a x (handing.Leave any handed) h = cc
 
 pub unlock_wakes : (l : ℕ) (to : UnlockAt) → steps.unlock_act l to ≢ act.Sleep
@@ -481,7 +526,8 @@ abbrev IsBusy : Next RwLockPlace → Type 0
 IsBusy (At p) = waits_for p.purpose p.at ≡ false
 IsBusy (End answer) = ⊥
 
-busy_as : (q : RwLockPurpose) (n : Next RwLockPlace) → ((to : RwLockAt) → waits_for q to ≡ false) → GoesOnFor q n → IsBusy n
+busy_as : (q : RwLockPurpose) (n : Next RwLockPlace) → ((to : RwLockAt) → waits_for q to ≡ false)
+    → GoesOnFor q n → IsBusy n
 busy_as q (At p) never same = ap (λ x. waits_for x p.at) same ∙ never p.at
 busy_as q (End answer) never same = same
 
@@ -519,39 +565,59 @@ busy_late a q b was (at.Wake m (waking.Leave any)) r busy back x y z later h = b
 busy_late a q b was to r busy back x y z later h = absurd later
 
 busy_entering : (a : Admission) (x : Access) (how : Patience) (b : Bool) (was to : RwLockAt) (r : Reply)
-    → waits_entering to ≡ false → Befalls r → IsBusy (next_at a (record { purpose = purpose.Enter x how; retries = b; at = was }) to r)
+    → waits_entering to ≡ false → Befalls r → IsBusy (next_at a (record {
+      purpose = purpose.Enter x how;
+      retries = b;
+      at = was;
+    }) to r)
 busy_entering a x how b was at.GiveWay (Value seen) w h = absurd h
 busy_entering a x how b was at.GiveWay r w h = refl
-busy_entering a x how b was at.RollBack r w h = busy_late a (purpose.Enter x how) b was at.RollBack r (λ m w. refl) refl refl refl refl tt h
-busy_entering a x how b was (at.Wake m to) r w h = busy_late a (purpose.Enter x how) b was (at.Wake m to) r (λ m w. refl) refl refl refl refl tt h
-busy_entering a x how b was (at.Aside parking.Remove) r w h = busy_late a (purpose.Enter x how) b was (at.Aside parking.Remove) r (λ m w. refl) refl refl refl refl tt h
-busy_entering a x how b was (at.Aside parking.Clear) r w h = busy_late a (purpose.Enter x how) b was (at.Aside parking.Clear) r (λ m w. refl) refl refl refl refl tt h
-busy_entering a x how b was (at.Aside parking.GiveUp) r w h = busy_late a (purpose.Enter x how) b was (at.Aside parking.GiveUp) r (λ m w. refl) refl refl refl refl tt h
+busy_entering a x how b was at.RollBack r w h = busy_late a (purpose.Enter x how) b was at.RollBack r
+    (λ m w. refl) refl refl refl refl tt h
+busy_entering a x how b was (at.Wake m to) r w h = busy_late a (purpose.Enter x how) b was (at.Wake m to) r
+    (λ m w. refl) refl refl refl refl tt h
+busy_entering a x how b was (at.Aside parking.Remove) r w h = busy_late a (purpose.Enter x how) b was
+    (at.Aside parking.Remove) r (λ m w. refl) refl refl refl refl tt h
+busy_entering a x how b was (at.Aside parking.Clear) r w h = busy_late a (purpose.Enter x how) b was
+    (at.Aside parking.Clear) r (λ m w. refl) refl refl refl refl tt h
+busy_entering a x how b was (at.Aside parking.GiveUp) r w h = busy_late a (purpose.Enter x how) b was
+    (at.Aside parking.GiveUp) r (λ m w. refl) refl refl refl refl tt h
 busy_entering a x how b was to r w h = absurd cc
 
-busy_upgrading : (a : Admission) (how : Patience) (b : Bool) (was to : RwLockAt) (r : Reply) → waits_upgrading to ≡ false → Befalls r
+busy_upgrading : (a : Admission) (how : Patience) (b : Bool) (was to : RwLockAt) (r : Reply)
+    → waits_upgrading to ≡ false → Befalls r
     → IsBusy (next_at a (record { purpose = purpose.Upgrade how; retries = b; at = was }) to r)
-busy_upgrading a how b was at.RollBack r w h = busy_late a (purpose.Upgrade how) b was at.RollBack r (λ m w. refl) refl refl refl refl tt h
-busy_upgrading a how b was (at.Wake m to) r w h = busy_late a (purpose.Upgrade how) b was (at.Wake m to) r (λ m w. refl) refl refl refl refl tt h
-busy_upgrading a how b was (at.Aside parking.Remove) r w h = busy_late a (purpose.Upgrade how) b was (at.Aside parking.Remove) r (λ m w. refl) refl refl refl refl tt h
-busy_upgrading a how b was (at.Aside parking.Clear) r w h = busy_late a (purpose.Upgrade how) b was (at.Aside parking.Clear) r (λ m w. refl) refl refl refl refl tt h
-busy_upgrading a how b was (at.Aside parking.GiveUp) r w h = busy_late a (purpose.Upgrade how) b was (at.Aside parking.GiveUp) r (λ m w. refl) refl refl refl refl tt h
+busy_upgrading a how b was at.RollBack r w h = busy_late a (purpose.Upgrade how) b was at.RollBack r
+    (λ m w. refl) refl refl refl refl tt h
+busy_upgrading a how b was (at.Wake m to) r w h = busy_late a (purpose.Upgrade how) b was (at.Wake m to) r
+    (λ m w. refl) refl refl refl refl tt h
+busy_upgrading a how b was (at.Aside parking.Remove) r w h = busy_late a (purpose.Upgrade how) b was
+    (at.Aside parking.Remove) r (λ m w. refl) refl refl refl refl tt h
+busy_upgrading a how b was (at.Aside parking.Clear) r w h = busy_late a (purpose.Upgrade how) b was
+    (at.Aside parking.Clear) r (λ m w. refl) refl refl refl refl tt h
+busy_upgrading a how b was (at.Aside parking.GiveUp) r w h = busy_late a (purpose.Upgrade how) b was
+    (at.Aside parking.GiveUp) r (λ m w. refl) refl refl refl refl tt h
 busy_upgrading a how b was to r w h = absurd cc
 
-next_busy : (a : Admission) (q : RwLockPurpose) (b : Bool) (to : RwLockAt) (r : Reply) → waits_for q to ≡ false → Befalls r
+next_busy : (a : Admission) (q : RwLockPurpose) (b : Bool) (to : RwLockAt) (r : Reply) → waits_for q to
+    ≡ false → Befalls r
     → IsBusy (next_at a (record { purpose = q; retries = b; at = to }) to r)
 next_busy a (purpose.Enter x how) b to r w h = busy_entering a x how b to to r w h
 next_busy a (purpose.Upgrade how) b to r w h = busy_upgrading a how b to to r w h
-next_busy a (purpose.Release x) b to r w h = busy_as (purpose.Release x) _ (λ t. refl) (goes_on a (purpose.Release x) b to to r h)
-next_busy a (purpose.Downgrade d) b to r w h = busy_as (purpose.Downgrade d) _ (λ t. refl) (goes_on a (purpose.Downgrade d) b to to r h)
+next_busy a (purpose.Release x) b to r w h = busy_as (purpose.Release x) _ (λ t. refl)
+    (goes_on a (purpose.Release x) b to to r h)
+next_busy a (purpose.Downgrade d) b to r w h = busy_as (purpose.Downgrade d) _ (λ t. refl)
+    (goes_on a (purpose.Downgrade d) b to to r h)
 
 -- nobody hands it anything
-handed_none : (b : Bool) (q : RwLockPurpose) (to : RwLockAt) (by : ℕ) (alone : Bool) → waits_for q to ≡ false → handed_by b q to by alone ≡ None
+handed_none : (b : Bool) (q : RwLockPurpose) (to : RwLockAt) (by : ℕ) (alone : Bool) → waits_for q to ≡ false
+    → handed_by b q to by alone ≡ None
 handed_none b (purpose.Enter x how) (at.Park to) by alone w = absurd cc
 handed_none b (purpose.Enter x how) to by alone w = refl
 handed_none b q to by alone w = refl
 
-woken_none : (b : Bool) (q : RwLockPurpose) (to : RwLockAt) → waits_for q to ≡ false → woken_with b q to ≡ None
+woken_none : (b : Bool) (q : RwLockPurpose) (to : RwLockAt) → waits_for q to ≡ false → woken_with b q to
+    ≡ None
 woken_none b (purpose.Enter x how) (at.Park to) w = absurd cc
 woken_none b (purpose.Enter x how) to w = refl
 woken_none b q to w = refl
@@ -566,7 +632,8 @@ abbrev CallBusy : Next RwLockCallPlace → Type 0
 CallBusy (At c) = waits_rwlock c ≡ false
 CallBusy (End answer) = ⊥
 
-goes_busy : (l : ℕ) (a : Admission) (n : Next RwLockCallPlace) → CallBusy n → waits_or_idle (rwlock_goes l a n) ≡ false
+goes_busy : (l : ℕ) (a : Admission) (n : Next RwLockCallPlace) → CallBusy n
+    → waits_or_idle (rwlock_goes l a n) ≡ false
 goes_busy l a (At c) h = h
 goes_busy l a (End answer) h = absurd h
 
@@ -582,7 +649,8 @@ glance_busy : (a : Admission) (x : Access) (r : Reply) → Befalls r → CallBus
 glance_busy a x (Value seen) h = absurd h
 glance_busy a x r h = refl
 
-hand_over_busy : (a : Admission) (x : Access) (b : Bool) (to : HandOverAt) (r : Reply) → Befalls r → CallBusy (hand_over_next a x b to r)
+hand_over_busy : (a : Admission) (x : Access) (b : Bool) (to : HandOverAt) (r : Reply) → Befalls r
+    → CallBusy (hand_over_next a x b to r)
 hand_over_busy a x b handing.Load (Value seen) h = absurd h
 hand_over_busy a x b handing.Load r h = refl
 hand_over_busy a x b (handing.Free expected) (Value seen) h = absurd h
@@ -600,14 +668,18 @@ hand_over_busy a x b (handing.Exchange k expected) r h = refl
 hand_over_busy a x b (handing.Leave any handed) Done h = absurd h
 hand_over_busy a x b (handing.Leave any handed) r h = refl
 
-call_busy : (a : Admission) (c : RwLockCallPlace) (r : Reply) → waits_rwlock c ≡ false → Befalls r → CallBusy (call_next a c r)
-call_busy a (Plain p) r w h = rw (given_none false p r w) (plain_busy (rwlock_next a p r) (next_busy a p.purpose p.retries p.at r w h))
-call_busy a (Bump p) r w h = rw (given_none true p r w) (bump_busy p.purpose (rwlock_next a p r) (next_busy a p.purpose p.retries p.at r w h))
+call_busy : (a : Admission) (c : RwLockCallPlace) (r : Reply) → waits_rwlock c ≡ false → Befalls r
+    → CallBusy (call_next a c r)
+call_busy a (Plain p) r w h = rw (given_none false p r w)
+    (plain_busy (rwlock_next a p r) (next_busy a p.purpose p.retries p.at r w h))
+call_busy a (Bump p) r w h = rw (given_none true p r w) (bump_busy p.purpose (rwlock_next a p r)
+    (next_busy a p.purpose p.retries p.at r w h))
 call_busy a (Glance x) r w h = glance_busy a x r h
 call_busy a (HandOver x b to) r w h = hand_over_busy a x b to r h
 call_busy a (Handed x how b to) r w h = absurd cc
 
-unlock_busy : (l : ℕ) (to : UnlockAt) (r : Reply) → Befalls r → waits_or_idle (mutex_goes l (steps.in_unlock (steps.next_unlock to r))) ≡ false
+unlock_busy : (l : ℕ) (to : UnlockAt) (r : Reply) → Befalls r
+    → waits_or_idle (mutex_goes l (steps.in_unlock (steps.next_unlock to r))) ≡ false
 unlock_busy l unlock.Subtract (Value seen) h = absurd h
 unlock_busy l unlock.Subtract r h = refl
 unlock_busy l unlock.Enter Done h = absurd h

@@ -16,7 +16,8 @@ pub data Course : ℕ → State → Type 0 where
   Over : {w : State} → Course zero w
   Alone : {n : ℕ} {w : State} (t : ℕ) → awake w t ≡ true → Course n (after_alone w t) → Course (suc n) w
   Release : {n : ℕ} {w : State} (t : ℕ) (c : Call) (x : Want) (fair : Bool) → MayBegin (locks_of w) t c
-      → purpose_at (locks_of w) c ≡ Some (Releases 0 x fair) → Course n (after_release w t c) → Course (suc n) w
+      → purpose_at (locks_of w) c ≡ Some (Releases 0 x fair) → Course n (after_release w t c)
+      → Course (suc n) w
 
 abbrev pub end_of : {n : ℕ} {w : State} → Course n w → State
 end_of (Over {w}) = w

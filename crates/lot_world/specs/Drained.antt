@@ -1,7 +1,8 @@
 -- The end of a drain, told of one lock and of each thread's part in it: no word, no place and no
 -- loop.
 use Rattle.std.specs.Prelude.{ℕ, true, false, Some, None, ◌≡◌, ◌≢◌, ◌≤◌, ◌<◌, ◌+◌, [], length, slice_index}
-use Rattle.spec_locks.specs.Locks.{LockState, Rules, Sort, Mutex, Normal, Recursive, Semaphore, Once, Condvar, one_if_thread, readers}
+use Rattle.spec_locks.specs.Locks.{LockState, Rules, Sort, Mutex, Normal, Recursive, Semaphore, Once, Condvar}
+use Rattle.spec_locks.specs.Locks.{one_if_thread, readers}
 use Rattle.spec_locks.specs.Sites.{Role, Site, IsSite, is_full, after_deed, Needed, Deed}
 
 -- a thread that is in no call, or sleeps: it is to wake nobody, has nobody in hand, and wasn't woken

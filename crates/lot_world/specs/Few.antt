@@ -3,8 +3,10 @@ use Rattle.std.specs.Prelude.{ℕ, Bool, true, false, Option, Some, None, ◌≡
 use Rattle.spec_locks.specs.declared.outcomes.Outcome.{Outcome}
 use Rattle.spec_locks.specs.declared.calls.Call.{Call}
 use Rattle.spec_locks.specs.Locks.{Rights, standing, with_right}
-use Rattle.spec_locks.specs.Purposes.{Purpose, Enters, Releases, Converts, Bumps, CallsOnce, Awaits, Waits, Notifies, lock_for}
-use Rattle.spec_locks.specs.Runs.{CallState, LocksState, AreLockStates, GoesOn, Stays, HasRight, new_call, no_rights, purpose_at, rights_in}
+use Rattle.spec_locks.specs.Purposes.{Purpose, Enters, Releases, Converts, Bumps, CallsOnce, Awaits, Waits}
+use Rattle.spec_locks.specs.Purposes.{Notifies, lock_for}
+use Rattle.spec_locks.specs.Runs.{CallState, LocksState, AreLockStates, GoesOn, Stays, HasRight, new_call}
+use Rattle.spec_locks.specs.Runs.{no_rights, purpose_at, rights_in}
 
 -- how many rights a thread has
 abbrev pub number : Rights → ℕ

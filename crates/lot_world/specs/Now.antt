@@ -7,7 +7,8 @@ use Rattle.spec_locks.specs.Runs.{MayBegin, purpose_at}
 use Rattle.lot_laws.specs.Refinement.{locks_of}
 use Rattle.lot_world.specs.Turns.{NobodyInside, after_alone, after_release, begin_of}
 use Rattle.spec_locks.specs.Locks.{Rules}
-use Rattle.spec_locks.specs.Sites.{Site, IsSite, Deed, Out, Bring, Send, LeaveLine, Case, has_readers, is_full}
+use Rattle.spec_locks.specs.Sites.{Site, IsSite, Deed, Out, Bring, Send, LeaveLine, Case, has_readers}
+use Rattle.spec_locks.specs.Sites.{is_full}
 use Rattle.lot_machine.specs.Machine.{State, after, go_of}
 use Rattle.lot_laws.specs.MutexDeeds.{Act}
 use Rattle.lot_laws.specs.SitesOf.{ActsNeeded, after_acts}

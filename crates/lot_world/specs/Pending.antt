@@ -2,7 +2,8 @@
 use Rattle.std.specs.Prelude.{ℕ, Option, Some, None, ◌≡◌, ◌≤◌}
 use Rattle.spec_locks.specs.declared.outcomes.Outcome.{Outcome}
 use Rattle.spec_locks.specs.Locks.{Rights, standing}
-use Rattle.spec_locks.specs.Purposes.{MayWait, Purpose, Enters, Releases, Converts, Bumps, CallsOnce, Awaits, Waits, Notifies}
+use Rattle.spec_locks.specs.Purposes.{MayWait, Purpose, Enters, Releases, Converts, Bumps, CallsOnce, Awaits}
+use Rattle.spec_locks.specs.Purposes.{Waits, Notifies}
 use Rattle.spec_locks.specs.Runs.{LocksState, AreLockStates, GoesOn, rights_in}
 use Rattle.lot_world.specs.Few.{IsOfOneLock}
 

@@ -1,7 +1,8 @@
 -- The schedule that drains a world of one lock. A thread inside a section leaves it. Then one thread after
 -- another goes on alone until it rests: the first that is up. Where none is, the first between its calls
 -- that may release the lock does so.
-use Rattle.std.specs.Prelude.{ℕ, zero, suc, if◌then◌else◌, Option, Some, None, ◌==◌, ◌+◌, ◌*◌, List, [], ◌∷◌, ◌++◌, length}
+use Rattle.std.specs.Prelude.{ℕ, zero, suc, if◌then◌else◌, Option, Some, None, ◌==◌, ◌+◌, ◌*◌, List, [], ◌∷◌}
+use Rattle.std.specs.Prelude.{◌++◌, length}
 use Rattle.spec_locks.specs.declared.calls.Access.TheVariants as access
 use Rattle.spec_locks.specs.declared.calls.Call.{Call}
 use Rattle.spec_locks.specs.declared.calls.Call.TheVariants as call
@@ -14,7 +15,8 @@ use Rattle.spec_locks.specs.declared.calls.Turn.TheVariants as turn
 use Rattle.spec_locks.specs.declared.kinds.Kind.{Kind}
 use Rattle.spec_locks.specs.declared.outcomes.Outcome.{Outcome}
 use Rattle.spec_locks.specs.declared.outcomes.Outcome.TheVariants as outcome
-use Rattle.lot_machine.specs.Machine.{State, after, can_begin, go_of, kind_at, place_at, section_at, step_outcome, word_at}
+use Rattle.lot_machine.specs.Machine.{State, after, can_begin, go_of, kind_at, place_at, section_at}
+use Rattle.lot_machine.specs.Machine.{step_outcome, word_at}
 use Rattle.lot_machine.specs.Fits.{is_rwlock}
 pub use Rattle.lot_world.specs.Owners.{releases}
 pub use Rattle.lot_world.specs.Turns.{begin_of, is_up}

@@ -3,7 +3,8 @@ ghost use Rattle.std.specs.Prelude.{◌≡◌, ◌<◌, ◌≤◌, length};
 ghost use Rattle.lot_laws.specs.Refinement.{lock_state};
 ghost use Rattle.spec_locks.specs.Locks.{rights_of};
 ghost use Rattle.lot_world.specs.Drains.{number};
-ghost use Rattle.lot_world.specs.Drainable.{is_drainable, has_owners, is_below, are_below, all_hold_few, holds_few, one_if, rights_held, rights_gained};
+ghost use Rattle.lot_world.specs.Drainable.{is_drainable, has_owners, is_below, are_below, all_hold_few};
+ghost use Rattle.lot_world.specs.Drainable.{holds_few, one_if, rights_held, rights_gained};
 
 use crate::gains::{Gain, gain_of, may_pend};
 use core_base::Queues;

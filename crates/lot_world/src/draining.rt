@@ -2,7 +2,10 @@
 ghost use Rattle.std.specs.Prelude.{◌≡◌, ◌<◌, ◌^◌, IfOk, IfErr, length};
 ghost use Rattle.lot_machine.specs.Machine.{go_of, kind_at, step_outcome};
 ghost use Rattle.lot_machine.specs.Fits.{IsWellFormed};
-ghost use Rattle.lot_world.specs.Schedules.{one_more, alone_by, begin_of, go_alone, call_alone, out_of_second, out_of_main, is_up, first_up, releases, first_begin, first_release, next_turn, turn_taken, turns, most_turns, entry_call, fair_release_of, clear, schedule_of};
+ghost use Rattle.lot_world.specs.Schedules.{one_more, alone_by, begin_of, go_alone, call_alone};
+ghost use Rattle.lot_world.specs.Schedules.{out_of_second, out_of_main, is_up, first_up, releases};
+ghost use Rattle.lot_world.specs.Schedules.{first_begin, first_release, next_turn, turn_taken, turns};
+ghost use Rattle.lot_world.specs.Schedules.{most_turns, entry_call, fair_release_of, clear, schedule_of};
 
 use core_base::{Fault, Queues, main_key, second_key};
 use lot_machine::Machine;

@@ -1,6 +1,7 @@
 //! The gain of a call that began with nothing, or that has given up the right that it began with.
 ghost use Rattle.std.specs.Prelude.{◌≡◌};
-ghost use Rattle.lot_world.specs.Drainable.{gain_of, may_pend, mutex_gain, call_gain, bump_gain, entry_gain, handed_gain};
+ghost use Rattle.lot_world.specs.Drainable.{gain_of, may_pend, mutex_gain, call_gain, bump_gain, entry_gain};
+ghost use Rattle.lot_world.specs.Drainable.{handed_gain};
 
 use lot_steps::Place;
 use spec_locks::Access;

@@ -1,7 +1,9 @@
 //! The ground of a drain of one lock, told of the places of calls.
 ghost use Rattle.lot_world.specs.Owned.{PlacesOwnFew, QueuedOwnNothing};
-ghost use Rattle.lot_world.specs.Sleepers.{PendingOwnNothing, SleepersOwnNothing, SleepersRest, SleepersStand};
-ghost use Rattle.lot_world.specs.Waits.{NothingBefallsWaiting, SleepersWait, WaitersGoOnWaiting, WaitersOnlyWait};
+ghost use Rattle.lot_world.specs.Sleepers.{PendingOwnNothing, SleepersOwnNothing, SleepersRest};
+ghost use Rattle.lot_world.specs.Sleepers.{SleepersStand};
+ghost use Rattle.lot_world.specs.Waits.{NothingBefallsWaiting, SleepersWait, WaitersGoOnWaiting};
+ghost use Rattle.lot_world.specs.Waits.{WaitersOnlyWait};
 
 /// Shows that a call which only waits tells nobody anything.
 pub fn waiters_only_wait()

@@ -1,7 +1,11 @@
 -- The names of the modes.
 use Rattle.std.specs.Prelude.{◌≡◌, ◌≢◌, ℕ, List, codes, Option, MatchOption}
 use Rattle.lotbench.specs.declared.plans.Mode.{Mode}
-use Rattle.lotbench.specs.declared.plans.Mode.TheVariants.{RawMutex, RawMutexTry, Mutex, MutexTry, Fair, Many, ManyFair, Remutex, Remutex2, RawRead, RawWrite, Read, Write, RwMix, ReadRecursive, Upgradable, Upgrade, Downgrade, Once, Semaphore, Semaphore2, Notify, NotifyAll, PingPong, ManyTurns, Queue}
+use Rattle.lotbench.specs.declared.plans.Mode.TheVariants.{RawMutex, RawMutexTry, Mutex, MutexTry, Fair, Many}
+use Rattle.lotbench.specs.declared.plans.Mode.TheVariants.{ManyFair, Remutex, Remutex2, RawRead, RawWrite}
+use Rattle.lotbench.specs.declared.plans.Mode.TheVariants.{Read, Write, RwMix, ReadRecursive, Upgradable}
+use Rattle.lotbench.specs.declared.plans.Mode.TheVariants.{Upgrade, Downgrade, Once, Semaphore, Semaphore2}
+use Rattle.lotbench.specs.declared.plans.Mode.TheVariants.{Notify, NotifyAll, PingPong, ManyTurns, Queue}
 
 abbrev pub mode_name : Mode → List ℕ
 mode_name RawMutex = codes "raw_mutex"

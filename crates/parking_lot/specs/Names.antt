@@ -7,6 +7,8 @@ pub use Rattle.raw_mutexes.specs.CondvarWords.{lot_of as lot_of_condvar}
 pub use Rattle.raw_mutexes.specs.Counting.{thread_of}
 pub use Rattle.raw_mutexes.specs.Words.{lot_of, word_of}
 pub use Rattle.raw_rwlocks.specs.RwLockGuards.{IsSharedOf, IsUpgradableOf, IsExclusiveOf}
-pub use Rattle.raw_rwlocks.specs.RwLockUsers.{admission_of, lot_of as lot_of_rwlock, word_of as word_of_rwlock}
+pub use Rattle.raw_rwlocks.specs.RwLockUsers.{admission_of, lot_of as lot_of_rwlock}
+pub use Rattle.raw_rwlocks.specs.RwLockUsers.{word_of as word_of_rwlock}
 pub use Rattle.run_signals.specs.OnceUsers.{lot_of as lot_of_once, number_of as number_of_once}
-pub use Rattle.run_signals.specs.SemaphoreUsers.{lot_of as lot_of_semaphore, number_of as number_of_semaphore, permits_of, semaphore_of}
+pub use Rattle.run_signals.specs.SemaphoreUsers.{lot_of as lot_of_semaphore, number_of as number_of_semaphore}
+pub use Rattle.run_signals.specs.SemaphoreUsers.{permits_of, semaphore_of}

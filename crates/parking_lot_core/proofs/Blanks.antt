@@ -16,5 +16,6 @@ blank_val = vstruct vnil
 abbrev pub Blank : RattleType
 Blank = Struct (shape tellings.the_type)
 
-pub blank_made : {M : Type 1} {𝓤 : Ura M} (𝓛 : Logic 𝓤) → ent 𝓤 (emp 𝓤) (sem 𝓛 (Blank.own_val tt (blank_val ∷ [])))
+pub blank_made : {M : Type 1} {𝓤 : Ura M} (𝓛 : Logic 𝓤)
+    → ent 𝓤 (emp 𝓤) (sem 𝓛 (Blank.own_val tt (blank_val ∷ [])))
 blank_made 𝓛 = makes_shadow 𝓛 (Blank.own_val tt (blank_val ∷ [])) (λ uss. (tt, tt)) (tt, (refl, tt))

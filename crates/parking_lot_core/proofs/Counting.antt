@@ -1,5 +1,6 @@
 -- Counts of mutexes: an ownership is taken in, says another count, and is split off again.
-use Rattle.std.proofs.Common.{◌≡◌, ◌≢◌, ◌∙◌, ℕ, ◌+◌, List, ◌∷◌, inr, ◌<◌, ◌||◌, true, cond, eqb, eq-eqb, ne_eqb, ap, arith, refl, sym, subst}
+use Rattle.std.proofs.Common.{◌≡◌, ◌≢◌, ◌∙◌, ℕ, ◌+◌, List, ◌∷◌, inr, ◌<◌, ◌||◌, true, cond, eqb, eq-eqb}
+use Rattle.std.proofs.Common.{ne_eqb, ap, arith, refl, sym, subst}
 use Rattle.core_base.specs.declared.ops.Op.TheVariants.{Load, Store}
 use Rattle.core_words.proofs.Trades.{is_itself}
 use Rattle.core_words.specs.Codes.{IsCountCode, exclusive}
@@ -27,17 +28,22 @@ module _ (m n said next : ℕ) (behind : n ≡ m + 1) (other : said ≢ next) wh
   abbrev x : ℕ → Ownership
   x count = owning_with (word_index m Mutex) count
 
-  says : (owns : List Ownership) → says_instead (mutex_of_count (word_index n Count)) said next (x said ∷ owns) ≡ x next ∷ owns
+  says : (owns : List Ownership) → says_instead (mutex_of_count (word_index n Count)) said next
+      (x said ∷ owns) ≡ x next ∷ owns
   says owns = let back : mutex_of_count (word_index n Count) ≡ word_index m Mutex = omega (arith, behind) in
       ap (λ (i : ℕ). says_instead i said next (x said ∷ owns)) back
       ∙ (ap (λ b. cond b (x said ∷ owns) (x next ∷ without (x said) (x said ∷ owns))) (ne_eqb said next other)
       ∙ ap (λ os. x next ∷ os) (without_first (x said) owns))
 
-  module _ (v w u : View) (joined : w ≡ takes_in v (piece (x said))) (stepped : u ≡ after_step Count (word_index n Count) (Store next) said w) where
+  module _ (v w u : View) (joined : w ≡ takes_in v (piece (x said))) (stepped : u ≡ after_step Count
+      (word_index n Count) (Store next) said w) where
     -- after the store the thread says the new count
-    said_behind : u ≡ view (one_more_step v (word_index n Count) (Store next) said) (x next ∷ v.owns) v.drawn v.saw
-    said_behind = stepped ∙ (ap (λ (y : View). after_step Count (word_index n Count) (Store next) said y) joined
-        ∙ ap (λ os. view (one_more_step v (word_index n Count) (Store next) said) os v.drawn v.saw) (says v.owns))
+    said_behind : u ≡ view (one_more_step v (word_index n Count) (Store next) said) (x next ∷ v.owns) v.drawn
+        v.saw
+    said_behind = stepped ∙ (ap (λ (y : View). after_step Count (word_index n Count) (Store next) said y)
+        joined
+        ∙ ap (λ os. view (one_more_step v (word_index n Count) (Store next) said) os v.drawn v.saw)
+        (says v.owns))
 
     pub says_next : has (x next) u.owns ≡ true
     says_next = subst (λ (y : View). has (x next) y.owns ≡ true) (sym said_behind) (has_first (x next) v.owns)
@@ -45,16 +51,21 @@ module _ (m n said next : ℕ) (behind : n ≡ m + 1) (other : said ≢ next) wh
     -- A thread without the share that it splits off owns what it did.
     pub splits_next : left_over (x next) u ≡ stepping v (word_index n Count) (Store next) said
     splits_next = ap (λ (y : View). left_over (x next) y) said_behind
-        ∙ ap (λ os. view (one_more_step v (word_index n Count) (Store next) said) os v.drawn v.saw) (without_first (x next) v.owns)
+        ∙ ap (λ os. view (one_more_step v (word_index n Count) (Store next) said) os v.drawn v.saw)
+        (without_first (x next) v.owns)
 
 -- after a look at the count the thread says what it said
-module _ (m n said : ℕ) (v w u : View) (joined : w ≡ takes_in v (piece (owning_with (word_index m Mutex) said))) (stepped : u ≡ after_step Count (word_index n Count) Load said w) where
+module _ (m n said : ℕ) (v w u : View)
+    (joined : w ≡ takes_in v (piece (owning_with (word_index m Mutex) said)))
+    (stepped : u ≡ after_step Count (word_index n Count) Load said w) where
   abbrev kept : Ownership
   kept = owning_with (word_index m Mutex) said
 
   heard_behind : u ≡ view (one_more_step v (word_index n Count) Load said) (kept ∷ v.owns) v.drawn v.saw
   heard_behind = stepped ∙ (ap (λ (y : View). after_step Count (word_index n Count) Load said y) joined
-      ∙ ap (λ b. view (one_more_step v (word_index n Count) Load said) (cond b (kept ∷ v.owns) (owning_with (mutex_of_count (word_index n Count)) said ∷ without (owning_with (mutex_of_count (word_index n Count)) said) (kept ∷ v.owns))) v.drawn v.saw)
+      ∙ ap (λ b. view (one_more_step v (word_index n Count) Load said) (cond b (kept ∷ v.owns)
+      (owning_with (mutex_of_count (word_index n Count)) said ∷ without
+      (owning_with (mutex_of_count (word_index n Count)) said) (kept ∷ v.owns))) v.drawn v.saw)
       (eq-eqb said said refl))
 
   pub says_still : has kept u.owns ≡ true
@@ -62,14 +73,17 @@ module _ (m n said : ℕ) (v w u : View) (joined : w ≡ takes_in v (piece (owni
 
   pub splits_still : left_over kept u ≡ stepping v (word_index n Count) Load said
   splits_still = ap (λ (y : View). left_over kept y) heard_behind
-      ∙ ap (λ os. view (one_more_step v (word_index n Count) Load said) os v.drawn v.saw) (without_first kept v.owns)
+      ∙ ap (λ os. view (one_more_step v (word_index n Count) Load said) os v.drawn v.saw)
+      (without_first kept v.owns)
 
 -- the first count is one
 pub first_code : (thread first : ℕ) → first ≡ first_said thread → IsCountCode first × (0 < first)
 first_code thread first is = (inr (thread, 1, is, omega arith, omega arith), omega (arith, is))
 
 -- nobody owns a mutex twice
-pub owned_once : (i said n : ℕ) (rest owns : List Ownership) → owns ≡ owning_with i said ∷ owning i Exclusive ∷ rest → CodesWith Mutex i n owns → ⊥
-owned_once i said n rest owns are code = let own : ◌≡◌ {A = ℕ} (cond (eqb i i) 1 0) 1 = ap (λ b. cond b 1 0) (eq-eqb i i refl) in
+pub owned_once : (i said n : ℕ) (rest owns : List Ownership) → owns ≡ owning_with i said ∷ owning i Exclusive
+    ∷ rest → CodesWith Mutex i n owns → ⊥
+owned_once i said n rest owns are code = let own : ◌≡◌ {A = ℕ} (cond (eqb i i) 1 0) 1 =
+    ap (λ b. cond b 1 0) (eq-eqb i i refl) in
     let two = subst (λ (os : List Ownership). CodesWith Mutex i n os) are code in
     let fewer = two.2 exclusive in let coded = two.1 in let last = coded.2 in omega (arith, own, fewer, last)

@@ -7,12 +7,14 @@ use Rattle.parking_lot_core.specs.declared.lot.ParkingLot.{ParkingLot}
 use Rattle.parking_lot_core.specs.declared.sleep.Slept.{Slept}
 use Rattle.parking_lot_core.specs.declared.sleep.Slept.TheVariants.{Woken, Handed, Late}
 
-pub woken_slept : (lot : ParkingLot) (thread : ℕ) (word : Word) (wanted : Want) (slept : Slept) → IsWoken lot word wanted slept → IsSlept lot thread word wanted slept
+pub woken_slept : (lot : ParkingLot) (thread : ℕ) (word : Word) (wanted : Want) (slept : Slept)
+    → IsWoken lot word wanted slept → IsSlept lot thread word wanted slept
 woken_slept lot thread word wanted (Woken note) woken = woken
 woken_slept lot thread word wanted (Handed right) woken = woken
 woken_slept lot thread word wanted (Late section key place) woken = absurd woken
 
-pub woken_not_late : (lot : ParkingLot) (word : Word) (wanted : Want) (slept : Slept) → IsWoken lot word wanted slept → WasLate slept → ⊥
+pub woken_not_late : (lot : ParkingLot) (word : Word) (wanted : Want) (slept : Slept)
+    → IsWoken lot word wanted slept → WasLate slept → ⊥
 woken_not_late lot word wanted (Woken note) woken late = late
 woken_not_late lot word wanted (Handed right) woken late = late
 woken_not_late lot word wanted (Late section key place) woken late = woken

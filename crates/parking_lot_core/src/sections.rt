@@ -1,8 +1,10 @@
 //! Sections, in which one thread at a time changes the queues of its keys.
-ghost use Rattle.std.specs.Prelude.{◌≡◌, ◌≢◌, ◌<◌, ◌≤◌, ◌+◌, ◌++◌, ◌∷◌, ◌==◌, not, [], Some, Contains, MatchOption, length, slice_index, take, true};
+ghost use Rattle.std.specs.Prelude.{◌≡◌, ◌≢◌, ◌<◌, ◌≤◌, ◌+◌, ◌++◌, ◌∷◌, ◌==◌, not, [], Some, Contains};
+ghost use Rattle.std.specs.Prelude.{MatchOption, length, slice_index, take, true};
 ghost use Rattle.std.specs.List.{filter};
 ghost use Rattle.std.specs.Sync.Mutex.{mutex_guard_value};
-ghost use Rattle.core_base.specs.Lines.{waiter, line, lines, without, without_first, without_key, first_of, threads_of, queued_under};
+ghost use Rattle.core_base.specs.Lines.{waiter, line, lines, without, without_first, without_key, first_of};
+ghost use Rattle.core_base.specs.Lines.{threads_of, queued_under};
 ghost use Rattle.core_base.specs.Picks.{lock_picked, without_lock_picked};
 ghost use Rattle.core_base.specs.Requeues.{taken_by, moved_by, requeued};
 ghost use Rattle.core_queues.specs.Wants.{wants_of, taken_in_line};
@@ -11,7 +13,8 @@ ghost use Rattle.core_queues.specs.Buckets.{HasNone};
 ghost use Rattle.parking_lot_core.specs.Keys.{IsKeyOf, first_key};
 ghost use Rattle.std.specs.Option.{ForNone, ForSome};
 ghost use Rattle.parking_lot_core.specs.Pairs.{AreApartAt, AreBuckets, HasOneBucket, IsBegun};
-ghost use Rattle.parking_lot_core.specs.declared.tokens.Did.TheVariants.{Nothing, TakeFirst, TakeAll, TakePicked};
+ghost use Rattle.parking_lot_core.specs.declared.tokens.Did.TheVariants.{Nothing, TakeFirst, TakeAll};
+ghost use Rattle.parking_lot_core.specs.declared.tokens.Did.TheVariants.{TakePicked};
 ghost use Rattle.parking_lot_core.specs.declared.tellings.Telling.TheVariants.{Counted, Left, Stood, Took};
 
 use crate::enter::never;

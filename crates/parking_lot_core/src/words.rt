@@ -1,7 +1,8 @@
 //! Steps on words, draws and rights, by tokens.
 #![tactic(auto, unfolding(crate::specs::Tokens::view_of))]
 
-ghost use Rattle.std.specs.Prelude.{◌≡◌, ◌≢◌, ℕ, ◌+◌, ◌%◌, ◌^◌, ◌<◌, ◌≤◌, ◌⊎◌, ◌∷◌, ◌++◌, [], true, None, IfOk, MatchOption, MatchResult};
+ghost use Rattle.std.specs.Prelude.{◌≡◌, ◌≢◌, ℕ, ◌+◌, ◌%◌, ◌^◌, ◌<◌, ◌≤◌, ◌⊎◌, ◌∷◌, ◌++◌, [], true, None};
+ghost use Rattle.std.specs.Prelude.{IfOk, MatchOption, MatchResult};
 ghost use Rattle.core_words.specs.Indices.{permits_in, plain, word_index};
 ghost use Rattle.core_words.specs.Codes.{IsCountCode, ShowsBeside};
 ghost use Rattle.core_words.specs.Views.{HasSeen};

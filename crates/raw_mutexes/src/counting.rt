@@ -1,11 +1,14 @@
 //! Raw mutexes that their owners lock again.
-ghost use Rattle.std.specs.Prelude.{◌≡◌, ◌+◌, ◌/◌, ◌<◌, ◌++◌, ◌∷◌, [], IfErr, IfOk, IfSome, MatchOption, MatchResult};
+ghost use Rattle.std.specs.Prelude.{◌≡◌, ◌+◌, ◌/◌, ◌<◌, ◌++◌, ◌∷◌, [], IfErr, IfOk, IfSome, MatchOption};
+ghost use Rattle.std.specs.Prelude.{MatchResult};
 ghost use Rattle.std.specs.Arc.{arc_value};
 ghost use Rattle.lock_raw.specs.Counts.{Names, times_in};
 ghost use Rattle.core_base.specs.declared.faults.Fault.TheVariants.{LockCountFull};
 ghost use Rattle.run_base.specs.Telling.{steps_of};
 ghost use Rattle.parking_lot_core.specs.Tokens.{IsTokenOf};
-ghost use Rattle.raw_mutexes.specs.Counting.{DrewPair, FoundFew, IsCountOf, IsCountOf-prop, IsShareOf, IsShareOf-prop, SawCount, StoredCount, count_at, load_steps, thread_of};
+ghost use Rattle.raw_mutexes.specs.Counting.{DrewPair, FoundFew, IsCountOf, IsCountOf-prop, IsShareOf};
+ghost use Rattle.raw_mutexes.specs.Counting.{IsShareOf-prop, SawCount, StoredCount, count_at, load_steps};
+ghost use Rattle.raw_mutexes.specs.Counting.{thread_of};
 ghost use Rattle.raw_mutexes.specs.MutexGuards.{IsGuardOf, StaysAs};
 
 use crate::guards::RawGuard;

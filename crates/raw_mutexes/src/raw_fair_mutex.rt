@@ -7,7 +7,8 @@ ghost use Rattle.core_words.specs.declared.words.WordKind.TheVariants.{Mutex};
 ghost use Rattle.run_base.specs.Drawing.{Drew, FoundFull};
 ghost use Rattle.run_base.specs.Stages.{TookNobodyAt};
 ghost use Rattle.raw_mutexes.specs.Begun.{HasBegun};
-ghost use Rattle.raw_mutexes.specs.MutexGuards.{IsGuardOf, IsGuardOf-prop, IsOpenGuardOf, IsOpenGuardOf-prop, permit_in, StaysAs, StaysAs-on};
+ghost use Rattle.raw_mutexes.specs.MutexGuards.{IsGuardOf, IsGuardOf-prop, IsOpenGuardOf};
+ghost use Rattle.raw_mutexes.specs.MutexGuards.{IsOpenGuardOf-prop, permit_in, StaysAs, StaysAs-on};
 ghost use Rattle.run_base.specs.Telling.{steps_of};
 
 use crate::guards::{OpenGuard, RawGuard};

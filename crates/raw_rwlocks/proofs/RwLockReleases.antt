@@ -19,9 +19,17 @@ use Rattle.raw_rwlocks.specs.RwLockHalves.{HasReleased}
 use Rattle.raw_rwlocks.specs.declared.rwlock_rights.LotRwLock.{LotRwLock}
 use Rattle.run_locks.specs.Halves.{HasEndedRwLock}
 
-module _ (lock : LotRwLock) (x : Access) (old joined : Token) (same : joined.number ≡ old.number) (view : view_of joined ≡ takes_in (view_of old) (piece (owning (rwlock_at lock.word.number) (owner_for (wanted x))))) where
+module _ (lock : LotRwLock) (x : Access) (old joined : Token) (same : joined.number ≡ old.number)
+    (view : view_of joined ≡ takes_in (view_of old)
+    (piece (owning (rwlock_at lock.word.number) (owner_for (wanted x))))) where
   pub begins_releasing : BeginsWith lock.word.number (Release x) (view_of old).owns (view_of joined).owns
-  begins_releasing = (owner_for (wanted x), (view_of old).owns, refl, (λ settled. refl), ap (λ (v : View). v.owns) view)
+  begins_releasing = (
+    owner_for (wanted x),
+    (view_of old).owns,
+    refl,
+    (λ settled. refl),
+    ap (λ (v : View). v.owns) view,
+  )
 
   pub released : told_of joined ≡ told_of old → (new : Token) (answer : Answer)
       → HasEndedRwLock ⊥ lock.word lock.settings.admission (Release x) answer joined new
@@ -33,5 +41,6 @@ module _ (lock : LotRwLock) (x : Access) (old joined : Token) (same : joined.num
         (ap (λ (v : View). v.steps) view) untold refl refl
         (subst (λ (a : Answer). HasWalkedRwLock lock.word.number lock.settings.admission (Release x) a
         joined new) over.0 ended.1),
-    subst (λ (steps : List WordStep). Wakes lock.word.number lock.settings.admission (Release x) steps (view_of new).steps (last_of new)) (ap (λ (v : View). v.steps) view) ended.3,
+    subst (λ (steps : List WordStep). Wakes lock.word.number lock.settings.admission (Release x) steps
+        (view_of new).steps (last_of new)) (ap (λ (v : View). v.steps) view) ended.3,
   )

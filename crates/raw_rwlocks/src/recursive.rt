@@ -2,7 +2,8 @@
 ghost use Rattle.std.specs.Prelude.{◌≡◌, ◌≤◌, true, IfOk, MatchResult};
 ghost use Rattle.std.specs.Arc.{arc_value};
 ghost use Rattle.parking_lot_core.specs.Tokens.{IsTokenOf};
-ghost use Rattle.run_base.specs.RwLockCalls.{HasWalkedCall, SeesBy, StaysSettled, StaysSettled-on, WakesByCall, is_held, is_held_alone};
+ghost use Rattle.run_base.specs.RwLockCalls.{HasWalkedCall, SeesBy, StaysSettled, StaysSettled-on};
+ghost use Rattle.run_base.specs.RwLockCalls.{WakesByCall, is_held, is_held_alone};
 ghost use Rattle.run_locks.specs.RwLockRefusals.{GaveUpCall, SawReadersFull};
 ghost use Rattle.lock_raw.specs.Answers.{IsRefusal};
 ghost use Rattle.lock_values.specs.Places.{place_of as place_at};
@@ -10,7 +11,8 @@ ghost use Rattle.core_words.specs.Rights.{piece_of};
 ghost use Rattle.core_words.specs.declared.owners.Owner.TheVariants.{Exclusive, Shared};
 ghost use Rattle.core_words.specs.declared.words.WordKind.TheVariants.{RwLock};
 ghost use Rattle.run_base.specs.Drawing.{Drew, FoundFull};
-ghost use Rattle.raw_rwlocks.specs.RwLockGuards.{IsExclusiveOf, IsExclusiveOf-prop, IsSharedOf, IsSharedOf-prop};
+ghost use Rattle.raw_rwlocks.specs.RwLockGuards.{IsExclusiveOf, IsExclusiveOf-prop, IsSharedOf};
+ghost use Rattle.raw_rwlocks.specs.RwLockGuards.{IsSharedOf-prop};
 
 use crate::raw_rwlock::{MOST_READERS, RawRwLock};
 use crate::rwlock_guards::{RawExclusiveGuard, RawSharedGuard};

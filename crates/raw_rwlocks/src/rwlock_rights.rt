@@ -1,5 +1,6 @@
 //! A reader-writer lock of a lot, whose rights are got, given up and turned into others.
-ghost use Rattle.std.specs.Prelude.{◌≡◌, ◌⊎◌, ◌<◌, ◌≤◌, ◌+◌, ◌*◌, ◌-◌, ◌^◌, ◌++◌, ◌∷◌, [], ℕ, true, IfErr, IfNone, IfOk, IfSome, MatchOption, MatchResult};
+ghost use Rattle.std.specs.Prelude.{◌≡◌, ◌⊎◌, ◌<◌, ◌≤◌, ◌+◌, ◌*◌, ◌-◌, ◌^◌, ◌++◌, ◌∷◌, [], ℕ, true, IfErr};
+ghost use Rattle.std.specs.Prelude.{IfNone, IfOk, IfSome, MatchOption, MatchResult};
 ghost use Rattle.std.specs.Arc.{arc_value};
 ghost use Rattle.lock_raw.specs.Answers.{IsRefusal, answer_by, reading_answer};
 ghost use Rattle.core_base.specs.Clocks.{IsUp};
@@ -21,7 +22,9 @@ ghost use Rattle.core_words.specs.declared.words.WordKind.TheVariants.{RwLock};
 ghost use Rattle.run_base.specs.Drawing.{Drew, FoundFull};
 ghost use Rattle.parking_lot_core.specs.Tokens.{IsTokenOf, IsSameThread, view_of, last_of, told_of};
 ghost use Rattle.run_base.specs.Paths.{rwlock_at, step};
-ghost use Rattle.run_base.specs.RwLockCalls.{Exclude, HasWalkedCall, HasWalkedRwLock, IsRwLockRight, ReleasesFairly, StaysBeside, WakesBy, entry_answer, turn_answer};
+ghost use Rattle.run_base.specs.RwLockCalls.{Exclude, HasWalkedCall, HasWalkedRwLock, IsRwLockRight};
+ghost use Rattle.run_base.specs.RwLockCalls.{ReleasesFairly, StaysBeside, WakesBy, entry_answer};
+ghost use Rattle.run_base.specs.RwLockCalls.{turn_answer};
 ghost use Rattle.run_base.specs.RwLockFitting.{IsCounted, MayGiveUp};
 ghost use Rattle.run_locks.specs.RwLockRefusals.{LeftGivingUp, SawReadersFull};
 ghost use Rattle.run_base.specs.Telling.{owns_of, steps_of};

@@ -1,5 +1,6 @@
 -- A thread has its place in a queue wherever it sleeps, or leaves the queue.
-use Rattle.std.proofs.Common.{ℕ, ◌≡◌, ◌≢◌, ◌⊎◌, ◌==◌, ◌&&◌, Bool, true, false, not, if◌then◌else◌, List, Option, Some, None, inl, inr, refl, sym, ap, ◌∙◌, subst}
+use Rattle.std.proofs.Common.{ℕ, ◌≡◌, ◌≢◌, ◌⊎◌, ◌==◌, ◌&&◌, Bool, true, false, not, if◌then◌else◌, List}
+use Rattle.std.proofs.Common.{Option, Some, None, inl, inr, refl, sym, ap, ◌∙◌, subst}
 use Rattle.std.proofs.lemmas.Bool.{false≢true}
 use Rattle.core_base.specs.declared.notes.Note.TheVariants.{HandOff}
 use Rattle.spec_locks.specs.declared.calls.Access.{Access}
@@ -13,9 +14,11 @@ use Rattle.steps_base.specs.declared.acts.Next.TheVariants.{At, End}
 use Rattle.steps_base.specs.declared.acts.Reply.{Reply}
 use Rattle.steps_base.specs.declared.acts.Reply.TheVariants.{Done, Value, Took, Woken}
 use Rattle.steps_base.specs.declared.acts.Whom.TheVariants as whom
-use Rattle.steps_mutex.specs.MutexSteps.{decided, is_locked, lock_act, mutex_act, mutex_looking, mutex_next, unlock_act}
+use Rattle.steps_mutex.specs.MutexSteps.{decided, is_locked, lock_act, mutex_act, mutex_looking, mutex_next}
+use Rattle.steps_mutex.specs.MutexSteps.{unlock_act}
 use Rattle.steps_mutex.specs.declared.places.MutexPlace.{MutexPlace}
-use Rattle.steps_mutex.specs.declared.places.MutexPlace.TheVariants.{Lock, TryLock, Unlock, UnlockFair, Bump, HandOff}
+use Rattle.steps_mutex.specs.declared.places.MutexPlace.TheVariants.{Lock, TryLock, Unlock, UnlockFair, Bump}
+use Rattle.steps_mutex.specs.declared.places.MutexPlace.TheVariants.{HandOff}
 use Rattle.steps_mutex.specs.declared.hand_off.HandOffAt.TheVariants as hand_off
 use Rattle.steps_mutex.specs.declared.lock.Entry.{Entry}
 use Rattle.steps_mutex.specs.declared.lock.Entry.TheVariants as entry
@@ -64,7 +67,9 @@ use Rattle.steps_condvar.specs.declared.places.CondvarPlace.TheVariants as condv
 use Rattle.steps_condvar.specs.declared.wait.Stands.TheVariants as stands
 use Rattle.steps_condvar.specs.declared.wait.WaitAt.{WaitAt}
 use Rattle.steps_condvar.specs.declared.wait.WaitAt.TheVariants as wait
-use Rattle.lot_steps.specs.Steps.{act_of, in_condvar, in_mutex, in_once, in_rwlock, in_semaphore, looking, next_place, mutex_goes, rwlock_goes, once_goes, condvar_goes, semaphore_goes}
+use Rattle.lot_steps.specs.Steps.{act_of, in_condvar, in_mutex, in_once, in_rwlock, in_semaphore, looking}
+use Rattle.lot_steps.specs.Steps.{next_place, mutex_goes, rwlock_goes, once_goes, condvar_goes}
+use Rattle.lot_steps.specs.Steps.{semaphore_goes}
 use Rattle.lot_steps.specs.declared.places.Place.{Place}
 use Rattle.lot_steps.specs.declared.places.Place.TheVariants.{Idle, Mutex, RwLock, Once, Condvar, Semaphore}
 use Rattle.core_words.specs.declared.owners.Ownership.{Ownership}
@@ -78,35 +83,45 @@ use Rattle.run_base.specs.OnceFitting.{FitsOnce}
 use Rattle.run_base.specs.RwLockFitting.{FitsBump, FitsCall, awaits_right}
 use Rattle.run_base.specs.SemaphoreFitting.{FitsSemaphore}
 use Rattle.run_base.specs.Paths.{GoesFrom}
-use Rattle.run_base.specs.Queued.{GoesOn, HasPlace, KeepsPlace, StaysQueued, gets_place, is_queued, needs_place, spends_place}
+use Rattle.run_base.specs.Queued.{GoesOn, HasPlace, KeepsPlace, StaysQueued, gets_place, is_queued}
+use Rattle.run_base.specs.Queued.{needs_place, spends_place}
 use Rattle.run_base.specs.Stages.{Became, Stage}
 use Rattle.run_base.specs.declared.sleepers.Sleeper.{Sleeper}
-use Rattle.run_base.proofs.Queueing.{CallMayGo, CondvarMayGo, InNoHand, MayBeHanded, MutexInNoHand, OnceInNoHand, SemaphoreInNoHand, WaitMayGo, after, beside_same, call_on, call_queued, condvar_on, condvar_queued, mutex_on, mutex_queued, once_on, once_queued, same, semaphore_on, semaphore_queued}
+use Rattle.run_base.proofs.Queueing.{CallMayGo, CondvarMayGo, InNoHand, MayBeHanded, MutexInNoHand}
+use Rattle.run_base.proofs.Queueing.{OnceInNoHand, SemaphoreInNoHand, WaitMayGo, after, beside_same, call_on}
+use Rattle.run_base.proofs.Queueing.{call_queued, condvar_on, condvar_queued, mutex_on, mutex_queued, once_on}
+use Rattle.run_base.proofs.Queueing.{once_queued, same, semaphore_on, semaphore_queued}
 
 -- ---------------------------------------------------------------- what fits at a place
 
-lock_free : (up : Type 0) (n : ℕ) (e : Entry) (owns : List Ownership) (at : LockAt) (st : Stage) → FitsLock up n e owns at st → InNoHand at
+lock_free : (up : Type 0) (n : ℕ) (e : Entry) (owns : List Ownership) (at : LockAt) (st : Stage)
+    → FitsLock up n e owns at st → InNoHand at
 lock_free up n e owns (lock.Taken by) st fits = absurd fits
 lock_free up n e owns (lock.Handed by) st fits = absurd fits
 lock_free up n e owns at st fits = tt
 
-mutex_free : (up : Type 0) (n : ℕ) (base : List Ownership) (at : MutexPlace) (st : Stage) → FitsMutex up n base at st → MutexInNoHand at
+mutex_free : (up : Type 0) (n : ℕ) (base : List Ownership) (at : MutexPlace) (st : Stage)
+    → FitsMutex up n base at st → MutexInNoHand at
 mutex_free up n base (Lock entry.Lock retries at) st fits = lock_free up n entry.Lock base at st fits
-mutex_free up n base (Lock entry.LockTimed retries at) st fits = lock_free up n entry.LockTimed base at st fits
+mutex_free up n base (Lock entry.LockTimed retries at) st fits = lock_free up n entry.LockTimed base at st
+    fits
 mutex_free up n base (Lock entry.Bump retries at) st fits = lock_free up n entry.Bump _ at st fits
 mutex_free up n base at st fits = tt
 
-once_free : (up : Type 0) (l : ℕ) (base : List Ownership) (at : OncePlace) (st : Stage) → FitsOnce up l base at st → OnceInNoHand at
+once_free : (up : Type 0) (l : ℕ) (base : List Ownership) (at : OncePlace) (st : Stage)
+    → FitsOnce up l base at st → OnceInNoHand at
 once_free up l base (onces.Look c retries (look.Taken by)) st fits = absurd fits
 once_free up l base at st fits = tt
 
-semaphore_free : (up : Type 0) (l : ℕ) (base : List Ownership) (at : SemaphorePlace) (st : Stage) → FitsSemaphore up l base at st → SemaphoreInNoHand at
+semaphore_free : (up : Type 0) (l : ℕ) (base : List Ownership) (at : SemaphorePlace) (st : Stage)
+    → FitsSemaphore up l base at st → SemaphoreInNoHand at
 semaphore_free up l base (semaphore.Acquire timed retries (acquire.Taken by)) st fits = absurd fits
 semaphore_free up l base at st fits = tt
 
 module _ (up : Type 0) (kinds : ℕ → WordKind) (at' : ℕ → ℕ) (sleeper : Sleeper) (st new : Stage) where
   -- only a thread that goes on where it is handed the lock is woken so
-  handed_over : (a : Act) (reply : Reply) → Became up kinds at' sleeper st a reply new → reply ≡ Woken HandOff → sleeper.takes_over ≡ true
+  handed_over : (a : Act) (reply : Reply) → Became up kinds at' sleeper st a reply new → reply ≡ Woken HandOff
+      → sleeper.takes_over ≡ true
   handed_over a reply b e = woken a (subst (λ (r : Reply). Became up kinds at' sleeper st a r new) e b)
     where
       woken : (a : Act) → Became up kinds at' sleeper st a (Woken HandOff) new → sleeper.takes_over ≡ true
@@ -117,7 +132,8 @@ module _ (up : Type 0) (kinds : ℕ → WordKind) (at' : ℕ → ℕ) (sleeper :
       woken a b = absurd b
 
   -- a thread that releases its mutex is told nothing of others
-  of_itself : (m : ℕ) (at : UnlockAt) (reply : Reply) → Became up kinds at' sleeper st (unlock_act m at) reply new → condvar.comes_from_another reply ≡ false
+  of_itself : (m : ℕ) (at : UnlockAt) (reply : Reply) → Became up kinds at' sleeper st (unlock_act m at) reply
+      new → condvar.comes_from_another reply ≡ false
   of_itself m unlock.Subtract (Value seen) b = refl
   of_itself m unlock.Subtract reply b = absurd b
   of_itself m unlock.Enter Done b = refl
@@ -130,18 +146,29 @@ module _ (up : Type 0) (kinds : ℕ → WordKind) (at' : ℕ → ℕ) (sleeper :
   of_itself m (unlock.Leave any) reply b = absurd b
 
 -- a thread that is handed a reader-writer lock in a queue enters there
-may_be_handed_at : (q : RwLockPurpose) (again : Bool) (to : RwLockAt) (reply : Reply) → StandsAt q again to → (reply ≡ Woken HandOff → awaits_right to ≡ true) → MayBeHanded q to reply
+may_be_handed_at : (q : RwLockPurpose) (again : Bool) (to : RwLockAt) (reply : Reply) → StandsAt q again to
+    → (reply ≡ Woken HandOff → awaits_right to ≡ true) → MayBeHanded q to reply
 may_be_handed_at (purpose.Enter x how) again (at.Park parking.Asleep) (Woken HandOff) stands waits = tt
-may_be_handed_at (purpose.Release access.Shared) again (at.Park parking.Asleep) (Woken HandOff) stands waits = absurd stands
-may_be_handed_at (purpose.Release access.Upgradable) again (at.Park parking.Asleep) (Woken HandOff) stands waits = absurd stands
-may_be_handed_at (purpose.Release access.Exclusive) again (at.Park parking.Asleep) (Woken HandOff) stands waits = absurd stands
-may_be_handed_at (purpose.Downgrade d) again (at.Park parking.Asleep) (Woken HandOff) stands waits = absurd stands
-may_be_handed_at (purpose.Upgrade Patient) true (at.Park parking.Asleep) (Woken HandOff) stands waits = absurd stands
-may_be_handed_at (purpose.Upgrade Patient) false (at.Park parking.Asleep) (Woken HandOff) stands waits = absurd stands
-may_be_handed_at (purpose.Upgrade Timed) true (at.Park parking.Asleep) (Woken HandOff) stands waits = absurd stands
-may_be_handed_at (purpose.Upgrade Timed) false (at.Park parking.Asleep) (Woken HandOff) stands waits = absurd stands
-may_be_handed_at (purpose.Upgrade Try) true (at.Park parking.Asleep) (Woken HandOff) stands waits = absurd stands
-may_be_handed_at (purpose.Upgrade Try) false (at.Park parking.Asleep) (Woken HandOff) stands waits = absurd stands
+may_be_handed_at (purpose.Release access.Shared) again (at.Park parking.Asleep) (Woken HandOff) stands waits =
+    absurd stands
+may_be_handed_at (purpose.Release access.Upgradable) again (at.Park parking.Asleep) (Woken HandOff) stands
+    waits = absurd stands
+may_be_handed_at (purpose.Release access.Exclusive) again (at.Park parking.Asleep) (Woken HandOff) stands
+    waits = absurd stands
+may_be_handed_at (purpose.Downgrade d) again (at.Park parking.Asleep) (Woken HandOff) stands waits =
+    absurd stands
+may_be_handed_at (purpose.Upgrade Patient) true (at.Park parking.Asleep) (Woken HandOff) stands waits =
+    absurd stands
+may_be_handed_at (purpose.Upgrade Patient) false (at.Park parking.Asleep) (Woken HandOff) stands waits =
+    absurd stands
+may_be_handed_at (purpose.Upgrade Timed) true (at.Park parking.Asleep) (Woken HandOff) stands waits =
+    absurd stands
+may_be_handed_at (purpose.Upgrade Timed) false (at.Park parking.Asleep) (Woken HandOff) stands waits =
+    absurd stands
+may_be_handed_at (purpose.Upgrade Try) true (at.Park parking.Asleep) (Woken HandOff) stands waits =
+    absurd stands
+may_be_handed_at (purpose.Upgrade Try) false (at.Park parking.Asleep) (Woken HandOff) stands waits =
+    absurd stands
 may_be_handed_at q again to (Woken HandOff) stands waits = absurd (false≢true (waits refl))
 may_be_handed_at q again to reply stands waits = tt
 
@@ -152,30 +179,50 @@ gives_way_may (purpose.Downgrade d) (Woken HandOff) calm = absurd (calm refl)
 gives_way_may (purpose.Upgrade how) (Woken HandOff) calm = absurd (calm refl)
 gives_way_may q reply calm = tt
 
-bump_stands : (up : Type 0) (l : ℕ) (base : List Ownership) (a : Admission) (p : RwLockPlace) (to : RwLockAt) (st : Stage) (reply : Reply) → FitsBump up l base a p to st → p.at ≡ to → (reply ≡ Woken HandOff → awaits_right to ≡ true) → MayBeHanded p.purpose to reply
-bump_stands up l base a p at.GiveWay st reply fits e waits = gives_way_may p.purpose reply (λ is. false≢true (waits is))
-bump_stands up l base a p to st reply fits e waits = may_be_handed_at p.purpose p.retries to reply (subst (StandsAt p.purpose p.retries) e fits.stands.place) waits
+bump_stands : (up : Type 0) (l : ℕ) (base : List Ownership) (a : Admission) (p : RwLockPlace) (to : RwLockAt)
+    (st : Stage) (reply : Reply) → FitsBump up l base a p to st → p.at ≡ to
+    → (reply ≡ Woken HandOff → awaits_right to ≡ true) → MayBeHanded p.purpose to reply
+bump_stands up l base a p at.GiveWay st reply fits e waits =
+    gives_way_may p.purpose reply (λ is. false≢true (waits is))
+bump_stands up l base a p to st reply fits e waits = may_be_handed_at p.purpose p.retries to reply
+    (subst (StandsAt p.purpose p.retries) e fits.stands.place) waits
 
-call_may : (up : Type 0) (l : ℕ) (base : List Ownership) (a : Admission) (c : RwLockCallPlace) (st : Stage) (reply : Reply) → FitsCall up l base a c st → (reply ≡ Woken HandOff → (sleeper_at (RwLock l a c)).takes_over ≡ true) → CallMayGo c reply
-call_may up l base a (places.Plain p) st reply fits waits = may_be_handed_at p.purpose p.retries p.at reply fits.stands.place waits
-call_may up l base a (places.Bump p) st reply fits waits = bump_stands up l base a p p.at st reply fits.1 refl waits
-call_may up l base a (places.Handed access.Shared how b (handed.Asleep by alone)) st reply fits waits = absurd fits
-call_may up l base a (places.Handed access.Upgradable how b (handed.Asleep by alone)) st reply fits waits = absurd fits
-call_may up l base a (places.Handed access.Exclusive how b (handed.Asleep by alone)) st reply fits waits = absurd fits
+call_may : (up : Type 0) (l : ℕ) (base : List Ownership) (a : Admission) (c : RwLockCallPlace) (st : Stage)
+    (reply : Reply) → FitsCall up l base a c st
+    → (reply ≡ Woken HandOff → (sleeper_at (RwLock l a c)).takes_over ≡ true) → CallMayGo c reply
+call_may up l base a (places.Plain p) st reply fits waits = may_be_handed_at p.purpose p.retries p.at reply
+    fits.stands.place waits
+call_may up l base a (places.Bump p) st reply fits waits = bump_stands up l base a p p.at st reply fits.1 refl
+    waits
+call_may up l base a (places.Handed access.Shared how b (handed.Asleep by alone)) st reply fits waits =
+    absurd fits
+call_may up l base a (places.Handed access.Upgradable how b (handed.Asleep by alone)) st reply fits waits =
+    absurd fits
+call_may up l base a (places.Handed access.Exclusive how b (handed.Asleep by alone)) st reply fits waits =
+    absurd fits
 call_may up l base a c st reply fits waits = tt
 
-wait_may : (up : Type 0) (kinds : ℕ → WordKind) (at' : ℕ → ℕ) (sleeper : Sleeper) (c m : ℕ) (timed : Bool) (base : List Ownership) (at : WaitAt) (st new : Stage) (reply : Reply) → FitsWait up c m timed base at st → Became up kinds at' sleeper st (condvar.wait_act c m at) reply new → WaitMayGo at reply
-wait_may up kinds at' sleeper c m timed base (wait.Release stands.Listed (Unlock at)) st new reply fits b = of_itself up kinds at' sleeper st new m at reply b
+wait_may : (up : Type 0) (kinds : ℕ → WordKind) (at' : ℕ → ℕ) (sleeper : Sleeper) (c m : ℕ) (timed : Bool)
+    (base : List Ownership) (at : WaitAt) (st new : Stage) (reply : Reply) → FitsWait up c m timed base at st
+    → Became up kinds at' sleeper st (condvar.wait_act c m at) reply new → WaitMayGo at reply
+wait_may up kinds at' sleeper c m timed base (wait.Release stands.Listed (Unlock at)) st new reply fits b =
+    of_itself up kinds at' sleeper st new m at reply b
 wait_may up kinds at' sleeper c m timed base (wait.Release s at) st new reply fits b = absurd fits
 wait_may up kinds at' sleeper c m timed base (wait.Asleep stands.Listed) st new reply fits b = tt
 wait_may up kinds at' sleeper c m timed base (wait.Asleep stands.Moved) st new reply fits b = tt
 wait_may up kinds at' sleeper c m timed base (wait.Asleep s) st new reply fits b = absurd fits
-wait_may up kinds at' sleeper c m timed base (wait.Lock late (Lock entry.Lock retries at)) st new reply fits b = lock_free up m entry.Lock _ at st fits.1
+wait_may up kinds at' sleeper c m timed base (wait.Lock late (Lock entry.Lock retries at)) st new reply fits
+    b = lock_free up m entry.Lock _ at st fits.1
 wait_may up kinds at' sleeper c m timed base (wait.Lock late at) st new reply fits b = absurd fits.1
 wait_may up kinds at' sleeper c m timed base at st new reply fits b = tt
 
-condvar_may : (up : Type 0) (kinds : ℕ → WordKind) (at' : ℕ → ℕ) (base : List Ownership) (l : ℕ) (at : CondvarPlace) (st new : Stage) (reply : Reply) → Fits up base (Condvar l at) st → Became up kinds at' (sleeper_at (Condvar l at)) st (condvar.condvar_act l at) reply new → CondvarMayGo at reply
-condvar_may up kinds at' base l (condvars.Wait m timed at) st new reply fits b = wait_may up kinds at' (sleeper_at (Condvar l (condvars.Wait m timed at))) l m timed base at st new reply fits b
+condvar_may : (up : Type 0) (kinds : ℕ → WordKind) (at' : ℕ → ℕ) (base : List Ownership) (l : ℕ)
+    (at : CondvarPlace) (st new : Stage) (reply : Reply) → Fits up base (Condvar l at) st
+    → Became up kinds at' (sleeper_at (Condvar l at)) st (condvar.condvar_act l at) reply new
+    → CondvarMayGo at reply
+condvar_may up kinds at' base l (condvars.Wait m timed at) st new reply fits b =
+    wait_may up kinds at' (sleeper_at (Condvar l (condvars.Wait m timed at))) l m timed base at st new reply
+    fits b
 condvar_may up kinds at' base l (condvars.Look all) st new reply fits b = absurd fits
 condvar_may up kinds at' base l (condvars.Notify all m at) st new reply fits b = tt
 
@@ -185,7 +232,8 @@ pub mutex_same : (l : ℕ) (n : Next MutexPlace) → is_queued (mutex_goes l n) 
 mutex_same l (At at) = refl
 mutex_same l (End answer) = refl
 
-pub call_same : (l : ℕ) (a : Admission) (n : Next RwLockCallPlace) → is_queued (rwlock_goes l a n) ≡ after (call_queued a) n
+pub call_same : (l : ℕ) (a : Admission) (n : Next RwLockCallPlace) → is_queued (rwlock_goes l a n)
+    ≡ after (call_queued a) n
 call_same l a (At at) = refl
 call_same l a (End answer) = refl
 
@@ -197,37 +245,53 @@ pub condvar_same : (l : ℕ) (n : Next CondvarPlace) → is_queued (condvar_goes
 condvar_same l (At at) = refl
 condvar_same l (End answer) = refl
 
-pub semaphore_same : (l : ℕ) (n : Next SemaphorePlace) → is_queued (semaphore_goes l n) ≡ after semaphore_queued n
+pub semaphore_same : (l : ℕ) (n : Next SemaphorePlace) → is_queued (semaphore_goes l n) ≡ after
+    semaphore_queued n
 semaphore_same l (At at) = refl
 semaphore_same l (End answer) = refl
 
-never_handed : {reply : Reply} {b : Bool} → b ≡ false → (reply ≡ Woken HandOff → b ≡ true) → reply ≢ Woken HandOff
+never_handed : {reply : Reply} {b : Bool} → b ≡ false → (reply ≡ Woken HandOff → b ≡ true) → reply
+    ≢ Woken HandOff
 never_handed calm given e = false≢true (sym calm ∙ given e)
 
-module _ (up : Type 0) (kinds : ℕ → WordKind) (at' : ℕ → ℕ) (base : List Ownership) (st new : Stage) (reply : Reply) where
-  pub queued_on : (p : Place) → Fits up base p st → Became up kinds at' (sleeper_at p) st (act_of p) reply new → GoesOn (is_queued p) (is_queued (next_place p reply)) (act_of p) reply
+module _ (up : Type 0) (kinds : ℕ → WordKind) (at' : ℕ → ℕ) (base : List Ownership) (st new : Stage)
+    (reply : Reply) where
+  pub queued_on : (p : Place) → Fits up base p st → Became up kinds at' (sleeper_at p) st (act_of p) reply new
+      → GoesOn (is_queued p) (is_queued (next_place p reply)) (act_of p) reply
   queued_on Idle fits b = absurd fits
-  queued_on (Mutex l at) fits b = same _ _ _ _ _ _ refl (mutex_same l (mutex_next at reply)) (mutex_on l at reply (mutex_free up l base at st fits))
-  queued_on (RwLock l a c) fits b = same _ _ _ _ _ _ refl (call_same l a (fair.call_next a c reply)) (call_on l a c reply (call_may up l base a c st reply fits (handed_over up kinds at' (sleeper_at (RwLock l a c)) st new (fair.call_act l a c) reply b)))
-  queued_on (Once l at) fits b = same _ _ _ _ _ _ refl (once_same l (once.once_next at reply)) (once_on l at reply (never_handed refl (handed_over up kinds at' (sleeper_at (Once l at)) st new (once.once_act l at) reply b)) (once_free up l base at st fits))
-  queued_on (Condvar l at) fits b = same _ _ _ _ _ _ refl (condvar_same l (condvar.condvar_next at reply)) (condvar_on l at reply (condvar_may up kinds at' base l at st new reply fits b))
-  queued_on (Semaphore l at) fits b = same _ _ _ _ _ _ refl (semaphore_same l (semaphores.semaphore_next at reply)) (semaphore_on l at reply (never_handed refl (handed_over up kinds at' (sleeper_at (Semaphore l at)) st new (semaphores.semaphore_act l at) reply b)) (semaphore_free up l base at st fits))
+  queued_on (Mutex l at) fits b = same _ _ _ _ _ _ refl (mutex_same l (mutex_next at reply))
+      (mutex_on l at reply (mutex_free up l base at st fits))
+  queued_on (RwLock l a c) fits b = same _ _ _ _ _ _ refl (call_same l a (fair.call_next a c reply))
+      (call_on l a c reply (call_may up l base a c st reply fits
+      (handed_over up kinds at' (sleeper_at (RwLock l a c)) st new (fair.call_act l a c) reply b)))
+  queued_on (Once l at) fits b = same _ _ _ _ _ _ refl (once_same l (once.once_next at reply))
+      (once_on l at reply (never_handed refl (handed_over up kinds at' (sleeper_at (Once l at)) st new
+      (once.once_act l at) reply b)) (once_free up l base at st fits))
+  queued_on (Condvar l at) fits b = same _ _ _ _ _ _ refl (condvar_same l (condvar.condvar_next at reply))
+      (condvar_on l at reply (condvar_may up kinds at' base l at st new reply fits b))
+  queued_on (Semaphore l at) fits b = same _ _ _ _ _ _ refl
+      (semaphore_same l (semaphores.semaphore_next at reply))
+      (semaphore_on l at reply (never_handed refl (handed_over up kinds at' (sleeper_at (Semaphore l at)) st
+      new (semaphores.semaphore_act l at) reply b)) (semaphore_free up l base at st fits))
 
 -- ---------------------------------------------------------------- acts by a place
 
-neither : (b : Bool) (x y : Act) → needs_place x ≡ false → needs_place y ≡ false → needs_place (if b then x else y) ≡ false
+neither : (b : Bool) (x y : Act) → needs_place x ≡ false → needs_place y ≡ false
+    → needs_place (if b then x else y) ≡ false
 neither true x y e f = e
 neither false x y e f = f
 
 none_needed : {A : Type 0} {b : Bool} → b ≡ false → b ≡ true → A
 none_needed calm e = absurd (false≢true (sym calm ∙ e))
 
-lock_needs : (l : ℕ) (e : Entry) (retries : Bool) (at : LockAt) → needs_place (lock_act l at) ≡ true → mutex_queued (Lock e retries at) ≡ true
+lock_needs : (l : ℕ) (e : Entry) (retries : Bool) (at : LockAt) → needs_place (lock_act l at) ≡ true
+    → mutex_queued (Lock e retries at) ≡ true
 lock_needs l e retries lock.Asleep needs = refl
 lock_needs l e retries (lock.Taken by) needs = refl
 lock_needs l e retries (lock.Handed by) needs = refl
 lock_needs l e retries lock.Remove needs = refl
-lock_needs l e retries (lock.Decide seen) needs = none_needed (neither (not (is_locked seen)) _ _ refl (neither (seen == 1) _ _ refl refl)) needs
+lock_needs l e retries (lock.Decide seen) needs =
+    none_needed (neither (not (is_locked seen)) _ _ refl (neither (seen == 1) _ _ refl refl)) needs
 lock_needs l e retries at needs = none_needed refl needs
 
 mutex_needs : (l : ℕ) (at : MutexPlace) → needs_place (mutex_act l at) ≡ true → mutex_queued at ≡ true
@@ -246,14 +310,17 @@ mutex_needs l (HandOff bumps (hand_off.Store true none_left)) needs = none_neede
 mutex_needs l (HandOff bumps (hand_off.Store false none_left)) needs = none_needed refl needs
 mutex_needs l (HandOff bumps (hand_off.Leave any)) needs = none_needed refl needs
 
-decided_needs : (l : ℕ) (q : RwLockPurpose) (seen : ℕ) (d : Decision) → needs_place (rw.decided_act l q seen d) ≡ false
+decided_needs : (l : ℕ) (q : RwLockPurpose) (seen : ℕ) (d : Decision)
+    → needs_place (rw.decided_act l q seen d) ≡ false
 decided_needs l q seen decisions.Take = refl
 decided_needs l q seen decisions.Mark = refl
 decided_needs l q seen decisions.Park = refl
 decided_needs l q seen (decisions.Refuse answer) = refl
 
-rw_needs : (l : ℕ) (a : Admission) (p : RwLockPlace) (to : RwLockAt) → p.at ≡ to → needs_place (rw.act_at l a p to) ≡ true → call_queued a (places.Plain (record p { at = to })) ≡ true
-rw_needs l a p (at.Decide seen) e needs = none_needed (decided_needs l p.purpose seen (rw.decided a p seen)) needs
+rw_needs : (l : ℕ) (a : Admission) (p : RwLockPlace) (to : RwLockAt) → p.at ≡ to
+    → needs_place (rw.act_at l a p to) ≡ true → call_queued a (places.Plain (record p { at = to })) ≡ true
+rw_needs l a p (at.Decide seen) e needs = none_needed (decided_needs l p.purpose seen (rw.decided a p seen))
+    needs
 rw_needs l a p (at.Count seen) e needs = none_needed (neither (has_aside seen) _ _ refl refl) needs
 rw_needs l a p (at.Park parking.Asleep) e needs = refl
 rw_needs l a p (at.Park (parking.Taken by)) e needs = refl
@@ -269,11 +336,13 @@ rw_needs l a p (at.Wake m (waking.Clear any)) e needs = none_needed refl needs
 rw_needs l a p (at.Wake m (waking.Leave any)) e needs = none_needed refl needs
 rw_needs l a p to e needs = none_needed refl needs
 
-hands_over_needs : (l : ℕ) (a : Admission) (x : Access) (to : HandOverAt) → needs_place (fair.hand_over_act l a x to) ≡ false
+hands_over_needs : (l : ℕ) (a : Admission) (x : Access) (to : HandOverAt)
+    → needs_place (fair.hand_over_act l a x to) ≡ false
 hands_over_needs l a x (handing.Exchange k seen) = neither (fair.has_room a.limit k seen) _ _ refl refl
 hands_over_needs l a x to = refl
 
-call_needs : (l : ℕ) (a : Admission) (c : RwLockCallPlace) → needs_place (fair.call_act l a c) ≡ true → call_queued a c ≡ true
+call_needs : (l : ℕ) (a : Admission) (c : RwLockCallPlace) → needs_place (fair.call_act l a c) ≡ true
+    → call_queued a c ≡ true
 call_needs l a (places.Plain p) needs = rw_needs l a p p.at refl needs
 call_needs l a (places.Bump p) needs = rw_needs l a p p.at refl needs
 call_needs l a (places.Glance x) needs = none_needed refl needs
@@ -292,7 +361,8 @@ course_needs l v Parks = refl
 once_needs : (l : ℕ) (at : OncePlace) → needs_place (once.once_act l at) ≡ true → once_queued at ≡ true
 once_needs l (onces.Look c retries look.Asleep) needs = refl
 once_needs l (onces.Look c retries (look.Taken by)) needs = refl
-once_needs l (onces.Look c retries (look.Decide seen)) needs = none_needed (course_needs l seen (once.course_of c seen)) needs
+once_needs l (onces.Look c retries (look.Decide seen)) needs =
+    none_needed (course_needs l seen (once.course_of c seen)) needs
 once_needs l (onces.Look c retries at) needs = none_needed refl needs
 once_needs l (onces.Run forced (run.Closure poisoned)) needs = none_needed refl needs
 once_needs l (onces.Run forced (run.Close succeeded)) needs = none_needed refl needs
@@ -303,14 +373,17 @@ once_needs l (onces.GiveUp retries give_up.Remove) needs = refl
 once_needs l (onces.GiveUp retries give_up.Clear) needs = none_needed refl needs
 once_needs l (onces.GiveUp retries give_up.Leave) needs = none_needed refl needs
 
-semaphore_needs : (l : ℕ) (at : SemaphorePlace) → needs_place (semaphores.semaphore_act l at) ≡ true → semaphore_queued at ≡ true
+semaphore_needs : (l : ℕ) (at : SemaphorePlace) → needs_place (semaphores.semaphore_act l at) ≡ true
+    → semaphore_queued at ≡ true
 semaphore_needs l (semaphore.Acquire timed retries acquire.Asleep) needs = refl
 semaphore_needs l (semaphore.Acquire timed retries (acquire.Taken by)) needs = refl
 semaphore_needs l (semaphore.Acquire timed retries acquire.Remove) needs = refl
-semaphore_needs l (semaphore.Acquire timed retries (acquire.Decide seen)) needs = none_needed (neither (semaphores.is_free seen) _ _ refl (neither (seen == 0) _ _ refl refl)) needs
+semaphore_needs l (semaphore.Acquire timed retries (acquire.Decide seen)) needs =
+    none_needed (neither (semaphores.is_free seen) _ _ refl (neither (seen == 0) _ _ refl refl)) needs
 semaphore_needs l (semaphore.Acquire timed retries at) needs = none_needed refl needs
 semaphore_needs l (semaphore.Try tries.Load) needs = none_needed refl needs
-semaphore_needs l (semaphore.Try (tries.Decide seen)) needs = none_needed (neither (semaphores.is_free seen) _ _ refl refl) needs
+semaphore_needs l (semaphore.Try (tries.Decide seen)) needs =
+    none_needed (neither (semaphores.is_free seen) _ _ refl refl) needs
 semaphore_needs l (semaphore.Release release.Add) needs = none_needed refl needs
 semaphore_needs l (semaphore.Release release.Enter) needs = none_needed refl needs
 semaphore_needs l (semaphore.Release release.Take) needs = none_needed refl needs
@@ -322,7 +395,9 @@ moves_need true locked c m = refl
 moves_need false true c m = refl
 moves_need false false c m = refl
 
-wait_needs : (up : Type 0) (c m : ℕ) (timed : Bool) (base : List Ownership) (at : WaitAt) (st : Stage) → FitsWait up c m timed base at st → needs_place (condvar.wait_act c m at) ≡ true → condvar_queued (condvars.Wait m timed at) ≡ true
+wait_needs : (up : Type 0) (c m : ℕ) (timed : Bool) (base : List Ownership) (at : WaitAt) (st : Stage)
+    → FitsWait up c m timed base at st → needs_place (condvar.wait_act c m at) ≡ true
+    → condvar_queued (condvars.Wait m timed at) ≡ true
 wait_needs up c m timed base (wait.Asleep stands.Listed) st fits needs = refl
 wait_needs up c m timed base (wait.Asleep stands.Moved) st fits needs = refl
 wait_needs up c m timed base (wait.Asleep s) st fits needs = absurd fits
@@ -330,17 +405,23 @@ wait_needs up c m timed base wait.Remove st fits needs = refl
 wait_needs up c m timed base wait.RemoveMoved st fits needs = refl
 wait_needs up c m timed base (wait.Release stands.Listed at) st fits needs = refl
 wait_needs up c m timed base (wait.Release s at) st fits needs = absurd fits
-wait_needs up c m timed base (wait.Lock late at) st fits needs = beside_same m timed late at ∙ mutex_needs m at needs
+wait_needs up c m timed base (wait.Lock late at) st fits needs = beside_same m timed late at
+    ∙ mutex_needs m at needs
 wait_needs up c m timed base at st fits needs = none_needed refl needs
 
-condvar_needs : (up : Type 0) (base : List Ownership) (l : ℕ) (at : CondvarPlace) (st : Stage) → Fits up base (Condvar l at) st → needs_place (condvar.condvar_act l at) ≡ true → condvar_queued at ≡ true
-condvar_needs up base l (condvars.Wait m timed at) st fits needs = wait_needs up l m timed base at st fits needs
+condvar_needs : (up : Type 0) (base : List Ownership) (l : ℕ) (at : CondvarPlace) (st : Stage)
+    → Fits up base (Condvar l at) st → needs_place (condvar.condvar_act l at) ≡ true → condvar_queued at
+    ≡ true
+condvar_needs up base l (condvars.Wait m timed at) st fits needs = wait_needs up l m timed base at st fits
+    needs
 condvar_needs up base l (condvars.Look all) st fits needs = absurd fits
-condvar_needs up base l (condvars.Notify all m (notify.Move locked)) st fits needs = none_needed (moves_need all locked l m) needs
+condvar_needs up base l (condvars.Notify all m (notify.Move locked)) st fits needs =
+    none_needed (moves_need all locked l m) needs
 condvar_needs up base l (condvars.Notify all m at) st fits needs = none_needed refl needs
 
 -- a thread that sleeps, or leaves its queue, is queued there
-pub needs_queue : (up : Type 0) (base : List Ownership) (p : Place) (st : Stage) → Fits up base p st → needs_place (act_of p) ≡ true → is_queued p ≡ true
+pub needs_queue : (up : Type 0) (base : List Ownership) (p : Place) (st : Stage) → Fits up base p st
+    → needs_place (act_of p) ≡ true → is_queued p ≡ true
 needs_queue up base Idle st fits needs = absurd fits
 needs_queue up base (Mutex l at) st fits needs = mutex_needs l at needs
 needs_queue up base (RwLock l a c) st fits needs = call_needs l a c needs
@@ -354,7 +435,8 @@ abbrev if_there : {A : Type 0} → (A → Bool) → Option A → Bool
 if_there queued None = false
 if_there queued (Some x) = queued x
 
-pick_off : {A : Type 0} (queued : A → Bool) (b : Bool) (x : A) → queued x ≡ false → if_there queued (if b then Some x else None) ≡ false
+pick_off : {A : Type 0} (queued : A → Bool) (b : Bool) (x : A) → queued x ≡ false
+    → if_there queued (if b then Some x else None) ≡ false
 pick_off queued true x e = e
 pick_off queued false x e = refl
 
@@ -363,16 +445,19 @@ mutex_looks (Lock e retries (lock.Decide seen)) = pick_off mutex_queued (seen ==
 mutex_looks (Lock e retries at) = refl
 mutex_looks at = refl
 
-rw_looks : (a : Admission) (p : RwLockPlace) (to : RwLockAt) → if_there (λ q. call_queued a (places.Plain q)) (gone_to p (looking_at a p to)) ≡ false
+rw_looks : (a : Admission) (p : RwLockPlace) (to : RwLockAt) → if_there (λ q. call_queued a (places.Plain q))
+    (gone_to p (looking_at a p to)) ≡ false
 rw_looks a p (at.Decide seen) = gone_off (is_mark (rw.decided a p seen) && not (has_aside seen))
   where
-    gone_off : (b : Bool) → if_there (λ q. call_queued a (places.Plain q)) (gone_to p (if b then Some at.Load else None)) ≡ false
+    gone_off : (b : Bool) → if_there (λ q. call_queued a (places.Plain q))
+        (gone_to p (if b then Some at.Load else None)) ≡ false
     gone_off true = refl
     gone_off false = refl
 rw_looks a p (at.Count seen) = refl
 rw_looks a p to = refl
 
-in_call_off : (a : Admission) (b : Bool) (o : Option RwLockPlace) → if_there (call_queued a) (in_call b o) ≡ if_there (λ q. call_queued a (places.Plain q)) o
+in_call_off : (a : Admission) (b : Bool) (o : Option RwLockPlace) → if_there (call_queued a) (in_call b o)
+    ≡ if_there (λ q. call_queued a (places.Plain q)) o
 in_call_off a b None = refl
 in_call_off a true (Some q) = refl
 in_call_off a false (Some q) = refl
@@ -383,21 +468,25 @@ call_looks a (places.Bump p) = in_call_off a true (rwlock_looking a p) ∙ rw_lo
 call_looks a c = refl
 
 once_looks : (at : OncePlace) → if_there once_queued (once.once_looking at) ≡ false
-once_looks (onces.Look c retries (look.Decide seen)) = pick_off once_queued (is_running seen && once.is_mark (once.course_of c seen)) _ refl
+once_looks (onces.Look c retries (look.Decide seen)) = pick_off once_queued
+    (is_running seen && once.is_mark (once.course_of c seen)) _ refl
 once_looks (onces.Look c retries at) = refl
 once_looks at = refl
 
 semaphore_looks : (at : SemaphorePlace) → if_there semaphore_queued (semaphores.semaphore_looking at) ≡ false
-semaphore_looks (semaphore.Acquire timed retries (acquire.Decide seen)) = pick_off semaphore_queued (seen == 0) _ refl
+semaphore_looks (semaphore.Acquire timed retries (acquire.Decide seen)) = pick_off semaphore_queued
+    (seen == 0) _ refl
 semaphore_looks (semaphore.Acquire timed retries at) = refl
 semaphore_looks at = refl
 
-in_wait_off : (m : ℕ) (timed late : Bool) (o : Option MutexPlace) → if_there condvar_queued (condvar.in_lock m timed late o) ≡ if_there mutex_queued o
+in_wait_off : (m : ℕ) (timed late : Bool) (o : Option MutexPlace)
+    → if_there condvar_queued (condvar.in_lock m timed late o) ≡ if_there mutex_queued o
 in_wait_off m timed late None = refl
 in_wait_off m timed late (Some at) = beside_same m timed late at
 
 condvar_looks : (at : CondvarPlace) → if_there condvar_queued (condvar.condvar_looking at) ≡ false
-condvar_looks (condvars.Wait m timed (wait.Lock late at)) = in_wait_off m timed late (mutex_looking at) ∙ mutex_looks at
+condvar_looks (condvars.Wait m timed (wait.Lock late at)) = in_wait_off m timed late (mutex_looking at)
+    ∙ mutex_looks at
 condvar_looks (condvars.Wait m timed at) = refl
 condvar_looks at = refl
 
@@ -405,7 +494,8 @@ mutex_there : (l : ℕ) (o : Option MutexPlace) → if_there is_queued (in_mutex
 mutex_there l None = refl
 mutex_there l (Some at) = refl
 
-call_there : (l : ℕ) (a : Admission) (o : Option RwLockCallPlace) → if_there is_queued (in_rwlock l a o) ≡ if_there (call_queued a) o
+call_there : (l : ℕ) (a : Admission) (o : Option RwLockCallPlace) → if_there is_queued (in_rwlock l a o)
+    ≡ if_there (call_queued a) o
 call_there l a None = refl
 call_there l a (Some at) = refl
 
@@ -413,11 +503,13 @@ once_there : (l : ℕ) (o : Option OncePlace) → if_there is_queued (in_once l 
 once_there l None = refl
 once_there l (Some at) = refl
 
-condvar_there : (l : ℕ) (o : Option CondvarPlace) → if_there is_queued (in_condvar l o) ≡ if_there condvar_queued o
+condvar_there : (l : ℕ) (o : Option CondvarPlace) → if_there is_queued (in_condvar l o) ≡ if_there
+    condvar_queued o
 condvar_there l None = refl
 condvar_there l (Some at) = refl
 
-semaphore_there : (l : ℕ) (o : Option SemaphorePlace) → if_there is_queued (in_semaphore l o) ≡ if_there semaphore_queued o
+semaphore_there : (l : ℕ) (o : Option SemaphorePlace) → if_there is_queued (in_semaphore l o)
+    ≡ if_there semaphore_queued o
 semaphore_there l None = refl
 semaphore_there l (Some at) = refl
 
@@ -435,8 +527,11 @@ queued_from p q (inl e) queued = subst (λ (r : Place). is_queued r ≡ true) e 
 queued_from p q (inr e) queued = none_needed (sym (ap (if_there is_queued) e) ∙ looks_off p) queued
 
 -- a step on a word queues nobody
-pub unqueued_behind : (p : Place) (seen : ℕ) → (GoesOn (is_queued p) (is_queued (next_place p (Value seen))) (act_of p) (Value seen)) → is_queued p ≡ false → is_queued (next_place p (Value seen)) ≡ false
-unqueued_behind p seen goes calm = not_true (is_queued (next_place p (Value seen))) (λ queued. by_goes (goes queued))
+pub unqueued_behind : (p : Place) (seen : ℕ)
+    → (GoesOn (is_queued p) (is_queued (next_place p (Value seen))) (act_of p) (Value seen))
+    → is_queued p ≡ false → is_queued (next_place p (Value seen)) ≡ false
+unqueued_behind p seen goes calm = not_true (is_queued (next_place p (Value seen)))
+    (λ queued. by_goes (goes queued))
   where
     not_true : (b : Bool) → (b ≡ true → ⊥) → b ≡ false
     not_true true h = absurd (h refl)
@@ -447,20 +542,25 @@ unqueued_behind p seen goes calm = not_true (is_queued (next_place p (Value seen
     gets_none (act.TheVariants.Stand _ _) e = false≢true e
     gets_none a e = false≢true e
 
-    by_goes : (gets_place (act_of p) (Value seen) ≡ true) ⊎ ((spends_place (act_of p) (Value seen) ≡ false) × (is_queued p ≡ true)) → ⊥
+    by_goes : (gets_place (act_of p) (Value seen) ≡ true) ⊎ ((spends_place (act_of p) (Value seen) ≡ false)
+        × (is_queued p ≡ true)) → ⊥
     by_goes (inl e) = gets_none (act_of p) e
     by_goes (inr e) = false≢true (sym calm ∙ e.1)
 
 -- tells of the place that a thread has after its act
-pub keeps_on : (lot : ParkingLot) (n : ℕ) (a : Act) (reply : Reply) (old new : Option QueuePlace) (was is : Bool) → GoesOn was is a reply → KeepsPlace lot n a reply old new → (was ≡ true → HasPlace lot n old) → is ≡ true → HasPlace lot n new
+pub keeps_on : (lot : ParkingLot) (n : ℕ) (a : Act) (reply : Reply) (old new : Option QueuePlace)
+    (was is : Bool) → GoesOn was is a reply → KeepsPlace lot n a reply old new
+    → (was ≡ true → HasPlace lot n old) → is ≡ true → HasPlace lot n new
 keeps_on lot n a reply old new was is goes keeps had queued = by_goes (goes queued)
   where
-    by_goes : (gets_place a reply ≡ true) ⊎ ((spends_place a reply ≡ false) × (was ≡ true)) → HasPlace lot n new
+    by_goes : (gets_place a reply ≡ true) ⊎ ((spends_place a reply ≡ false) × (was ≡ true))
+        → HasPlace lot n new
     by_goes (inl e) = keeps.0 e
     by_goes (inr e) = keeps.1 e.0 (had e.1)
 
 -- a turn at what fits there
-pub stays_queued : (up : Type 0) (kinds : ℕ → WordKind) (at' : ℕ → ℕ) (base : List Ownership) (p : Place) (st new : Stage) (reply : Reply)
+pub stays_queued : (up : Type 0) (kinds : ℕ → WordKind) (at' : ℕ → ℕ) (base : List Ownership) (p : Place)
+    (st new : Stage) (reply : Reply)
     → Fits up base p st → Became up kinds at' (sleeper_at p) st (act_of p) reply new → StaysQueued p reply
 stays_queued up kinds at' base p st new reply fits became =
     (needs_queue up base p st fits, queued_on up kinds at' base st new reply p fits became)

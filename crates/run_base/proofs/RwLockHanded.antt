@@ -1,4 +1,5 @@
--- A thread that is handed a reader-writer lock while it sleeps in the main queue: what it was told, and where it goes on.
+-- A thread that is handed a reader-writer lock while it sleeps in the main queue: what it was told, and where
+-- it goes on.
 use Rattle.std.proofs.Common.{◌∷◌, ◌⊎◌, inl, inr, unwrap_or}
 use Rattle.core_base.specs.declared.wants.Want.{Want}
 use Rattle.core_base.specs.declared.wants.Want.TheVariants as wants
@@ -52,7 +53,8 @@ use Rattle.run_base.specs.Stages.{Stage, Became}
 
 module _ (up : Type 0) (kinds : ℕ → WordKind) (at : ℕ → ℕ) (sleeper : Sleeper) (st new : Stage) where
   -- where it is told of no right, it may as well be one that takes none
-  quietly : (reply : Reply) (x : Act) → (reply ≡ Woken note.HandOff → ⊥) → Became up kinds at sleeper st x reply new → Became up kinds at (record sleeper { takes_over = false }) st x reply new
+  quietly : (reply : Reply) (x : Act) → (reply ≡ Woken note.HandOff → ⊥) → Became up kinds at sleeper st x
+      reply new → Became up kinds at (record sleeper { takes_over = false }) st x reply new
   quietly (Woken note.HandOff) x other b = absurd (other refl)
   quietly (Woken note.Normal) act.Sleep other b = b
   quietly (Woken note.Normal) x other b = b
@@ -79,10 +81,16 @@ module _ (up : Type 0) (kinds : ℕ → WordKind) (at : ℕ → ℕ) (sleeper : 
 
   -- it sleeps and is told that it was handed the lock, or it is told of no right
   pub told_plainly : (reply : Reply) (x : Act) → Became up kinds at sleeper st x reply new
-      → (((b : Bool) (p : RwLockPlace) → given b p reply ≡ None) × Became up kinds at (record sleeper { takes_over = false }) st x reply new)
+      → (((b : Bool) (p : RwLockPlace) → given b p reply ≡ None)
+      × Became up kinds at (record sleeper { takes_over = false }) st x reply new)
       ⊎ ((reply ≡ Woken note.HandOff) × Became up kinds at sleeper st act.Sleep (Woken note.HandOff) new)
   told_plainly (HandedBy by alone) x became = absurd (never_by by alone x became)
-  told_plainly (Woken note.HandOff) x became = inr (refl, subst (λ (y : Act). Became up kinds at sleeper st y (Woken note.HandOff) new) (sleeps x became) became)
+  told_plainly (Woken note.HandOff) x became =
+      inr (
+        refl,
+        subst (λ (y : Act). Became up kinds at sleeper st y (Woken note.HandOff) new)
+            (sleeps x became) became,
+      )
   told_plainly reply x became = inl ((λ b p. refl), quietly reply x (λ e. absurd cc) became)
 
 -- ---------------------------------------------------------------- where it goes on
@@ -93,10 +101,17 @@ module _ (up : Type 0) (l : ℕ) (a : Admission) (base : List Ownership) (st new
 
   -- how it owns the lock, beside what it owned
   abbrev Handed : Want → Type 0
-  Handed x = (owner : Owner) × MayHand kinds_of.RwLock x owner × (new ≡ stage (owning (rwlock_at l) owner ∷ st.owns) st.inside st.last st.steps)
+  Handed x = (owner : Owner) × MayHand kinds_of.RwLock x owner
+      × (new ≡ stage (owning (rwlock_at l) owner ∷ st.owns) st.inside st.last st.steps)
 
   -- a writer waits for the last readers, or finds none
-  pub writer_looks : (how : Patience) (again : Bool) → FitsRwLock up l base a (asleep (purpose.Enter access.Exclusive how) again) st → Handed wants.Exclusive → FitsRwLock up l base a (record { purpose = purpose.Enter access.Exclusive how; retries = false; at = at.Look }) new
+  pub writer_looks : (how : Patience) (again : Bool) → FitsRwLock up l base a
+      (asleep (purpose.Enter access.Exclusive how) again) st → Handed wants.Exclusive
+      → FitsRwLock up l base a (record {
+        purpose = purpose.Enter access.Exclusive how;
+        retries = false;
+        at = at.Look;
+      }) new
   writer_looks how again f h = record {
     stands = record { place = f.stands.place; fresh = fresh how; decided = tt };
     room = f.room;
@@ -113,17 +128,29 @@ module _ (up : Type 0) (l : ℕ) (a : Admission) (base : List Ownership) (st new
       fresh Patient = tt
       fresh Timed = tt
 
-  reads_now : (o : Owner) (x : Access) (how : Patience) (again : Bool) → FitsRwLock up l base a (asleep (purpose.Enter x how) again) st → owner_for (wanted x) ≡ o → (h : (owner : Owner) × (owner ≡ o) × (new ≡ stage (owning (rwlock_at l) owner ∷ st.owns) st.inside st.last st.steps)) → IsBeside l base st.owns → st.inside ≡ None → OwnsRight l (wanted x) base new.owns × (new.inside ≡ None)
-  reads_now o x how again f is h beside outside = ((h.0, st.owns, h.1 ∙ sym is, beside, ap (λ (s : Stage). s.owns) h.2), ap (λ (s : Stage). s.inside) h.2 ∙ outside)
+  reads_now : (o : Owner) (x : Access) (how : Patience) (again : Bool) → FitsRwLock up l base a
+      (asleep (purpose.Enter x how) again) st → owner_for (wanted x) ≡ o → (h : (owner : Owner) × (owner ≡ o)
+      × (new ≡ stage (owning (rwlock_at l) owner ∷ st.owns) st.inside st.last st.steps))
+      → IsBeside l base st.owns → st.inside ≡ None → OwnsRight l (wanted x) base new.owns
+      × (new.inside ≡ None)
+  reads_now o x how again f is h beside outside = (
+    (h.0, st.owns, h.1 ∙ sym is, beside, ap (λ (s : Stage). s.owns) h.2),
+    ap (λ (s : Stage). s.inside) h.2
+        ∙ outside,
+  )
 
   abbrev Goes : RwLockCallPlace → Type 0
-  Goes c = ReachedBy up base (call_aim l a c) (rwlock_goes l a (call_next a c (Woken note.HandOff))) (answer_of (rwlock_does l a (call_next a c (Woken note.HandOff)))) new
+  Goes c = ReachedBy up base (call_aim l a c) (rwlock_goes l a (call_next a c (Woken note.HandOff)))
+      (answer_of (rwlock_does l a (call_next a c (Woken note.HandOff)))) new
 
   -- as its call is one that enters, or the second half of a bump
-  plain_handed : (q : RwLockPurpose) (again : Bool) → FitsRwLock up l base a (asleep q again) st → Handed (unwrap_or (rwlock_wants (asleep q again)) wants.Exclusive) → Goes (Plain (asleep q again))
+  plain_handed : (q : RwLockPurpose) (again : Bool) → FitsRwLock up l base a (asleep q again) st
+      → Handed (unwrap_or (rwlock_wants (asleep q again)) wants.Exclusive) → Goes (Plain (asleep q again))
   plain_handed (purpose.Enter access.Exclusive how) again f h = (writer_looks how again f h, refl)
-  plain_handed (purpose.Enter access.Shared how) again f h = (reads_now owners.Shared access.Shared how again f refl h f.owns f.within, refl)
-  plain_handed (purpose.Enter access.Upgradable how) again f h = (reads_now owners.Upgradable access.Upgradable how again f refl h f.owns f.within, refl)
+  plain_handed (purpose.Enter access.Shared how) again f h =
+      (reads_now owners.Shared access.Shared how again f refl h f.owns f.within, refl)
+  plain_handed (purpose.Enter access.Upgradable how) again f h =
+      (reads_now owners.Upgradable access.Upgradable how again f refl h f.owns f.within, refl)
   plain_handed (purpose.Upgrade Try) again f h = absurd f.stands.place
   plain_handed (purpose.Upgrade Patient) again f h = absurd f.stands.place
   plain_handed (purpose.Upgrade Timed) again f h = absurd f.stands.place
@@ -132,10 +159,17 @@ module _ (up : Type 0) (l : ℕ) (a : Admission) (base : List Ownership) (st new
   plain_handed (purpose.Release access.Exclusive) again f h = absurd f.stands.place
   plain_handed (purpose.Downgrade d) again f h = absurd f.stands.place
 
-  bump_handed : (q : RwLockPurpose) (again : Bool) → IsOfBump q again → FitsRwLock up l base a (asleep q again) st → Handed (unwrap_or (rwlock_wants (asleep q again)) wants.Exclusive) → Goes (Bump (asleep q again))
-  bump_handed (purpose.Enter access.Exclusive Patient) again of f h = ((tt, writer_looks Patient again f h), refl)
-  bump_handed (purpose.Enter access.Shared Patient) again of f h = (reads_now owners.Shared access.Shared Patient again f refl h f.owns f.within, refl)
-  bump_handed (purpose.Enter access.Upgradable Patient) again of f h = (reads_now owners.Upgradable access.Upgradable Patient again f refl h f.owns f.within, refl)
+  bump_handed : (q : RwLockPurpose) (again : Bool) → IsOfBump q again → FitsRwLock up l base a
+      (asleep q again) st → Handed (unwrap_or (rwlock_wants (asleep q again)) wants.Exclusive)
+      → Goes (Bump (asleep q again))
+  bump_handed (purpose.Enter access.Exclusive Patient) again of f h = (
+    (tt, writer_looks Patient again f h),
+    refl,
+  )
+  bump_handed (purpose.Enter access.Shared Patient) again of f h =
+      (reads_now owners.Shared access.Shared Patient again f refl h f.owns f.within, refl)
+  bump_handed (purpose.Enter access.Upgradable Patient) again of f h =
+      (reads_now owners.Upgradable access.Upgradable Patient again f refl h f.owns f.within, refl)
   bump_handed (purpose.Enter x Timed) again of f h = absurd of
   bump_handed (purpose.Enter x Try) again of f h = absurd of
   bump_handed (purpose.Upgrade how) again of f h = absurd of
@@ -148,18 +182,46 @@ module _ (up : Type 0) (l : ℕ) (a : Admission) (base : List Ownership) (st new
   never e = absurd cc
 
   -- it was asleep in the main queue
-  pub plain_goes : (p : RwLockPlace) → FitsRwLock up l base a p st → Became up rwlocks (at_rwlock l) (sleeper_at (RwLock l a (Plain p))) st act.Sleep (Woken note.HandOff) new → Goes (Plain p)
+  pub plain_goes : (p : RwLockPlace) → FitsRwLock up l base a p st → Became up rwlocks (at_rwlock l)
+      (sleeper_at (RwLock l a (Plain p))) st act.Sleep (Woken note.HandOff) new → Goes (Plain p)
   plain_goes p f h = by_place p.at p.purpose p.retries f h
     where
-      by_place : (to : RwLockAt) (q : RwLockPurpose) (again : Bool) → FitsRwLock up l base a (record { purpose = q; retries = again; at = to }) st → Became up rwlocks (at_rwlock l) (sleeper_at (RwLock l a (Plain (record { purpose = q; retries = again; at = to })))) st act.Sleep (Woken note.HandOff) new → Goes (Plain (record { purpose = q; retries = again; at = to }))
+      by_place : (to : RwLockAt) (q : RwLockPurpose) (again : Bool) → FitsRwLock up l base a (record {
+        purpose = q;
+        retries = again;
+        at = to;
+      }) st → Became up rwlocks (at_rwlock l) (sleeper_at (RwLock l a (Plain (record {
+        purpose = q;
+        retries = again;
+        at = to;
+      })))) st act.Sleep (Woken note.HandOff) new → Goes (Plain (record {
+        purpose = q;
+        retries = again;
+        at = to;
+      }))
       by_place (at.Park parking.Asleep) q again f h = plain_handed q again f (h.0, h.1, h.2)
       by_place (at.Park to) q again f h = never h.3
       by_place to q again f h = never h.3
 
-  pub bump_goes : (p : RwLockPlace) → IsOfBump p.purpose p.retries → FitsRwLock up l base a p st → Became up rwlocks (at_rwlock l) (sleeper_at (RwLock l a (Bump p))) st act.Sleep (Woken note.HandOff) new → Goes (Bump p)
+  pub bump_goes : (p : RwLockPlace) → IsOfBump p.purpose p.retries → FitsRwLock up l base a p st
+      → Became up rwlocks (at_rwlock l) (sleeper_at (RwLock l a (Bump p))) st act.Sleep (Woken note.HandOff)
+      new → Goes (Bump p)
   bump_goes p of f h = by_place p.at p.purpose p.retries of f h
     where
-      by_place : (to : RwLockAt) (q : RwLockPurpose) (again : Bool) → IsOfBump q again → FitsRwLock up l base a (record { purpose = q; retries = again; at = to }) st → Became up rwlocks (at_rwlock l) (sleeper_at (RwLock l a (Bump (record { purpose = q; retries = again; at = to })))) st act.Sleep (Woken note.HandOff) new → Goes (Bump (record { purpose = q; retries = again; at = to }))
+      by_place : (to : RwLockAt) (q : RwLockPurpose) (again : Bool) → IsOfBump q again
+          → FitsRwLock up l base a (record {
+            purpose = q;
+            retries = again;
+            at = to;
+          }) st → Became up rwlocks (at_rwlock l) (sleeper_at (RwLock l a (Bump (record {
+            purpose = q;
+            retries = again;
+            at = to;
+          })))) st act.Sleep (Woken note.HandOff) new → Goes (Bump (record {
+            purpose = q;
+            retries = again;
+            at = to;
+          }))
       by_place (at.Park parking.Asleep) q again of f h = bump_handed q again of f (h.0, h.1, h.2)
       by_place (at.Park to) q again of f h = never h.3
       by_place to q again of f h = never h.3

@@ -1,15 +1,18 @@
 -- Each sleep of a course follows a stand.
-use Rattle.std.proofs.Common.{ℕ, ◌≡◌, ◌⊎◌, Bool, true, false, if◌then◌else◌, List, [], ◌∷◌, ◌++◌, inl, inr, refl, sym, ◌∙◌, ap, subst}
+use Rattle.std.proofs.Common.{ℕ, ◌≡◌, ◌⊎◌, Bool, true, false, if◌then◌else◌, List, [], ◌∷◌, ◌++◌, inl, inr}
+use Rattle.std.proofs.Common.{refl, sym, ◌∙◌, ap, subst}
 use Rattle.std.proofs.lemmas.Bool.{false≢true}
 use Rattle.lot_steps.specs.Steps.{act_of}
 use Rattle.lot_steps.specs.declared.places.Place.{Place}
 use Rattle.steps_base.specs.declared.acts.Act.{Act}
 use Rattle.steps_base.specs.declared.acts.Act.TheVariants as act
 use Rattle.steps_base.specs.declared.acts.Reply.{Reply}
-use Rattle.steps_base.specs.declared.acts.Reply.TheVariants.{Done, Parked, Picked, Removed, Requeued, Took, Woken}
+use Rattle.steps_base.specs.declared.acts.Reply.TheVariants.{Done, Parked, Picked, Removed, Requeued, Took}
+use Rattle.steps_base.specs.declared.acts.Reply.TheVariants.{Woken}
 use Rattle.parking_lot_core.specs.declared.tellings.Telling.{Telling}
 use Rattle.parking_lot_core.specs.declared.tellings.Telling.TheVariants as telling
-use Rattle.run_base.specs.Courses.{BringsTold, Course, EachSleepStands, SleepersStood, Tells, Trail, goes, rests, sees}
+use Rattle.run_base.specs.Courses.{BringsTold, Course, EachSleepStands, SleepersStood, Tells, Trail, goes}
+use Rattle.run_base.specs.Courses.{rests, sees}
 use Rattle.run_base.specs.Queued.{gets_place, is_queued, needs_place, spends_place}
 use Rattle.run_base.proofs.Queued.{queued_from}
 
@@ -70,7 +73,8 @@ module _ (me : ℕ) (b : Bool) where
   sleeps_by a reply t told needs = none_sleeps told
 
   -- it stood last by the act, or stands still
-  same_told : {S : Type 0} {t u : List Telling} → t ≡ u → stands_after b u ≡ b → (false ≡ true) ⊎ (S × (b ≡ true))
+  same_told : {S : Type 0} {t u : List Telling} → t ≡ u → stands_after b u ≡ b → (false ≡ true)
+      ⊎ (S × (b ≡ true))
       → stands_after b t ≡ true
   same_told told same (inl none) = absurd (false≢true none)
   same_told told same (inr stands) = ap (stands_after b) told ∙ same ∙ stands.1
@@ -125,4 +129,5 @@ module _ (at : ℕ → ℕ) (me : ℕ) (p : Place) where
 
 pub each_sleep : SleepersStood
 each_sleep at me p all answer a = subst (λ (x : Trail). EachSleepStands (is_queued p) x.told) (sym a.whole)
-    (brought_sleeps at me p a.last a.before a.more a.reply (stands_at at me p a.last a.before a.course) a.brings)
+    (brought_sleeps at me p a.last a.before a.more a.reply (stands_at at me p a.last a.before a.course)
+    a.brings)

@@ -10,7 +10,8 @@ use Rattle.core_queues.specs.Wants.{wants_of}
 use Rattle.spec_locks.proofs.HandsTaken.{one_more_picked, wanting_more}
 use Rattle.run_base.specs.Takes.{more_in}
 
-one_behind : (x : Waiter) (xs : List Waiter) → more_in (wants_of xs) ≡ wanting_more xs → (y : Want) → x.want ≡ y → more_in (wants_of (x ∷ xs)) ≡ wanting_more (x ∷ xs)
+one_behind : (x : Waiter) (xs : List Waiter) → more_in (wants_of xs) ≡ wanting_more xs → (y : Want)
+    → x.want ≡ y → more_in (wants_of (x ∷ xs)) ≡ wanting_more (x ∷ xs)
 one_behind x xs h wants.Shared e = rw e (omega arith)
 one_behind x xs h wants.Exclusive e = rw e (omega arith)
 one_behind x xs h wants.Upgradable e = rw e (omega arith)
@@ -21,9 +22,12 @@ same_number : (xs : List Waiter) → more_in (wants_of xs) ≡ wanting_more xs
 same_number [] = refl
 same_number (x ∷ xs) = one_behind x xs (same_number xs) x.want refl
 
-pub picked_few : (start : Option Want) (recursive : Bool) (xs : List Waiter) → more_in (wants_of (lock_picked start recursive xs)) ≤ 1
-picked_few start recursive xs = let few : wanting_more (lock_picked start recursive xs) ≤ 1 = one_more_picked start recursive xs in
-    let same : more_in (wants_of (lock_picked start recursive xs)) ≡ wanting_more (lock_picked start recursive xs) = same_number (lock_picked start recursive xs) in omega arith
+pub picked_few : (start : Option Want) (recursive : Bool) (xs : List Waiter)
+    → more_in (wants_of (lock_picked start recursive xs)) ≤ 1
+picked_few start recursive xs = let few : wanting_more (lock_picked start recursive xs) ≤ 1 =
+    one_more_picked start recursive xs in
+    let same : more_in (wants_of (lock_picked start recursive xs)) ≡ wanting_more
+    (lock_picked start recursive xs) = same_number (lock_picked start recursive xs) in omega arith
 
 -- a list of threads that were taken is as long as that of the waiters
 pub all_threads : (xs : List Waiter) → length (threads_of xs) ≡ length xs

@@ -1,5 +1,6 @@
 -- One turn of the driver: the steps that it added bring the reply, and that leads on.
-use Rattle.std.proofs.Common.{ℕ, ◌≡◌, ◌≢◌, ◌++◌, Bool, true, List, [], Option, Some, None, refl, sym, ap, ◌∙◌, subst}
+use Rattle.std.proofs.Common.{ℕ, ◌≡◌, ◌≢◌, ◌++◌, Bool, true, List, [], Option, Some, None, refl, sym, ap, ◌∙◌}
+use Rattle.std.proofs.Common.{subst}
 use Rattle.std.proofs.lemmas.List.{append-nil}
 use Rattle.core_base.specs.declared.ops.Op.{Op}
 use Rattle.spec_locks.specs.declared.outcomes.OnceState.{OnceState}
@@ -15,7 +16,8 @@ use Rattle.steps_once.specs.OnceSteps.{once_next}
 use Rattle.steps_once.specs.declared.places.OncePlace.{OncePlace}
 use Rattle.steps_semaphore.specs.SemaphoreSteps.{semaphore_next}
 use Rattle.steps_semaphore.specs.declared.places.SemaphorePlace.{SemaphorePlace}
-use Rattle.lot_steps.specs.Steps.{act_of, next_act, next_place, mutex_goes, rwlock_goes, once_goes, condvar_goes, semaphore_goes, HasKeys, ShowsKeys}
+use Rattle.lot_steps.specs.Steps.{act_of, next_act, next_place, mutex_goes, rwlock_goes, once_goes}
+use Rattle.lot_steps.specs.Steps.{condvar_goes, semaphore_goes, HasKeys, ShowsKeys}
 use Rattle.lot_steps.proofs.Onward.{does}
 use Rattle.steps_base.specs.declared.acts.Next.{Next}
 use Rattle.steps_base.specs.declared.acts.Next.TheVariants.{At, End}
@@ -24,7 +26,8 @@ use Rattle.steps_base.specs.declared.acts.Act.{Act}
 use Rattle.steps_base.specs.declared.acts.Act as act
 use Rattle.steps_base.specs.declared.acts.Whom as whom
 use Rattle.steps_base.specs.declared.acts.Reply.{Reply}
-use Rattle.steps_base.specs.declared.acts.Reply.TheVariants.{Done, Value, Parked, Took, Picked, Requeued, Removed, MovedTo, Late, Woken}
+use Rattle.steps_base.specs.declared.acts.Reply.TheVariants.{Done, Value, Parked, Took, Picked, Requeued}
+use Rattle.steps_base.specs.declared.acts.Reply.TheVariants.{Removed, MovedTo, Late, Woken}
 use Rattle.lot_steps.specs.declared.places.Place.{Place}
 use Rattle.lot_steps.specs.declared.places.Place.TheVariants.{Idle, Mutex, RwLock, Once, Condvar, Semaphore}
 use Rattle.core_words.specs.Indices.{word_index}
@@ -38,12 +41,19 @@ use Rattle.parking_lot_core.specs.declared.sections.Section.{Section}
 use Rattle.parking_lot_core.specs.declared.tokens.SectionRecord.{SectionRecord}
 use Rattle.parking_lot_core.specs.declared.tokens.Token.{Token}
 use Rattle.run_base.specs.Fitting.{AreWordsFor, answer_of, sleeper_at}
-use Rattle.run_base.specs.Paths.{Brings, MayReply, Told, closure_of, step, word, hands, parks, other, is_wordless, is_valueless}
+use Rattle.run_base.specs.Paths.{Brings, MayReply, Told, closure_of, step, word, hands, parks, other}
+use Rattle.run_base.specs.Paths.{is_wordless, is_valueless}
 use Rattle.run_base.specs.Stages.{Stage, Became, Stepped, Adds, stage, stage_of, section_view}
 use Rattle.run_base.specs.Sleepers.{late_key_at}
 
-wordless : (at : ℕ → ℕ) (p : Place) (a : Act) (reply : Reply) (before behind : List WordStep) → act_of p ≡ a → is_wordless a ≡ true → is_valueless reply ≡ true → MayReply p reply → behind ≡ before → Told at p reply before behind
-wordless at p a reply before behind is quiet valueless may e = ([], e ∙ sym (append-nil before), other p reply (ap is_wordless is ∙ quiet) valueless may)
+wordless : (at : ℕ → ℕ) (p : Place) (a : Act) (reply : Reply) (before behind : List WordStep) → act_of p ≡ a
+    → is_wordless a ≡ true → is_valueless reply ≡ true → MayReply p reply → behind ≡ before
+    → Told at p reply before behind
+wordless at p a reply before behind is quiet valueless may e = (
+  [],
+  e ∙ sym (append-nil before),
+  other p reply (ap is_wordless is ∙ quiet) valueless may,
+)
 
 -- the key under which a sleeper may be late is its place's
 is_late_at : (p : Place) → (sleeper_at p).late ≡ late_key_at p
@@ -60,28 +70,58 @@ has_deadline p key late none = let one : Some key ≡ None = sym late ∙ is_lat
 some_closure : {state : OnceState} → Some state ≡ None → ⊥
 some_closure e = cc
 
-pub told : (up : Type 0) (at : ℕ → ℕ) (kinds : ℕ → WordKind) (p : Place) (a : Act) → act_of p ≡ a → closure_of a ≡ None → (st new : Stage) (reply : Reply) (before behind : List WordStep) → Became up kinds at (sleeper_at p) st a reply new → Adds at a reply before behind → Told at p reply before behind
-told up at kinds p (act.TheVariants.Word l op) is runs st new (Value seen) before behind b e = (step (at l) op seen, e, word p l op seen is)
-told up at kinds p (act.TheVariants.HandOver l op) is runs st new (Value seen) before behind b e = (step (at l) op seen, e, hands p l op seen is)
-told up at kinds p (act.TheVariants.Park l key check want) is runs st new (Parked parked) before behind b e = (step (at l) Load e.0, e.2, subst (λ (x : Bool). Brings at p (step (at l) Load e.0) (Parked x)) (sym e.1) (parks p l key check want e.0 is))
-told up at kinds p (act.TheVariants.Enter keys) is runs st new Done before behind b e = wordless at p (act.TheVariants.Enter keys) Done before behind is refl refl tt e
-told up at kinds p (act.TheVariants.Stand key want) is runs st new Done before behind b e = wordless at p (act.TheVariants.Stand key want) Done before behind is refl refl tt e
-told up at kinds p (act.TheVariants.Take key whom.TheVariants.First) is runs st new (Took any left) before behind b e = wordless at p (act.TheVariants.Take key whom.TheVariants.First) (Took any left) before behind is refl refl tt e
-told up at kinds p (act.TheVariants.Take key whom.TheVariants.All) is runs st new (Took any left) before behind b e = wordless at p (act.TheVariants.Take key whom.TheVariants.All) (Took any left) before behind is refl refl tt e
-told up at kinds p (act.TheVariants.Take key (whom.TheVariants.Picked start recursive)) is runs st new (Picked sharers successor left) before behind b e = wordless at p (act.TheVariants.Take key (whom.TheVariants.Picked start recursive)) (Picked sharers successor left) before behind is refl refl tt e
+pub told : (up : Type 0) (at : ℕ → ℕ) (kinds : ℕ → WordKind) (p : Place) (a : Act) → act_of p ≡ a
+    → closure_of a ≡ None → (st new : Stage) (reply : Reply) (before behind : List WordStep)
+    → Became up kinds at (sleeper_at p) st a reply new → Adds at a reply before behind
+    → Told at p reply before behind
+told up at kinds p (act.TheVariants.Word l op) is runs st new (Value seen) before behind b e =
+    (step (at l) op seen, e, word p l op seen is)
+told up at kinds p (act.TheVariants.HandOver l op) is runs st new (Value seen) before behind b e =
+    (step (at l) op seen, e, hands p l op seen is)
+told up at kinds p (act.TheVariants.Park l key check want) is runs st new (Parked parked) before behind b e = (
+  step (at l) Load e.0,
+  e.2,
+  subst (λ (x : Bool). Brings at p (step (at l) Load e.0) (Parked x)) (sym e.1)
+      (parks p l key check want e.0 is),
+)
+told up at kinds p (act.TheVariants.Enter keys) is runs st new Done before behind b e =
+    wordless at p (act.TheVariants.Enter keys) Done before behind is refl refl tt e
+told up at kinds p (act.TheVariants.Stand key want) is runs st new Done before behind b e =
+    wordless at p (act.TheVariants.Stand key want) Done before behind is refl refl tt e
+told up at kinds p (act.TheVariants.Take key whom.TheVariants.First) is runs st new (Took any left) before
+    behind b e = wordless at p (act.TheVariants.Take key whom.TheVariants.First) (Took any left) before behind
+    is refl refl tt e
+told up at kinds p (act.TheVariants.Take key whom.TheVariants.All) is runs st new (Took any left) before
+    behind b e = wordless at p (act.TheVariants.Take key whom.TheVariants.All) (Took any left) before behind
+    is refl refl tt e
+told up at kinds p (act.TheVariants.Take key (whom.TheVariants.Picked start recursive)) is runs st new
+    (Picked sharers successor left) before behind b e =
+    wordless at p (act.TheVariants.Take key (whom.TheVariants.Picked start recursive))
+    (Picked sharers successor left) before behind is refl refl tt e
 told up at kinds p (act.TheVariants.Take key who) is runs st new reply before behind b e = absurd b.0
-told up at kinds p (act.TheVariants.Requeue from to how) is runs st new (Requeued number left) before behind b e = wordless at p (act.TheVariants.Requeue from to how) (Requeued number left) before behind is refl refl tt e
-told up at kinds p (act.TheVariants.Remove key) is runs st new (Removed left) before behind b e = wordless at p (act.TheVariants.Remove key) (Removed left) before behind is refl refl tt e
-told up at kinds p (act.TheVariants.Leave keys wakes) is runs st new Done before behind b e = wordless at p (act.TheVariants.Leave keys wakes) Done before behind is refl refl tt e
-told up at kinds p act.TheVariants.Sleep is runs st new (Woken note) before behind b e = wordless at p act.TheVariants.Sleep (Woken note) before behind is refl refl tt e
-told up at kinds p act.TheVariants.Sleep is runs st new Late before behind b e = wordless at p act.TheVariants.Sleep Late before behind is refl refl (has_deadline p b.0 b.1.0) e
-told up at kinds p act.TheVariants.Sleep is runs st new (MovedTo key) before behind b e = wordless at p act.TheVariants.Sleep (MovedTo key) before behind is refl refl (λ none. b.2 (is_late_at p ∙ none)) e
-told up at kinds p act.TheVariants.Accept is runs st new Done before behind b e = wordless at p act.TheVariants.Accept Done before behind is refl refl tt e
-told up at kinds p (act.TheVariants.Closure state) is runs st new reply before behind b e = absurd (some_closure runs)
+told up at kinds p (act.TheVariants.Requeue from to how) is runs st new (Requeued number left) before behind b
+    e = wordless at p (act.TheVariants.Requeue from to how) (Requeued number left) before behind is refl refl
+    tt e
+told up at kinds p (act.TheVariants.Remove key) is runs st new (Removed left) before behind b e =
+    wordless at p (act.TheVariants.Remove key) (Removed left) before behind is refl refl tt e
+told up at kinds p (act.TheVariants.Leave keys wakes) is runs st new Done before behind b e =
+    wordless at p (act.TheVariants.Leave keys wakes) Done before behind is refl refl tt e
+told up at kinds p act.TheVariants.Sleep is runs st new (Woken note) before behind b e =
+    wordless at p act.TheVariants.Sleep (Woken note) before behind is refl refl tt e
+told up at kinds p act.TheVariants.Sleep is runs st new Late before behind b e =
+    wordless at p act.TheVariants.Sleep Late before behind is refl refl (has_deadline p b.0 b.1.0) e
+told up at kinds p act.TheVariants.Sleep is runs st new (MovedTo key) before behind b e =
+    wordless at p act.TheVariants.Sleep (MovedTo key) before behind is refl refl
+    (λ none. b.2 (is_late_at p ∙ none)) e
+told up at kinds p act.TheVariants.Accept is runs st new Done before behind b e =
+    wordless at p act.TheVariants.Accept Done before behind is refl refl tt e
+told up at kinds p (act.TheVariants.Closure state) is runs st new reply before behind b e =
+    absurd (some_closure runs)
 told up at kinds p a is runs st new reply before behind b e = absurd b
 
 -- the words of a call serve it to its end
-pub words_on : (p : Place) (reply : Reply) (kinds : ℕ → WordKind) (at : ℕ → ℕ) → AreWordsFor p kinds at → AreWordsFor (next_place p reply) kinds at
+pub words_on : (p : Place) (reply : Reply) (kinds : ℕ → WordKind) (at : ℕ → ℕ) → AreWordsFor p kinds at
+    → AreWordsFor (next_place p reply) kinds at
 words_on Idle reply kinds at w = tt
 words_on (RwLock l a place) reply kinds at w = by_next (call_next a place reply)
   where
@@ -124,23 +164,31 @@ has_keys (Condvar l place) kinds at w = w.0
 has_keys (Semaphore l place) kinds at w = w.0
 
 -- No call shows another mutex after its step.
-pub shows_keys : (p : Place) (reply : Reply) (kinds : ℕ → WordKind) (at : ℕ → ℕ) → AreWordsFor p kinds at → ShowsKeys p reply
+pub shows_keys : (p : Place) (reply : Reply) (kinds : ℕ → WordKind) (at : ℕ → ℕ) → AreWordsFor p kinds at
+    → ShowsKeys p reply
 shows_keys Idle reply kinds at w = tt
 shows_keys (Mutex l place) reply kinds at w = tt
 shows_keys (RwLock l a place) reply kinds at w = tt
 shows_keys (Once l place) reply kinds at w = tt
 shows_keys (Semaphore l place) reply kinds at w = tt
-shows_keys (Condvar l place) reply kinds at w = has_keys (next_place (Condvar l place) reply) kinds at (words_on (Condvar l place) reply kinds at w)
+shows_keys (Condvar l place) reply kinds at w = has_keys (next_place (Condvar l place) reply) kinds at
+    (words_on (Condvar l place) reply kinds at w)
 
 -- a step on a word, as the stage has it
-pub by_stage : (w : Word) (op : Op) (seen : ℕ) (old : Token) (section : Option Section) (new : Token) → view_of new ≡ after_step w.kind (word_index w.number w.kind) op seen (view_of old) → last_of new ≡ None → CodesWith w.kind (word_index w.number w.kind) seen (view_of old).owns
+pub by_stage : (w : Word) (op : Op) (seen : ℕ) (old : Token) (section : Option Section) (new : Token)
+    → view_of new ≡ after_step w.kind (word_index w.number w.kind) op seen (view_of old) → last_of new ≡ None
+    → CodesWith w.kind (word_index w.number w.kind) seen (view_of old).owns
     → Stepped w.kind (word_index w.number w.kind) op seen (stage_of old section) (stage_of new section)
 by_stage w op seen old section new e last code = (
   code,
   ap (λ (v : View). stage v.owns (section_view section) (last_of new) v.steps) e
-      ∙ ap (λ (l : Option SectionRecord). stage (owns_after_step w.kind (word_index w.number w.kind) op seen (view_of old).owns) (section_view section) l ((view_of old).steps ++ step (word_index w.number w.kind) op seen)) last,
+      ∙ ap (λ (l : Option SectionRecord). stage (owns_after_step w.kind (word_index w.number w.kind) op seen
+      (view_of old).owns) (section_view section) l ((view_of old).steps
+      ++ step (word_index w.number w.kind) op seen)) last,
 )
 
 -- a step that ends no call does what its place says
-pub does_next : (p : Place) (reply : Reply) → answer_of (next_act p reply) ≡ None → next_act p reply ≡ act_of (next_place p reply)
-does_next p reply none = does p reply (λ x e. let some : answer_of (next_act p reply) ≡ Some x = ap answer_of e in cc)
+pub does_next : (p : Place) (reply : Reply) → answer_of (next_act p reply) ≡ None → next_act p reply
+    ≡ act_of (next_place p reply)
+does_next p reply none = does p reply (λ x e. let some : answer_of (next_act p reply) ≡ Some x =
+    ap answer_of e in cc)

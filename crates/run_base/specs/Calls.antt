@@ -16,7 +16,8 @@ use Rattle.core_words.specs.declared.words.Word.{Word}
 use Rattle.core_words.specs.declared.words.WordKind as kinds
 use Rattle.parking_lot_core.specs.declared.lot.ParkingLot.{ParkingLot}
 use Rattle.parking_lot_core.specs.declared.tokens.SectionRecord.{SectionRecord}
-use Rattle.run_base.specs.MutexFitting.{MutexPurpose, to_enter, to_release, to_hand_over, TookAt, mutex_ownership}
+use Rattle.run_base.specs.MutexFitting.{MutexPurpose, to_enter, to_release, to_hand_over, TookAt}
+use Rattle.run_base.specs.MutexFitting.{mutex_ownership}
 use Rattle.spec_locks.specs.declared.outcomes.Answer.{Answer}
 use Rattle.parking_lot_core.specs.Tokens.{IsTokenOf, told_of}
 use Rattle.parking_lot_core.specs.declared.tokens.Token.{Token}

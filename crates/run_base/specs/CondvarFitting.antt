@@ -1,5 +1,6 @@
 -- The holdings of a thread in a call of a condition variable, at each place and at its end.
-use Rattle.std.specs.Prelude.{ℕ, ◌≡◌, ◌*◌, ◌+◌, ◌++◌, ◌⊎◌, Bool, true, false, List, ◌∷◌, Option, Some, length, if◌then◌else◌}
+use Rattle.std.specs.Prelude.{ℕ, ◌≡◌, ◌*◌, ◌+◌, ◌++◌, ◌⊎◌, Bool, true, false, List, ◌∷◌, Option, Some, length}
+use Rattle.std.specs.Prelude.{if◌then◌else◌}
 use Rattle.core_base.specs.Lines.{threads_of}
 use Rattle.core_base.specs.declared.keys.Keys.TheVariants.{Two}
 use Rattle.core_base.specs.declared.ops.Op.TheVariants.{Load}

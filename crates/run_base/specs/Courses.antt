@@ -1,12 +1,14 @@
 -- The word steps of a call and what the queues told it are a course of its transitions.
-use Rattle.std.specs.Prelude.{ℕ, ◌≡◌, ◌==◌, ◌+◌, ◌++◌, ◌∷◌, ◌⊎◌, [], not, Bool, true, false, List, Option, Some, None, length, MatchBool, if◌then◌else◌}
+use Rattle.std.specs.Prelude.{ℕ, ◌≡◌, ◌==◌, ◌+◌, ◌++◌, ◌∷◌, ◌⊎◌, [], not, Bool, true, false, List, Option}
+use Rattle.std.specs.Prelude.{Some, None, length, MatchBool, if◌then◌else◌}
 use Rattle.core_base.specs.Requeues.{moved_by}
 use Rattle.core_base.specs.declared.requeues.Requeue.{Requeue}
 use Rattle.core_words.specs.declared.views.WordStep.{WordStep}
 use Rattle.steps_base.specs.declared.acts.Act.{Act}
 use Rattle.steps_base.specs.declared.acts.Act as act
 use Rattle.steps_base.specs.declared.acts.Reply.{Reply}
-use Rattle.steps_base.specs.declared.acts.Reply.TheVariants.{Done, Late, MovedTo, Parked, Picked, Removed, Requeued, Took, Woken}
+use Rattle.steps_base.specs.declared.acts.Reply.TheVariants.{Done, Late, MovedTo, Parked, Picked, Removed}
+use Rattle.steps_base.specs.declared.acts.Reply.TheVariants.{Requeued, Took, Woken}
 use Rattle.steps_base.specs.declared.acts.Whom.{Whom}
 use Rattle.steps_base.specs.declared.acts.Whom as whom
 use Rattle.spec_locks.specs.declared.outcomes.Answer.{Answer}

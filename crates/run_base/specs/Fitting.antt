@@ -34,11 +34,13 @@ use Rattle.run_base.specs.Sleepers.{condvar_sleeper, late_key_at}
 use Rattle.run_base.specs.CondvarFitting.{FitsCondvarCall, IsNotifyOver, IsWaitOver}
 use Rattle.spec_locks.specs.declared.calls.Patience.TheVariants.{Patient}
 use Rattle.run_base.specs.MutexFitting.{MutexPurpose, mutex_purpose_at, FitsMutex, IsMutexOver}
-use Rattle.run_base.specs.RwLockFitting.{FitsCall, IsFairlyOver, IsRwLockOver, may_be_handed, rwlock_purpose_in}
+use Rattle.run_base.specs.RwLockFitting.{FitsCall, IsFairlyOver, IsRwLockOver, may_be_handed}
+use Rattle.run_base.specs.RwLockFitting.{rwlock_purpose_in}
 use Rattle.run_base.specs.OnceFitting.{FitsOnce, IsLookOver, IsRunOver}
 use Rattle.run_base.specs.SemaphoreFitting.{FitsSemaphore, IsSemaphoreOver}
 use Rattle.run_base.specs.SemaphoreFitting as semaphore
-use Rattle.run_base.specs.Paths.{mutexes, at_mutex, rwlocks, at_rwlock, onces, at_once, semaphores, at_semaphore, condvar_at, mutex_at}
+use Rattle.run_base.specs.Paths.{mutexes, at_mutex, rwlocks, at_rwlock, onces, at_once, semaphores}
+use Rattle.run_base.specs.Paths.{at_semaphore, condvar_at, mutex_at}
 use Rattle.run_base.specs.Stages.{Stage, ActNeeds, Became}
 use Rattle.run_base.specs.declared.sleepers.Sleeper.{Sleeper}
 use Rattle.run_base.specs.declared.driver.Stop.{Stop}

@@ -1,5 +1,6 @@
 -- The holdings of a thread in a call of a `Once`, at each place and at its end.
-use Rattle.std.specs.Prelude.{ℕ, zero, suc, ◌≡◌, ◌*◌, ◌==◌, not, length, Bool, true, false, List, ◌∷◌, Option, Some, None}
+use Rattle.std.specs.Prelude.{ℕ, zero, suc, ◌≡◌, ◌*◌, ◌==◌, not, length, Bool, true, false, List, ◌∷◌, Option}
+use Rattle.std.specs.Prelude.{Some, None}
 use Rattle.core_base.specs.Lines.{threads_of}
 use Rattle.core_base.specs.declared.keys.Keys.TheVariants.{One}
 use Rattle.core_base.specs.declared.wants.Waiter.{Waiter}

@@ -12,7 +12,9 @@ use Rattle.steps_base.specs.declared.acts.Act.{Act}
 use Rattle.steps_base.specs.declared.acts.Act as act
 use Rattle.steps_base.specs.declared.acts.Check.{Check}
 use Rattle.steps_base.specs.declared.acts.Reply.{Reply}
-use Rattle.steps_base.specs.declared.acts.Reply.TheVariants.{Done, Value, Parked, Took, Picked, Requeued, Removed, TakenBy, MovedTo, HandedBy, Late, Woken, Closed}
+use Rattle.steps_base.specs.declared.acts.Reply.TheVariants.{Done, Value, Parked, Took, Picked, Requeued}
+use Rattle.steps_base.specs.declared.acts.Reply.TheVariants.{Removed, TakenBy, MovedTo, HandedBy, Late, Woken}
+use Rattle.steps_base.specs.declared.acts.Reply.TheVariants.{Closed}
 use Rattle.spec_locks.specs.declared.outcomes.OnceState.{OnceState}
 use Rattle.lot_steps.specs.declared.places.Place.{Place}
 use Rattle.run_base.specs.Sleepers.{late_key_at}

@@ -1,5 +1,6 @@
 -- The effects of a call of a reader-writer lock on real threads.
-use Rattle.std.specs.Prelude.{ℕ, ◌≡◌, ◌==◌, ◌<◌, ◌^◌, ◌-◌, ◌++◌, ◌&&◌, ◌||◌, not, Bool, true, false, List, [], Option, Some, None, Ok, Err}
+use Rattle.std.specs.Prelude.{ℕ, ◌≡◌, ◌==◌, ◌<◌, ◌^◌, ◌-◌, ◌++◌, ◌&&◌, ◌||◌, not, Bool, true, false, List, []}
+use Rattle.std.specs.Prelude.{Option, Some, None, Ok, Err}
 use Rattle.std.proofs.Common.{◌∙◌, sym, subst}
 use Rattle.std.specs.declared.result.Result.{Result}
 use Rattle.core_base.specs.declared.ops.Op.{Op}
@@ -44,7 +45,8 @@ use Rattle.parking_lot_core.specs.declared.tokens.SectionRecord.{SectionRecord}
 use Rattle.parking_lot_core.specs.declared.tokens.Token.{Token}
 use Rattle.run_base.specs.Courses.{Courses, trail_of}
 use Rattle.run_base.specs.Paths.{at_rwlock, rwlock_at, step}
-use Rattle.run_base.specs.RwLockFitting.{Answers, GaveFairly, IsBeside, AwaitsNoReaders, OwnsBeside, OwnsRight, TookWoken}
+use Rattle.run_base.specs.RwLockFitting.{Answers, GaveFairly, IsBeside, AwaitsNoReaders, OwnsBeside}
+use Rattle.run_base.specs.RwLockFitting.{OwnsRight, TookWoken}
 use Rattle.run_base.specs.Stages.{Stage}
 
 -- where a call begins

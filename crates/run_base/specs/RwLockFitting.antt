@@ -1,6 +1,7 @@
 -- The holdings of a thread in a call of a reader-writer lock, at each place and at its end. Those
 -- at a place are read off the place's row.
-use Rattle.std.specs.Prelude.{ℕ, ◌≡◌, ◌<◌, ◌-◌, ◌^◌, ◌++◌, ◌⊎◌, Bool, true, false, List, ◌∷◌, Option, Some, None, ◌≤◌, ◌*◌, ◌/◌, ◌%◌, [], length}
+use Rattle.std.specs.Prelude.{ℕ, ◌≡◌, ◌<◌, ◌-◌, ◌^◌, ◌++◌, ◌⊎◌, Bool, true, false, List, ◌∷◌, Option, Some}
+use Rattle.std.specs.Prelude.{None, ◌≤◌, ◌*◌, ◌/◌, ◌%◌, [], length}
 use Rattle.core_base.specs.Keys.{key_of}
 use Rattle.core_base.specs.Lines.{threads_of}
 use Rattle.core_base.specs.declared.keys.Keys.TheVariants.{One}
@@ -24,7 +25,8 @@ use Rattle.steps_base.specs.declared.acts.Whom.TheVariants as whom_taken
 use Rattle.steps_rwlock.specs.RwLockCalls.{MayStand}
 use Rattle.steps_rwlock.specs.RwLockDeeds.{rwlock_role}
 use Rattle.steps_rwlock.specs.RwLockProfiles.{rwlock_profile}
-use Rattle.steps_rwlock.specs.RwLockSteps.{access_of, wanted, to_of, start_of, entered, rollback_op, unparked, whom}
+use Rattle.steps_rwlock.specs.RwLockSteps.{access_of, wanted, to_of, start_of, entered, rollback_op, unparked}
+use Rattle.steps_rwlock.specs.RwLockSteps.{whom}
 use Rattle.steps_rwlock.specs.declared.park.ParkAt.{ParkAt}
 use Rattle.steps_rwlock.specs.declared.park.ParkAt.TheVariants as parking
 use Rattle.steps_rwlock.specs.declared.places.Admission.{Admission}

@@ -1,6 +1,7 @@
 -- The holdings of a thread between two acts of a call, and what each act needs and changes,
 -- whatever the lock is.
-use Rattle.std.specs.Prelude.{ℕ, ◌≡◌, ◌≢◌, ◌≤◌, ◌==◌, ◌+◌, not, length, ◌++◌, List, [], ◌∷◌, Option, Some, None, Bool, true, false, ◌<◌, ◌^◌, if◌then◌else◌}
+use Rattle.std.specs.Prelude.{ℕ, ◌≡◌, ◌≢◌, ◌≤◌, ◌==◌, ◌+◌, not, length, ◌++◌, List, [], ◌∷◌, Option, Some}
+use Rattle.std.specs.Prelude.{None, Bool, true, false, ◌<◌, ◌^◌, if◌then◌else◌}
 use Rattle.core_base.specs.Keys.{key_of}
 use Rattle.core_base.specs.Lines.{threads_of}
 use Rattle.core_base.specs.Words.{apply}
@@ -26,7 +27,8 @@ use Rattle.steps_base.specs.Acts.{holds, takes_effect}
 use Rattle.steps_base.specs.declared.acts.Act.{Act}
 use Rattle.steps_base.specs.declared.acts.Act as act
 use Rattle.steps_base.specs.declared.acts.Reply.{Reply}
-use Rattle.steps_base.specs.declared.acts.Reply.TheVariants.{Done, Value, Parked, Took, Picked, Requeued, Removed, MovedTo, Late, Woken}
+use Rattle.steps_base.specs.declared.acts.Reply.TheVariants.{Done, Value, Parked, Took, Picked, Requeued}
+use Rattle.steps_base.specs.declared.acts.Reply.TheVariants.{Removed, MovedTo, Late, Woken}
 use Rattle.steps_base.specs.declared.acts.Wakes.{Wakes}
 use Rattle.steps_base.specs.declared.acts.Wakes as wakes
 use Rattle.steps_base.specs.declared.acts.Whom.{Whom}

@@ -1,9 +1,11 @@
 -- Words for what a clause of the driver says of tokens and sections.
-use Rattle.std.specs.Prelude.{ℕ, ◌≡◌, ◌==◌, ◌+◌, ◌++◌, ◌∷◌, [], not, Bool, List, Option, Some, length, MatchBool}
+use Rattle.std.specs.Prelude.{ℕ, ◌≡◌, ◌==◌, ◌+◌, ◌++◌, ◌∷◌, [], not, Bool, List, Option, Some, length}
+use Rattle.std.specs.Prelude.{MatchBool}
 use Rattle.steps_base.specs.declared.acts.Act.{Act}
 use Rattle.steps_base.specs.declared.acts.Act as act
 use Rattle.steps_base.specs.declared.acts.Reply.{Reply}
-use Rattle.steps_base.specs.declared.acts.Reply.TheVariants.{Done, Late, Parked, Took, Picked, Requeued, Removed}
+use Rattle.steps_base.specs.declared.acts.Reply.TheVariants.{Done, Late, Parked, Took, Picked, Requeued}
+use Rattle.steps_base.specs.declared.acts.Reply.TheVariants.{Removed}
 use Rattle.steps_base.specs.declared.acts.Whom.{Whom}
 use Rattle.steps_base.specs.declared.acts.Whom as whom
 use Rattle.core_base.specs.Lines.{queued_under, line, lines, waiter, without, without_first, without_key}
@@ -25,7 +27,8 @@ use Rattle.parking_lot_core.specs.declared.sections.Section.{Section}
 use Rattle.parking_lot_core.specs.declared.tokens.Did.{Did}
 use Rattle.parking_lot_core.specs.declared.tokens.Token.{Token}
 use Rattle.core_queues.specs.Wants.{wants_of}
-use Rattle.run_base.specs.Stages.{HasKey, IsFresh, IsSectionOf, entered_now, front_waiter, section_view, is_there, listed, taken_waiter, took_as, waiting_of}
+use Rattle.run_base.specs.Stages.{HasKey, IsFresh, IsSectionOf, entered_now, front_waiter, section_view}
+use Rattle.run_base.specs.Stages.{is_there, listed, taken_waiter, took_as, waiting_of}
 use Rattle.run_base.specs.Takes.{sharers_in, successor_in}
 
 -- the ownership of a thread, and the steps that it took

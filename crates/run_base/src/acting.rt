@@ -17,11 +17,16 @@ ghost use Rattle.run_base.specs.Fitting.{sleeper_at};
 ghost use Rattle.run_base.specs.Paths.{closure_of, step};
 ghost use Rattle.parking_lot_core.specs.Places.{IsPlaceOf, thread_of};
 ghost use Rattle.run_base.specs.Queued.{HasPlace, KeepsPlace, needs_place, spends_place};
-ghost use Rattle.run_base.specs.Telling.{AreQueued, HasStepped, MayFind, MayTakeStep, MayTakeAt, StandsLast, TellsQueues, TellsTake, index_of, is_empty_at, line_in, owns_of, steps_of};
+ghost use Rattle.run_base.specs.Telling.{AreQueued, HasStepped, MayFind, MayTakeStep, MayTakeAt, StandsLast};
+ghost use Rattle.run_base.specs.Telling.{TellsQueues, TellsTake, index_of, is_empty_at, line_in, owns_of};
+ghost use Rattle.run_base.specs.Telling.{steps_of};
 ghost use Rattle.run_base.specs.Words.{AreWordsOf, word_among, kind_in, at_in};
 ghost use Rattle.run_base.specs.Courses.{HasTold, TellsIn, TellsLate, leaving, taking, told_within};
 ghost use Rattle.parking_lot_core.specs.declared.tellings.Telling.TheVariants as telling;
-ghost use Rattle.run_base.specs.Stages.{Adds, Awoke, AwokeLate, HandsEach, HasKey, IsFresh, IsUngiven, MayLeave, IsSectionOf, IsLeft, TookBy, stage_handed, note_of, section_view, stage_of, threads_taken, waiting_of, wanted_in, entered_now, ActNeeds, Became};
+ghost use Rattle.run_base.specs.Stages.{Adds, Awoke, AwokeLate, HandsEach, HasKey, IsFresh, IsUngiven};
+ghost use Rattle.run_base.specs.Stages.{MayLeave, IsSectionOf, IsLeft, TookBy, stage_handed, note_of};
+ghost use Rattle.run_base.specs.Stages.{section_view, stage_of, threads_taken, waiting_of, wanted_in};
+ghost use Rattle.run_base.specs.Stages.{entered_now, ActNeeds, Became};
 
 use crate::sleepers::{Sleeper, sleeper_at};
 use crate::taking::{requeue, take_all, take_first, take_picked, tell_wants};

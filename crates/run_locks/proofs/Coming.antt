@@ -1,4 +1,5 @@
--- How a call comes from one place to another, turn by turn, and what its turns do by the keys that the code computes.
+-- How a call comes from one place to another, turn by turn, and what its turns do by the keys that the code
+-- computes.
 use Rattle.std.proofs.Common.{ℕ, ◌≡◌, ◌∙◌, None, Some, Option, refl, sym, subst}
 use Rattle.core_base.specs.declared.keys.Keys.TheVariants.{One, Two}
 use Rattle.core_base.specs.declared.requeues.Requeue.{Requeue as Moved}
@@ -18,44 +19,60 @@ use Rattle.run_base.specs.Turns.{HasActed, HasEnded, HasTurned, IsAtPlace, MayAc
 use Rattle.run_base.specs.declared.words.Words.{Words}
 use Rattle.run_base.proofs.TurnsOn.{turn_ends, turn_leads, turn_then}
 
--- a call has come from one place to another: what fits there the thread has, and whatever ends the call there ends it from where it began
-pub record HasCome (up : Type 0) (lot : ParkingLot) (words : Words) (p : Place) (old : Token) (section : Option Section) (q : Place) (new : Token) (now : Option Section) : Type 0 where
+-- a call has come from one place to another: what fits there the thread has, and whatever ends the call there
+-- ends it from where it began
+pub record HasCome (up : Type 0) (lot : ParkingLot) (words : Words) (p : Place) (old : Token)
+    (section : Option Section) (q : Place) (new : Token) (now : Option Section) : Type 0 where
   pub at : IsAtPlace up lot words q new now
   pub same : new.number ≡ old.number
-  pub ends : (answer : Answer) (last : Token) → HasEnded up lot words q answer new now last → HasEnded up lot words p answer old section last
+  pub ends : (answer : Answer) (last : Token) → HasEnded up lot words q answer new now last
+      → HasEnded up lot words p answer old section last
 
 -- it begins where it is
-pub begins : (up : Type 0) (lot : ParkingLot) (words : Words) (p : Place) (token : Token) (section : Option Section) → IsAtPlace up lot words p token section
+pub begins : (up : Type 0) (lot : ParkingLot) (words : Words) (p : Place) (token : Token)
+    (section : Option Section) → IsAtPlace up lot words p token section
     → HasCome up lot words p token section p token section
 begins up lot words p token section at = record { at = at; same = refl; ends = λ answer last ended. ended }
 
-module _ {up : Type 0} {lot : ParkingLot} {words : Words} {p : Place} {old : Token} {section : Option Section} {q : Place} {mid : Token} {there : Option Section} (came : HasCome up lot words p old section q mid there) where
-  -- the same place by another name
-  pub named : {r : Place} → q ≡ r → HasCome up lot words p old section r mid there
-  named e = subst (λ (r : Place). HasCome up lot words p old section r mid there) e came
+module _ {up : Type 0} {lot : ParkingLot} {words : Words} {p : Place} {old : Token} {section : Option Section}
+    {q : Place} {mid : Token} {there : Option Section} (came : HasCome up lot words p old section q mid there)
+  where
+    -- the same place by another name
+    pub named : {r : Place} → q ≡ r → HasCome up lot words p old section r mid there
+    named e = subst (λ (r : Place). HasCome up lot words p old section r mid there) e came
 
-  -- tells what it may do there
-  pub may_do : {a : Act} → act_of q ≡ a → MayAct up lot words a mid there
-  may_do is = (q, came.at, is)
+    -- tells what it may do there
+    pub may_do : {a : Act} → act_of q ≡ a → MayAct up lot words a mid there
+    may_do is = (q, came.at, is)
 
-  -- a turn with this reply leads on to a further place
-  pub turns_to : (reply : Reply) (new : Token) (now : Option Section) → HasTurned up lot words q reply mid there new now
-      → (r : Place) → (next_place q reply ≡ r) × (answer_of (next_act q reply) ≡ None) → HasCome up lot words p old section r new now
-  turns_to reply new now turned r leads = record {
-    at = turn_leads up lot words q reply mid new there now turned came.at r leads.0 leads.1;
-    same = turned.0.1 ∙ came.same;
-    ends = λ answer last rest. came.ends answer last (turn_then up lot words q reply mid new there now turned r leads.0 leads.1 answer last rest);
-  }
+    -- a turn with this reply leads on to a further place
+    pub turns_to : (reply : Reply) (new : Token) (now : Option Section) → HasTurned up lot words q reply mid
+        there new now
+        → (r : Place) → (next_place q reply ≡ r) × (answer_of (next_act q reply) ≡ None)
+        → HasCome up lot words p old section r new now
+    turns_to reply new now turned r leads = record {
+      at = turn_leads up lot words q reply mid new there now turned came.at r leads.0 leads.1;
+      same = turned.0.1 ∙ came.same;
+      ends = λ answer last rest. came.ends answer last (turn_then up lot words q reply mid new there now
+          turned
+          r leads.0 leads.1 answer last rest);
+    }
 
-  -- An act that was done comes to its next place.
-  pub comes : {a : Act} (reply : Reply) (new : Token) (now : Option Section) → HasActed up lot words a reply mid there new now → act_of q ≡ a
-      → (r : Place) → (next_place q reply ≡ r) × (answer_of (next_act q reply) ≡ None) → HasCome up lot words p old section r new now
-  comes reply new now done is = turns_to reply new now (done q came.at is)
+    -- An act that was done comes to its next place.
+    pub comes : {a : Act} (reply : Reply) (new : Token) (now : Option Section)
+        → HasActed up lot words a reply mid there new now → act_of q ≡ a
+        → (r : Place) → (next_place q reply ≡ r) × (answer_of (next_act q reply) ≡ None)
+        → HasCome up lot words p old section r new now
+    comes reply new now done is = turns_to reply new now (done q came.at is)
 
-  -- An act that was done ends the call, or goes on.
-  pub over : {a : Act} (reply : Reply) (new : Token) (now : Option Section) → HasActed up lot words a reply mid there new now → act_of q ≡ a
-      → (answer : Answer) → answer_of (next_act q reply) ≡ Some answer → HasEnded up lot words p answer old section new
-  over reply new now done is answer some = came.ends answer new (turn_ends up lot words q reply mid new there now (done q came.at is) came.at answer some)
+    -- An act that was done ends the call, or goes on.
+    pub over : {a : Act} (reply : Reply) (new : Token) (now : Option Section)
+        → HasActed up lot words a reply mid there new now → act_of q ≡ a
+        → (answer : Answer) → answer_of (next_act q reply) ≡ Some answer → HasEnded up lot words p answer old
+        section new
+    over reply new now done is answer some =
+        came.ends answer new (turn_ends up lot words q reply mid new there now (done q came.at is) came.at
+        answer some)
 
 -- an act by the keys that it is about, and by those that were computed
 module _ {a n : ℕ} (e : a ≡ n) where

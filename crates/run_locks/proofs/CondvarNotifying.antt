@@ -1,5 +1,6 @@
 -- The first step of a notification, and the rest behind it.
-use Rattle.std.proofs.Common.{ℕ, false, true, not, ◌&&◌, ◌≡◌, ◌≢◌, ◌==◌, ◌+◌, ◌-◌, ◌++◌, Bool, List, None, if◌then◌else◌, inl, inr, sym, refl, ap, ◌∙◌, subst, eq-eqb, ne_eqb, arith}
+use Rattle.std.proofs.Common.{ℕ, false, true, not, ◌&&◌, ◌≡◌, ◌≢◌, ◌==◌, ◌+◌, ◌-◌, ◌++◌, Bool, List, None}
+use Rattle.std.proofs.Common.{if◌then◌else◌, inl, inr, sym, refl, ap, ◌∙◌, subst, eq-eqb, ne_eqb, arith}
 use Rattle.std.proofs.lemmas.Bool.{false≢true}
 use Rattle.core_base.specs.declared.ops.Op.TheVariants.{Load}
 use Rattle.steps_base.specs.declared.acts.Act.TheVariants.{End}
@@ -21,13 +22,16 @@ use Rattle.run_base.specs.Paths.{condvar_at, mutex_at, step}
 use Rattle.run_base.specs.Queued.{is_queued}
 use Rattle.run_base.specs.Telling.{steps_of}
 use Rattle.run_base.proofs.Courses.{arrives_at_once, courses_from}
-use Rattle.run_locks.specs.CondvarCalls.{HasNotified, NotifiesBy, TellsMoved, at_condvar, notify_begin, notify_slow}
+use Rattle.run_locks.specs.CondvarCalls.{HasNotified, NotifiesBy, TellsMoved, at_condvar, notify_begin}
+use Rattle.run_locks.specs.CondvarCalls.{notify_slow}
 
 -- beside another mutex the word of the condition variable stands at its own place
 own_word : (n m : ℕ) → m ≢ n → at_condvar n m n ≡ condvar_at n
 own_word n m ne = ap (λ (b : Bool). if b then mutex_at m else condvar_at n) (ne_eqb m n ne)
 
-module _ (n : ℕ) (all : Bool) (seen : ℕ) (answer : Answer) (old mid : Token) (added : steps_of mid ≡ steps_of old ++ step (condvar_at n) Load seen) (untold : told_of mid ≡ told_of old) (same : mid.number ≡ old.number) where
+module _ (n : ℕ) (all : Bool) (seen : ℕ) (answer : Answer) (old mid : Token) (added : steps_of mid
+    ≡ steps_of old ++ step (condvar_at n) Load seen) (untold : told_of mid ≡ told_of old) (same : mid.number
+    ≡ old.number) where
   beside : (m : ℕ) → m ≢ n → steps_of mid ≡ steps_of old ++ step (at_condvar n m n) Load seen
   beside m ne = added ∙ ap (λ i. steps_of old ++ step i Load seen) (sym (own_word n m ne))
 
@@ -35,7 +39,8 @@ module _ (n : ℕ) (all : Bool) (seen : ℕ) (answer : Answer) (old mid : Token)
   looked_off = by_test (seen == 0)
     where
       by_test : (b : Bool)
-          → is_queued (condvar_goes n (if b then Over (notified all 0) else At (Notify all (seen - 1) notify.Enter))) ≡ false
+          → is_queued (condvar_goes n (if b then Over (notified all 0) else At
+          (Notify all (seen - 1) notify.Enter))) ≡ false
       by_test true = refl
       by_test false = refl
 
@@ -43,7 +48,9 @@ module _ (n : ℕ) (all : Bool) (seen : ℕ) (answer : Answer) (old mid : Token)
   pub nobody_waits : seen ≡ 0 → answer ≡ notified all 0 → NotifiesBy n all answer old mid
   nobody_waits zero told = (
     n + 1,
-    arrives_at_once (at_condvar n (n + 1)) old.number (notify_begin n all) n Load seen (steps_of old) (steps_of mid) (told_of old) (told_of mid) answer refl looked_off (beside (n + 1) (λ e. omega arith)) untold
+    arrives_at_once (at_condvar n (n + 1)) old.number (notify_begin n all) n Load seen (steps_of old)
+        (steps_of mid) (told_of old) (told_of mid) answer refl looked_off (beside (n + 1) (λ e. omega arith))
+        untold
         (subst (λ v. next_act (notify_begin n all) (Value v) ≡ End answer) (sym zero) (ap End (sym told))),
   )
 
@@ -51,16 +58,21 @@ module _ (n : ℕ) (all : Bool) (seen : ℕ) (answer : Answer) (old mid : Token)
   leads m e =
       let some : (seen == 0) ≡ false = ne_eqb seen 0 (λ none. omega arith) in
       let back : seen - 1 ≡ m = omega arith in
-      ap (λ (b : Bool). condvar_goes n (if b then Over (notified all 0) else At (Notify all (seen - 1) notify.Enter))) some
+      ap (λ (b : Bool). condvar_goes n (if b then Over (notified all 0) else At
+      (Notify all (seen - 1) notify.Enter))) some
       ∙ ap (λ k. Condvar n (Notify all k notify.Enter)) back
 
   -- A notification that did nothing saw that no mutex is shown.
-  pub some_wait : (m : ℕ) → m ≢ n → seen ≡ m + 1 → (new : Token) → HasNotified n m all answer mid new → NotifiesBy n all answer old new
+  pub some_wait : (m : ℕ) → m ≢ n → seen ≡ m + 1 → (new : Token) → HasNotified n m all answer mid new
+      → NotifiesBy n all answer old new
   some_wait m ne shown new behind = (
     m,
-    courses_from (at_condvar n m) old.number (notify_begin n all) n Load seen (steps_of old) (steps_of mid) (told_of old) (told_of mid) (trail_of new None) answer refl looked_off (beside m ne) untold
-        (subst (λ (p : Place). Courses (at_condvar n m) old.number p (trail_of mid None) (trail_of new None) answer) (sym (leads m shown))
-        (subst (λ (me : ℕ). Courses (at_condvar n m) me (notify_slow n m all) (trail_of mid None) (trail_of new None) answer) same behind)),
+    courses_from (at_condvar n m) old.number (notify_begin n all) n Load seen (steps_of old) (steps_of mid)
+        (told_of old) (told_of mid) (trail_of new None) answer refl looked_off (beside m ne) untold
+        (subst (λ (p : Place). Courses (at_condvar n m) old.number p (trail_of mid None) (trail_of new None)
+        answer) (sym (leads m shown))
+        (subst (λ (me : ℕ). Courses (at_condvar n m) me (notify_slow n m all) (trail_of mid None)
+        (trail_of new None) answer) same behind)),
   )
 
 -- a value that shows another mutex than one is another value
@@ -72,6 +84,17 @@ shows_else m first seen shown other same =
     false≢true (sym other ∙ ap (λ (b : Bool). not b && (seen - 1 == m)) some ∙ back)
 
 -- tells what its sections tell of a notification that goes on behind its first look
-pub tells_moved : (n m : ℕ) (all : Bool) (first : ℕ) (answer : Answer) (old new : Token) → first ≡ m + 1 → (more : List WordStep) × (steps_of new ≡ steps_of old ++ more) → AnswersBy n m all answer (last_of new) (steps_of new) → TellsMoved n all first answer old new
-tells_moved n m all first answer old new shown more (inl none) = inl (none.0, (more, (none.2.0, none.2.1, none.2.3, shows_else m first none.2.1 shown none.2.2, none.1)))
-tells_moved n m all first answer old new shown more (inr moved) = inr (m, moved.0, moved.1, shown, moved.2, moved.3, more)
+pub tells_moved : (n m : ℕ) (all : Bool) (first : ℕ) (answer : Answer) (old new : Token) → first ≡ m + 1
+    → (more : List WordStep) × (steps_of new ≡ steps_of old ++ more) → AnswersBy n m all answer (last_of new)
+    (steps_of new) → TellsMoved n all first answer old new
+tells_moved n m all first answer old new shown more (inl none) =
+    inl (none.0, (more, (none.2.0, none.2.1, none.2.3, shows_else m first none.2.1 shown none.2.2, none.1)))
+tells_moved n m all first answer old new shown more (inr moved) = inr (
+  m,
+  moved.0,
+  moved.1,
+  shown,
+  moved.2,
+  moved.3,
+  more,
+)

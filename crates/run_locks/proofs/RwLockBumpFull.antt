@@ -1,5 +1,6 @@
 -- A bump that finds the lock full of readers, once it has given its right up, saw so by its last step.
-use Rattle.std.proofs.Common.{ℕ, Bool, true, false, Option, Some, None, inl, inr, ◌⊎◌, if◌then◌else◌, ◌==◌, ◌≡◌, refl, ap, sym, subst}
+use Rattle.std.proofs.Common.{ℕ, Bool, true, false, Option, Some, None, inl, inr, ◌⊎◌, if◌then◌else◌, ◌==◌}
+use Rattle.std.proofs.Common.{◌≡◌, refl, ap, sym, subst}
 use Rattle.core_base.specs.declared.notes.Note.TheVariants as note
 use Rattle.spec_locks.specs.declared.calls.Access.{Access}
 use Rattle.spec_locks.specs.declared.calls.Access.TheVariants as access
@@ -24,21 +25,27 @@ use Rattle.steps_rwlock.specs.declared.places.RwLockPlace.{RwLockPlace}
 use Rattle.steps_rwlock.specs.declared.purposes.RwLockPurpose.{RwLockPurpose}
 use Rattle.steps_rwlock.specs.declared.purposes.RwLockPurpose.TheVariants as purpose
 use Rattle.steps_rwlock_fair.specs.FairProfiles.{in_call}
-use Rattle.steps_rwlock_fair.specs.FairSteps.{bump_next, call_act, call_next, enters_again, exchange_act, given, handed_by, woken_with, any_taken, freed_next, released, parked_as, with_taken, word_without, gives_up_at, gives_way, glance_next, hand_over_act, hand_over_next, handed_next, handed_woken, has_room, unless_given}
+use Rattle.steps_rwlock_fair.specs.FairSteps.{bump_next, call_act, call_next, enters_again, exchange_act}
+use Rattle.steps_rwlock_fair.specs.FairSteps.{given, handed_by, woken_with, any_taken, freed_next, released}
+use Rattle.steps_rwlock_fair.specs.FairSteps.{parked_as, with_taken, word_without, gives_up_at, gives_way}
+use Rattle.steps_rwlock_fair.specs.FairSteps.{glance_next, hand_over_act, hand_over_next, handed_next}
+use Rattle.steps_rwlock_fair.specs.FairSteps.{handed_woken, has_room, unless_given}
 use Rattle.steps_rwlock_fair.specs.declared.hand_over.HandOverAt.{HandOverAt}
 use Rattle.steps_rwlock_fair.specs.declared.hand_over.HandOverAt.TheVariants as handing
 use Rattle.steps_rwlock_fair.specs.declared.hand_over.Taken.{Taken}
 use Rattle.steps_rwlock_fair.specs.declared.handed.HandedAt.{HandedAt}
 use Rattle.steps_rwlock_fair.specs.declared.handed.HandedAt.TheVariants as handed
 use Rattle.steps_rwlock_fair.specs.declared.places.RwLockCallPlace.{RwLockCallPlace}
-use Rattle.steps_rwlock_fair.specs.declared.places.RwLockCallPlace.TheVariants.{Plain, Glance, HandOver, Bump, Handed}
+use Rattle.steps_rwlock_fair.specs.declared.places.RwLockCallPlace.TheVariants.{Plain, Glance, HandOver, Bump}
+use Rattle.steps_rwlock_fair.specs.declared.places.RwLockCallPlace.TheVariants.{Handed}
 use Rattle.lot_steps.specs.Steps.{in_rwlock, looking}
 use Rattle.lot_steps.specs.declared.places.Place.{Place}
 use Rattle.lot_steps.specs.declared.places.Place.TheVariants.{RwLock}
 use Rattle.parking_lot_core.specs.declared.tokens.Token.{Token}
 use Rattle.run_base.specs.RwLockCalls.{HasWalkedCall}
 use Rattle.run_locks.specs.RwLockRefusals.{SawReadersFull}
-use Rattle.run_locks.proofs.RwLockFull.{IsCalling, IsGoing, IsIn, Keeping, Keeps, accepting_act, act_going, entered_ends, gone_at, keeps_at, walked_full}
+use Rattle.run_locks.proofs.RwLockFull.{IsCalling, IsGoing, IsIn, Keeping, Keeps, accepting_act, act_going}
+use Rattle.run_locks.proofs.RwLockFull.{entered_ends, gone_at, keeps_at, walked_full}
 
 module _ (a : Admission) (x : Access) where
   abbrev leaves : RwLockPurpose
@@ -80,12 +87,15 @@ module _ (a : Admission) (x : Access) where
   handing_keeps : (to : HandOverAt) (told : Reply) → KeepsBump told (hand_over_next a x true to told)
   handing_keeps (handing.Free expected) (reply.Value seen) = by_test (seen == expected)
     where
-      by_test : (b : Bool) → KeepsBump (reply.Value seen) (if b then released x true else At (HandOver x true (freed_next x seen)))
+      by_test : (b : Bool) → KeepsBump (reply.Value seen) (if b then released x true else At
+          (HandOver x true (freed_next x seen)))
       by_test true = enters_there x refl
       by_test false = (refl, refl)
   handing_keeps (handing.Exchange k expected) (reply.Value seen) = by_test (seen == expected)
     where
-      by_test : (b : Bool) → KeepsBump (reply.Value seen) (if b then At (HandOver x true (handing.Leave (any_taken k) (has_room a.limit k seen))) else At (HandOver x true (handing.Exchange k seen)))
+      by_test : (b : Bool) → KeepsBump (reply.Value seen)
+          (if b then At (HandOver x true (handing.Leave (any_taken k) (has_room a.limit k seen)))
+          else At (HandOver x true (handing.Exchange k seen)))
       by_test true = (refl, refl)
       by_test false = (refl, refl)
   handing_keeps (handing.Leave any by) reply.Done = enters_there x refl
@@ -102,13 +112,15 @@ module _ (a : Admission) (x : Access) where
   KeepsGiven None = Unit {0}
   KeepsGiven (Some c) = IsOfBump c
 
-  woken_keeps : (y : Access) (how : Patience) (alone : Bool) → purpose.Enter y how ≡ enters → IsOfBump (handed_woken y how true alone)
+  woken_keeps : (y : Access) (how : Patience) (alone : Bool) → purpose.Enter y how ≡ enters
+      → IsOfBump (handed_woken y how true alone)
   woken_keeps access.Exclusive how true e = (e, refl)
   woken_keeps access.Exclusive how false e = inr (e, tt)
   woken_keeps access.Shared how alone e = (e, refl)
   woken_keeps access.Upgradable how alone e = (e, refl)
 
-  taken_there : (c : RwLockPurpose) (to : RwLockAt) (by : ℕ) (alone : Bool) → c ≡ enters → KeepsGiven (handed_by true c to by alone)
+  taken_there : (c : RwLockPurpose) (to : RwLockAt) (by : ℕ) (alone : Bool) → c ≡ enters
+      → KeepsGiven (handed_by true c to by alone)
   taken_there (purpose.Enter y how) (at.Park (parking.Taken u)) by alone e = (e, refl)
   taken_there c to by alone e = tt
 
@@ -116,56 +128,109 @@ module _ (a : Admission) (x : Access) where
   slept_there (purpose.Enter y how) (at.Park parking.Asleep) e = woken_keeps y how false e
   slept_there c to e = tt
 
-  given_there : (again : Bool) (c : RwLockPurpose) (to : RwLockAt) (told : Reply) → c ≡ enters → KeepsGiven (given true (record { purpose = c; retries = again; at = to }) told)
+  given_there : (again : Bool) (c : RwLockPurpose) (to : RwLockAt) (told : Reply) → c ≡ enters
+      → KeepsGiven (given true (record {
+        purpose = c;
+        retries = again;
+        at = to;
+      }) told)
   given_there again c to (reply.HandedBy by alone) e = taken_there c to by alone e
   given_there again c to (reply.Woken note.HandOff) e = slept_there c to e
   given_there again c to told e = tt
 
-  none_given : (again : Bool) (to : RwLockAt) (told : Reply) → given true (record { purpose = leaves; retries = again; at = to }) told ≡ None
+  none_given : (again : Bool) (to : RwLockAt) (told : Reply) → given true (record {
+    purpose = leaves;
+    retries = again;
+    at = to;
+  }) told ≡ None
   none_given again to (reply.HandedBy by alone) = refl
   none_given again to (reply.Woken note.HandOff) = refl
   none_given again to told = refl
 
-  leaving_on : (told : Reply) (n : Next RwLockPlace) → Keeps a leaves told n → KeepsBump told (bump_next leaves n)
+  leaving_on : (told : Reply) (n : Next RwLockPlace) → Keeps a leaves told n
+      → KeepsBump told (bump_next leaves n)
   leaving_on told (At p) k = inl k
   leaving_on told (End answer) k = enters_there x refl
 
-  entering_on : (told : Reply) (o : Option RwLockCallPlace) (n : Next RwLockPlace) → KeepsGiven o → Keeps a enters told n → KeepsBump told (unless_given o (bump_next enters n))
+  entering_on : (told : Reply) (o : Option RwLockCallPlace) (n : Next RwLockPlace) → KeepsGiven o
+      → Keeps a enters told n → KeepsBump told (unless_given o (bump_next enters n))
   entering_on told None (At p) g k = inr k
   entering_on told None (End answer) g k = k
   entering_on told (Some c) n g k = g
 
-  leaving_keeps : (again : Bool) (to : RwLockAt) (told : Reply) → IsDecided a leaves to → KeepsBump told (call_next a (Bump (record { purpose = leaves; retries = again; at = to })) told)
-  leaving_keeps again to told d = subst (λ (o : Option RwLockCallPlace). KeepsBump told (unless_given o (bump_next leaves (rwlock_next a (record { purpose = leaves; retries = again; at = to }) told)))) (sym (none_given again to told))
-      (leaving_on told (rwlock_next a (record { purpose = leaves; retries = again; at = to }) told) (keeps_at a leaves again to told d))
+  leaving_keeps : (again : Bool) (to : RwLockAt) (told : Reply) → IsDecided a leaves to
+      → KeepsBump told (call_next a (Bump (record {
+        purpose = leaves;
+        retries = again;
+        at = to;
+      })) told)
+  leaving_keeps again to told d =
+      subst (λ (o : Option RwLockCallPlace). KeepsBump told
+      (unless_given o (bump_next leaves (rwlock_next a (record {
+        purpose = leaves;
+        retries = again;
+        at = to;
+      }) told)))) (sym (none_given again to told))
+      (leaving_on told (rwlock_next a (record {
+        purpose = leaves;
+        retries = again;
+        at = to;
+      }) told) (keeps_at a leaves again to told d))
 
-  entering_keeps : (again : Bool) (to : RwLockAt) (told : Reply) → IsDecided a enters to → KeepsBump told (call_next a (Bump (record { purpose = enters; retries = again; at = to })) told)
-  entering_keeps again to told d = entering_on told (given true (record { purpose = enters; retries = again; at = to }) told) (rwlock_next a (record { purpose = enters; retries = again; at = to }) told) (given_there again enters to told refl) (keeps_at a enters again to told d)
+  entering_keeps : (again : Bool) (to : RwLockAt) (told : Reply) → IsDecided a enters to
+      → KeepsBump told (call_next a (Bump (record {
+        purpose = enters;
+        retries = again;
+        at = to;
+      })) told)
+  entering_keeps again to told d = entering_on told (given true (record {
+    purpose = enters;
+    retries = again;
+    at = to;
+  }) told) (rwlock_next a (record {
+    purpose = enters;
+    retries = again;
+    at = to;
+  }) told) (given_there again enters to told refl) (keeps_at a enters again to told d)
 
-  handed_keeps : (y : Access) (how : Patience) (to : HandedAt) (told : Reply) → purpose.Enter y how ≡ enters → KeepsBump told (handed_next y how true to told)
+  handed_keeps : (y : Access) (how : Patience) (to : HandedAt) (told : Reply) → purpose.Enter y how ≡ enters
+      → KeepsBump told (handed_next y how true to told)
   handed_keeps y how (handed.Asleep by alone) (reply.Woken note.HandOff) e = woken_keeps y how alone e
   handed_keeps y how handed.Accept reply.Done e = entered_ends a enters reply.Done how
   handed_keeps y how handed.Accept (reply.Value seen) e = entered_ends a enters (reply.Value seen) how
   handed_keeps y how to told e = (e, refl)
 
-  by_purpose : (p : RwLockPlace) (q : RwLockPurpose) (told : Reply) → p.purpose ≡ q → KeepsBump told (call_next a (Bump (record { purpose = q; retries = p.retries; at = p.at })) told) → KeepsBump told (call_next a (Bump p) told)
-  by_purpose p q told e k = subst (λ (c : RwLockPurpose). KeepsBump told (call_next a (Bump (record { purpose = c; retries = p.retries; at = p.at })) told)) (sym e) k
+  by_purpose : (p : RwLockPlace) (q : RwLockPurpose) (told : Reply) → p.purpose ≡ q
+      → KeepsBump told (call_next a (Bump (record {
+        purpose = q;
+        retries = p.retries;
+        at = p.at;
+      })) told) → KeepsBump told (call_next a (Bump p) told)
+  by_purpose p q told e k = subst (λ (c : RwLockPurpose). KeepsBump told (call_next a (Bump (record {
+    purpose = c;
+    retries = p.retries;
+    at = p.at;
+  })) told)) (sym e) k
 
   bump_keeps : (c : RwLockCallPlace) (told : Reply) → IsOfBump c → KeepsBump told (call_next a c told)
   bump_keeps (Plain p) told w = absurd w
   bump_keeps (Glance y) (reply.Value seen) w = glance_keeps y seen w
   bump_keeps (Glance y) told w = w
-  bump_keeps (HandOver y b to) told w = subst (λ (z : Access). KeepsBump told (hand_over_next a z b to told)) (sym w.0) (subst (λ (d : Bool). KeepsBump told (hand_over_next a x d to told)) (sym w.1) (handing_keeps to told))
+  bump_keeps (HandOver y b to) told w = subst (λ (z : Access). KeepsBump told (hand_over_next a z b to told))
+      (sym w.0) (subst (λ (d : Bool). KeepsBump told (hand_over_next a x d to told)) (sym w.1)
+      (handing_keeps to told))
   bump_keeps (Bump p) told (inl w) = by_purpose p leaves told w.0 (leaving_keeps p.retries p.at told w.1)
   bump_keeps (Bump p) told (inr w) = by_purpose p enters told w.0 (entering_keeps p.retries p.at told w.1)
-  bump_keeps (Handed y how b to) told w = subst (λ (d : Bool). KeepsBump told (handed_next y how d to told)) (sym w.1) (handed_keeps y how to told w.0)
+  bump_keeps (Handed y how b to) told w = subst (λ (d : Bool). KeepsBump told (handed_next y how d to told))
+      (sym w.1) (handed_keeps y how to told w.0)
 
   -- ---------------------------------------------------------------- one act
 
   exchanging_act : (l : ℕ) (y : Access) (k : Taken) (seen : ℕ) → IsGoing (exchange_act l a.limit y k seen)
   exchanging_act l y k seen = by_test (has_room a.limit k seen)
     where
-      by_test : (b : Bool) → IsGoing (if b then act.HandOver l (op.Exchange seen (with_taken y k seen)) else act.Word l (op.Exchange seen (parked_as k.none_left (word_without y seen))))
+      by_test : (b : Bool) → IsGoing (if b then act.HandOver l (op.Exchange seen (with_taken y k seen))
+          else act.Word l (op.Exchange seen (parked_as k.none_left (word_without y seen))))
       by_test true = tt
       by_test false = tt
 
@@ -193,17 +258,25 @@ module _ (a : Admission) (x : Access) where
   gone_on p n e (inl w) = inl (gone_at a leaves p p.at w n e)
   gone_on p n e (inr w) = inr (gone_at a enters p p.at w n e)
 
-  looks_on : (l : ℕ) (c : RwLockCallPlace) (r : Place) → looking (RwLock l a c) ≡ Some r → IsOfBump c → IsIn a x Patient IsOfBump r
+  looks_on : (l : ℕ) (c : RwLockCallPlace) (r : Place) → looking (RwLock l a c) ≡ Some r → IsOfBump c
+      → IsIn a x Patient IsOfBump r
   looks_on l (Plain p) r e w = absurd w
   looks_on l (Glance y) r e w = absurd cc
   looks_on l (HandOver y b to) r e w = absurd cc
   looks_on l (Handed y how b to) r e w = absurd cc
   looks_on l (Bump p) r e w = by_place (rwlock_looking a p) refl e
     where
-      by_place : (o : Option RwLockPlace) → rwlock_looking a p ≡ o → in_rwlock l a (in_call true o) ≡ Some r → IsIn a x Patient IsOfBump r
+      by_place : (o : Option RwLockPlace) → rwlock_looking a p ≡ o → in_rwlock l a (in_call true o) ≡ Some r
+          → IsIn a x Patient IsOfBump r
       by_place None f is = absurd cc
-      by_place (Some n) f is = let there : RwLock l a (Bump n) ≡ r = cc in subst (IsIn a x Patient IsOfBump) there (refl, gone_on p n f w)
+      by_place (Some n) f is = let there : RwLock l a (Bump n) ≡ r = cc in subst (IsIn a x Patient IsOfBump)
+          there (refl, gone_on p n f w)
 
 -- a whole bump is refused so too
-pub bump_sees_full : (x : Access) (l : ℕ) (a : Admission) (old new : Token) → HasWalkedCall l a (calls.Bump x) ReadersFull old new → SawReadersFull l a x old new
-bump_sees_full x l a old new w = walked_full a x Patient (IsOfBump a x) (bump_keeps a x, bump_going a x, looks_on a x) l old.number (RwLock l a (Glance x)) old new (refl, refl) w
+pub bump_sees_full : (x : Access) (l : ℕ) (a : Admission) (old new : Token)
+    → HasWalkedCall l a (calls.Bump x) ReadersFull old new → SawReadersFull l a x old new
+bump_sees_full x l a old new w = walked_full a x Patient (IsOfBump a x) (
+  bump_keeps a x,
+  bump_going a x,
+  looks_on a x,
+) l old.number (RwLock l a (Glance x)) old new (refl, refl) w

@@ -1,5 +1,7 @@
 -- The first steps of fair releases and bumps, and the rest of them.
-use Rattle.std.proofs.Common.{inl, inr, ℕ, Bool, true, false, List, [], ◌++◌, Option, Some, None, if◌then◌else◌, ◌≡◌, ◌≢◌, ◌-◌, ◌/◌, ◌^◌, ◌<◌, refl, ap, ◌∙◌, sym, subst, arith, eq-eqb, ne_eqb}
+use Rattle.std.proofs.Common.{inl, inr, ℕ, Bool, true, false, List, [], ◌++◌, Option, Some, None}
+use Rattle.std.proofs.Common.{if◌then◌else◌, ◌≡◌, ◌≢◌, ◌-◌, ◌/◌, ◌^◌, ◌<◌, refl, ap, ◌∙◌, sym, subst, arith}
+use Rattle.std.proofs.Common.{eq-eqb, ne_eqb}
 use Rattle.std.proofs.lemmas.List.{append-nil}
 use Rattle.core_base.specs.Words.{apply}
 use Rattle.core_base.specs.declared.ops.Op.{Op}
@@ -28,7 +30,8 @@ use Rattle.core_words.proofs.RwLockKinds.{rwlock_steps}
 use Rattle.core_words.proofs.RwLockOwning.{keeps_beside_readers}
 use Rattle.core_words.proofs.RwLockSteps.{exclusive_trade, there}
 use Rattle.core_words.specs.Codes.{exclusive, shared}
-use Rattle.core_words.specs.Steps.{CodesWith, MayStep, after_step, is_look, owns_after, owns_after_step, without}
+use Rattle.core_words.specs.Steps.{CodesWith, MayStep, after_step, is_look, owns_after, owns_after_step}
+use Rattle.core_words.specs.Steps.{without}
 use Rattle.core_words.specs.Indices.{word_index}
 use Rattle.core_words.specs.Views.{owning}
 use Rattle.core_words.specs.declared.owners.Owner.TheVariants as owners
@@ -50,43 +53,60 @@ use Rattle.run_base.specs.RwLockFitting.{Answers, IsBeside, IsCounted, OwnsRight
 use Rattle.run_base.specs.Stages.{Stage, Stepped, stage_of}
 use Rattle.run_base.specs.Telling.{steps_of}
 use Rattle.run_base.proofs.Courses.{courses_behind, one, one_more, over_at_once}
-use Rattle.run_base.proofs.RwLockKeeping.{alone_pends, kept, look_alone, look_upgradable, missed_looks, missed_same}
+use Rattle.run_base.proofs.RwLockKeeping.{alone_pends, kept, look_alone, look_upgradable, missed_looks}
+use Rattle.run_base.proofs.RwLockKeeping.{missed_same}
 use Rattle.run_base.proofs.RwLockNeeds.{has_right, left_beside}
 use Rattle.run_base.proofs.Turning.{by_stage}
 use Rattle.run_base.proofs.Unqueued.{unqueued_call}
 
 -- ---------------------------------------------------------------- looks
 
-module _ (l : ℕ) (base owns : List Ownership) (seen : ℕ) (code : CodesWith kinds.RwLock (rwlock_at l) seen owns) (op : Op) (same : apply op seen / 4 ≡ seen / 4) where
-  shares_on : OwnsRight l wants.Shared base owns → OwnsRight l wants.Shared base (owns_after_step kinds.RwLock (rwlock_at l) op seen owns)
-  shares_on right = let some = there (rwlock_at l) owns op seen (apply op seen) code.0 code.1 code.2 owners.Shared shared refl (has_right l owners.Shared base owns right) in let c₀ = code.1.0 in
-      kept l base owns seen code op (Some (Has wants.Shared)) (keeps_beside_readers (rwlock_at l) seen owns code op same (λ z. omega arith)) right
+module _ (l : ℕ) (base owns : List Ownership) (seen : ℕ) (code : CodesWith kinds.RwLock (rwlock_at l) seen
+    owns) (op : Op) (same : apply op seen / 4 ≡ seen / 4) where
+  shares_on : OwnsRight l wants.Shared base owns → OwnsRight l wants.Shared base
+      (owns_after_step kinds.RwLock (rwlock_at l) op seen owns)
+  shares_on right = let some = there (rwlock_at l) owns op seen (apply op seen) code.0 code.1 code.2
+      owners.Shared shared refl (has_right l owners.Shared base owns right) in let c₀ = code.1.0 in
+      kept l base owns seen code op (Some (Has wants.Shared)) (keeps_beside_readers (rwlock_at l) seen owns
+      code op same (λ z. omega arith)) right
 
-  stays_alone : is_look op seen ≡ true → OwnsRight l wants.Exclusive base owns → OwnsRight l wants.Exclusive base (owns_after_step kinds.RwLock (rwlock_at l) op seen owns)
-  stays_alone look right = let some = there (rwlock_at l) owns op seen (apply op seen) code.0 code.1 code.2 owners.Exclusive exclusive refl (has_right l owners.Exclusive base owns right) in let c₀ = code.1.0 in let few = code.1.1 in let none = code.1.2 some in
+  stays_alone : is_look op seen ≡ true → OwnsRight l wants.Exclusive base owns
+      → OwnsRight l wants.Exclusive base (owns_after_step kinds.RwLock (rwlock_at l) op seen owns)
+  stays_alone look right = let some = there (rwlock_at l) owns op seen (apply op seen) code.0 code.1 code.2
+      owners.Exclusive exclusive refl (has_right l owners.Exclusive base owns right) in let c₀ = code.1.0
+      in let few = code.1.1 in let none = code.1.2 some in
       look_alone l base owns seen code op false same look (omega arith) (alone_pends l base owns false right)
 
 -- a load keeps any right
-load_keeps : (l : ℕ) (x : Access) (base owns : List Ownership) (seen : ℕ) → CodesWith kinds.RwLock (rwlock_at l) seen owns → OwnsRight l (wanted x) base owns → OwnsRight l (wanted x) base (owns_after_step kinds.RwLock (rwlock_at l) Load seen owns)
+load_keeps : (l : ℕ) (x : Access) (base owns : List Ownership) (seen : ℕ) → CodesWith kinds.RwLock
+    (rwlock_at l) seen owns → OwnsRight l (wanted x) base owns → OwnsRight l (wanted x) base
+    (owns_after_step kinds.RwLock (rwlock_at l) Load seen owns)
 load_keeps l access.Shared base owns seen code right = shares_on l base owns seen code Load refl right
-load_keeps l access.Upgradable base owns seen code right = look_upgradable l base owns seen code Load refl right
-load_keeps l access.Exclusive base owns seen code right = stays_alone l base owns seen code Load refl refl right
+load_keeps l access.Upgradable base owns seen code right = look_upgradable l base owns seen code Load refl
+    right
+load_keeps l access.Exclusive base owns seen code right = stays_alone l base owns seen code Load refl refl
+    right
 
 -- ---------------------------------------------------------------- bumps
 
-module _ (l : ℕ) (a : Admission) (x : Access) (base : List Ownership) (st new : Stage) (seen : ℕ) (outside : st.inside ≡ None) (room : a.limit < 2 ^ 60 - 1) (s : Stepped kinds.RwLock (rwlock_at l) Load seen st new) (right : OwnsRight l (wanted x) base st.owns) where
+module _ (l : ℕ) (a : Admission) (x : Access) (base : List Ownership) (st new : Stage) (seen : ℕ)
+    (outside : st.inside ≡ None) (room : a.limit < 2 ^ 60 - 1) (s : Stepped kinds.RwLock (rwlock_at l) Load
+    seen st new) (right : OwnsRight l (wanted x) base st.owns) where
   right_now : OwnsRight l (wanted x) base new.owns
-  right_now = subst (OwnsRight l (wanted x) base) (sym (ap (λ (s : Stage). s.owns) s.1)) (load_keeps l x base st.owns seen s.0 right)
+  right_now = subst (OwnsRight l (wanted x) base) (sym (ap (λ (s : Stage). s.owns) s.1))
+      (load_keeps l x base st.owns seen s.0 right)
 
   none_now : new.inside ≡ None
   none_now = ap (λ (s : Stage). s.inside) s.1 ∙ outside
 
   -- where it gives its right up, or is over
   abbrev pub Glanced : Next RwLockCallPlace → Type 0
-  Glanced (At c) = Fits ⊥ base (RwLock l a c) new × (call_purpose (RwLock l a c) ≡ of_rwlock l a (purpose.Enter x Patient))
+  Glanced (At c) = Fits ⊥ base (RwLock l a c) new
+      × (call_purpose (RwLock l a c) ≡ of_rwlock l a (purpose.Enter x Patient))
   Glanced (End answer) = (answer ≡ Ok) × OwnsRight l (wanted x) base new.owns
 
-  gives : (x : Access) → OwnsRight l (wanted x) base new.owns → Fits ⊥ base (RwLock l a (gives_up_at x)) new × (call_purpose (RwLock l a (gives_up_at x)) ≡ of_rwlock l a (purpose.Enter x Patient))
+  gives : (x : Access) → OwnsRight l (wanted x) base new.owns → Fits ⊥ base (RwLock l a (gives_up_at x)) new
+      × (call_purpose (RwLock l a (gives_up_at x)) ≡ of_rwlock l a (purpose.Enter x Patient))
   gives access.Shared right = ((refl, (refl, room, none_now, right)), refl)
   gives access.Upgradable right = ((tt, room, (right, none_now)), refl)
   gives access.Exclusive right = ((tt, room, (right, none_now)), refl)
@@ -100,16 +120,23 @@ module _ (l : ℕ) (a : Admission) (x : Access) (base : List Ownership) (st new 
 
 -- ---------------------------------------------------------------- an exclusive owner's first step
 
-module _ (l : ℕ) (a : Admission) (base : List Ownership) (st new : Stage) (seen : ℕ) (outside : st.inside ≡ None) (room : a.limit < 2 ^ 60 - 1) (s : Stepped kinds.RwLock (rwlock_at l) (Exchange 8 0) seen st new) (right : OwnsRight l wants.Exclusive base st.owns) where
+module _ (l : ℕ) (a : Admission) (base : List Ownership) (st new : Stage) (seen : ℕ) (outside : st.inside
+    ≡ None) (room : a.limit < 2 ^ 60 - 1) (s : Stepped kinds.RwLock (rwlock_at l) (Exchange 8 0) seen st new)
+    (right : OwnsRight l wants.Exclusive base st.owns) where
   -- the word told of nobody else
   pub left_free : seen ≡ 8 → IsBeside l base new.owns
   left_free same = subst (IsBeside l base) (sym owns) (left_beside l owners.Exclusive base st.owns right)
     where
-      at_8 : CodesWith kinds.RwLock (rwlock_at l) 8 st.owns → owns_after_step kinds.RwLock (rwlock_at l) (Exchange 8 0) 8 st.owns ≡ without (owning (rwlock_at l) owners.Exclusive) st.owns
-      at_8 code = ap (λ t. owns_after (rwlock_at l) t st.owns) (exclusive_trade (rwlock_at l) st.owns (Exchange 8 0) 8 0 code.0 code.1 code.2 (has_right l owners.Exclusive base st.owns right) (λ z. omega arith))
+      at_8 : CodesWith kinds.RwLock (rwlock_at l) 8 st.owns → owns_after_step kinds.RwLock (rwlock_at l)
+          (Exchange 8 0) 8 st.owns ≡ without (owning (rwlock_at l) owners.Exclusive) st.owns
+      at_8 code = ap (λ t. owns_after (rwlock_at l) t st.owns) (exclusive_trade (rwlock_at l) st.owns
+          (Exchange 8 0) 8 0 code.0 code.1 code.2 (has_right l owners.Exclusive base st.owns right)
+          (λ z. omega arith))
 
       owns : new.owns ≡ without (owning (rwlock_at l) owners.Exclusive) st.owns
-      owns = ap (λ (s : Stage). s.owns) s.1 ∙ subst (λ (n : ℕ). CodesWith kinds.RwLock (rwlock_at l) n st.owns → owns_after_step kinds.RwLock (rwlock_at l) (Exchange 8 0) n st.owns ≡ without (owning (rwlock_at l) owners.Exclusive) st.owns) (sym same) at_8 s.0
+      owns = ap (λ (s : Stage). s.owns) s.1 ∙ subst (λ (n : ℕ). CodesWith kinds.RwLock (rwlock_at l) n st.owns
+          → owns_after_step kinds.RwLock (rwlock_at l) (Exchange 8 0) n st.owns
+          ≡ without (owning (rwlock_at l) owners.Exclusive) st.owns) (sym same) at_8 s.0
 
   -- A fair release that saw waiters goes to hand the lock over.
   pub goes_to_hand : seen ≢ 8 → Fits ⊥ base (RwLock l a (HandOver access.Exclusive false handing.Enter)) new
@@ -117,7 +144,9 @@ module _ (l : ℕ) (a : Admission) (base : List Ownership) (st new : Stage) (see
     tt,
     room,
     (
-      subst (OwnsRight l wants.Exclusive base) (sym (ap (λ (s : Stage). s.owns) s.1)) (stays_alone l base st.owns seen s.0 (Exchange 8 0) (missed_same 8 0 seen other) (missed_looks 8 0 seen other) right),
+      subst (OwnsRight l wants.Exclusive base) (sym (ap (λ (s : Stage). s.owns) s.1))
+          (stays_alone l base st.owns seen s.0 (Exchange 8 0) (missed_same 8 0 seen other)
+          (missed_looks 8 0 seen other) right),
       ap (λ (s : Stage). s.inside) s.1 ∙ outside,
     ),
   )
@@ -153,7 +182,8 @@ module _ (l : ℕ) (a : Admission) (seen : ℕ) (old mid : Token)
       (subst (λ (p : Place). Courses (at_rwlock l) old.number p (trail_of mid None) (trail_of new None) Ok)
       (sym (ap (λ (b : Bool). rwlock_goes l a
       (if b then End Ok else At (HandOver access.Exclusive false handing.Enter))) (ne_eqb seen 8 other)))
-      (subst (λ (me : ℕ). Courses (at_rwlock l) me hands (trail_of mid None) (trail_of new None) Ok) same rest))
+      (subst (λ (me : ℕ). Courses (at_rwlock l) me hands (trail_of mid None) (trail_of new None) Ok) same
+      rest))
 
 -- its record
 module _ (l : ℕ) (a : Admission) (seen : ℕ) (old mid new : List WordStep)
@@ -166,17 +196,29 @@ module _ (l : ℕ) (a : Admission) (seen : ℕ) (old mid new : List WordStep)
     subst (λ (b : Bool). TookUnlessFree l a b [] None) (sym (eq-eqb seen 8 same)) (refl, refl),
   )
 
-  pub record_handing : (last : Option SectionRecord) → seen ≢ 8 → (more : List WordStep) → new ≡ mid ++ more → TookWoken l a (purpose.Release access.Exclusive) last → LeftFairly l a old new last
-  record_handing last other more e took = (seen, more, e ∙ ap (λ (x : List WordStep). x ++ more) saw, subst (λ (b : Bool). TookUnlessFree l a b more last) (sym (ne_eqb seen 8 other)) took)
+  pub record_handing : (last : Option SectionRecord) → seen ≢ 8 → (more : List WordStep) → new ≡ mid ++ more
+      → TookWoken l a (purpose.Release access.Exclusive) last → LeftFairly l a old new last
+  record_handing last other more e took = (
+    seen,
+    more,
+    e ∙ ap (λ (x : List WordStep). x ++ more) saw,
+    subst (λ (b : Bool). TookUnlessFree l a b more last) (sym (ne_eqb seen 8 other)) took,
+  )
 
 -- ---------------------------------------------------------------- by tokens
 
-module _ (word : Word) (is : word.kind ≡ kinds.RwLock) (op : Op) (seen : ℕ) (old new : Token) (stepped : view_of new ≡ after_step word.kind (word_index word.number word.kind) op seen (view_of old)) where
-  pub saw_step : (view_of new).steps ≡ (view_of old).steps ++ step (rwlock_at word.number) op seen
-  saw_step = ap (λ (v : View). v.steps) stepped ∙ ap (λ (k : WordKind). (view_of old).steps ++ step (word_index word.number k) op seen) is
+module _ (word : Word) (is : word.kind ≡ kinds.RwLock) (op : Op) (seen : ℕ) (old new : Token)
+    (stepped : view_of new ≡ after_step word.kind (word_index word.number word.kind) op seen (view_of old))
+  where
+    pub saw_step : (view_of new).steps ≡ (view_of old).steps ++ step (rwlock_at word.number) op seen
+    saw_step = ap (λ (v : View). v.steps) stepped
+        ∙ ap (λ (k : WordKind). (view_of old).steps ++ step (word_index word.number k) op seen) is
 
-  pub has_taken : last_of new ≡ None → CodesWith word.kind (word_index word.number word.kind) seen (view_of old).owns → Stepped kinds.RwLock (rwlock_at word.number) op seen (stage_of old None) (stage_of new None)
-  has_taken last code = subst (λ (k : WordKind). Stepped k (word_index word.number k) op seen (stage_of old None) (stage_of new None)) is (by_stage word op seen old None new stepped last code)
+    pub has_taken : last_of new ≡ None → CodesWith word.kind (word_index word.number word.kind) seen
+        (view_of old).owns → Stepped kinds.RwLock (rwlock_at word.number) op seen (stage_of old None)
+        (stage_of new None)
+    has_taken last code = subst (λ (k : WordKind). Stepped k (word_index word.number k) op seen
+        (stage_of old None) (stage_of new None)) is (by_stage word op seen old None new stepped last code)
 
 -- where a bump went on, and where its look ended it
 module _ (l : ℕ) (a : Admission) (x : Access) (seen : ℕ) (old mid : Token)
@@ -202,17 +244,23 @@ module _ (l : ℕ) (a : Admission) (x : Access) (seen : ℕ) (old mid : Token)
       → Courses (at_rwlock l) old.number glance (trail_of old None) (trail_of new None) answer
   bump_goes_on new c same e rest = courses_behind (at_rwlock l) old.number glance l Load seen
       (trail_of old None) (trail_of mid None) (trail_of new None) answer refl unqueued looked
-      (subst (λ (p : Place). Courses (at_rwlock l) old.number p (trail_of mid None) (trail_of new None) answer)
+      (subst (λ (p : Place). Courses (at_rwlock l) old.number p (trail_of mid None) (trail_of new None)
+      answer)
       (sym (ap (rwlock_goes l a) e))
-      (subst (λ (me : ℕ). Courses (at_rwlock l) me (RwLock l a c) (trail_of mid None) (trail_of new None) answer)
+      (subst (λ (me : ℕ). Courses (at_rwlock l) me (RwLock l a c) (trail_of mid None) (trail_of new None)
+      answer)
       same rest))
 
 -- the first step of an exclusive owner is one that it may take
-pub may_leave_alone : (l : ℕ) (base owns : List Ownership) → OwnsRight l wants.Exclusive base owns → MayStep kinds.RwLock (rwlock_at l) (Exchange 8 0) owns
-may_leave_alone l base owns right = (rwlock_steps (rwlock_at l) owns).leave_alone (has_right l owners.Exclusive base owns right)
+pub may_leave_alone : (l : ℕ) (base owns : List Ownership) → OwnsRight l wants.Exclusive base owns
+    → MayStep kinds.RwLock (rwlock_at l) (Exchange 8 0) owns
+may_leave_alone l base owns right = (rwlock_steps (rwlock_at l) owns).leave_alone
+    (has_right l owners.Exclusive base owns right)
 
 -- a bump that has not its right again found the lock full of readers
-pub bump_full : (l : ℕ) (base : List Ownership) (a : Admission) (x : Access) (answer : Answer) (st : Stage) → Answers ⊥ l base a (purpose.Enter x Patient) answer st → (answer ≡ Ok → ⊥) → (answer ≡ ReadersFull) × IsCounted x × IsBeside l base st.owns
+pub bump_full : (l : ℕ) (base : List Ownership) (a : Admission) (x : Access) (answer : Answer) (st : Stage)
+    → Answers ⊥ l base a (purpose.Enter x Patient) answer st → (answer ≡ Ok → ⊥) → (answer ≡ ReadersFull)
+    × IsCounted x × IsBeside l base st.owns
 bump_full l base a x answer st h other = elim h [
   | inl got ↦ absurd (other got.0)
   | inr (inl none) ↦ absurd none.1

@@ -26,7 +26,8 @@ use Rattle.run_locks.proofs.RwLockCalling.{rest_fits, rest_over, rest_path, rest
 use Rattle.run_locks.proofs.RwLockCourses.{takes_at, waits_at}
 use Rattle.run_locks.proofs.RwLockTakes.{over_missed, path_missed, word_takes_on}
 
-module _ (up : Type 0) (word : Word) (is : word.kind ≡ kinds.RwLock) (a : Admission) (room : a.limit < 2 ^ 60 - 1) (c : RwLockPurpose) (seen : ℕ) where
+module _ (up : Type 0) (word : Word) (is : word.kind ≡ kinds.RwLock) (a : Admission) (room : a.limit
+    < 2 ^ 60 - 1) (c : RwLockPurpose) (seen : ℕ) where
   abbrev begins : Token → List Ownership → Type 0
   begins old base = BeginsWith word.number c base (view_of old).owns
 
@@ -40,48 +41,68 @@ module _ (up : Type 0) (word : Word) (is : word.kind ≡ kinds.RwLock) (a : Admi
 
   -- tells what the rest of a call does from where its first step has led it
   module _ (old mid : Token) (stepped : SteppedAndFound word (first_op c) seen old mid) (goes : came) where
-    pub fits_behind : (base : List Ownership) → begins old base → Fits up base (next_place (rwlock_begin word.number a c) (Value seen)) (stage_of mid None)
-    fits_behind base b = (rest_fits up word is a room c (first_op c) seen old mid refl stepped.1 stepped.2 stepped.3 goes base b).0
+    pub fits_behind : (base : List Ownership) → begins old base
+        → Fits up base (next_place (rwlock_begin word.number a c) (Value seen)) (stage_of mid None)
+    fits_behind base b = (rest_fits up word is a room c (first_op c) seen old mid refl stepped.1 stepped.2
+        stepped.3 goes base b).0
 
-    pub ended_behind : (answer : Answer) (new : Token) → new.number ≡ old.number → (base : List Ownership) → begins old base
+    pub ended_behind : (answer : Answer) (new : Token) → new.number ≡ old.number → (base : List Ownership)
+        → begins old base
         → RestCourse mid new answer
-        → ((more : List Ownership) → Fits up more (next_place (rwlock_begin word.number a c) (Value seen)) (stage_of mid None)
-        → IsOver up more (call_purpose (next_place (rwlock_begin word.number a c) (Value seen))) answer (stage_of new None))
+        → ((more : List Ownership) → Fits up more (next_place (rwlock_begin word.number a c) (Value seen))
+        (stage_of mid None)
+        → IsOver up more (call_purpose (next_place (rwlock_begin word.number a c) (Value seen))) answer
+        (stage_of new None))
         → HasEndedRwLock up word a c answer old new
     ended_behind answer new same base b walks over = (
       same,
-      rest_path up word is a room c (first_op c) seen old mid refl stepped.1 stepped.2 stepped.3 goes answer new stepped.4 stepped.0 walks,
-      (λ more begun. rest_over up word is a room c (first_op c) seen old mid refl stepped.1 stepped.2 stepped.3 goes answer new more begun (over more)),
-      rest_record up word is a room c (first_op c) seen old mid refl stepped.1 stepped.2 stepped.3 goes answer new base b (over base)
+      rest_path up word is a room c (first_op c) seen old mid refl stepped.1 stepped.2 stepped.3 goes answer
+          new stepped.4 stepped.0 walks,
+      (λ more begun. rest_over up word is a room c (first_op c) seen old mid refl stepped.1 stepped.2
+          stepped.3 goes answer new more begun (over more)),
+      rest_record up word is a room c (first_op c) seen old mid refl stepped.1 stepped.2 stepped.3 goes answer
+          new base b (over base)
           walks.0.steps (ap (λ (x : Trail). x.steps) walks.1),
     )
 
-  pub fits_on : (old mid : Token) → HasBegunRwLock word a c (GoesOn seen) old mid → (base : List Ownership) → begins old base → Fits up base (next_place (rwlock_begin word.number a c) (Value seen)) (stage_of mid None)
+  pub fits_on : (old mid : Token) → HasBegunRwLock word a c (GoesOn seen) old mid → (base : List Ownership)
+      → begins old base → Fits up base (next_place (rwlock_begin word.number a c) (Value seen))
+      (stage_of mid None)
   fits_on old mid begun = fits_behind old mid begun.0 (waits_at word.number a c seen begun.1)
 
-  pub ended_on_going : (old mid new : Token) (answer : Answer) → HasBegunRwLock word a c (GoesOn seen) old mid → new.number ≡ mid.number → (base : List Ownership) → begins old base
+  pub ended_on_going : (old mid new : Token) (answer : Answer) → HasBegunRwLock word a c (GoesOn seen) old mid
+      → new.number ≡ mid.number → (base : List Ownership) → begins old base
       → RestCourse mid new answer
-      → ((more : List Ownership) → Fits up more (next_place (rwlock_begin word.number a c) (Value seen)) (stage_of mid None)
-      → IsOver up more (call_purpose (next_place (rwlock_begin word.number a c) (Value seen))) answer (stage_of new None))
+      → ((more : List Ownership) → Fits up more (next_place (rwlock_begin word.number a c) (Value seen))
+      (stage_of mid None)
+      → IsOver up more (call_purpose (next_place (rwlock_begin word.number a c) (Value seen))) answer
+      (stage_of new None))
       → HasEndedRwLock up word a c answer old new
-  ended_on_going old mid new answer begun same = ended_behind old mid begun.0 (waits_at word.number a c seen begun.1) answer new (subst (λ (n : ℕ). new.number ≡ n) begun.0.0 same)
+  ended_on_going old mid new answer begun same = ended_behind old mid begun.0
+      (waits_at word.number a c seen begun.1) answer new (subst (λ (n : ℕ). new.number ≡ n) begun.0.0 same)
 
   module _ (found : ℕ) (old last : Token) (begun : HasBegunRwLock word a c (Missed seen found) old last) where
     abbrev mid : Token
     mid = begun.0
 
-    pub reached_missed : (base : List Ownership) → begins old base → Reached up base (rwlock_deciding word.number a c seen) (Value found) (stage_of last None)
+    pub reached_missed : (base : List Ownership) → begins old base
+        → Reached up base (rwlock_deciding word.number a c seen) (Value found) (stage_of last None)
     reached_missed base b = let step = begun.3 in
-        word_takes_on word is a c seen begun.2 (Exchange seen (word_taken c seen)) refl found mid last step.1 step.2 step.3 up base (fits_behind old mid begun.1 (takes_at word.number a c seen begun.2) base b)
+        word_takes_on word is a c seen begun.2 (Exchange seen (word_taken c seen)) refl found mid last step.1
+        step.2 step.3 up base (fits_behind old mid begun.1 (takes_at word.number a c seen begun.2) base b)
 
-    pub ended_missed : (new : Token) (answer : Answer) → new.number ≡ last.number → (base : List Ownership) → begins old base
+    pub ended_missed : (new : Token) (answer : Answer) → new.number ≡ last.number → (base : List Ownership)
+        → begins old base
         → CoursesAfterReply (at_rwlock word.number) last.number (rwlock_deciding word.number a c seen)
         (Value found) (trail_of last None) (trail_of new None) answer
-        → ((more : List Ownership) → Reached up more (rwlock_deciding word.number a c seen) (Value found) (stage_of last None)
+        → ((more : List Ownership) → Reached up more (rwlock_deciding word.number a c seen) (Value found)
+        (stage_of last None)
         → IsOver up more (of_rwlock word.number a c) answer (stage_of new None))
         → HasEndedRwLock up word a c answer old new
     ended_missed new answer same base b rests over = let step = begun.3 in
         ended_behind old mid begun.1 (takes_at word.number a c seen begun.2) answer new
         (subst (λ (n : ℕ). new.number ≡ n) begun.1.0 (subst (λ (n : ℕ). new.number ≡ n) step.0 same)) base b
-        (path_missed word is a c seen begun.2 (Exchange seen (word_taken c seen)) refl found mid last step.1 step.2 step.3 answer new step.4 step.0 rests)
-        (λ more fits. over_missed word is a c seen begun.2 (Exchange seen (word_taken c seen)) refl found mid last step.1 step.2 step.3 answer new up more fits (over more))
+        (path_missed word is a c seen begun.2 (Exchange seen (word_taken c seen)) refl found mid last step.1
+        step.2 step.3 answer new step.4 step.0 rests)
+        (λ more fits. over_missed word is a c seen begun.2 (Exchange seen (word_taken c seen)) refl found mid
+        last step.1 step.2 step.3 answer new up more fits (over more))

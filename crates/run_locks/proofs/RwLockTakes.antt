@@ -30,7 +30,8 @@ use Rattle.run_locks.proofs.RwLockCourses.{comes_to, may_take, takes_all, takes_
 use Rattle.run_base.proofs.Turning.{by_stage}
 use Rattle.run_base.proofs.Unqueued.{after_decision}
 
-module _ (word : Word) (is : word.kind ≡ kinds.RwLock) (a : Admission) (c : RwLockPurpose) (seen : ℕ) (takes : course_of a c seen ≡ Takes) (op : Op) (by : op ≡ Exchange seen (word_taken c seen)) where
+module _ (word : Word) (is : word.kind ≡ kinds.RwLock) (a : Admission) (c : RwLockPurpose) (seen : ℕ)
+    (takes : course_of a c seen ≡ Takes) (op : Op) (by : op ≡ Exchange seen (word_taken c seen)) where
   abbrev here : Place
   here = rwlock_deciding word.number a c seen
 
@@ -40,31 +41,44 @@ module _ (word : Word) (is : word.kind ≡ kinds.RwLock) (a : Admission) (c : Rw
   same : came ≡ here
   same = comes_to word.number a c seen takes
 
-  module _ (up : Type 0) (base : List Ownership) (old : Token) (fits : Fits up base came (stage_of old None)) where
-    fits_here : Fits up base here (stage_of old None)
-    fits_here = subst (λ (p : Place). Fits up base p (stage_of old None)) same fits
+  module _ (up : Type 0) (base : List Ownership) (old : Token) (fits : Fits up base came (stage_of old None))
+    where
+      fits_here : Fits up base here (stage_of old None)
+      fits_here = subst (λ (p : Place). Fits up base p (stage_of old None)) same fits
 
-    -- it may take the exchange
-    pub word_may_take : MayStep word.kind (word_index word.number word.kind) op (view_of old).owns
-    word_may_take = subst (λ (k : WordKind). MayStep k (word_index word.number k) op (view_of old).owns) (sym is)
-        (subst (λ (o : Op). MayStep kinds.RwLock (rwlock_at word.number) o (view_of old).owns) (sym by) (may_take word.number a c seen takes up base (stage_of old None) fits_here))
+      -- it may take the exchange
+      pub word_may_take : MayStep word.kind (word_index word.number word.kind) op (view_of old).owns
+      word_may_take = subst (λ (k : WordKind). MayStep k (word_index word.number k) op (view_of old).owns)
+          (sym is)
+          (subst (λ (o : Op). MayStep kinds.RwLock (rwlock_at word.number) o (view_of old).owns) (sym by)
+          (may_take word.number a c seen takes up base (stage_of old None) fits_here))
 
-  module _ (found : ℕ) (old new : Token) (stepped : view_of new ≡ after_step word.kind (word_index word.number word.kind) op found (view_of old)) (last : last_of new ≡ None) (code : CodesWith word.kind (word_index word.number word.kind) found (view_of old).owns) where
-    saw : (view_of new).steps ≡ (view_of old).steps ++ step (rwlock_at word.number) (Exchange seen (word_taken c seen)) found
-    saw = ap (λ (v : View). v.steps) stepped ∙ ap (λ (k : WordKind). (view_of old).steps ++ step (word_index word.number k) op found) is ∙ ap (λ (o : Op). (view_of old).steps ++ step (rwlock_at word.number) o found) by
+  module _ (found : ℕ) (old new : Token) (stepped : view_of new ≡ after_step word.kind
+      (word_index word.number word.kind) op found (view_of old)) (last : last_of new ≡ None)
+      (code : CodesWith word.kind (word_index word.number word.kind) found (view_of old).owns) where
+    saw : (view_of new).steps ≡ (view_of old).steps ++ step (rwlock_at word.number)
+        (Exchange seen (word_taken c seen)) found
+    saw = ap (λ (v : View). v.steps) stepped
+        ∙ ap (λ (k : WordKind). (view_of old).steps ++ step (word_index word.number k) op found) is
+        ∙ ap (λ (o : Op). (view_of old).steps ++ step (rwlock_at word.number) o found) by
 
     took_step : told_of new ≡ told_of old → trail_of new None
         ≡ joined (trail_of old None) (one (rwlock_at word.number) (Exchange seen (word_taken c seen)) found)
     took_step untold =
         one_more old new (rwlock_at word.number) (Exchange seen (word_taken c seen)) found saw untold
 
-    stepped_so : Stepped kinds.RwLock (rwlock_at word.number) (Exchange seen (word_taken c seen)) found (stage_of old None) (stage_of new None)
-    stepped_so = subst (λ (k : WordKind). Stepped k (word_index word.number k) (Exchange seen (word_taken c seen)) found (stage_of old None) (stage_of new None)) is
-        (subst (λ (o : Op). Stepped word.kind (word_index word.number word.kind) o found (stage_of old None) (stage_of new None)) by (by_stage word op found old None new stepped last code))
+    stepped_so : Stepped kinds.RwLock (rwlock_at word.number) (Exchange seen (word_taken c seen)) found
+        (stage_of old None) (stage_of new None)
+    stepped_so = subst (λ (k : WordKind). Stepped k (word_index word.number k)
+        (Exchange seen (word_taken c seen)) found (stage_of old None) (stage_of new None)) is
+        (subst (λ (o : Op). Stepped word.kind (word_index word.number word.kind) o found (stage_of old None)
+        (stage_of new None)) by (by_stage word op found old None new stepped last code))
 
     -- which leads on
-    pub word_takes_on : (up : Type 0) (base : List Ownership) → Fits up base came (stage_of old None) → Reached up base here (Value found) (stage_of new None)
-    word_takes_on up base fits = takes_on word.number a c seen takes up base (stage_of old None) (fits_here up base old fits) found (stage_of new None) stepped_so
+    pub word_takes_on : (up : Type 0) (base : List Ownership) → Fits up base came (stage_of old None)
+        → Reached up base here (Value found) (stage_of new None)
+    word_takes_on up base fits = takes_on word.number a c seen takes up base (stage_of old None)
+        (fits_here up base old fits) found (stage_of new None) stepped_so
 
     -- A call is over where its exchange finds what was expected.
     pub path_taken : told_of new ≡ told_of old → found ≡ seen
@@ -78,9 +92,13 @@ module _ (word : Word) (is : word.kind ≡ kinds.RwLock) (a : Admission) (c : Rw
         (after_decision word.number a c seen found) (took_step untold)
         (takes_all word.number a c seen takes found e))
 
-    pub over_taken : found ≡ seen → (up : Type 0) (base : List Ownership) → Fits up base came (stage_of old None) → IsOver up base (call_purpose came) (entered (patience_of c)) (stage_of new None)
-    over_taken e up base fits = subst (λ (p : Place). IsOver up base (call_purpose p) (entered (patience_of c)) (stage_of new None)) (sym same)
-        (subst (λ (o : Option Answer). ReachedBy up base (of_rwlock word.number a c) (next_place here (Value found)) o (stage_of new None)) (ap answer_of (takes_all word.number a c seen takes found e)) (word_takes_on up base fits))
+    pub over_taken : found ≡ seen → (up : Type 0) (base : List Ownership) → Fits up base came
+        (stage_of old None) → IsOver up base (call_purpose came) (entered (patience_of c)) (stage_of new None)
+    over_taken e up base fits = subst (λ (p : Place). IsOver up base (call_purpose p)
+        (entered (patience_of c)) (stage_of new None)) (sym same)
+        (subst (λ (o : Option Answer). ReachedBy up base (of_rwlock word.number a c)
+        (next_place here (Value found)) o (stage_of new None))
+        (ap answer_of (takes_all word.number a c seen takes found e)) (word_takes_on up base fits))
 
     module _ (answer : Answer) (last_token : Token) where
       pub path_missed : told_of new ≡ told_of old → new.number ≡ old.number
@@ -97,5 +115,9 @@ module _ (word : Word) (is : word.kind ≡ kinds.RwLock) (a : Admission) (c : Rw
           (subst (λ (me : ℕ). CoursesAfterReply (at_rwlock word.number) me here (Value found)
           (trail_of new None) (trail_of last_token None) answer) one r))
 
-      pub over_missed : (up : Type 0) (base : List Ownership) → Fits up base came (stage_of old None) → (Reached up base here (Value found) (stage_of new None) → IsOver up base (of_rwlock word.number a c) answer (stage_of last_token None)) → IsOver up base (call_purpose came) answer (stage_of last_token None)
-      over_missed up base fits over = subst (λ (p : Place). IsOver up base (call_purpose p) answer (stage_of last_token None)) (sym same) (over (word_takes_on up base fits))
+      pub over_missed : (up : Type 0) (base : List Ownership) → Fits up base came (stage_of old None)
+          → (Reached up base here (Value found) (stage_of new None)
+          → IsOver up base (of_rwlock word.number a c) answer (stage_of last_token None))
+          → IsOver up base (call_purpose came) answer (stage_of last_token None)
+      over_missed up base fits over = subst (λ (p : Place). IsOver up base (call_purpose p) answer
+          (stage_of last_token None)) (sym same) (over (word_takes_on up base fits))

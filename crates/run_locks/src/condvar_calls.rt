@@ -8,7 +8,8 @@ ghost use Rattle.run_base.specs.CondvarFitting.{IsNotifyOver, IsWaitOver, OwnsIt
 ghost use Rattle.run_base.specs.Stages.{stage_of};
 ghost use Rattle.run_base.specs.Telling.{owns_of};
 ghost use Rattle.run_base.specs.Words.{word_pair};
-ghost use Rattle.run_locks.specs.CondvarCalls.{HasLooked, HasNotified, HasWaited, MeetBeside, MeetsCondvar, NotifiesBy, TellsMoved};
+ghost use Rattle.run_locks.specs.CondvarCalls.{HasLooked, HasNotified, HasWaited, MeetBeside, MeetsCondvar};
+ghost use Rattle.run_locks.specs.CondvarCalls.{NotifiesBy, TellsMoved};
 
 use crate::condvar_courses::Pair;
 use crate::notify_courses::notify_through;

@@ -14,7 +14,8 @@ ghost use Rattle.run_locks.specs.declared.rwlock_calls.Rest.TheVariants.{GoesOn,
 ghost use Rattle.run_base.specs.Fitting.{AreWordsFor, Fits, IsOver, Reached, call_purpose, of_rwlock};
 ghost use Rattle.run_base.specs.Courses.{Courses, CoursesAfterReply, trail_of};
 ghost use Rattle.run_base.specs.Paths.{at_rwlock};
-ghost use Rattle.run_base.specs.RwLockCalls.{AnswersCall, BeginsWith, HasWalkedRwLock, MeetsAt, WakesBy, rwlock_begin, rwlock_deciding};
+ghost use Rattle.run_base.specs.RwLockCalls.{AnswersCall, BeginsWith, HasWalkedRwLock, MeetsAt, WakesBy};
+ghost use Rattle.run_base.specs.RwLockCalls.{rwlock_begin, rwlock_deciding};
 ghost use Rattle.run_base.specs.Queued.{is_queued};
 ghost use Rattle.run_base.specs.Stages.{stage_of};
 ghost use Rattle.run_base.specs.Telling.{owns_of};

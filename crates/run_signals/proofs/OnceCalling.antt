@@ -1,5 +1,6 @@
 -- The calls of a `Once`: what they come to, by what a run of the driver came to.
-use Rattle.std.proofs.Common.{ℕ, ◌≡◌, ◌<◌, ◌/◌, ◌%◌, Bool, true, false, List, ◌++◌, ◌⊎◌, Option, None, Some, if◌then◌else◌, inl, inr, sym, refl, ap, subst, arith}
+use Rattle.std.proofs.Common.{ℕ, ◌≡◌, ◌<◌, ◌/◌, ◌%◌, Bool, true, false, List, ◌++◌, ◌⊎◌, Option, None, Some}
+use Rattle.std.proofs.Common.{if◌then◌else◌, inl, inr, sym, refl, ap, subst, arith}
 use Rattle.spec_locks.specs.Codes.{is_done, is_marked}
 use Rattle.core_base.specs.declared.ops.Op.TheVariants.{Load, Swap}
 use Rattle.spec_locks.specs.declared.calls.OnceCall.{OnceCall}
@@ -11,7 +12,8 @@ use Rattle.steps_base.specs.declared.acts.Act as act
 use Rattle.steps_base.specs.declared.acts.Next as next
 use Rattle.steps_base.specs.declared.acts.Reply.TheVariants.{Value}
 use Rattle.steps_condvar.specs.declared.places.CondvarPlace.TheVariants as waiting
-use Rattle.steps_once.specs.OnceSteps.{course_act, course_of, ended, give_up_act, in_look, in_run, look_act, looked_by, state_before, when_done, word_behind}
+use Rattle.steps_once.specs.OnceSteps.{course_act, course_of, ended, give_up_act, in_look, in_run, look_act}
+use Rattle.steps_once.specs.OnceSteps.{looked_by, state_before, when_done, word_behind}
 use Rattle.steps_once.specs.declared.look.Course.{Course}
 use Rattle.steps_once.specs.declared.look.Course.TheVariants.{Ends, Runs, Marks, Parks}
 use Rattle.steps_once.specs.declared.look.LookAt.{LookAt}
@@ -46,20 +48,23 @@ use Rattle.run_base.specs.declared.driver.Stop.TheVariants.{Paused}
 use Rattle.core_words.proofs.OnceSteps.{each_once_code}
 use Rattle.run_base.proofs.OnceLeading.{lands}
 use Rattle.run_base.proofs.Unqueued.{after_once, unqueued_once}
-use Rattle.run_base.proofs.Courses.{begins, comes_after, courses_behind, goes_on, one, one_more, over_at_once, steps_first}
+use Rattle.run_base.proofs.Courses.{begins, comes_after, courses_behind, goes_on, one, one_more, over_at_once}
+use Rattle.run_base.proofs.Courses.{steps_first}
 use Rattle.run_base.proofs.RwLockLeading.{rwlock_no_closure}
 use Rattle.run_base.proofs.SemaphoreLeading.{semaphore_no_closure}
 use Rattle.run_signals.specs.OnceCalls.{StepsLeadTo, EndsRun, in_closure, once_begin, run_end}
 use Rattle.run_signals.specs.Ran.{RanNothing}
 
 -- a look runs no closure
-no_course : (n seen : ℕ) (course : Course) (state : OnceState) → course_act n seen course ≡ act.TheVariants.Closure state → ⊥
+no_course : (n seen : ℕ) (course : Course) (state : OnceState) → course_act n seen course
+    ≡ act.TheVariants.Closure state → ⊥
 no_course n seen (Ends answer) state e = cc
 no_course n seen Runs state e = cc
 no_course n seen Marks state e = cc
 no_course n seen Parks state e = cc
 
-no_look : (n : ℕ) (c : OnceCall) (at : LookAt) (state : OnceState) → look_act n c at ≡ act.TheVariants.Closure state → ⊥
+no_look : (n : ℕ) (c : OnceCall) (at : LookAt) (state : OnceState) → look_act n c at ≡ act.TheVariants.Closure
+    state → ⊥
 no_look n c look.Load state e = cc
 no_look n c (look.Decide seen) state e = no_course n seen (course_of c seen) state e
 no_look n c look.Check state e = cc
@@ -68,13 +73,15 @@ no_look n c look.Asleep state e = cc
 no_look n c (look.Taken by) state e = cc
 
 -- nor does a thread that gives up
-no_give_up : (n : ℕ) (at : GiveUpAt) (state : OnceState) → give_up_act n at ≡ act.TheVariants.Closure state → ⊥
+no_give_up : (n : ℕ) (at : GiveUpAt) (state : OnceState) → give_up_act n at ≡ act.TheVariants.Closure state
+    → ⊥
 no_give_up n give_up.Remove state e = cc
 no_give_up n give_up.Clear state e = cc
 no_give_up n give_up.Leave state e = cc
 
 -- where a call of a `Once` has come to its closure
-pub record InClosure (n : ℕ) (c : OnceCall) (base : List Ownership) (p : Place) (state : OnceState) (st : Stage) : Type 0 where
+pub record InClosure (n : ℕ) (c : OnceCall) (base : List Ownership) (p : Place) (state : OnceState)
+    (st : Stage) : Type 0 where
   pub forced : Bool
   pub poisoned : Bool
   pub call : c ≡ CallOnce forced
@@ -82,7 +89,8 @@ pub record InClosure (n : ℕ) (c : OnceCall) (base : List Ownership) (p : Place
   pub there : p ≡ in_closure n forced poisoned
   pub owns : OwnsRun n base st.owns
 
-pub paused : (up : Type 0) (n : ℕ) (c : OnceCall) (base : List Ownership) (p : Place) (state : OnceState) (st : Stage) → IsStopped up base (of_once n c) (Paused p state) st → InClosure n c base p state st
+pub paused : (up : Type 0) (n : ℕ) (c : OnceCall) (base : List Ownership) (p : Place) (state : OnceState)
+    (st : Stage) → IsStopped up base (of_once n c) (Paused p state) st → InClosure n c base p state st
 paused up n c base Idle state st s = absurd s.0
 paused up n c base (Condvar l (waiting.Wait m timed at)) state st s = let e = s.1 in absurd cc
 paused up n c base (Condvar l (waiting.Look all)) state st s = absurd s.0
@@ -91,8 +99,10 @@ paused up n c base (Mutex l at) state st s = let e = s.1 in absurd cc
 paused up n c base (Semaphore l at) state st s = absurd (semaphore_no_closure l state at s.2)
 paused up n c base (RwLock l a at) state st s = absurd (rwlock_no_closure up l a base at st state s.0 s.2)
 paused up n c base (Once l (Look c2 r at)) state st s = absurd (no_look l c2 at state s.2)
-paused up n c base (Once l (Run forced (run.Closure poisoned))) state st s = let aim : of_once l (CallOnce forced) ≡ of_once n c = s.1 in
-    let same : l ≡ n = cc in let call : CallOnce forced ≡ c = cc in let is : act.TheVariants.Closure (state_before poisoned) ≡ act.TheVariants.Closure state = s.2 in
+paused up n c base (Once l (Run forced (run.Closure poisoned))) state st s =
+    let aim : of_once l (CallOnce forced) ≡ of_once n c = s.1 in
+    let same : l ≡ n = cc in let call : CallOnce forced ≡ c = cc in let is : act.TheVariants.Closure
+    (state_before poisoned) ≡ act.TheVariants.Closure state = s.2 in
     let told : state_before poisoned ≡ state = cc in record {
       forced = forced;
       poisoned = poisoned;
@@ -108,7 +118,8 @@ paused up n c base (Once l (Run forced (run.Leave succeeded any))) state st s = 
 paused up n c base (Once l (GiveUp r at)) state st s = absurd (no_give_up l at state s.2)
 
 -- a run that has ended comes to no closure
-pub runs_out : (n : ℕ) (succeeded : Bool) (base : List Ownership) (p : Place) (state : OnceState) (st : Stage) → IsStopped ⊥ base (of_run n succeeded) (Paused p state) st → ⊥
+pub runs_out : (n : ℕ) (succeeded : Bool) (base : List Ownership) (p : Place) (state : OnceState) (st : Stage)
+    → IsStopped ⊥ base (of_run n succeeded) (Paused p state) st → ⊥
 runs_out n succeeded base Idle state st s = s.0
 runs_out n succeeded base (Condvar l (waiting.Wait m timed at)) state st s = let e = s.1 in cc
 runs_out n succeeded base (Condvar l (waiting.Look all)) state st s = s.0
@@ -133,30 +144,52 @@ module _ (word : Word) (is : word.kind ≡ kinds.TheVariants.Once) where
 
 module _ (n : ℕ) where
   -- the first step of a call ends it, or leads on
-  pub looks_ended : (c : OnceCall) (seen : ℕ) (old mid : Token) (answer : Answer) → steps_of mid ≡ steps_of old ++ step (once_at n) Load seen → told_of mid ≡ told_of old → next_act (once_begin n c) (Value seen) ≡ act.TheVariants.End answer → RanNothing n c answer old mid
-  looks_ended c seen old mid answer e told ends = over_at_once (at_once n) old.number (once_begin n c) n Load seen (trail_of old None) (trail_of mid None) answer refl (after_once n c seen) (one_more _ _ _ _ _ e told) ends
+  pub looks_ended : (c : OnceCall) (seen : ℕ) (old mid : Token) (answer : Answer) → steps_of mid
+      ≡ steps_of old ++ step (once_at n) Load seen → told_of mid ≡ told_of old
+      → next_act (once_begin n c) (Value seen) ≡ act.TheVariants.End answer → RanNothing n c answer old mid
+  looks_ended c seen old mid answer e told ends = over_at_once (at_once n) old.number (once_begin n c) n Load
+      seen (trail_of old None) (trail_of mid None) answer refl (after_once n c seen)
+      (one_more _ _ _ _ _ e told) ends
 
-  pub looks_on : (c : OnceCall) (seen : ℕ) (old mid : Token) (new : Trail) (answer : Answer) → steps_of mid ≡ steps_of old ++ step (once_at n) Load seen → told_of mid ≡ told_of old → Courses (at_once n) old.number (next_place (once_begin n c) (Value seen)) (trail_of mid None) new answer
+  pub looks_on : (c : OnceCall) (seen : ℕ) (old mid : Token) (new : Trail) (answer : Answer)
+      → steps_of mid ≡ steps_of old ++ step (once_at n) Load seen → told_of mid ≡ told_of old
+      → Courses (at_once n) old.number (next_place (once_begin n c) (Value seen)) (trail_of mid None) new
+      answer
       → Courses (at_once n) old.number (once_begin n c) (trail_of old None) new answer
-  looks_on c seen old mid new answer e told rest = courses_behind (at_once n) old.number (once_begin n c) n Load seen (trail_of old None) (trail_of mid None) new answer refl (after_once n c seen) (one_more _ _ _ _ _ e told) rest
+  looks_on c seen old mid new answer e told rest = courses_behind (at_once n) old.number (once_begin n c) n
+      Load seen (trail_of old None) (trail_of mid None) new answer refl (after_once n c seen)
+      (one_more _ _ _ _ _ e told) rest
 
-  pub looks_to : (c : OnceCall) (seen : ℕ) (old mid : Token) (new : Trail) (q : Place) → steps_of mid ≡ steps_of old ++ step (once_at n) Load seen → told_of mid ≡ told_of old → StepsLeadTo n old.number (next_place (once_begin n c) (Value seen)) (trail_of mid None) new q
+  pub looks_to : (c : OnceCall) (seen : ℕ) (old mid : Token) (new : Trail) (q : Place) → steps_of mid
+      ≡ steps_of old ++ step (once_at n) Load seen → told_of mid ≡ told_of old
+      → StepsLeadTo n old.number (next_place (once_begin n c) (Value seen)) (trail_of mid None) new q
       → StepsLeadTo n old.number (once_begin n c) (trail_of old None) new q
-  looks_to c seen old mid new q e told rest = comes_after (at_once n) old.number (once_begin n c) (next_place (once_begin n c) (Value seen)) q (trail_of old None) (trail_of mid None) new
-      (goes_on (at_once n) old.number (once_begin n c) (once_begin n c) (next_place (once_begin n c) (Value seen)) (trail_of old None) (trail_of old None) (trail_of mid None) (Value seen) (one (once_at n) Load seen) (begins (at_once n) old.number (once_begin n c) (trail_of old None)) (one_more _ _ _ _ _ e told) (steps_first (at_once n) old.number (once_begin n c) n Load seen refl (after_once n c seen)) refl) rest
+  looks_to c seen old mid new q e told rest = comes_after (at_once n) old.number (once_begin n c)
+      (next_place (once_begin n c) (Value seen)) q (trail_of old None) (trail_of mid None) new
+      (goes_on (at_once n) old.number (once_begin n c) (once_begin n c) (next_place (once_begin n c)
+      (Value seen)) (trail_of old None) (trail_of old None) (trail_of mid None) (Value seen)
+      (one (once_at n) Load seen) (begins (at_once n) old.number (once_begin n c) (trail_of old None))
+      (one_more _ _ _ _ _ e told) (steps_first (at_once n) old.number (once_begin n c) n Load seen refl
+      (after_once n c seen)) refl) rest
 
   -- a thread that finds it done ends
-  pub done_ends : (c : OnceCall) (seen : ℕ) → is_done seen ≡ true → next_act (once_begin n c) (Value seen) ≡ act.TheVariants.End (when_done c)
+  pub done_ends : (c : OnceCall) (seen : ℕ) → is_done seen ≡ true → next_act (once_begin n c) (Value seen)
+      ≡ act.TheVariants.End (when_done c)
   done_ends (CallOnce forced) seen e = rw e refl
   done_ends (Wait forced) seen e = rw e refl
   done_ends WaitTimed seen e = rw e refl
 
   -- A call goes on by what its aim says of the word.
-  pub on_aim : (up : Type 0) (c : OnceCall) (seen : ℕ) (base : List Ownership) (st : Stage) → answer_of (next_act (once_begin n c) (Value seen)) ≡ None → Reached ⊥ base (once_begin n c) (Value seen) st
+  pub on_aim : (up : Type 0) (c : OnceCall) (seen : ℕ) (base : List Ownership) (st : Stage)
+      → answer_of (next_act (once_begin n c) (Value seen)) ≡ None → Reached ⊥ base (once_begin n c)
+      (Value seen) st
       → ReachedBy up base (of_once n c) (next_place (once_begin n c) (Value seen)) None st
-  on_aim up c seen base st none reached = by_course (course_of c seen) (subst (λ (o : Option Answer). ReachedBy ⊥ base (of_once n c) (next_place (once_begin n c) (Value seen)) o st) none reached)
+  on_aim up c seen base st none reached =
+      by_course (course_of c seen) (subst (λ (o : Option Answer). ReachedBy ⊥ base (of_once n c)
+      (next_place (once_begin n c) (Value seen)) o st) none reached)
     where
-      by_course : (k : Course) → ReachedBy ⊥ base (of_once n c) (once_goes n (in_look c false (looked_by seen k))) None st
+      by_course : (k : Course) → ReachedBy ⊥ base (of_once n c)
+          (once_goes n (in_look c false (looked_by seen k))) None st
           → ReachedBy up base (of_once n c) (once_goes n (in_look c false (looked_by seen k))) None st
       by_course (Ends answer) h = absurd h.0
       by_course Runs h = h
@@ -164,11 +197,16 @@ module _ (n : ℕ) where
       by_course Parks h = h
 
   -- A call ends owning what its answer says.
-  pub ends_by : (up : Type 0) (c : OnceCall) (seen : ℕ) (base : List Ownership) (st : Stage) (answer : Answer) → answer_of (next_act (once_begin n c) (Value seen)) ≡ Some answer → Reached ⊥ base (once_begin n c) (Value seen) st
+  pub ends_by : (up : Type 0) (c : OnceCall) (seen : ℕ) (base : List Ownership) (st : Stage) (answer : Answer)
+      → answer_of (next_act (once_begin n c) (Value seen)) ≡ Some answer → Reached ⊥ base (once_begin n c)
+      (Value seen) st
       → LooksAnswer up n c base answer st.owns st.last
-  ends_by up c seen base st answer some reached = by_answer answer (subst (λ (o : Option Answer). ReachedBy ⊥ base (of_once n c) (next_place (once_begin n c) (Value seen)) o st) some reached).1
+  ends_by up c seen base st answer some reached =
+      by_answer answer (subst (λ (o : Option Answer). ReachedBy ⊥ base (of_once n c)
+      (next_place (once_begin n c) (Value seen)) o st) some reached).1
     where
-      by_answer : (answer : Answer) → LooksAnswer ⊥ n c base answer st.owns st.last → LooksAnswer up n c base answer st.owns st.last
+      by_answer : (answer : Answer) → LooksAnswer ⊥ n c base answer st.owns st.last
+          → LooksAnswer up n c base answer st.owns st.last
       by_answer answers.Ok h = h
       by_answer answers.Yes h = h
       by_answer answers.No h = absurd h.1
@@ -177,20 +215,36 @@ module _ (n : ℕ) where
 
   -- tells what is owned behind the step that ends a run
   abbrev Behind : Bool → List Ownership → ℕ → Type 0
-  Behind s owns seen = seen / 4 % 2 ≡ 1 → OwnsBehind n s (without (owning (once_at n) Runner) owns) (owns_after_step kinds.TheVariants.Once (once_at n) (Swap (word_behind s)) seen owns)
+  Behind s owns seen = seen / 4 % 2 ≡ 1 → OwnsBehind n s (without (owning (once_at n) Runner) owns)
+      (owns_after_step kinds.TheVariants.Once (once_at n) (Swap (word_behind s)) seen owns)
 
   pub swapped : (s : Bool) (owns : List Ownership) (seen : ℕ) → IsOnceWord seen → Behind s owns seen
-  swapped true owns = each_once_code (Behind true owns) (λ h. absurd (omega arith)) (λ h. absurd (omega arith)) (λ h. absurd (omega arith)) (λ h. (0, refl)) (λ h. absurd (omega arith)) (λ h. absurd (omega arith)) (λ h. (0, refl))
-  swapped false owns = each_once_code (Behind false owns) (λ h. absurd (omega arith)) (λ h. absurd (omega arith)) (λ h. absurd (omega arith)) (λ h. (0, refl)) (λ h. absurd (omega arith)) (λ h. absurd (omega arith)) (λ h. (0, refl))
+  swapped true owns = each_once_code (Behind true owns) (λ h. absurd (omega arith))
+      (λ h. absurd (omega arith)) (λ h. absurd (omega arith)) (λ h. (0, refl)) (λ h. absurd (omega arith))
+      (λ h. absurd (omega arith)) (λ h. (0, refl))
+  swapped false owns = each_once_code (Behind false owns) (λ h. absurd (omega arith))
+      (λ h. absurd (omega arith)) (λ h. absurd (omega arith)) (λ h. (0, refl)) (λ h. absurd (omega arith))
+      (λ h. absurd (omega arith)) (λ h. (0, refl))
 
   -- the step that ends a run, and the rest
-  pub closes_at_once : (forced s : Bool) (seen me : ℕ) (old new : Trail) → is_marked seen ≡ false → new ≡ joined old (one (once_at n) (Swap (word_behind s)) seen) → EndsRun n me forced s old new
-  closes_at_once forced s seen me old new unmarked e = over_at_once (at_once n) me (run_end n forced s) n (Swap (word_behind s)) seen old new (ended s) refl (unqueued_once n (Run forced (run.Close s)) seen tt refl) e
-      (ap (λ (b : Bool). once_does n (in_run forced (if b then next.TheVariants.At (run.Enter s) else next.TheVariants.End (ended s)))) unmarked)
+  pub closes_at_once : (forced s : Bool) (seen me : ℕ) (old new : Trail) → is_marked seen ≡ false
+      → new ≡ joined old (one (once_at n) (Swap (word_behind s)) seen) → EndsRun n me forced s old new
+  closes_at_once forced s seen me old new unmarked e = over_at_once (at_once n) me (run_end n forced s) n
+      (Swap (word_behind s)) seen old new (ended s) refl (unqueued_once n (Run forced (run.Close s)) seen tt
+      refl) e
+      (ap (λ (b : Bool). once_does n (in_run forced (if b then next.TheVariants.At (run.Enter s)
+      else next.TheVariants.End (ended s)))) unmarked)
 
-  pub closes_on : (forced s : Bool) (seen me : ℕ) (old mid new : Trail) (answer : Answer) → is_marked seen ≡ true → mid ≡ joined old (one (once_at n) (Swap (word_behind s)) seen) → answer ≡ ended s → Courses (at_once n) me (Once n (Run forced (run.Enter s))) mid new answer → EndsRun n me forced s old new
-  closes_on forced s seen me old mid new answer marked e is rest = courses_behind (at_once n) me (run_end n forced s) n (Swap (word_behind s)) seen old mid new (ended s) refl (unqueued_once n (Run forced (run.Close s)) seen tt refl) e
-      (subst (λ (p : Place). Courses (at_once n) me p mid new (ended s)) (sym (ap (λ (b : Bool). once_goes n (in_run forced (if b then next.TheVariants.At (run.Enter s) else next.TheVariants.End (ended s)))) marked))
+  pub closes_on : (forced s : Bool) (seen me : ℕ) (old mid new : Trail) (answer : Answer) → is_marked seen
+      ≡ true → mid ≡ joined old (one (once_at n) (Swap (word_behind s)) seen) → answer ≡ ended s
+      → Courses (at_once n) me (Once n (Run forced (run.Enter s))) mid new answer
+      → EndsRun n me forced s old new
+  closes_on forced s seen me old mid new answer marked e is rest = courses_behind (at_once n) me
+      (run_end n forced s) n (Swap (word_behind s)) seen old mid new (ended s) refl
+      (unqueued_once n (Run forced (run.Close s)) seen tt refl) e
+      (subst (λ (p : Place). Courses (at_once n) me p mid new (ended s))
+      (sym (ap (λ (b : Bool). once_goes n (in_run forced (if b then next.TheVariants.At (run.Enter s)
+      else next.TheVariants.End (ended s)))) marked))
       (subst (Courses (at_once n) me (Once n (Run forced (run.Enter s))) mid new) is rest))
 
   pub word_left : (s : Bool) → (word_behind s ≡ 1) ⊎ (word_behind s ≡ 2)
@@ -198,13 +252,29 @@ module _ (n : ℕ) where
   word_left false = inr refl
 
   -- each thread that runs it finds it running
-  pub runs_found : (seen : ℕ) (owns : List Ownership) → CodesWith kinds.TheVariants.Once (once_at n) seen owns → has (owning (once_at n) Runner) owns ≡ true → seen / 4 % 2 ≡ 1
-  runs_found seen owns code mine = let some : 0 < owned (once_at n) runner owns = owned_some (once_at n) Runner owns mine runner (omega arith) in omega (arith, code.1.1, code.2 runner, some)
+  pub runs_found : (seen : ℕ) (owns : List Ownership) → CodesWith kinds.TheVariants.Once (once_at n) seen owns
+      → has (owning (once_at n) Runner) owns ≡ true → seen / 4 % 2 ≡ 1
+  runs_found seen owns code mine = let some : 0 < owned (once_at n) runner owns =
+      owned_some (once_at n) Runner owns mine runner (omega arith) in omega (
+        arith,
+        code.1.1,
+        code.2 runner,
+        some,
+      )
 
   -- the first look of a call
-  pub begins_by : (c : OnceCall) (base : List Ownership) (steps : List WordStep) (seen : ℕ) (new : Stage) → IsOnceWord seen → new ≡ stage (owns_after_step kinds.TheVariants.Once (once_at n) Load seen base) None None steps → Reached ⊥ base (once_begin n c) (Value seen) new
-  begins_by c base steps seen new code x = lands n base (stage base None None steps) ⊥ new ((0, refl), refl) c false seen code (steps, x)
+  pub begins_by : (c : OnceCall) (base : List Ownership) (steps : List WordStep) (seen : ℕ) (new : Stage)
+      → IsOnceWord seen → new ≡ stage (owns_after_step kinds.TheVariants.Once (once_at n) Load seen base) None
+      None steps → Reached ⊥ base (once_begin n c) (Value seen) new
+  begins_by c base steps seen new code x = lands n base (stage base None None steps) ⊥ new ((0, refl), refl) c
+      false seen code (steps, x)
 
 -- a course of the driver, where the places and words are known
-pub comes_by : (at : ℕ → ℕ) (n me : ℕ) (p p2 q q2 : Place) (old new : Trail) → at ≡ at_once n → p ≡ p2 → q ≡ q2 → (more : Trail) × (new ≡ joined old more) × Way at me p more q → StepsLeadTo n me p2 old new q2
-comes_by at n me p p2 q q2 old new is e f c = (c.0, c.1, subst (λ (r : Place). Way (at_once n) me p2 c.0 r) f (subst (λ (r : Place). Way (at_once n) me r c.0 q) e (subst (λ (w : ℕ → ℕ). Way w me p c.0 q) is c.2)))
+pub comes_by : (at : ℕ → ℕ) (n me : ℕ) (p p2 q q2 : Place) (old new : Trail) → at ≡ at_once n → p ≡ p2
+    → q ≡ q2 → (more : Trail) × (new ≡ joined old more) × Way at me p more q → StepsLeadTo n me p2 old new q2
+comes_by at n me p p2 q q2 old new is e f c = (
+  c.0,
+  c.1,
+  subst (λ (r : Place). Way (at_once n) me p2 c.0 r) f
+      (subst (λ (r : Place). Way (at_once n) me r c.0 q) e (subst (λ (w : ℕ → ℕ). Way w me p c.0 q) is c.2)),
+)

@@ -16,7 +16,8 @@ ghost use Rattle.run_base.specs.Courses.{Courses, trail_of};
 ghost use Rattle.run_base.specs.Paths.{at_once, once_at};
 ghost use Rattle.run_base.specs.Stages.{stage_of};
 ghost use Rattle.run_base.specs.Telling.{owns_of, steps_of};
-ghost use Rattle.run_signals.specs.OnceCalls.{EndedAndWoke, EndsRun, HasLookedFirst, LookOwns, LooksBy, MeetsOnce};
+ghost use Rattle.run_signals.specs.OnceCalls.{EndedAndWoke, EndsRun, HasLookedFirst, LookOwns, LooksBy};
+ghost use Rattle.run_signals.specs.OnceCalls.{MeetsOnce};
 
 use lot_steps::{Place, Reply, advance};
 use parking_lot_core::{Clock, Op, ParkingLot, Token, Word};

@@ -1,5 +1,6 @@
 //! Semaphores, and the permits that threads hold of them.
-ghost use Rattle.std.specs.Prelude.{◌≡◌, ◌≢◌, ◌⊎◌, ◌<◌, ◌≤◌, ◌*◌, ◌^◌, ◌++◌, ◌∷◌, ℕ, Bool, true, false, if◌then◌else◌, IfNone, IfSome, MatchResult};
+ghost use Rattle.std.specs.Prelude.{◌≡◌, ◌≢◌, ◌⊎◌, ◌<◌, ◌≤◌, ◌*◌, ◌^◌, ◌++◌, ◌∷◌, ℕ, Bool, true, false};
+ghost use Rattle.std.specs.Prelude.{if◌then◌else◌, IfNone, IfSome, MatchResult};
 ghost use Rattle.std.specs.Arc.{arc_value};
 ghost use Rattle.std.specs.Duration.{as_nanos};
 ghost use Rattle.core_base.specs.Clocks.{HasElapsed, HasPassed, IsUp};
@@ -18,7 +19,8 @@ ghost use Rattle.run_base.specs.Drawing.{FoundFull};
 ghost use Rattle.run_base.specs.SemaphoreFitting.{SawNoneFree, permit};
 ghost use Rattle.run_base.specs.Stages.{TookNobodyAt};
 ghost use Rattle.run_base.specs.Telling.{owns_of, steps_of};
-ghost use Rattle.run_signals.specs.SemaphoreCalls.{HasGone, HasReleased, HasAcquired, HasWalkedSemaphore, StaysAs, permit_answer, deciding, try_place};
+ghost use Rattle.run_signals.specs.SemaphoreCalls.{HasGone, HasReleased, HasAcquired, HasWalkedSemaphore};
+ghost use Rattle.run_signals.specs.SemaphoreCalls.{StaysAs, permit_answer, deciding, try_place};
 
 use crate::semaphore_calls::{acquire_slow, give, give_all, look, take, try_slow, wake_first};
 use core_base::main_key;

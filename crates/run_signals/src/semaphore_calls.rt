@@ -1,5 +1,6 @@
 //! The steps of which the calls of a semaphore are made, and what each call leaves to the driver.
-ghost use Rattle.std.specs.Prelude.{ℕ, ◌≡◌, ◌≢◌, ◌≤◌, ◌++◌, ◌∷◌, ◌-◌, ◌*◌, ◌^◌, List, None, true, false, IsFalse};
+ghost use Rattle.std.specs.Prelude.{ℕ, ◌≡◌, ◌≢◌, ◌≤◌, ◌++◌, ◌∷◌, ◌-◌, ◌*◌, ◌^◌, List, None, true, false};
+ghost use Rattle.std.specs.Prelude.{IsFalse};
 ghost use Rattle.spec_locks.specs.Codes.{has_parked};
 ghost use Rattle.core_base.specs.Clocks.{IsUp};
 ghost use Rattle.core_base.specs.declared.ops.Op.TheVariants.{Add, Exchange};
@@ -10,13 +11,15 @@ ghost use Rattle.core_words.specs.declared.views.WordStep.{WordStep};
 ghost use Rattle.parking_lot_core.specs.Tokens.{IsSameThread, IsTokenOf, last_of};
 ghost use Rattle.run_base.specs.Fitting.{AreWordsFor, Fits, IsOver, call_purpose};
 ghost use Rattle.run_base.specs.Paths.{semaphore_at, step};
-ghost use Rattle.run_base.specs.SemaphoreFitting.{FitsSemaphore, IsSemaphoreOver, to_acquire, permit, semaphore_purpose_at, to_release, to_try};
+ghost use Rattle.run_base.specs.SemaphoreFitting.{FitsSemaphore, IsSemaphoreOver, to_acquire, permit};
+ghost use Rattle.run_base.specs.SemaphoreFitting.{semaphore_purpose_at, to_release, to_try};
 ghost use Rattle.lot_steps.specs.declared.places.Place.TheVariants.{Semaphore};
 ghost use Rattle.run_base.specs.Queued.{is_queued};
 ghost use Rattle.run_base.specs.Stages.{stage_of};
 ghost use Rattle.run_base.specs.Telling.{owns_of, steps_of};
 ghost use Rattle.run_base.specs.Words.{single_word, at_in, kind_in};
-ghost use Rattle.run_signals.specs.SemaphoreCalls.{HasAdded, HasFound, HasGone, HasLooked, MeetsSemaphore, deciding, try_place, waking};
+ghost use Rattle.run_signals.specs.SemaphoreCalls.{HasAdded, HasFound, HasGone, HasLooked, MeetsSemaphore};
+ghost use Rattle.run_signals.specs.SemaphoreCalls.{deciding, try_place, waking};
 
 use core_words::laws::{semaphore_may_step, semaphore_trades};
 use lot_steps::Place;

@@ -1,5 +1,6 @@
 -- The tables of the first page say of a call and a turn what the second page says.
-use Rattle.std.proofs.Common.{ℕ, Bool, true, false, Option, Some, None, if◌then◌else◌, ◌==◌, ◌≡◌, inl, inr, refl, sym, ◌∙◌, ap, subst}
+use Rattle.std.proofs.Common.{ℕ, Bool, true, false, Option, Some, None, if◌then◌else◌, ◌==◌, ◌≡◌, inl, inr}
+use Rattle.std.proofs.Common.{refl, sym, ◌∙◌, ap, subst}
 use Rattle.std.proofs.lemmas.Bool.{eqb-true}
 use Rattle.core_base.specs.declared.wants.Want.{Want}
 use Rattle.core_base.specs.declared.wants.Want.TheVariants as wants
@@ -10,7 +11,8 @@ use Rattle.spec_locks.specs.declared.calls.CondvarCall.{CondvarCall}
 use Rattle.spec_locks.specs.declared.calls.CondvarCall.TheVariants.{Wait, Notify}
 use Rattle.spec_locks.specs.declared.calls.Downgrade.TheVariants.{ToShared, ToUpgradable, UpgradableToShared}
 use Rattle.spec_locks.specs.declared.calls.MutexCall.{MutexCall}
-use Rattle.spec_locks.specs.declared.calls.MutexCall.TheVariants.{Lock, LockTimed, TryLock, Unlock, UnlockFair, Bump}
+use Rattle.spec_locks.specs.declared.calls.MutexCall.TheVariants.{Lock, LockTimed, TryLock, Unlock}
+use Rattle.spec_locks.specs.declared.calls.MutexCall.TheVariants.{UnlockFair, Bump}
 use Rattle.spec_locks.specs.declared.calls.OnceCall.{OnceCall}
 use Rattle.spec_locks.specs.declared.calls.OnceCall.TheVariants as once
 use Rattle.spec_locks.specs.declared.calls.RwLockCall.{RwLockCall}
@@ -22,12 +24,16 @@ use Rattle.spec_locks.specs.declared.calls.Turn.TheVariants as turn
 use Rattle.spec_locks.specs.declared.kinds.Kind.{Kind}
 use Rattle.spec_locks.specs.declared.kinds.Kind.TheVariants as kind
 use Rattle.spec_locks.specs.declared.outcomes.Answer.{Answer}
-use Rattle.spec_locks.specs.declared.outcomes.Answer.TheVariants.{Ok, Yes, No, Notified, TimedOut, Number, ReadersFull, Failed, Poisoned, TwoMutexes}
+use Rattle.spec_locks.specs.declared.outcomes.Answer.TheVariants.{Ok, Yes, No, Notified, TimedOut, Number}
+use Rattle.spec_locks.specs.declared.outcomes.Answer.TheVariants.{ReadersFull, Failed, Poisoned, TwoMutexes}
 use Rattle.spec_locks.specs.Calls.{lock_in}
 use Rattle.spec_locks.specs.Kinds.{has_call, is_fair}
 use Rattle.spec_locks.specs.Locks.{Rights, putting}
-use Rattle.spec_locks.specs.Purposes.{Purpose, Enters, Releases, Converts, Bumps, CallsOnce, Awaits, Waits, Notifies, Patience, Patient, Timed, Try, mutex_purpose, purpose_of, rwlock_purpose}
-use Rattle.spec_locks.specs.Runs.{LocksState, CallState, AnswerHolds, EntersAnswer, ConvertsAnswer, Gains, HasRight, Keeps, Loses, MayBegin, MayTurn, purpose_at, rights_in}
+use Rattle.spec_locks.specs.Purposes.{Purpose, Enters, Releases, Converts, Bumps, CallsOnce, Awaits, Waits}
+use Rattle.spec_locks.specs.Purposes.{Notifies, Patience, Patient, Timed, Try, mutex_purpose, purpose_of}
+use Rattle.spec_locks.specs.Purposes.{rwlock_purpose}
+use Rattle.spec_locks.specs.Runs.{LocksState, CallState, AnswerHolds, EntersAnswer, ConvertsAnswer, Gains}
+use Rattle.spec_locks.specs.Runs.{HasRight, Keeps, Loses, MayBegin, MayTurn, purpose_at, rights_in}
 use Rattle.spec_locks.specs.CallTable.{CanBegin, IsPossible, IsTrue, Trades, goal_of}
 
 -- ---------------------------------------------------------------- goals
@@ -36,7 +42,8 @@ module _ (w : LocksState) (t : ℕ) where
   abbrev fair : ℕ → Bool
   fair l = is_fair (w.kinds l)
 
-  mutex_goal : (b : Bool) (l : ℕ) (c : MutexCall) → fair l ≡ b → Some (mutex_purpose b l c) ≡ Some (goal_of fair (call.Mutex l c))
+  mutex_goal : (b : Bool) (l : ℕ) (c : MutexCall) → fair l ≡ b → Some (mutex_purpose b l c) ≡ Some
+      (goal_of fair (call.Mutex l c))
   mutex_goal b l Lock e = refl
   mutex_goal b l LockTimed e = refl
   mutex_goal b l TryLock e = refl
@@ -197,7 +204,8 @@ module _ (v : LocksState) (t : ℕ) (c : CallState) (l : ℕ) where
   tries wants.Wait h = (h.0, keeps h.1)
   tries wants.CallOnce h = (h.0, keeps h.1)
 
-  enters : (x : Want) (how : Patience) (a : Answer) → EntersAnswer v t c l x how a → IsTrue (Some (Enters l x how)) a v t c
+  enters : (x : Want) (how : Patience) (a : Answer) → EntersAnswer v t c l x how a
+      → IsTrue (Some (Enters l x how)) a v t c
   enters x Patient Ok h = (h.0, gains x h.1)
   enters x Timed Yes h = (h.0, gains x h.1)
   enters x Timed No h = (h.0, keeps h.1)
@@ -208,7 +216,8 @@ module _ (v : LocksState) (t : ℕ) (c : CallState) (l : ℕ) where
   enters x Try ReadersFull h = (h.0, keeps h.1)
   enters x how a h = absurd h
 
-  converts : (x y : Want) (how : Patience) (a : Answer) → ConvertsAnswer v t c l x y how a → IsTrue (Some (Converts l x y how)) a v t c
+  converts : (x y : Want) (how : Patience) (a : Answer) → ConvertsAnswer v t c l x y how a
+      → IsTrue (Some (Converts l x y how)) a v t c
   converts x y Patient Ok h = h
   converts x y Timed Yes h = h
   converts x y Timed No h = (h.0, keeps h.1)
@@ -216,7 +225,8 @@ module _ (v : LocksState) (t : ℕ) (c : CallState) (l : ℕ) where
   converts x y Try No h = (h.0, keeps h.1)
   converts x y how a h = absurd h
 
-pub answer_is : (o : Option Purpose) (v : LocksState) (t : ℕ) (c : CallState) (a : Answer) → AnswerHolds o v t c a → IsTrue o a v t c
+pub answer_is : (o : Option Purpose) (v : LocksState) (t : ℕ) (c : CallState) (a : Answer)
+    → AnswerHolds o v t c a → IsTrue o a v t c
 answer_is None v t c a h = absurd h
 answer_is (Some (Enters l x how)) v t c a h = enters v t c l x how a h
 answer_is (Some (Releases l x fair)) v t c Ok h = loses v t c l x h

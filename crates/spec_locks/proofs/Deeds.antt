@@ -1,10 +1,14 @@
--- The deeds of a step are one case of the abstract lock at most: they need what it needs, and lead where it leads.
-use Rattle.std.proofs.Common.{ℕ, Bool, true, false, Option, Some, None, if◌then◌else◌, ◌==◌, ◌≡◌, ◌≢◌, List, [], ◌∷◌, refl, ◌∙◌}
+-- The deeds of a step are one case of the abstract lock at most: they need what it needs, and lead where it
+-- leads.
+use Rattle.std.proofs.Common.{ℕ, Bool, true, false, Option, Some, None, if◌then◌else◌, ◌==◌, ◌≡◌, ◌≢◌, List}
+use Rattle.std.proofs.Common.{[], ◌∷◌, refl, ◌∙◌}
 use Rattle.std.proofs.lemmas.Bool.{eqb-true}
 use Rattle.spec_locks.specs.Locks.{LockState, Taken, Rules, HasTakenNobody, keep_from, let_go}
-use Rattle.spec_locks.specs.Sites.{Site, Main, Second, Deed, Begin, End, In, Out, Mark, Clear, FindNobody, MarkOwned, Bring, MarkBrought, Send, LeaveLine, Case, after_deed}
+use Rattle.spec_locks.specs.Sites.{Site, Main, Second, Deed, Begin, End, In, Out, Mark, Clear, FindNobody}
+use Rattle.spec_locks.specs.Sites.{MarkOwned, Bring, MarkBrought, Send, LeaveLine, Case, after_deed}
 use Rattle.spec_locks.specs.Runs.{Nothing}
-use Rattle.spec_locks.specs.Deeds.{after_all, AllNeeded, KeepLock, AreOneCase, event_of, EventNeeds, after_event}
+use Rattle.spec_locks.specs.Deeds.{after_all, AllNeeded, KeepLock, AreOneCase, event_of, EventNeeds}
+use Rattle.spec_locks.specs.Deeds.{after_event}
 
 -- a thread that has nobody in hand lets nobody go
 pub lets_nobody_go : (s : LockState) (t : ℕ) → HasTakenNobody s t → record s { taken = let_go t s.taken } ≡ s
@@ -16,7 +20,8 @@ lets_nobody_go s t none = λ i. record s { taken = λ u. kept (s.taken u) (none 
       where
         either : (b : Bool) → (h.by == t) ≡ b → (if b then None else Some h) ≡ Some h
         either false e = refl
-        either true e = absurd (other h.want (let f : h.by ≡ t = eqb-true h.by t e in λ i. Some (record { by = f i; want = h.want })))
+        either true e = absurd (other h.want (let f : h.by ≡ t = eqb-true h.by t e
+            in λ i. Some (record { by = f i; want = h.want })))
 
 module _ (r : Rules) (t : ℕ) where
   pub kept : (ds : List Deed) (s : Site) → KeepLock ds → (after_all r ds s t).lock ≡ s.lock
@@ -59,13 +64,18 @@ module _ (r : Rules) (t : ℕ) where
     no_event hand (Send all ∷ ds) k = absurd k
     no_event hand (LeaveLine ∷ ds) k = absurd k
 
-    lets_go : (hand : Option Bool) (ds : List Deed) (s : Site) → (hand ≢ Some false → HasTakenNobody s.lock t) → KeepLock ds → (after_all r (Out ∷ ds) s t).lock ≡ after_event r (event_of l hand (Out ∷ ds)) s.lock t
+    lets_go : (hand : Option Bool) (ds : List Deed) (s : Site) → (hand ≢ Some false → HasTakenNobody s.lock t)
+        → KeepLock ds → (after_all r (Out ∷ ds) s t).lock ≡ after_event r (event_of l hand (Out ∷ ds)) s.lock
+        t
     lets_go (Some false) ds s free k = kept ds (after_deed r Out s t) k
-    lets_go (Some true) ds s free k = rw (no_event (Some true) ds k) (kept ds (after_deed r Out s t) k ∙ lets_nobody_go s.lock t (free (λ e. cc)))
-    lets_go None ds s free k = rw (no_event None ds k) (kept ds (after_deed r Out s t) k ∙ lets_nobody_go s.lock t (free (λ e. cc)))
+    lets_go (Some true) ds s free k = rw (no_event (Some true) ds k) (kept ds (after_deed r Out s t) k
+        ∙ lets_nobody_go s.lock t (free (λ e. cc)))
+    lets_go None ds s free k = rw (no_event None ds k) (kept ds (after_deed r Out s t) k
+        ∙ lets_nobody_go s.lock t (free (λ e. cc)))
 
     -- the lock that they leave
-    pub deeds_lead : (ds : List Deed) (s : Site) → WakesHand s.lock → AreOneCase ds → (after_all r ds s t).lock ≡ after_event r (event_of l hand ds) s.lock t
+    pub deeds_lead : (ds : List Deed) (s : Site) → WakesHand s.lock → AreOneCase ds
+        → (after_all r ds s t).lock ≡ after_event r (event_of l hand ds) s.lock t
     deeds_lead [] s free one = refl
     deeds_lead (Case case ∷ ds) s free one = kept ds (after_deed r (Case case) s t) one
     deeds_lead (Out ∷ ds) s free one = lets_go hand ds s free one
@@ -84,7 +94,8 @@ module _ (r : Rules) (t : ℕ) where
     deeds_lead (LeaveLine ∷ ds) s free one = kept ds (after_deed r LeaveLine s t) one
 
     -- tells what they need
-    pub deeds_need : (ds : List Deed) (s : Site) → AllNeeded r ds s t → AreOneCase ds → EventNeeds r (event_of l hand ds) s.lock t
+    pub deeds_need : (ds : List Deed) (s : Site) → AllNeeded r ds s t → AreOneCase ds
+        → EventNeeds r (event_of l hand ds) s.lock t
     deeds_need [] s needed one = tt
     deeds_need (Case case ∷ ds) s needed one = needed.0.0
     deeds_need (Out ∷ ds) s needed one = wakes hand

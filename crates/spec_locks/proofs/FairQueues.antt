@@ -23,7 +23,8 @@ use Rattle.spec_locks.specs.declared.outcomes.Outcome.{Outcome}
 use Rattle.spec_locks.specs.declared.outcomes.Outcome as outcome
 use Rattle.spec_locks.specs.Kinds.{is_plain_mutex}
 use Rattle.spec_locks.specs.Purposes.{purpose_of, mutex_purpose, rwlock_purpose}
-use Rattle.spec_locks.specs.Runs.{LocksState, CallState, Does, HasRight, MayTurn, Turned, new_call, purpose_at, rights_in}
+use Rattle.spec_locks.specs.Runs.{LocksState, CallState, Does, HasRight, MayTurn, Turned, new_call}
+use Rattle.spec_locks.specs.Runs.{purpose_at, rights_in}
 use Rattle.spec_locks.specs.Bypass.{AllReleaseFairly, ReleasesFairly}
 use Rattle.spec_locks.proofs.Idle.{ends, goes_on, stay_own}
 
@@ -67,7 +68,8 @@ module _ (l : ℕ) where
     elsewhere : (k : ℕ) (x : Kind) → w.kinds k ≡ x → x ≢ kind.Fair → k ≢ l
     elsewhere k x e ne same = ne (sym e ∙ ap w.kinds same ∙ fair)
 
-    mutex_begun : (k : ℕ) (c : MutexCall) (x : Kind) → w.kinds k ≡ x → ReleasesFairly (purpose_of x (call.Mutex k c)) l
+    mutex_begun : (k : ℕ) (c : MutexCall) (x : Kind) → w.kinds k ≡ x
+        → ReleasesFairly (purpose_of x (call.Mutex k c)) l
     mutex_begun k c kind.Mutex e = mutex_elsewhere k c (elsewhere k kind.Mutex e (λ f. cc))
     mutex_begun k c kind.Fair e = mutex_fairly k c
     mutex_begun k c (kind.RwLock limit) e = tt
@@ -76,9 +78,12 @@ module _ (l : ℕ) where
     mutex_begun k c kind.Once e = tt
     mutex_begun k c (kind.Semaphore permits) e = tt
 
-    rwlock_begun : (k : ℕ) (c : RwLockCall) (x : Kind) → w.kinds k ≡ x → ReleasesFairly (purpose_of x (call.RwLock k c)) l
-    rwlock_begun k c (kind.RwLock limit) e = rwlock_elsewhere k c (elsewhere k (kind.RwLock limit) e (λ f. cc))
-    rwlock_begun k c (kind.Recursive limit) e = rwlock_elsewhere k c (elsewhere k (kind.Recursive limit) e (λ f. cc))
+    rwlock_begun : (k : ℕ) (c : RwLockCall) (x : Kind) → w.kinds k ≡ x
+        → ReleasesFairly (purpose_of x (call.RwLock k c)) l
+    rwlock_begun k c (kind.RwLock limit) e =
+        rwlock_elsewhere k c (elsewhere k (kind.RwLock limit) e (λ f. cc))
+    rwlock_begun k c (kind.Recursive limit) e =
+        rwlock_elsewhere k c (elsewhere k (kind.Recursive limit) e (λ f. cc))
     rwlock_begun k c kind.Mutex e = tt
     rwlock_begun k c kind.Fair e = tt
     rwlock_begun k c kind.Condvar e = tt
@@ -96,8 +101,10 @@ module _ (l : ℕ) where
     once_begun k c kind.Condvar = tt
     once_begun k c (kind.Semaphore permits) = tt
 
-    condvar_begun : (k : ℕ) (c : CondvarCall) (x : Kind) → HasRight w t (purpose_of x (call.Condvar k c)) → ReleasesFairly (purpose_of x (call.Condvar k c)) l
-    condvar_begun k (condvar_call.Wait m timed) kind.Condvar right = λ e. no_fair (w.kinds m) (ap w.kinds e ∙ fair) right.0
+    condvar_begun : (k : ℕ) (c : CondvarCall) (x : Kind) → HasRight w t (purpose_of x (call.Condvar k c))
+        → ReleasesFairly (purpose_of x (call.Condvar k c)) l
+    condvar_begun k (condvar_call.Wait m timed) kind.Condvar right = λ e. no_fair (w.kinds m) (ap w.kinds e
+        ∙ fair) right.0
     condvar_begun k (condvar_call.Notify all) kind.Condvar right = tt
     condvar_begun k c kind.Mutex right = tt
     condvar_begun k c kind.Fair right = tt
@@ -106,9 +113,11 @@ module _ (l : ℕ) where
     condvar_begun k c kind.Once right = tt
     condvar_begun k c (kind.Semaphore permits) right = tt
 
-    semaphore_begun : (k : ℕ) (c : SemaphoreCall) (x : Kind) → w.kinds k ≡ x → ReleasesFairly (purpose_of x (call.Semaphore k c)) l
+    semaphore_begun : (k : ℕ) (c : SemaphoreCall) (x : Kind) → w.kinds k ≡ x
+        → ReleasesFairly (purpose_of x (call.Semaphore k c)) l
     semaphore_begun k (semaphore_call.Acquire how) (kind.Semaphore permits) e = tt
-    semaphore_begun k semaphore_call.Release (kind.Semaphore permits) e = λ f. absurd (elsewhere k (kind.Semaphore permits) e (λ g. cc) f)
+    semaphore_begun k semaphore_call.Release (kind.Semaphore permits) e = λ f. absurd
+        (elsewhere k (kind.Semaphore permits) e (λ g. cc) f)
     semaphore_begun k c kind.Mutex e = tt
     semaphore_begun k c kind.Fair e = tt
     semaphore_begun k c (kind.RwLock limit) e = tt
@@ -125,7 +134,8 @@ module _ (l : ℕ) where
 
 -- ---------------------------------------------------------------- a step
 
-is_end : (o : Outcome) → ((a : Answer) × (o ≡ outcome.TheVariants.End a)) ⊎ ((a : Answer) → o ≢ outcome.TheVariants.End a)
+is_end : (o : Outcome) → ((a : Answer) × (o ≡ outcome.TheVariants.End a))
+    ⊎ ((a : Answer) → o ≢ outcome.TheVariants.End a)
 is_end (outcome.TheVariants.End a) = inl (a, refl)
 is_end outcome.TheVariants.NotNow = inr (λ a e. cc)
 is_end outcome.TheVariants.Step = inr (λ a e. cc)
@@ -133,30 +143,70 @@ is_end outcome.TheVariants.Sleep = inr (λ a e. cc)
 is_end (outcome.TheVariants.Closure state) = inr (λ a e. cc)
 
 -- calls of the mutex are fair ones after it
-module _ (w v : LocksState) (s : Step) (o : Outcome) (l : ℕ) (fair : w.kinds l ≡ kind.Fair) (all : AllReleaseFairly w l) (turned : Turned w s.thread s.turn o v) where
-  same_call : (c d : CallState) → d.purpose ≡ c.purpose → ReleasesFairly c.purpose l → ReleasesFairly d.purpose l
+module _ (w v : LocksState) (s : Step) (o : Outcome) (l : ℕ) (fair : w.kinds l ≡ kind.Fair)
+    (all : AllReleaseFairly w l) (turned : Turned w s.thread s.turn o v) where
+  same_call : (c d : CallState) → d.purpose ≡ c.purpose → ReleasesFairly c.purpose l
+      → ReleasesFairly d.purpose l
   same_call c d e h = subst (λ p. ReleasesFairly p l) (sym e) h
 
-  by_turn : (x : Turn) → s.turn ≡ x → ((a : Answer) → o ≢ outcome.TheVariants.End a) → MayTurn w s.thread x → Does w s.thread x o v
+  by_turn : (x : Turn) → s.turn ≡ x → ((a : Answer) → o ≢ outcome.TheVariants.End a) → MayTurn w s.thread x
+      → Does w s.thread x o v
       → ReleasesFairly (v.calls s.thread).purpose l
-  by_turn (turn.TheVariants.Begin c) e more may does = same_call (new_call (purpose_at w c) (rights_in w s.thread)) (v.calls s.thread) (ap (λ (d : CallState). d.purpose) (stay_own w v s.thread o (new_call (purpose_at w c) (rights_in w s.thread)) does)) (begun l w s.thread fair c may.right)
-  by_turn turn.TheVariants.Late e more may does = same_call (w.calls s.thread) (v.calls s.thread) (ap (λ (d : CallState). d.purpose) (stay_own w v s.thread o (record (w.calls s.thread) { late = true }) does)) (all s.thread)
-  by_turn turn.TheVariants.Go e more may does = same_call (w.calls s.thread) (v.calls s.thread) (goes_on w v s o turned s.thread (λ f. ((λ c g. let h : turn.TheVariants.Go ≡ turn.TheVariants.Begin c = sym e ∙ g in cc), (λ g. let h : turn.TheVariants.Go ≡ turn.TheVariants.Late = sym e ∙ g in cc), more))).purpose (all s.thread)
-  by_turn turn.TheVariants.Spin e more may does = same_call (w.calls s.thread) (v.calls s.thread) (goes_on w v s o turned s.thread (λ f. ((λ c g. let h : turn.TheVariants.Spin ≡ turn.TheVariants.Begin c = sym e ∙ g in cc), (λ g. let h : turn.TheVariants.Spin ≡ turn.TheVariants.Late = sym e ∙ g in cc), more))).purpose (all s.thread)
-  by_turn turn.TheVariants.Ok e more may does = same_call (w.calls s.thread) (v.calls s.thread) (goes_on w v s o turned s.thread (λ f. ((λ c g. let h : turn.TheVariants.Ok ≡ turn.TheVariants.Begin c = sym e ∙ g in cc), (λ g. let h : turn.TheVariants.Ok ≡ turn.TheVariants.Late = sym e ∙ g in cc), more))).purpose (all s.thread)
-  by_turn turn.TheVariants.Err e more may does = same_call (w.calls s.thread) (v.calls s.thread) (goes_on w v s o turned s.thread (λ f. ((λ c g. let h : turn.TheVariants.Err ≡ turn.TheVariants.Begin c = sym e ∙ g in cc), (λ g. let h : turn.TheVariants.Err ≡ turn.TheVariants.Late = sym e ∙ g in cc), more))).purpose (all s.thread)
+  by_turn (turn.TheVariants.Begin c) e more may does =
+      same_call (new_call (purpose_at w c) (rights_in w s.thread)) (v.calls s.thread)
+      (ap (λ (d : CallState). d.purpose)
+      (stay_own w v s.thread o (new_call (purpose_at w c) (rights_in w s.thread)) does))
+      (begun l w s.thread fair c may.right)
+  by_turn turn.TheVariants.Late e more may does = same_call (w.calls s.thread) (v.calls s.thread)
+      (ap (λ (d : CallState). d.purpose) (stay_own w v s.thread o (record (w.calls s.thread) { late = true })
+      does)) (all s.thread)
+  by_turn turn.TheVariants.Go e more may does = same_call (w.calls s.thread) (v.calls s.thread)
+      (goes_on w v s o turned s.thread
+      (λ f. (
+        (λ c g. let h : turn.TheVariants.Go ≡ turn.TheVariants.Begin c = sym e ∙ g in cc),
+        (λ g. let h : turn.TheVariants.Go ≡ turn.TheVariants.Late = sym e ∙ g in cc),
+        more,
+      ))).purpose
+      (all s.thread)
+  by_turn turn.TheVariants.Spin e more may does = same_call (w.calls s.thread) (v.calls s.thread)
+      (goes_on w v s o turned s.thread
+      (λ f. (
+        (λ c g. let h : turn.TheVariants.Spin ≡ turn.TheVariants.Begin c = sym e ∙ g in cc),
+        (λ g. let h : turn.TheVariants.Spin ≡ turn.TheVariants.Late = sym e ∙ g in cc),
+        more,
+      ))).purpose
+      (all s.thread)
+  by_turn turn.TheVariants.Ok e more may does = same_call (w.calls s.thread) (v.calls s.thread)
+      (goes_on w v s o turned s.thread
+      (λ f. (
+        (λ c g. let h : turn.TheVariants.Ok ≡ turn.TheVariants.Begin c = sym e ∙ g in cc),
+        (λ g. let h : turn.TheVariants.Ok ≡ turn.TheVariants.Late = sym e ∙ g in cc),
+        more,
+      ))).purpose
+      (all s.thread)
+  by_turn turn.TheVariants.Err e more may does = same_call (w.calls s.thread) (v.calls s.thread)
+      (goes_on w v s o turned s.thread
+      (λ f. (
+        (λ c g. let h : turn.TheVariants.Err ≡ turn.TheVariants.Begin c = sym e ∙ g in cc),
+        (λ g. let h : turn.TheVariants.Err ≡ turn.TheVariants.Late = sym e ∙ g in cc),
+        more,
+      ))).purpose
+      (all s.thread)
 
   own : ReleasesFairly (v.calls s.thread).purpose l
   own = elim (is_end o) [
-    | inl ended ↦ subst (λ (c : CallState). ReleasesFairly c.purpose l) (sym (ends w v s o turned ended.0 ended.1)) tt
+    | inl ended ↦ subst (λ (c : CallState). ReleasesFairly c.purpose l)
+        (sym (ends w v s o turned ended.0 ended.1)) tt
     | inr more ↦ elim turned [
       | inl does ↦ by_turn s.turn refl more does.0 does.1
-      | inr refused ↦ subst (λ (k : LocksState). ReleasesFairly (k.calls s.thread).purpose l) (sym refused.1.1) (all s.thread)
+      | inr refused ↦ subst (λ (k : LocksState). ReleasesFairly (k.calls s.thread).purpose l)
+          (sym refused.1.1) (all s.thread)
     ]
   ]
 
   pub fair_stays : AllReleaseFairly v l
   fair_stays u = elim (cases_eq u s.thread) [
     | inl e ↦ subst (λ k. ReleasesFairly (v.calls k).purpose l) (sym e) own
-    | inr ne ↦ same_call (w.calls u) (v.calls u) (goes_on w v s o turned u (λ e. absurd (ne e))).purpose (all u)
+    | inr ne ↦ same_call (w.calls u) (v.calls u) (goes_on w v s o turned u (λ e. absurd (ne e))).purpose
+        (all u)
   ]

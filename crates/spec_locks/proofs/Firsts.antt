@@ -1,5 +1,7 @@
--- A thread that comes into a hand of a mutex or a semaphore was the first of the queue, or of those to notify.
-use Rattle.std.proofs.Common.{ℕ, Bool, true, false, Option, Some, None, if◌then◌else◌, ◌==◌, ◌≡◌, ◌≢◌, ◌⊎◌, inl, inr, List, [], ◌∷◌, refl, sym, ◌∙◌, ap, subst, arith}
+-- A thread that comes into a hand of a mutex or a semaphore was the first of the queue, or of those to
+-- notify.
+use Rattle.std.proofs.Common.{ℕ, Bool, true, false, Option, Some, None, if◌then◌else◌, ◌==◌, ◌≡◌, ◌≢◌, ◌⊎◌}
+use Rattle.std.proofs.Common.{inl, inr, List, [], ◌∷◌, refl, sym, ◌∙◌, ap, subst, arith}
 use Rattle.std.proofs.lemmas.Bool.{cases_eq, eqb-true}
 use Rattle.std.proofs.lemmas.Bool.Decides.{nat_tests}
 use Rattle.core_base.specs.declared.wants.Want.{Want}
@@ -9,9 +11,16 @@ use Rattle.spec_locks.specs.declared.calls.Turn as turn
 use Rattle.spec_locks.specs.declared.outcomes.Outcome.{Outcome}
 use Rattle.spec_locks.specs.Condvars.{moved_of, taken_of}
 use Rattle.spec_locks.specs.Locks as locks
-use Rattle.spec_locks.specs.Locks.{LockState, LockCase, Pending, Queued, Rules, Sort, Mutex, Normal, Recursive, Semaphore, Once, Condvar, Taken, Needs, Enter, Pend, Settle, Leave, Convert, Park, Aside, TakeFirst, TakeAside, TakePicked, Wake, HandOff, Late, Rollback, OfOnce, OfCondvar, SeeOwner, Look, Show, Hide, IsLockState, Knows, TakesOneAtATime, after_case, converted, falling_back, first_thread, handed, keep_from, left_behind, let_go, pending_for, putting, succeeding, taking, with_owner, without_owner}
+use Rattle.spec_locks.specs.Locks.{LockState, LockCase, Pending, Queued, Rules, Sort, Mutex, Normal}
+use Rattle.spec_locks.specs.Locks.{Recursive, Semaphore, Once, Condvar, Taken, Needs, Enter, Pend, Settle}
+use Rattle.spec_locks.specs.Locks.{Leave, Convert, Park, Aside, TakeFirst, TakeAside, TakePicked, Wake}
+use Rattle.spec_locks.specs.Locks.{HandOff, Late, Rollback, OfOnce, OfCondvar, SeeOwner, Look, Show, Hide}
+use Rattle.spec_locks.specs.Locks.{IsLockState, Knows, TakesOneAtATime, after_case, converted, falling_back}
+use Rattle.spec_locks.specs.Locks.{first_thread, handed, keep_from, left_behind, let_go, pending_for, putting}
+use Rattle.spec_locks.specs.Locks.{succeeding, taking, with_owner, without_owner}
 use Rattle.spec_locks.specs.Purposes.{Waits}
-use Rattle.spec_locks.specs.Runs.{LocksState, AreLockStates, Event, Nothing, AtLock, Moves, Does, GoesOn, MayHappen, Turned, is_among, joined_by, locks_after, rules_at}
+use Rattle.spec_locks.specs.Runs.{LocksState, AreLockStates, Event, Nothing, AtLock, Moves, Does, GoesOn}
+use Rattle.spec_locks.specs.Runs.{MayHappen, Turned, is_among, joined_by, locks_after, rules_at}
 use Rattle.spec_locks.proofs.Runs.{needs_of}
 
 -- ---------------------------------------------------------------- hands that stay

@@ -6,11 +6,14 @@ use Rattle.spec_locks.specs.declared.calls.Turn.{Turn}
 use Rattle.spec_locks.specs.declared.calls.Turn as turn
 use Rattle.spec_locks.specs.declared.outcomes.Answer as answer
 use Rattle.spec_locks.specs.declared.outcomes.Outcome as outcome
-use Rattle.spec_locks.specs.Locks.{Enter, Pend, Settle, Leave, Park, Aside, TakePicked, Wake, Late, Rollback, Rights, Rules, LockState, Needs, IsFree, one_if_thread}
+use Rattle.spec_locks.specs.Locks.{Enter, Pend, Settle, Leave, Park, Aside, TakePicked, Wake, Late, Rollback}
+use Rattle.spec_locks.specs.Locks.{Rights, Rules, LockState, Needs, IsFree, one_if_thread}
 use Rattle.spec_locks.specs.Purposes.{Purpose, Releases, IsMadeOf, Timed, Try}
 use Rattle.spec_locks.proofs.Runs.{needs_of}
-use Rattle.spec_locks.specs.Runs.{LocksState, Event, Nothing, AtLock, Moves, MayDo, MayHappen, Does, Agrees, going_on, locks_after, rights_in, rules_at, no_rights}
-use Rattle.spec_locks.specs.Laws.{PossibleTurnsAreTaken, CallsTakeSteps, FairReleasesHandOver, OwnersExclude, FreeMutexIsGot, trying}
+use Rattle.spec_locks.specs.Runs.{LocksState, Event, Nothing, AtLock, Moves, MayDo, MayHappen, Does, Agrees}
+use Rattle.spec_locks.specs.Runs.{going_on, locks_after, rights_in, rules_at, no_rights}
+use Rattle.spec_locks.specs.Laws.{PossibleTurnsAreTaken, CallsTakeSteps, FairReleasesHandOver, OwnersExclude}
+use Rattle.spec_locks.specs.Laws.{FreeMutexIsGot, trying}
 
 -- a deed is told, and never as a refusal
 told_done : (w v : LocksState) (t : ℕ) (x : Turn) → Does w t x outcome.TheVariants.NotNow v → ⊥
@@ -33,10 +36,13 @@ calls_take_steps w v t c a h = elim h.1 [
   | inr r ↦ let told : outcome.TheVariants.End a ≡ outcome.TheVariants.NotNow = r.1.0 in cc
 ]
 
-fair_wakes_none : (w : LocksState) (t l : ℕ) (o : Option Purpose) → o ≡ Some (Releases l Exclusive true) → MayDo w t l Wake o → ⊥
+fair_wakes_none : (w : LocksState) (t l : ℕ) (o : Option Purpose) → o ≡ Some (Releases l Exclusive true)
+    → MayDo w t l Wake o → ⊥
 fair_wakes_none w t l None e m = m
 fair_wakes_none w t l (Some p) e m = let q : p ≡ Releases l Exclusive true = cc in
-    let made : IsMadeOf (Releases l Exclusive true) (w.calls t).gave_up (w.calls t).released (w.calls t).recalls l Wake = subst (λ x. IsMadeOf x (w.calls t).gave_up (w.calls t).released (w.calls t).recalls l Wake) q m.0 in
+    let made : IsMadeOf (Releases l Exclusive true) (w.calls t).gave_up (w.calls t).released
+    (w.calls t).recalls l Wake = subst (λ x. IsMadeOf x (w.calls t).gave_up (w.calls t).released
+    (w.calls t).recalls l Wake) q m.0 in
     elim made.1 [
       | inl h ↦ cc
       | inr h ↦ cc
@@ -50,15 +56,19 @@ free_for r s t Exclusive n = n.0.0
 free_for r s t x n = n.0
 
 pub owners_exclude : OwnersExclude
-owners_exclude w t l x blocked may = blocked (free_for (rules_at w l) (w.locks l) t x (needs_of w t l (Enter x) (w.calls t).purpose may))
+owners_exclude w t l x blocked may =
+    blocked (free_for (rules_at w l) (w.locks l) t x (needs_of w t l (Enter x) (w.calls t).purpose may))
 
 -- ---------------------------------------------------------------- a try of a mutex that nobody owns
 
 -- it does nothing but enter, and then it owns what it didn't
-no_try_fails : (v : LocksState) (e : Event) → MayHappen trying 0 e → ((l : ℕ) → v.locks l ≡ locks_after trying 0 e l) → ((l : ℕ) → v.kinds l ≡ trying.kinds l)
+no_try_fails : (v : LocksState) (e : Event) → MayHappen trying 0 e
+    → ((l : ℕ) → v.locks l ≡ locks_after trying 0 e l) → ((l : ℕ) → v.kinds l ≡ trying.kinds l)
     → Agrees 0 (going_on e (trying.calls 0)) (outcome.TheVariants.End answer.TheVariants.No) v → ⊥
-no_try_fails v Nothing may led kinds agrees = let blocked = agrees.0.0 (rw (kinds 0) refl) in blocked.1 (rw (kinds 0, led 0) refl)
-no_try_fails v (AtLock l (Enter y)) may led kinds agrees = let here : l ≡ 0 = may.0.0 in let want : y ≡ Exclusive = may.0.1 in
+no_try_fails v Nothing may led kinds agrees = let blocked = agrees.0.0 (rw (kinds 0) refl)
+    in blocked.1 (rw (kinds 0, led 0) refl)
+no_try_fails v (AtLock l (Enter y)) may led kinds agrees = let here : l ≡ 0 = may.0.0 in let want : y
+    ≡ Exclusive = may.0.1 in
     let got : (v.locks 0).exclusive ≡ Some 0 = rw (led 0, here, want) refl in
     let kept : rights_in v 0 0 ≡ no_rights = agrees.0.1 0 in
     let one : one_if_thread 0 (v.locks 0).exclusive ≡ 0 = ap (λ (r : Rights). r.exclusive) kept in
@@ -78,5 +88,6 @@ no_try_fails v (Moves c m all owned number) may led kinds agrees = let e = may.n
 pub free_mutex : FreeMutexIsGot
 free_mutex v h = elim h.1 [
   | inl d ↦ no_try_fails v d.1.event d.1.may d.1.locks h.0.kinds d.1.agrees
-  | inr r ↦ let told : outcome.TheVariants.End answer.TheVariants.No ≡ outcome.TheVariants.NotNow = r.1.0 in cc
+  | inr r ↦ let told : outcome.TheVariants.End answer.TheVariants.No ≡ outcome.TheVariants.NotNow = r.1.0
+      in cc
 ]

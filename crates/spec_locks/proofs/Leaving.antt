@@ -1,5 +1,7 @@
 -- A thread leaves a queue as its time is up, as it comes into a hand, or as a notification moves it.
-use Rattle.std.proofs.Common.{ℕ, zero, suc, Bool, true, false, Option, Some, None, if◌then◌else◌, ◌==◌, ◌≡◌, ◌≢◌, ◌≤◌, ◌+◌, ◌⊎◌, inl, inr, List, [], ◌∷◌, ◌++◌, refl, sym, ◌∙◌, ap, subst, arith}
+use Rattle.std.proofs.Common.{ℕ, zero, suc, Bool, true, false, Option, Some, None, if◌then◌else◌, ◌==◌, ◌≡◌}
+use Rattle.std.proofs.Common.{◌≢◌, ◌≤◌, ◌+◌, ◌⊎◌, inl, inr, List, [], ◌∷◌, ◌++◌, refl, sym, ◌∙◌, ap, subst}
+use Rattle.std.proofs.Common.{arith}
 use Rattle.std.proofs.lemmas.Bool.{cases_eq, cases_lt, eqb-true}
 use Rattle.std.proofs.lemmas.Bool.Decides.{nat_tests}
 use Rattle.std.specs.Prelude.{drop}
@@ -8,10 +10,15 @@ use Rattle.spec_locks.specs.declared.calls.Turn as turn
 use Rattle.spec_locks.specs.declared.outcomes.Outcome.{Outcome}
 use Rattle.spec_locks.specs.Condvars.{line_of, moved_of}
 use Rattle.spec_locks.specs.Locks as locks
-use Rattle.spec_locks.specs.Locks.{LockState, LockCase, Queued, Rules, Taken, Needs, Enter, Pend, Settle, Leave, Convert, Park, Aside, TakeFirst, TakeAside, TakePicked, Wake, HandOff, Late, Rollback, OfOnce, OfCondvar, SeeOwner, Look, Show, Hide, after_case, left_behind, putting, taking, times}
+use Rattle.spec_locks.specs.Locks.{LockState, LockCase, Queued, Rules, Taken, Needs, Enter, Pend, Settle}
+use Rattle.spec_locks.specs.Locks.{Leave, Convert, Park, Aside, TakeFirst, TakeAside, TakePicked, Wake}
+use Rattle.spec_locks.specs.Locks.{HandOff, Late, Rollback, OfOnce, OfCondvar, SeeOwner, Look, Show, Hide}
+use Rattle.spec_locks.specs.Locks.{after_case, left_behind, putting, taking, times}
 use Rattle.spec_locks.specs.Onces.{OnceCase, Start, Finish, Fail, Rest, TakeAll}
 use Rattle.spec_locks.specs.Purposes.{Notifies, Purpose, Waits, WasMoved}
-use Rattle.spec_locks.specs.Runs.{LocksState, CallState, Event, Nothing, AtLock, Moves, Does, GoesOn, IsNotified, IsTimely, MayDo, MayHappen, Turned, if_moved, is_among, joined_by, locks_after, rules_at}
+use Rattle.spec_locks.specs.Runs.{LocksState, CallState, Event, Nothing, AtLock, Moves, Does, GoesOn}
+use Rattle.spec_locks.specs.Runs.{IsNotified, IsTimely, MayDo, MayHappen, Turned, if_moved, is_among}
+use Rattle.spec_locks.specs.Runs.{joined_by, locks_after, rules_at}
 use Rattle.spec_locks.proofs.Hands.{taking_others, times_picked}
 use Rattle.spec_locks.proofs.Idle.{differs, other_then, same_number}
 use Rattle.spec_locks.proofs.LockKeeps.{times_append, times_filter}
@@ -126,7 +133,8 @@ module _ (w v : LocksState) (t : ℕ) (o : Outcome) (u l : ℕ) (some : 1 ≤ ti
           | inl late ↦ inl (
             late.0,
             subst (λ k. (w.calls k).late ≡ true) (sym late.0)
-                (subst (λ c. IsTimely (w.calls t).late c) late.1 (timely_of w t l case (w.calls t).purpose may)),
+                (subst (λ c. IsTimely (w.calls t).late c) late.1 (timely_of w t l case (w.calls t).purpose
+                may)),
           )
           | inr hand ↦ inr (inl hand)
         ]

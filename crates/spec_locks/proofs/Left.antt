@@ -12,7 +12,8 @@ left_fewer true u q = omega arith
 left_fewer false u [] = grind arith
 left_fewer false u (x ∷ q) = grind arith
 
-pub left_keeps : (r : Rules) (all : Bool) (s : LockState) → IsLockState r s → IsLockState r (left_behind all s)
+pub left_keeps : (r : Rules) (all : Bool) (s : LockState) → IsLockState r s
+    → IsLockState r (left_behind all s)
 left_keeps r all s c = record {
   exclusive_alone = c.exclusive_alone;
   pending_alone = c.pending_alone;
@@ -26,7 +27,8 @@ left_keeps r all s c = record {
   within = c.within;
 }
   where
-    known : (all : Bool) (q : List Queued) → KnowsAll r.sort q → KnowsAll r.sort (if all then [] else drop 1 q)
+    known : (all : Bool) (q : List Queued) → KnowsAll r.sort q
+        → KnowsAll r.sort (if all then [] else drop 1 q)
     known true q k = tt
     known false [] k = tt
     known false (x ∷ q) k = k.1

@@ -1,5 +1,6 @@
 -- Each case of a lock keeps what holds in every state.
-use Rattle.std.proofs.Common.{ℕ, Bool, Option, Some, None, ◌≡◌, ◌≢◌, ◌≤◌, ◌↔◌, ◌+◌, ◌-◌, inl, inr, List, [], ◌∷◌, ◌++◌, length, refl, ap, arith}
+use Rattle.std.proofs.Common.{ℕ, Bool, Option, Some, None, ◌≡◌, ◌≢◌, ◌≤◌, ◌↔◌, ◌+◌, ◌-◌, inl, inr, List, []}
+use Rattle.std.proofs.Common.{◌∷◌, ◌++◌, length, refl, ap, arith}
 use Rattle.std.proofs.lemmas.Bool.{cases_lt}
 use Rattle.std.proofs.lemmas.Bool.Decides.{nat_tests}
 use Rattle.std.proofs.lemmas.List.{get_or_past, set_past, take-append-drop}
@@ -9,7 +10,13 @@ use Rattle.std.specs.Prelude.{not, filter, take, drop, sum, slice_index, slice_s
 use Rattle.core_base.specs.declared.wants.Want.{Want}
 use Rattle.core_base.specs.declared.wants.Want.TheVariants.{Shared, Wait, CallOnce}
 use Rattle.spec_locks.specs.Onces.{Phase, OnceCase, Start, Finish, Fail, Rest, TakeAll, MayRest}
-use Rattle.spec_locks.specs.Locks.{LockState, Queued, Taken, Sort, Rules, LockCase, OfOnce, OnceNeeds, once_after, Once, Enter, Pend, Settle, Leave, Convert, Park, Aside, TakeFirst, TakeAside, TakePicked, Wake, HandOff, Late, Rollback, Needs, after_case, IsLockState, Knows, KnowsAll, NoWriter, Owns, without_owner, sharing_from, sharing_handed, succeeding, times, one_if_some, taking, wants_shared, front_of, stop_of, opening_lock, OfCondvar, SeeOwner, Look, Show, Hide}
+use Rattle.spec_locks.specs.Locks.{LockState, Queued, Taken, Sort, Rules, LockCase, OfOnce, OnceNeeds}
+use Rattle.spec_locks.specs.Locks.{once_after, Once, Enter, Pend, Settle, Leave, Convert, Park, Aside}
+use Rattle.spec_locks.specs.Locks.{TakeFirst, TakeAside, TakePicked, Wake, HandOff, Late, Rollback, Needs}
+use Rattle.spec_locks.specs.Locks.{after_case, IsLockState, Knows, KnowsAll, NoWriter, Owns, without_owner}
+use Rattle.spec_locks.specs.Locks.{sharing_from, sharing_handed, succeeding, times, one_if_some, taking}
+use Rattle.spec_locks.specs.Locks.{wants_shared, front_of, stop_of, opening_lock, OfCondvar, SeeOwner, Look}
+use Rattle.spec_locks.specs.Locks.{Show, Hide}
 
 none_if_not : {A : Type 0} (o : Option A) → ((x : A) → o ≡ Some x → ⊥) → o ≡ None
 none_if_not o h = grind arith
@@ -24,53 +31,79 @@ pub times_append : (u : ℕ) (xs ys : List Queued) → times u (xs ++ ys) ≡ ti
 times_append u [] ys = grind arith
 times_append u (x ∷ xs) ys = grind (arith, times_append u xs ys)
 
-pub times_filter : (u : ℕ) (p : Queued → Bool) (xs : List Queued) → times u (filter p xs) + times u (filter (λ x. not (p x)) xs) ≡ times u xs
+pub times_filter : (u : ℕ) (p : Queued → Bool) (xs : List Queued) → times u (filter p xs) + times u
+    (filter (λ x. not (p x)) xs) ≡ times u xs
 times_filter u p [] = refl
 times_filter u p (x ∷ xs) = grind (arith, times_filter u p xs)
 
-pub times_taking : (u t : ℕ) (xs : List Queued) (taken : ℕ → Option Taken) → one_if_some (taking t xs taken u) ≤ times u xs + one_if_some (taken u)
+pub times_taking : (u t : ℕ) (xs : List Queued) (taken : ℕ → Option Taken) → one_if_some (taking t xs taken u)
+    ≤ times u xs + one_if_some (taken u)
 times_taking u t [] taken = grind arith
 times_taking u t (x ∷ xs) taken = grind (arith, nat_tests, times_taking u t xs)
 
-pub known_append : (sort : Sort) (xs ys : List Queued) → KnowsAll sort (xs ++ ys) ↔ (KnowsAll sort xs × KnowsAll sort ys)
+pub known_append : (sort : Sort) (xs ys : List Queued) → KnowsAll sort (xs ++ ys) ↔ (KnowsAll sort xs
+    × KnowsAll sort ys)
 known_append sort [] ys = grind arith
 known_append sort (x ∷ xs) ys = grind (arith, known_append sort xs ys)
 
-known_filter : (sort : Sort) (p : Queued → Bool) (xs : List Queued) → KnowsAll sort xs → KnowsAll sort (filter p xs)
+known_filter : (sort : Sort) (p : Queued → Bool) (xs : List Queued) → KnowsAll sort xs
+    → KnowsAll sort (filter p xs)
 known_filter sort p [] all = tt
 known_filter sort p (x ∷ xs) all = grind (arith, known_filter sort p xs all.1)
 
-pub known_taking : (sort : Sort) (t : ℕ) (xs : List Queued) (taken : ℕ → Option Taken) → KnowsAll sort xs → ((u : ℕ) (h : Taken) → taken u ≡ Some h → Knows sort h.want) → (u : ℕ) (h : Taken) → taking t xs taken u ≡ Some h → Knows sort h.want
+pub known_taking : (sort : Sort) (t : ℕ) (xs : List Queued) (taken : ℕ → Option Taken) → KnowsAll sort xs
+    → ((u : ℕ) (h : Taken) → taken u ≡ Some h → Knows sort h.want) → (u : ℕ) (h : Taken) → taking t xs taken u
+    ≡ Some h → Knows sort h.want
 known_taking sort t [] taken all known = known
-known_taking sort t (x ∷ xs) taken all known = known_taking sort t xs _ all.1 (λ u h e. grind (arith, nat_tests))
+known_taking sort t (x ∷ xs) taken all known = known_taking sort t xs _ all.1
+    (λ u h e. grind (arith, nat_tests))
 
 -- a thread takes the first m of the first n, and of those behind them each thread that p picks; the others
 -- stay in order
-takes : (r : Rules) (s : LockState) (t m n : ℕ) (p : Queued → Bool) → IsLockState r s → IsLockState r (record s { queue = filter (λ x. not (p x)) (drop m (take n s.queue)) ++ drop n s.queue; taken = taking t (take m (take n s.queue) ++ filter p (drop m (take n s.queue))) s.taken })
+takes : (r : Rules) (s : LockState) (t m n : ℕ) (p : Queued → Bool) → IsLockState r s
+    → IsLockState r (record s {
+      queue = filter (λ x. not (p x)) (drop m (take n s.queue)) ++ drop n s.queue;
+      taken = taking t (take m (take n s.queue) ++ filter p (drop m (take n s.queue))) s.taken;
+    })
 takes r s t m n p c =
     let q = take n s.queue in
     let known = (known_append r.sort q (drop n s.queue)).0 (rw take-append-drop c.known_queue) in
     let known_front = (known_append r.sort (take m q) (drop m q)).0 (rw take-append-drop known.0) in
-    grind (arith, take-append-drop n s.queue, take-append-drop m q, times_append, times_filter, times_taking, known_append, known_filter, known_taking)
+    grind (
+      arith,
+      take-append-drop n s.queue,
+      take-append-drop m q,
+      times_append,
+      times_filter,
+      times_taking,
+      known_append,
+      known_filter,
+      known_taking,
+    )
 
 -- ---------------------------------------------------------------- the hand-over
 
 -- where the lock knows no readers, nobody that is taken wants to share
-pub sharing_same : (r : Rules) (s : LockState) (t i : ℕ) (xs : List ℕ) → IsLockState r s → (Knows r.sort Shared → ⊥) → sharing_from t s.taken i xs ≡ xs
+pub sharing_same : (r : Rules) (s : LockState) (t i : ℕ) (xs : List ℕ) → IsLockState r s
+    → (Knows r.sort Shared → ⊥) → sharing_from t s.taken i xs ≡ xs
 sharing_same r s t i [] c none = refl
 sharing_same r s t i (x ∷ xs) c none = grind (arith, c.known_taken i, sharing_same r s t (i + 1) xs c none)
 
 -- the owner has left, and those that it has taken and that want to share do so: no writer is there
-shares : (r : Rules) (s : LockState) (t : ℕ) (right : Want) → IsLockState r s → Owns s t right → right ≢ Shared → IsLockState r (sharing_handed t (without_owner t right s)) × NoWriter (without_owner t right s)
+shares : (r : Rules) (s : LockState) (t : ℕ) (right : Want) → IsLockState r s → Owns s t right
+    → right ≢ Shared → IsLockState r (sharing_handed t (without_owner t right s))
+    × NoWriter (without_owner t right s)
 shares r s t right c owns more = grind (arith, nat_tests, sharing_same r s t 0 s.shared c)
 
 -- then the successor owns, or is pending
-succeeds : (r : Rules) (s : LockState) (x : Queued) → IsLockState r s → NoWriter s → Knows r.sort x.want → x.want ≢ Shared → IsLockState r (succeeding x.want x.thread s)
+succeeds : (r : Rules) (s : LockState) (x : Queued) → IsLockState r s → NoWriter s → Knows r.sort x.want
+    → x.want ≢ Shared → IsLockState r (succeeding x.want x.thread s)
 succeeds r s x c free knows more = grind (arith, nat_tests, no_aside r s c)
 
 -- ---------------------------------------------------------------- deeds on a `Once`
 
-pub rephased : (r : Rules) (s : LockState) (p : Phase) → IsLockState r s → IsLockState r (record s { phase = p })
+pub rephased : (r : Rules) (s : LockState) (p : Phase) → IsLockState r s
+    → IsLockState r (record s { phase = p })
 rephased r s p c = record {
   exclusive_alone = c.exclusive_alone;
   pending_alone = c.pending_alone;
@@ -85,7 +118,8 @@ rephased r s p c = record {
 }
 
 -- another mutex is shown, or none
-pub reshown : (r : Rules) (s : LockState) (m : Option ℕ) → IsLockState r s → IsLockState r (record s { shown = m })
+pub reshown : (r : Rules) (s : LockState) (m : Option ℕ) → IsLockState r s
+    → IsLockState r (record s { shown = m })
 reshown r s m c = record {
   exclusive_alone = c.exclusive_alone;
   pending_alone = c.pending_alone;
@@ -104,7 +138,8 @@ rests_known CallOnce forced p may = tt
 rests_known Wait forced p may = tt
 rests_known x forced p may = absurd (grind arith)
 
-once_keeps : (r : Rules) (case : OnceCase) (s : LockState) (t : ℕ) → IsLockState r s → r.sort ≡ Once → OnceNeeds case s t → IsLockState r (once_after case s t)
+once_keeps : (r : Rules) (case : OnceCase) (s : LockState) (t : ℕ) → IsLockState r s → r.sort ≡ Once
+    → OnceNeeds case s t → IsLockState r (once_after case s t)
 once_keeps r (Start forced) s t c sort n = rephased r s _ c
 once_keeps r Finish s t c sort n = rephased r s _ c
 once_keeps r Fail s t c sort n = rephased r s _ c
@@ -128,7 +163,8 @@ less_share xs t = elim (cases_lt t (length xs)) [
 
 -- ---------------------------------------------------------------- all cases
 
-pub case_keeps : (r : Rules) (c : LockCase) (s : LockState) (t : ℕ) → IsLockState r s → Needs r c s t → IsLockState r (after_case r c s t)
+pub case_keeps : (r : Rules) (c : LockCase) (s : LockState) (t : ℕ) → IsLockState r s → Needs r c s t
+    → IsLockState r (after_case r c s t)
 case_keeps r (Enter Shared) s t c n = grind (arith, more_share s.shared t)
 case_keeps r (Enter x) s t c n = grind arith
 case_keeps r Pend s t c n = grind (arith, no_aside r s c)
@@ -139,10 +175,13 @@ case_keeps r (Park x) s t c n = grind (arith, nat_tests, times_append, known_app
 case_keeps r Aside s t c n = grind (arith, nat_tests)
 case_keeps r (TakeFirst x) s t c n = grind (arith, nat_tests)
 case_keeps r (TakeAside u) s t c n = grind (arith, nat_tests, c.aside_pending u n.0)
-case_keeps r (TakePicked start) s t c n = takes r s t (front_of start s.queue) (stop_of r.sort start s.queue) (λ x. wants_shared x.want) c
+case_keeps r (TakePicked start) s t c n = takes r s t (front_of start s.queue) (stop_of r.sort start s.queue)
+    (λ x. wants_shared x.want) c
 case_keeps r Wake s t c n = grind (arith, nat_tests)
 case_keeps r (HandOff right None) s t c n = (shares r s t right c n.0 n.1).0
-case_keeps r (HandOff right (Some x)) s t c n = let left = shares r s t right c n.0 n.1 in let is_taken = (n.2 x.thread x.want).0 refl in succeeds r (sharing_handed t (without_owner t right s)) x left.0 left.1 (c.known_taken x.thread _ is_taken.0) is_taken.1
+case_keeps r (HandOff right (Some x)) s t c n = let left = shares r s t right c n.0 n.1 in let is_taken =
+    (n.2 x.thread x.want).0 refl in succeeds r (sharing_handed t (without_owner t right s)) x left.0 left.1
+    (c.known_taken x.thread _ is_taken.0) is_taken.1
 case_keeps r Late s t c n = grind (arith, nat_tests, times_filter, known_filter)
 case_keeps r Rollback s t c n = grind arith
 case_keeps r (OfOnce case) s t c n = once_keeps r case s t c n.0 n.1

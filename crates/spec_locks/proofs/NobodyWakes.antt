@@ -1,5 +1,6 @@
 -- No wait wakes by itself: its call recalls that it was notified since another thread's move alone.
-use Rattle.std.proofs.Common.{ℕ, Bool, true, false, Option, Some, None, if◌then◌else◌, ◌==◌, ◌≡◌, ◌≤◌, ◌+◌, List, [], ◌∷◌, inl, inr, eqb-true, refl, sym, ◌∙◌, ap, subst, arith}
+use Rattle.std.proofs.Common.{ℕ, Bool, true, false, Option, Some, None, if◌then◌else◌, ◌==◌, ◌≡◌, ◌≤◌, ◌+◌}
+use Rattle.std.proofs.Common.{List, [], ◌∷◌, inl, inr, eqb-true, refl, sym, ◌∙◌, ap, subst, arith}
 use Rattle.std.proofs.lemmas.Bool.{leb-true}
 use Rattle.spec_locks.specs.declared.calls.Turn.{Turn}
 use Rattle.spec_locks.specs.declared.calls.Turn as turn
@@ -10,8 +11,11 @@ use Rattle.spec_locks.specs.Locks as locks
 use Rattle.spec_locks.specs.Locks.{CondvarCase, LockCase, Queued, times}
 use Rattle.spec_locks.specs.Onces.{OnceCase}
 use Rattle.spec_locks.specs.Onces as onces
-use Rattle.spec_locks.specs.Purposes.{Blank, HasMoved, Notifies, Recall, Saw, SawOwner, Waits, WasMoved, WasNotified}
-use Rattle.spec_locks.specs.Runs.{AtLock, CallState, Does, Event, GoesOn, IsNotified, LocksState, MayHappen, Moves, Nothing, Stays, behind_wake, calls_after, gives_up, going_on, is_among, is_taken_by, unless_ended, woken}
+use Rattle.spec_locks.specs.Purposes.{Blank, HasMoved, Notifies, Recall, Saw, SawOwner, Waits, WasMoved}
+use Rattle.spec_locks.specs.Purposes.{WasNotified}
+use Rattle.spec_locks.specs.Runs.{AtLock, CallState, Does, Event, GoesOn, IsNotified, LocksState, MayHappen}
+use Rattle.spec_locks.specs.Runs.{Moves, Nothing, Stays, behind_wake, calls_after, gives_up, going_on}
+use Rattle.spec_locks.specs.Runs.{is_among, is_taken_by, unless_ended, woken}
 use Rattle.spec_locks.specs.UserLaws.{OfEachStep}
 use Rattle.spec_locks.specs.CondvarLaws.{IsNotifier, NobodyWakesByItself}
 
@@ -25,7 +29,8 @@ behind_wake_none WasMoved none h = none tt
 behind_wake_none WasNotified none h = none tt
 
 -- nor does a thread notify itself
-gives_up_none : (l : ℕ) (r : Recall) (c : CallState) → c.recalls ≡ r → (IsNotified r → ⊥) → IsNotified (gives_up l r c).recalls → ⊥
+gives_up_none : (l : ℕ) (r : Recall) (c : CallState) → c.recalls ≡ r → (IsNotified r → ⊥)
+    → IsNotified (gives_up l r c).recalls → ⊥
 gives_up_none l WasMoved c e none h = none tt
 gives_up_none l Blank c e none h = subst (λ x. IsNotified x → ⊥) (sym e) none h
 gives_up_none l (Saw m) c e none h = subst (λ x. IsNotified x → ⊥) (sym e) none h
@@ -72,7 +77,8 @@ own_none (AtLock l case) c none = by_case case
 among_stood : (u : ℕ) (all : Bool) (q : List Queued) → is_among u (moved_of all q) ≡ true → 1 ≤ times u q
 among_stood u true q h = leb-true 1 (times u q) h
 among_stood u false [] h = leb-true 1 (times u []) h
-among_stood u false (x ∷ q) h = let first : 1 ≤ times u (x ∷ []) = leb-true 1 (times u (x ∷ [])) h in either (x.thread == u) first
+among_stood u false (x ∷ q) h = let first : 1 ≤ times u (x ∷ []) = leb-true 1 (times u (x ∷ [])) h
+    in either (x.thread == u) first
   where
     either : (b : Bool) → 1 ≤ (if b then 1 else 0) + 0 → 1 ≤ (if b then 1 else 0) + times u q
     either true g = omega arith
@@ -80,13 +86,18 @@ among_stood u false (x ∷ q) h = let first : 1 ≤ times u (x ∷ []) = leb-tru
 
 module _ (w : LocksState) (a t : ℕ) where
   -- a wake or a hand-over makes of no call that it was notified
-  woken_none : (b : Bool) (c : CallState) (retries : Option ℕ) → Unnotified c → Unnotified (if b then record c { retries = retries; recalls = behind_wake c.recalls } else c)
+  woken_none : (b : Bool) (c : CallState) (retries : Option ℕ) → Unnotified c
+      → Unnotified (if b then record c {
+        retries = retries;
+        recalls = behind_wake c.recalls;
+      } else c)
   woken_none true c retries none = behind_wake_none c.recalls none
   woken_none false c retries none = none
 
   -- only a move does
   told_by : (e : Event) (c : CallState) → Unnotified c → IsNotified (woken w a e t c).recalls
-      → (l : ℕ) × (m : ℕ) × (all : Bool) × (owned : Bool) × (number : ℕ) × (e ≡ Moves l m all owned number) × (is_among t (moved_of all (w.locks l).queue) ≡ true)
+      → (l : ℕ) × (m : ℕ) × (all : Bool) × (owned : Bool) × (number : ℕ) × (e ≡ Moves l m all owned number)
+      × (is_among t (moved_of all (w.locks l).queue) ≡ true)
   told_by Nothing c none h = absurd (none h)
   told_by (AtLock l case) c none h = absurd (by_case case h)
     where
@@ -96,8 +107,11 @@ module _ (w : LocksState) (a t : ℕ) where
       by_case x g = none g
   told_by (Moves l m all owned number) c none h = either (is_among t (moved_of all (w.locks l).queue)) refl h
     where
-      either : (b : Bool) → is_among t (moved_of all (w.locks l).queue) ≡ b → IsNotified (if b then record c { recalls = WasMoved } else c).recalls
-          → (k : ℕ) × (n : ℕ) × (every : Bool) × (free : Bool) × (count : ℕ) × (Moves l m all owned number ≡ Moves k n every free count) × (is_among t (moved_of every (w.locks k).queue) ≡ true)
+      either : (b : Bool) → is_among t (moved_of all (w.locks l).queue) ≡ b
+          → IsNotified (if b then record c { recalls = WasMoved } else c).recalls
+          → (k : ℕ) × (n : ℕ) × (every : Bool) × (free : Bool) × (count : ℕ)
+          × (Moves l m all owned number ≡ Moves k n every free count)
+          × (is_among t (moved_of every (w.locks k).queue) ≡ true)
       either true e g = (l, m, all, owned, number, refl, e)
       either false e g = absurd (none g)
 
@@ -107,45 +121,58 @@ module _ (w v : LocksState) (a : ℕ) where
 
   -- the event of a step is a move of this waiter
   module _ (t l m : ℕ) (timed : Bool) (waits : (w.calls t).purpose ≡ Some (Waits l m timed)) where
-    by_move : (k n : ℕ) (all owned : Bool) (number : ℕ) → MayHappen w a (Moves k n all owned number) → is_among t (moved_of all (w.locks k).queue) ≡ true
+    by_move : (k n : ℕ) (all owned : Bool) (number : ℕ) → MayHappen w a (Moves k n all owned number)
+        → is_among t (moved_of all (w.locks k).queue) ≡ true
         → (1 ≤ times t (w.locks l).queue) × ((u : ℕ) × IsNotifier w t l u)
     by_move k n all owned number may among =
-        let names : Some (Waits k n (may.wait t among).0.0) ≡ Some (Waits l m timed) = sym (may.wait t among).0.1 ∙ waits in
+        let names : Some (Waits k n (may.wait t among).0.0) ≡ Some (Waits l m timed) =
+        sym (may.wait t among).0.1 ∙ waits in
         let same : k ≡ l = cc in (
           subst (λ j. 1 ≤ times t (w.locks j).queue) same (among_stood t all (w.locks k).queue among),
           (
             a,
             record {
-              another = λ e. let both : Some (Notifies k all) ≡ Some (Waits l m timed) = sym may.notifies ∙ ap (λ j. (w.calls j).purpose) e ∙ waits in cc;
+              another = λ e. let both : Some (Notifies k all) ≡ Some (Waits l m timed) = sym may.notifies
+                  ∙ ap (λ j. (w.calls j).purpose) e ∙ waits in cc;
               all = all;
               notifies = may.notifies ∙ ap (λ j. Some (Notifies j all)) same;
             },
           ),
         )
 
-    told_so : (e : Event) → MayHappen w a e → (c : CallState) → Unnotified c → IsNotified (woken w a e t c).recalls → (1 ≤ times t (w.locks l).queue) × ((u : ℕ) × IsNotifier w t l u)
-    told_so e may c none h = let by = told_by w a t e c none h in by_move by.0 by.1 by.2 by.3 by.4 (subst (MayHappen w a) by.5 may) by.6
+    told_so : (e : Event) → MayHappen w a e → (c : CallState) → Unnotified c
+        → IsNotified (woken w a e t c).recalls → (1 ≤ times t (w.locks l).queue)
+        × ((u : ℕ) × IsNotifier w t l u)
+    told_so e may c none h = let by = told_by w a t e c none h in by_move by.0 by.1 by.2 by.3 by.4
+        (subst (MayHappen w a) by.5 may) by.6
 
     -- whether it is the thread of the step or not
-    after_event : (e : Event) (o : Outcome) → MayHappen w a e → Unnotified (w.calls t) → IsNotified (calls_after w a e o t).recalls → (1 ≤ times t (w.locks l).queue) × ((u : ℕ) × IsNotifier w t l u)
+    after_event : (e : Event) (o : Outcome) → MayHappen w a e → Unnotified (w.calls t)
+        → IsNotified (calls_after w a e o t).recalls → (1 ≤ times t (w.locks l).queue)
+        × ((u : ℕ) × IsNotifier w t l u)
     after_event e o may none h = either (t == a) refl h
       where
         unended : (o : Outcome) (c : CallState) → IsNotified (unless_ended o c).recalls → IsNotified c.recalls
         unended (outcome.End answer) c g = absurd g
         unended o c g = g
 
-        either : (b : Bool) → (t == a) ≡ b → IsNotified (if b then unless_ended o (woken w a e a (going_on e (w.calls a))) else woken w a e t (w.calls t)).recalls → (1 ≤ times t (w.locks l).queue) × ((u : ℕ) × IsNotifier w t l u)
+        either : (b : Bool) → (t == a) ≡ b
+            → IsNotified (if b then unless_ended o (woken w a e a (going_on e (w.calls a))) else woken w a e t
+            (w.calls t)).recalls → (1 ≤ times t (w.locks l).queue) × ((u : ℕ) × IsNotifier w t l u)
         either false f g = told_so e may (w.calls t) none g
         either true f g = let same : t ≡ a = eqb-true t a f in
             told_so e may (going_on e (w.calls t)) (own_none e (w.calls t) none)
-            (subst (λ j. IsNotified (woken w a e j (going_on e (w.calls j))).recalls) (sym same) (unended o (woken w a e a (going_on e (w.calls a))) g))
+            (subst (λ j. IsNotified (woken w a e j (going_on e (w.calls j))).recalls) (sym same)
+            (unended o (woken w a e a (going_on e (w.calls a))) g))
 
   goes : (o : Outcome) → GoesOn w a o v → Told
-  goes o g t l m timed waits none h = after_event t l m timed waits g.event o g.may none (subst (λ (c : CallState). IsNotified c.recalls) (g.calls t) h)
+  goes o g t l m timed waits none h = after_event t l m timed waits g.event o g.may none
+      (subst (λ (c : CallState). IsNotified c.recalls) (g.calls t) h)
 
   -- a call that begins was not notified, nor one whose time is up
   stays : (c : CallState) (o : Outcome) → Stays w a c o v → (Unnotified (w.calls a) → Unnotified c) → Told
-  stays c o s kept t l m timed waits none h = absurd (either (t == a) refl (subst (λ (x : CallState). IsNotified x.recalls) (s.calls t) h))
+  stays c o s kept t l m timed waits none h =
+      absurd (either (t == a) refl (subst (λ (x : CallState). IsNotified x.recalls) (s.calls t) h))
     where
       either : (b : Bool) → (t == a) ≡ b → IsNotified (if b then c else w.calls t).recalls → ⊥
       either false f g = none g
@@ -162,5 +189,6 @@ module _ (w v : LocksState) (a : ℕ) where
 pub nobody_wakes : OfEachStep NobodyWakesByItself
 nobody_wakes w v s o all step = elim step.1 [
   | inl now ↦ does w v s.thread s.turn o now.1
-  | inr refused ↦ λ t l m timed waits none h. absurd (none (subst (λ (x : LocksState). IsNotified (x.calls t).recalls) refused.1.1 h))
+  | inr refused ↦ λ t l m timed waits none h. absurd
+      (none (subst (λ (x : LocksState). IsNotified (x.calls t).recalls) refused.1.1 h))
 ]

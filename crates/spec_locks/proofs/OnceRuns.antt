@@ -1,5 +1,6 @@
 -- The runs of a `Once`: where they begin, what they leave, and that one that is done stays so.
-use Rattle.std.proofs.Common.{ℕ, Bool, true, false, Option, Some, None, if◌then◌else◌, ◌==◌, ◌≡◌, ◌≢◌, ◌⊎◌, inl, inr, refl, sym, ◌∙◌, ap, subst}
+use Rattle.std.proofs.Common.{ℕ, Bool, true, false, Option, Some, None, if◌then◌else◌, ◌==◌, ◌≡◌, ◌≢◌, ◌⊎◌}
+use Rattle.std.proofs.Common.{inl, inr, refl, sym, ◌∙◌, ap, subst}
 use Rattle.std.proofs.lemmas.Bool.{eqb-true}
 use Rattle.core_base.specs.declared.wants.Want.{Want}
 use Rattle.spec_locks.specs.declared.calls.Turn.{Turn}
@@ -10,9 +11,12 @@ use Rattle.spec_locks.specs.declared.outcomes.Outcome.{Outcome}
 use Rattle.spec_locks.specs.declared.outcomes.Outcome as outcome
 use Rattle.spec_locks.specs.Condvars.{moved_of}
 use Rattle.spec_locks.specs.Locks.{LockState, OfOnce, after_case, left_behind, putting}
-use Rattle.spec_locks.specs.Onces.{Phase, New, Poisoned, InProgress, Done, OnceCase, Start, Finish, Fail, Rest, TakeAll, MayStart}
-use Rattle.spec_locks.specs.Purposes.{Purpose, Enters, Releases, Converts, Bumps, CallsOnce, Awaits, Waits, Notifies, Recall, AwaitsBy, IsMadeOf}
-use Rattle.spec_locks.specs.Runs.{LocksState, Event, Nothing, AtLock, Moves, Begins, Does, GoesOn, MayDo, MayHappen, Turned, joined_by, locks_after, rules_at}
+use Rattle.spec_locks.specs.Onces.{Phase, New, Poisoned, InProgress, Done, OnceCase, Start, Finish, Fail}
+use Rattle.spec_locks.specs.Onces.{Rest, TakeAll, MayStart}
+use Rattle.spec_locks.specs.Purposes.{Purpose, Enters, Releases, Converts, Bumps, CallsOnce, Awaits, Waits}
+use Rattle.spec_locks.specs.Purposes.{Notifies, Recall, AwaitsBy, IsMadeOf}
+use Rattle.spec_locks.specs.Runs.{LocksState, Event, Nothing, AtLock, Moves, Begins, Does, GoesOn, MayDo}
+use Rattle.spec_locks.specs.Runs.{MayHappen, Turned, joined_by, locks_after, rules_at}
 use Rattle.spec_locks.specs.Headline.{IsSafe}
 use Rattle.spec_locks.proofs.Idle.{same_number}
 use Rattle.spec_locks.proofs.OnceLaws.{done_stays}

@@ -1,5 +1,6 @@
 -- A call recalls truly which mutex it saw, how many it moved, and that its run failed.
-use Rattle.std.proofs.Common.{ℕ, Bool, true, false, Option, Some, None, if◌then◌else◌, ◌≡◌, ◌≢◌, ◌⊎◌, inl, inr, List, [], ◌∷◌, length, refl, sym, ◌∙◌, ap, subst, arith}
+use Rattle.std.proofs.Common.{ℕ, Bool, true, false, Option, Some, None, if◌then◌else◌, ◌≡◌, ◌≢◌, ◌⊎◌, inl}
+use Rattle.std.proofs.Common.{inr, List, [], ◌∷◌, length, refl, sym, ◌∙◌, ap, subst, arith}
 use Rattle.std.proofs.lemmas.Bool.{cases_eq}
 use Rattle.std.specs.Prelude.{drop}
 use Rattle.spec_locks.specs.declared.calls.Turn.{Turn}
@@ -7,10 +8,17 @@ use Rattle.spec_locks.specs.declared.calls.Turn as turn
 use Rattle.spec_locks.specs.declared.outcomes.Outcome.{Outcome}
 use Rattle.spec_locks.specs.declared.outcomes.Outcome as outcome
 use Rattle.spec_locks.specs.Condvars.{moved_of}
-use Rattle.spec_locks.specs.Locks.{LockState, LockCase, Queued, Mutex, Condvar, Enter, Pend, Settle, Leave, Convert, Park, Aside, TakeFirst, TakeAside, TakePicked, Wake, HandOff, Late, Rollback, OfOnce, OfCondvar, SeeOwner, Look, Show, Hide, left_behind, putting}
+use Rattle.spec_locks.specs.Locks.{LockState, LockCase, Queued, Mutex, Condvar, Enter, Pend, Settle, Leave}
+use Rattle.spec_locks.specs.Locks.{Convert, Park, Aside, TakeFirst, TakeAside, TakePicked, Wake, HandOff}
+use Rattle.spec_locks.specs.Locks.{Late, Rollback, OfOnce, OfCondvar, SeeOwner, Look, Show, Hide, left_behind}
+use Rattle.spec_locks.specs.Locks.{putting}
 use Rattle.spec_locks.specs.Onces.{InProgress, Poisoned, Start, Finish, Fail, Rest, TakeAll}
-use Rattle.spec_locks.specs.Purposes.{Purpose, Enters, Releases, Converts, Bumps, CallsOnce, Awaits, Waits, Notifies, Recall, Blank, Saw, SawOwner, HasMoved, WasMoved, WasNotified, IsMadeOf}
-use Rattle.spec_locks.specs.Runs.{LocksState, CallState, Event, Nothing, AtLock, Moves, Does, GoesOn, MayDo, MayHappen, Stays, Turned, behind_wake, gives_up, going_on, if_moved, is_among, is_taken_by, joined_by, rules_at, unless_ended, woken}
+use Rattle.spec_locks.specs.Purposes.{Purpose, Enters, Releases, Converts, Bumps, CallsOnce, Awaits, Waits}
+use Rattle.spec_locks.specs.Purposes.{Notifies, Recall, Blank, Saw, SawOwner, HasMoved, WasMoved, WasNotified}
+use Rattle.spec_locks.specs.Purposes.{IsMadeOf}
+use Rattle.spec_locks.specs.Runs.{LocksState, CallState, Event, Nothing, AtLock, Moves, Does, GoesOn, MayDo}
+use Rattle.spec_locks.specs.Runs.{MayHappen, Stays, Turned, behind_wake, gives_up, going_on, if_moved}
+use Rattle.spec_locks.specs.Runs.{is_among, is_taken_by, joined_by, rules_at, unless_ended, woken}
 use Rattle.spec_locks.specs.EachStep.{RecallsTruly}
 use Rattle.spec_locks.proofs.Idle.{differs, other_then, own_then, same_number, stay_own}
 use Rattle.spec_locks.proofs.Runs.{needs_of}

@@ -1,5 +1,6 @@
 -- Rights to a lock change by a step of their thread in its call of the lock, or are handed over to it.
-use Rattle.std.proofs.Common.{ℕ, zero, suc, Bool, true, false, Option, Some, None, if◌then◌else◌, ◌==◌, ◌≡◌, ◌≢◌, ◌≤◌, ◌+◌, ◌⊎◌, inl, inr, List, [], ◌∷◌, refl, sym, ◌∙◌, ap, subst, arith}
+use Rattle.std.proofs.Common.{ℕ, zero, suc, Bool, true, false, Option, Some, None, if◌then◌else◌, ◌==◌, ◌≡◌}
+use Rattle.std.proofs.Common.{◌≢◌, ◌≤◌, ◌+◌, ◌⊎◌, inl, inr, List, [], ◌∷◌, refl, sym, ◌∙◌, ap, subst, arith}
 use Rattle.std.proofs.lemmas.Bool.{cases_eq, eqb-true}
 use Rattle.std.proofs.lemmas.Bool.Decides.{nat_tests}
 use Rattle.std.specs.Prelude.{◌&&◌, slice_index}
@@ -10,9 +11,17 @@ use Rattle.spec_locks.specs.declared.calls.Turn as turn
 use Rattle.spec_locks.specs.declared.outcomes.Outcome.{Outcome}
 use Rattle.spec_locks.specs.Condvars.{moved_of}
 use Rattle.spec_locks.specs.Locks as locks
-use Rattle.spec_locks.specs.Locks.{LockState, LockCase, Queued, Rules, Taken, Needs, Enter, Pend, Settle, Leave, Convert, Park, Aside, TakeFirst, TakeAside, TakePicked, Wake, HandOff, Late, Rollback, OfOnce, OfCondvar, SeeOwner, Look, Show, Hide, IsLockState, after_case, left_behind, one_if_some, putting, rights_of, sharing_from, standing}
-use Rattle.spec_locks.specs.Purposes.{MayWait, Purpose, Enters, Releases, Converts, Bumps, CallsOnce, Awaits, Waits, Notifies, Recall, AwaitsBy, CallsOnceBy, IsMadeOf, NotifiesBeside, NotifiesThere, WaitsThere}
-use Rattle.spec_locks.specs.Runs.{LocksState, AreLockStates, Event, Nothing, AtLock, Moves, Does, GoesOn, MayDo, MayHappen, Turned, is_taken_by, joined_by, locks_after, rights_in, rules_at}
+use Rattle.spec_locks.specs.Locks.{LockState, LockCase, Queued, Rules, Taken, Needs, Enter, Pend, Settle}
+use Rattle.spec_locks.specs.Locks.{Leave, Convert, Park, Aside, TakeFirst, TakeAside, TakePicked, Wake}
+use Rattle.spec_locks.specs.Locks.{HandOff, Late, Rollback, OfOnce, OfCondvar, SeeOwner, Look, Show, Hide}
+use Rattle.spec_locks.specs.Locks.{IsLockState, after_case, left_behind, one_if_some, putting, rights_of}
+use Rattle.spec_locks.specs.Locks.{sharing_from, standing}
+use Rattle.spec_locks.specs.Purposes.{MayWait, Purpose, Enters, Releases, Converts, Bumps, CallsOnce, Awaits}
+use Rattle.spec_locks.specs.Purposes.{Waits, Notifies, Recall, AwaitsBy, CallsOnceBy, IsMadeOf}
+use Rattle.spec_locks.specs.Purposes.{NotifiesBeside, NotifiesThere, WaitsThere}
+use Rattle.spec_locks.specs.Runs.{LocksState, AreLockStates, Event, Nothing, AtLock, Moves, Does, GoesOn}
+use Rattle.spec_locks.specs.Runs.{MayDo, MayHappen, Turned, is_taken_by, joined_by, locks_after, rights_in}
+use Rattle.spec_locks.specs.Runs.{rules_at}
 use Rattle.spec_locks.specs.CallTable.{MayChange}
 use Rattle.spec_locks.proofs.Idle.{same_number}
 use Rattle.spec_locks.proofs.Rights.{once_keeps, others_keep, rights_are}

@@ -27,7 +27,8 @@ clears_low v lt = and_high_numeral v 18446744073709551613 refl lt
 second_bit : (v : ℕ) → bit_and 2 v ≡ 2 * (v / 2 % 2)
 second_bit v =
     let e : v / 2 * 2 + v % 2 ≡ v = omega arith in
-    let b : bit_and (1 * 2 ^ 1 + 0) (v / 2 * 2 ^ 1 + v % 2) ≡ bit_and 1 (v / 2) * 2 ^ 1 + bit_and 0 (v % 2) = and_block 1 1 (v / 2) 0 (v % 2) (omega arith) (omega arith) in
+    let b : bit_and (1 * 2 ^ 1 + 0) (v / 2 * 2 ^ 1 + v % 2) ≡ bit_and 1 (v / 2) * 2 ^ 1 + bit_and 0 (v % 2) =
+    and_block 1 1 (v / 2) 0 (v % 2) (omega arith) (omega arith) in
     let c : bit_and 1 (v / 2) ≡ v / 2 % 2 = and_comm 1 (v / 2) ∙ and_mask (v / 2) 1 in
     let z : bit_and 0 (v % 2) ≤ 0 = and_le_l 0 (v % 2) in
     let f : bit_and 2 v ≡ bit_and 1 (v / 2) * 2 + bit_and 0 (v % 2) = ap (λ n. bit_and 2 n) (sym e) ∙ b in

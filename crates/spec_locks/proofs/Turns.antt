@@ -1,14 +1,17 @@
 -- One thread changes a lock of the lot, and what it does itself: what holds between steps holds again.
-use Rattle.std.proofs.Common.{ℕ, Bool, true, false, Some, None, ◌≡◌, ◌≢◌, ◌≤◌, ◌⊎◌, inl, inr, [], refl, sym, ◌∙◌}
+use Rattle.std.proofs.Common.{ℕ, Bool, true, false, Some, None, ◌≡◌, ◌≢◌, ◌≤◌, ◌⊎◌, inl, inr, [], refl, sym}
+use Rattle.std.proofs.Common.{◌∙◌}
 use Rattle.std.proofs.lemmas.Bool.{cases_eq}
 use Rattle.spec_locks.specs.Locks.{Taken, Mutex, Rules, IsLockState, standing, readers}
-use Rattle.spec_locks.specs.Sites.{Line, Main, Second, Claim, Role, Site, IsSite, IsEmpty, IsOpen, IsDebtorRole, LooksAfter, Holds, is_full, counts_taken}
+use Rattle.spec_locks.specs.Sites.{Line, Main, Second, Claim, Role, Site, IsSite, IsEmpty, IsOpen}
+use Rattle.spec_locks.specs.Sites.{IsDebtorRole, LooksAfter, Holds, is_full, counts_taken}
 
 -- The conditions on a step of thread t: it leads from s to v, and what t does goes from d to d2.
 -- They speak of t alone, and of no other thread's doing.
 pub record Local (r : Rules) (s v : Site) (t : ℕ) (d d2 : Role) : Type 0 where
   pub state : IsLockState r v.lock
-  pub parked : v.lock.queue ≢ [] → (v.parked ≡ true) ⊎ ((d2.sets ≡ true) ⊎ ((s.lock.queue ≢ []) × (s.parked ≡ false) × (d.sets ≡ false)))
+  pub parked : v.lock.queue ≢ [] → (v.parked ≡ true)
+      ⊎ ((d2.sets ≡ true) ⊎ ((s.lock.queue ≢ []) × (s.parked ≡ false) × (d.sets ≡ false)))
   -- the bit stays where waiters may be brought: to a mutex, by a thread that is inside
   pub bit_stays : s.parked ≡ true → (v.parked ≡ true) ⊎ ((d.inside ≡ Some Main) ⊎ (r.sort ≢ Mutex))
   pub aside_parked : v.lock.aside ≢ None → v.aside_parked ≡ true
@@ -19,29 +22,38 @@ pub record Local (r : Rules) (s v : Site) (t : ℕ) (d d2 : Role) : Type 0 where
   pub fills : (m : Line) → IsEmpty s.lock m → IsEmpty v.lock m ⊎ (d.inside ≡ Some m)
   -- its claims of itself are so
   pub emptied : (m : Line) → d2.empty ≡ Some m → (d2.inside ≡ Some m) × IsEmpty v.lock m
-  pub covered : d2.covers ≡ true → (d2.inside ≡ Some Main) × (d2.carries ≡ true) × (v.lock.queue ≢ [] → (u : ℕ) × (counts_taken r.sort t (v.lock.taken u) ≡ true))
+  pub covered : d2.covers ≡ true → (d2.inside ≡ Some Main) × (d2.carries ≡ true)
+      × (v.lock.queue ≢ [] → (u : ℕ) × (counts_taken r.sort t (v.lock.taken u) ≡ true))
   pub brought : d2.brings ≡ true → (d2.inside ≡ Some Main) × (v.parked ≡ true) × (r.sort ≡ Mutex)
   pub setting : d2.sets ≡ true → LooksAfter r.sort d2
   pub held : (c : Claim) → d2.claims ≡ Some c → Holds v.lock t c
   pub unwoken : 1 ≤ standing t v.lock → d2.retries ≡ None
   -- nobody else loses what it has, or comes to stand while it tries again
-  pub others_stand : (u : ℕ) → u ≢ t → 1 ≤ standing u v.lock → (1 ≤ standing u s.lock) ⊎ ((s.role u).retries ≡ None)
+  pub others_stand : (u : ℕ) → u ≢ t → 1 ≤ standing u v.lock → (1 ≤ standing u s.lock)
+      ⊎ ((s.role u).retries ≡ None)
   pub others_hold : (u : ℕ) (c : Claim) → u ≢ t → Holds s.lock u c → Holds v.lock u c
-  pub others_carry : (x u : ℕ) → u ≢ t → counts_taken r.sort u (s.lock.taken x) ≡ true → counts_taken r.sort u (v.lock.taken x) ≡ true
-  pub taken_by : (x : ℕ) (h : Taken) → v.lock.taken x ≡ Some h → ((h.by ≡ t) × (d2.carries ≡ true)) ⊎ ((h.by ≢ t) × (s.lock.taken x ≡ Some h))
+  pub others_carry : (x u : ℕ) → u ≢ t → counts_taken r.sort u (s.lock.taken x) ≡ true
+      → counts_taken r.sort u (v.lock.taken x) ≡ true
+  pub taken_by : (x : ℕ) (h : Taken) → v.lock.taken x ≡ Some h → ((h.by ≡ t) × (d2.carries ≡ true))
+      ⊎ ((h.by ≢ t) × (s.lock.taken x ≡ Some h))
   -- a thread that is forgotten by it is another's
   pub main : (v.lock.queue ≢ []) ⊎ (d2.brings ≡ true) → IsOpen r.sort v.lock → v.filled ≡ false
-      → IsDebtorRole r.sort d2 ⊎ ((((s.lock.queue ≢ []) ⊎ (d.brings ≡ true)) × IsOpen r.sort s.lock × (IsDebtorRole r.sort d → IsDebtorRole r.sort d2)) ⊎ ((s.lock.queue ≢ []) × (s.parked ≡ false) × (d.sets ≡ false)))
+      → IsDebtorRole r.sort d2 ⊎ ((((s.lock.queue ≢ []) ⊎ (d.brings ≡ true)) × IsOpen r.sort s.lock
+      × (IsDebtorRole r.sort d → IsDebtorRole r.sort d2)) ⊎ ((s.lock.queue ≢ []) × (s.parked ≡ false)
+      × (d.sets ≡ false)))
   -- nor a thread that is to be brought by another, inside the main section
-  pub main_brought : s.parked ≡ true → d.inside ≢ Some Main → IsOpen r.sort v.lock → v.filled ≡ false → IsDebtorRole r.sort d2 ⊎ (IsOpen r.sort s.lock × (IsDebtorRole r.sort d → IsDebtorRole r.sort d2))
-  pub second : v.lock.aside ≢ None → readers v.lock ≡ 0 → (d2.wakes ≡ Some Second) ⊎ ((s.lock.aside ≢ None) × (readers s.lock ≡ 0) × (d.wakes ≢ Some Second))
+  pub main_brought : s.parked ≡ true → d.inside ≢ Some Main → IsOpen r.sort v.lock → v.filled ≡ false
+      → IsDebtorRole r.sort d2 ⊎ (IsOpen r.sort s.lock × (IsDebtorRole r.sort d → IsDebtorRole r.sort d2))
+  pub second : v.lock.aside ≢ None → readers v.lock ≡ 0 → (d2.wakes ≡ Some Second)
+      ⊎ ((s.lock.aside ≢ None) × (readers s.lock ≡ 0) × (d.wakes ≢ Some Second))
 
 -- g is f, but for x at i
 pub record Changed {A : Type 0} (f g : ℕ → A) (i : ℕ) (x : A) : Type 0 where
   pub here : g i ≡ x
   pub other : (j : ℕ) → j ≢ i → g j ≡ f j
 
-module _ (r : Rules) (s v : Site) (t : ℕ) (d d2 : Role) (h : IsSite r s) (is : s.role t ≡ d) (role : Changed s.role v.role t d2) (local : Local r s v t d d2) where
+module _ (r : Rules) (s v : Site) (t : ℕ) (d d2 : Role) (h : IsSite r s) (is : s.role t ≡ d)
+    (role : Changed s.role v.role t d2) (local : Local r s v t d d2) where
   -- nobody else is inside where t is
   apart : (u : ℕ) (m : Line) → u ≢ t → (s.role u).inside ≡ Some m → (v.role t).inside ≡ Some m → ⊥
   apart u m ne i j = elim (local.inside m (rw role.here at j)) [
@@ -68,23 +80,34 @@ module _ (r : Rules) (s v : Site) (t : ℕ) (d d2 : Role) (h : IsSite r s) (is :
     ]
   ]
 
-  still_emptied : (u : ℕ) (m : Line) → (v.role u).empty ≡ Some m → ((v.role u).inside ≡ Some m) × IsEmpty v.lock m
+  still_emptied : (u : ℕ) (m : Line) → (v.role u).empty ≡ Some m → ((v.role u).inside ≡ Some m)
+      × IsEmpty v.lock m
   still_emptied u m e = elim (cases_eq u t) [
     | inl f ↦ rw (f, role.here) (local.emptied m (rw (f, role.here) at e))
-    | inr ne ↦ let was = h.emptied u m (rw (role.other u ne) at e) in rw (role.other u ne) (was.0, stays_empty u m ne was.0 was.1)
+    | inr ne ↦ let was = h.emptied u m (rw (role.other u ne) at e) in rw (role.other u ne) (
+      was.0,
+      stays_empty u m ne was.0 was.1,
+    )
   ]
 
   -- another that took waiters is inside, so t can't have filled the line
-  hands_on : (u : ℕ) → u ≢ t → (s.role u).covers ≡ true → v.lock.queue ≢ [] → (x : ℕ) × (counts_taken r.sort u (v.lock.taken x) ≡ true)
+  hands_on : (u : ℕ) → u ≢ t → (s.role u).covers ≡ true → v.lock.queue ≢ [] → (x : ℕ)
+      × (counts_taken r.sort u (v.lock.taken x) ≡ true)
   hands_on u ne c left =
       let was = h.covered u c in
       let one = was.2 (λ none. left (stays_empty u Main ne was.0 none)) in
       (one.0, local.others_carry one.0 u ne one.1)
 
-  still_covered : (u : ℕ) → (v.role u).covers ≡ true → ((v.role u).inside ≡ Some Main) × ((v.role u).carries ≡ true) × (v.lock.queue ≢ [] → (x : ℕ) × (counts_taken r.sort u (v.lock.taken x) ≡ true))
+  still_covered : (u : ℕ) → (v.role u).covers ≡ true → ((v.role u).inside ≡ Some Main)
+      × ((v.role u).carries ≡ true) × (v.lock.queue ≢ [] → (x : ℕ)
+      × (counts_taken r.sort u (v.lock.taken x) ≡ true))
   still_covered u c = elim (cases_eq u t) [
     | inl f ↦ rw (f, role.here) (local.covered (rw (f, role.here) at c))
-    | inr ne ↦ let was = h.covered u (rw (role.other u ne) at c) in rw (role.other u ne) (was.0, was.1, hands_on u ne (rw (role.other u ne) at c))
+    | inr ne ↦ let was = h.covered u (rw (role.other u ne) at c) in rw (role.other u ne) (
+      was.0,
+      was.1,
+      hands_on u ne (rw (role.other u ne) at c),
+    )
   ]
 
   still_carried : (x : ℕ) (a : Taken) → v.lock.taken x ≡ Some a → (v.role a.by).carries ≡ true
@@ -93,7 +116,8 @@ module _ (r : Rules) (s v : Site) (t : ℕ) (d d2 : Role) (h : IsSite r s) (is :
     | inr k ↦ rw (role.other a.by k.0) (h.carried x a k.1)
   ]
 
-  still_brought : (u : ℕ) → (v.role u).brings ≡ true → ((v.role u).inside ≡ Some Main) × (v.parked ≡ true) × (r.sort ≡ Mutex)
+  still_brought : (u : ℕ) → (v.role u).brings ≡ true → ((v.role u).inside ≡ Some Main) × (v.parked ≡ true)
+      × (r.sort ≡ Mutex)
   still_brought u e = elim (cases_eq u t) [
     | inl f ↦ rw (f, role.here) (local.brought (rw (f, role.here) at e))
     | inr ne ↦ let was = h.brought u (rw (role.other u ne) at e) in rw (role.other u ne) (
@@ -143,7 +167,8 @@ module _ (r : Rules) (s v : Site) (t : ℕ) (d d2 : Role) (h : IsSite r s) (is :
   ]
 
   -- a debtor is one still
-  other_debtor : ((u : ℕ) × IsDebtorRole r.sort (s.role u)) → (IsDebtorRole r.sort d → IsDebtorRole r.sort d2) → (u : ℕ) × IsDebtorRole r.sort (v.role u)
+  other_debtor : ((u : ℕ) × IsDebtorRole r.sort (s.role u)) → (IsDebtorRole r.sort d → IsDebtorRole r.sort d2)
+      → (u : ℕ) × IsDebtorRole r.sort (v.role u)
   other_debtor one still = elim (cases_eq one.0 t) [
     | inl e ↦ (t, rw role.here (still (rw (e, is) at one.1)))
     | inr ne ↦ (one.0, rw (role.other one.0 ne) one.1)
@@ -156,7 +181,8 @@ module _ (r : Rules) (s v : Site) (t : ℕ) (d d2 : Role) (h : IsSite r s) (is :
       either false e = refl
       either true e = absurd (let g = local.filled e in cc)
 
-  awaited : (s.lock.queue ≢ []) ⊎ (d.brings ≡ true) → (s.lock.queue ≢ []) ⊎ ((u : ℕ) × ((s.role u).brings ≡ true))
+  awaited : (s.lock.queue ≢ []) ⊎ (d.brings ≡ true) → (s.lock.queue ≢ [])
+      ⊎ ((u : ℕ) × ((s.role u).brings ≡ true))
   awaited (inl k) = inl k
   awaited (inr k) = inr (t, rw is k)
 
@@ -165,14 +191,17 @@ module _ (r : Rules) (s v : Site) (t : ℕ) (d d2 : Role) (h : IsSite r s) (is :
   in_debt e (inl covers) = inr (inl covers)
   in_debt e (inr wakes) = inl wakes.1
 
-  own_main : (v.lock.queue ≢ []) ⊎ (d2.brings ≡ true) → IsOpen r.sort v.lock → v.filled ≡ false → (u : ℕ) × IsDebtorRole r.sort (v.role u)
+  own_main : (v.lock.queue ≢ []) ⊎ (d2.brings ≡ true) → IsOpen r.sort v.lock → v.filled ≡ false → (u : ℕ)
+      × IsDebtorRole r.sort (v.role u)
   own_main one free room = elim (local.main one free room) [
     | inl own ↦ (t, rw role.here own)
     | inr (inl k) ↦ other_debtor (h.main (awaited k.0) k.1 (unfilled room)) k.2
-    | inr (inr k) ↦ let sets = other_sets k.0 k.1 k.2 in (sets.0, in_debt (v.role sets.0) (still_setting sets.0 sets.1))
+    | inr (inr k) ↦ let sets = other_sets k.0 k.1 k.2
+        in (sets.0, in_debt (v.role sets.0) (still_setting sets.0 sets.1))
   ]
 
-  still_main : (v.lock.queue ≢ []) ⊎ ((u : ℕ) × ((v.role u).brings ≡ true)) → IsOpen r.sort v.lock → v.filled ≡ false → (u : ℕ) × IsDebtorRole r.sort (v.role u)
+  still_main : (v.lock.queue ≢ []) ⊎ ((u : ℕ) × ((v.role u).brings ≡ true)) → IsOpen r.sort v.lock
+      → v.filled ≡ false → (u : ℕ) × IsDebtorRole r.sort (v.role u)
   still_main (inl left) free room = own_main (inl left) free room
   still_main (inr one) free room = elim (cases_eq one.0 t) [
     | inl e ↦ own_main (inr (rw (e, role.here) at one.1)) free room
@@ -185,7 +214,8 @@ module _ (r : Rules) (s v : Site) (t : ℕ) (d d2 : Role) (h : IsSite r s) (is :
         ]
   ]
 
-  other_waker : ((u : ℕ) × ((s.role u).wakes ≡ Some Second)) → d.wakes ≢ Some Second → (u : ℕ) × ((v.role u).wakes ≡ Some Second)
+  other_waker : ((u : ℕ) × ((s.role u).wakes ≡ Some Second)) → d.wakes ≢ Some Second → (u : ℕ)
+      × ((v.role u).wakes ≡ Some Second)
   other_waker one gone = elim (cases_eq one.0 t) [
     | inl e ↦ absurd (gone (rw (e, is) at one.1))
     | inr ne ↦ (one.0, rw (role.other one.0 ne) one.1)

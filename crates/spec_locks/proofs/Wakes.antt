@@ -1,9 +1,14 @@
 -- A thread leaves its section, and all that it has taken try again: what holds between steps holds again.
-use Rattle.std.proofs.Common.{ℕ, Bool, true, false, Option, Some, None, if◌then◌else◌, ◌==◌, ◌≡◌, ◌≢◌, ◌≤◌, ◌+◌, ◌⊎◌, inl, inr, [], refl, sym, ap, ◌∙◌, arith}
+use Rattle.std.proofs.Common.{ℕ, Bool, true, false, Option, Some, None, if◌then◌else◌, ◌==◌, ◌≡◌, ◌≢◌, ◌≤◌}
+use Rattle.std.proofs.Common.{◌+◌, ◌⊎◌, inl, inr, [], refl, sym, ap, ◌∙◌, arith}
 use Rattle.std.proofs.lemmas.Bool.{cases_eq}
 use Rattle.std.proofs.lemmas.Bool.Decides.{nat_tests}
-use Rattle.spec_locks.specs.Locks.{Taken, Sort, Mutex, Normal, Recursive, Semaphore, Once, Rules, Wake, readers, times, one_if_thread, standing, one_if_some, keep_from, let_go, putting, Condvar}
-use Rattle.spec_locks.specs.Sites.{Line, Main, Second, Claim, Role, Site, IsSite, IsEmpty, IsOpen, IsDebtorRole, LooksAfter, Holds, Out, Needed, after_deed, leaves, wakened, counts_some, counts_taken}
+use Rattle.spec_locks.specs.Locks.{Taken, Sort, Mutex, Normal, Recursive, Semaphore, Once, Rules, Wake}
+use Rattle.spec_locks.specs.Locks.{readers, times, one_if_thread, standing, one_if_some, keep_from, let_go}
+use Rattle.spec_locks.specs.Locks.{putting, Condvar}
+use Rattle.spec_locks.specs.Sites.{Line, Main, Second, Claim, Role, Site, IsSite, IsEmpty, IsOpen}
+use Rattle.spec_locks.specs.Sites.{IsDebtorRole, LooksAfter, Holds, Out, Needed, after_deed, leaves, wakened}
+use Rattle.spec_locks.specs.Sites.{counts_some, counts_taken}
 use Rattle.spec_locks.proofs.LockKeeps.{case_keeps}
 use Rattle.spec_locks.proofs.Hands.{kept_few, kept_counts, kept_by}
 
@@ -19,24 +24,55 @@ pub record Alike (d e : Role) : Type 0 where
   pub sets : d.sets ≡ e.sets
 
 pub wakened_alike : (t : ℕ) (o : Option Taken) (d : Role) → Alike (wakened t o d) d
-wakened_alike t None d = record { inside = refl; wakes = refl; carries = refl; covers = refl; empty = refl; claims = refl; brings = refl; sets = refl }
+wakened_alike t None d = record {
+  inside = refl;
+  wakes = refl;
+  carries = refl;
+  covers = refl;
+  empty = refl;
+  claims = refl;
+  brings = refl;
+  sets = refl;
+}
 wakened_alike t (Some h) d = either (h.by == t)
   where
     either : (b : Bool) → Alike (if b then record d { retries = Some h.want } else d) d
-    either true = record { inside = refl; wakes = refl; carries = refl; covers = refl; empty = refl; claims = refl; brings = refl; sets = refl }
-    either false = record { inside = refl; wakes = refl; carries = refl; covers = refl; empty = refl; claims = refl; brings = refl; sets = refl }
+    either true = record {
+      inside = refl;
+      wakes = refl;
+      carries = refl;
+      covers = refl;
+      empty = refl;
+      claims = refl;
+      brings = refl;
+      sets = refl;
+    }
+    either false = record {
+      inside = refl;
+      wakes = refl;
+      carries = refl;
+      covers = refl;
+      empty = refl;
+      claims = refl;
+      brings = refl;
+      sets = refl;
+    }
 
 -- each thread that stays in hand, or was in none, doesn't try again by this
-pub unwakened : (t : ℕ) (o : Option Taken) (d : Role) → keep_from t o ≡ o → (wakened t o d).retries ≡ d.retries
+pub unwakened : (t : ℕ) (o : Option Taken) (d : Role) → keep_from t o ≡ o → (wakened t o d).retries
+    ≡ d.retries
 unwakened t None d e = refl
 unwakened t (Some h) d e = either (h.by == t) refl
   where
-    either : (b : Bool) → (h.by == t) ≡ b → (if b then record d { retries = Some h.want } else d).retries ≡ d.retries
+    either : (b : Bool) → (h.by == t) ≡ b → (if b then record d { retries = Some h.want } else d).retries
+        ≡ d.retries
     either false f = refl
-    either true f = absurd (let g : keep_from t (Some h) ≡ None = ap (λ b. if b then None else Some h) f in cc)
+    either true f = absurd (let g : keep_from t (Some h) ≡ None = ap (λ b. if b then None else Some h) f
+        in cc)
 
 -- Each waiter that is let go counts.
-wakened_counts : (sort : Sort) (t : ℕ) (o : Option Taken) (d : Role) → counts_taken sort t o ≡ true → counts_some sort (wakened t o d).retries ≡ true
+wakened_counts : (sort : Sort) (t : ℕ) (o : Option Taken) (d : Role) → counts_taken sort t o ≡ true
+    → counts_some sort (wakened t o d).retries ≡ true
 wakened_counts sort t None d c = absurd cc
 wakened_counts sort t (Some h) d c = grind (arith, nat_tests)
 
@@ -45,10 +81,12 @@ module _ (r : Rules) (s : Site) (t : ℕ) (h : IsSite r s) (n : Needed r Out s t
   v = after_deed r Out s t
 
   other : (u : ℕ) → u ≢ t → Alike (v.role u) (s.role u)
-  other u ne = let e : putting s.role t (leaves (s.role t)) u ≡ s.role u = grind (arith, nat_tests) in rw e (wakened_alike t (s.lock.taken u) (s.role u))
+  other u ne = let e : putting s.role t (leaves (s.role t)) u ≡ s.role u = grind (arith, nat_tests)
+      in rw e (wakened_alike t (s.lock.taken u) (s.role u))
 
   own : Alike (v.role t) (leaves (s.role t))
-  own = let e : putting s.role t (leaves (s.role t)) t ≡ leaves (s.role t) = grind (arith, nat_tests) in rw e (wakened_alike t (s.lock.taken t) (leaves (s.role t)))
+  own = let e : putting s.role t (leaves (s.role t)) t ≡ leaves (s.role t) = grind (arith, nat_tests)
+      in rw e (wakened_alike t (s.lock.taken t) (leaves (s.role t)))
 
   same_retries : (u : ℕ) → (putting s.role t (leaves (s.role t)) u).retries ≡ (s.role u).retries
   same_retries u = elim (cases_eq u t) [
@@ -95,8 +133,10 @@ module _ (r : Rules) (s : Site) (t : ℕ) (h : IsSite r s) (n : Needed r Out s t
         inr (one.0, (other one.0 ne).sets ∙ one.1)
   ]
 
-  still_brought : (u : ℕ) → (v.role u).brings ≡ true → ((v.role u).inside ≡ Some Main) × (s.parked ≡ true) × (r.sort ≡ Mutex)
-  still_brought u i = let k = brings_other u i in let was = h.brought u k.1 in ((other u k.0).inside ∙ was.0, was.1, was.2)
+  still_brought : (u : ℕ) → (v.role u).brings ≡ true → ((v.role u).inside ≡ Some Main) × (s.parked ≡ true)
+      × (r.sort ≡ Mutex)
+  still_brought u i = let k = brings_other u i in let was = h.brought u k.1
+      in ((other u k.0).inside ∙ was.0, was.1, was.2)
 
   still_setting : (u : ℕ) → (v.role u).sets ≡ true → LooksAfter r.sort (v.role u)
   still_setting u i = let k = sets_other u i in elim (h.setting u k.1) [
@@ -104,7 +144,8 @@ module _ (r : Rules) (s : Site) (t : ℕ) (h : IsSite r s) (n : Needed r Out s t
     | inr wakes ↦ inr (wakes.0, (other u k.0).wakes ∙ wakes.1)
   ]
 
-  was_awaited : (v.lock.queue ≢ []) ⊎ ((u : ℕ) × ((v.role u).brings ≡ true)) → (s.lock.queue ≢ []) ⊎ ((u : ℕ) × ((s.role u).brings ≡ true))
+  was_awaited : (v.lock.queue ≢ []) ⊎ ((u : ℕ) × ((v.role u).brings ≡ true)) → (s.lock.queue ≢ [])
+      ⊎ ((u : ℕ) × ((s.role u).brings ≡ true))
   was_awaited (inl k) = inl k
   was_awaited (inr one) = inr (one.0, (brings_other one.0 one.1).1)
 
@@ -117,12 +158,20 @@ module _ (r : Rules) (s : Site) (t : ℕ) (h : IsSite r s) (n : Needed r Out s t
   same_holds : (u : ℕ) (c : Claim) → Holds s.lock u c → Holds v.lock u c
   same_holds u c k = grind arith
 
-  still_emptied : (u : ℕ) (m : Line) → (v.role u).empty ≡ Some m → ((v.role u).inside ≡ Some m) × IsEmpty v.lock m
-  still_emptied u m e = let k = empty_other u m e in let was = h.emptied u m k.1 in ((other u k.0).inside ∙ was.0, grind arith)
+  still_emptied : (u : ℕ) (m : Line) → (v.role u).empty ≡ Some m → ((v.role u).inside ≡ Some m)
+      × IsEmpty v.lock m
+  still_emptied u m e = let k = empty_other u m e in let was = h.emptied u m k.1
+      in ((other u k.0).inside ∙ was.0, grind arith)
 
-  still_covered : (u : ℕ) → (v.role u).covers ≡ true → ((v.role u).inside ≡ Some Main) × ((v.role u).carries ≡ true) × (v.lock.queue ≢ [] → (x : ℕ) × (counts_taken r.sort u (v.lock.taken x) ≡ true))
-  still_covered u c = let k = covers_other u c in let was = h.covered u k.1 in
-      ((other u k.0).inside ∙ was.0, (other u k.0).carries ∙ was.1, λ left. let one = was.2 left in (one.0, kept_counts r.sort t u (s.lock.taken one.0) k.0 one.1))
+  still_covered : (u : ℕ) → (v.role u).covers ≡ true → ((v.role u).inside ≡ Some Main)
+      × ((v.role u).carries ≡ true) × (v.lock.queue ≢ [] → (x : ℕ)
+      × (counts_taken r.sort u (v.lock.taken x) ≡ true))
+  still_covered u c = let k = covers_other u c in let was = h.covered u k.1 in (
+    (other u k.0).inside ∙ was.0,
+    (other u k.0).carries ∙ was.1,
+    λ left. let one = was.2 left
+        in (one.0, kept_counts r.sort t u (s.lock.taken one.0) k.0 one.1),
+  )
 
   still_carried : (u : ℕ) (a : Taken) → v.lock.taken u ≡ Some a → (v.role a.by).carries ≡ true
   still_carried u a e = let k = kept_by t (s.lock.taken u) a e in (other a.by k.0).carries ∙ h.carried u a k.1
@@ -138,15 +187,21 @@ module _ (r : Rules) (s : Site) (t : ℕ) (h : IsSite r s) (n : Needed r Out s t
           either : (b : Bool) → (a.by == t) ≡ b → (if b then None else Some a) ≡ Some a
           either false g = refl
           either true g = absurd (
-              let one : times u s.lock.queue + one_if_thread u s.lock.aside + one_if_some (Some a) ≤ 1 = rw f at (h.state.once u) in
-              let two : 1 ≤ times u s.lock.queue + one_if_thread u s.lock.aside + one_if_some (keep_from t (Some a)) = rw f at e in
-              let three : one_if_some (keep_from t (Some a)) ≡ 0 = ap (λ b. one_if_some (if b then None else Some a)) g in
+              let one : times u s.lock.queue + one_if_thread u s.lock.aside + one_if_some (Some a) ≤ 1 =
+              rw f at (h.state.once u) in
+              let two : 1 ≤ times u s.lock.queue + one_if_thread u s.lock.aside + one_if_some
+              (keep_from t (Some a)) = rw f at e in
+              let three : one_if_some (keep_from t (Some a)) ≡ 0 =
+              ap (λ b. one_if_some (if b then None else Some a)) g in
               omega arith)
 
   still_unwoken : (u : ℕ) → 1 ≤ standing u v.lock → (v.role u).retries ≡ None
   still_unwoken u e =
-      let stood : 1 ≤ standing u s.lock = (let k = kept_few t (s.lock.taken u) in let g : 1 ≤ times u s.lock.queue + one_if_thread u s.lock.aside + one_if_some (let_go t s.lock.taken u) = e in omega arith) in
-      unwakened t (s.lock.taken u) (putting s.role t (leaves (s.role t)) u) (still_there u e) ∙ same_retries u ∙ h.unwoken u stood
+      let stood : 1 ≤ standing u s.lock = (let k = kept_few t (s.lock.taken u)
+      in let g : 1 ≤ times u s.lock.queue + one_if_thread u s.lock.aside
+      + one_if_some (let_go t s.lock.taken u) = e in omega arith) in
+      unwakened t (s.lock.taken u) (putting s.role t (leaves (s.role t)) u) (still_there u e) ∙ same_retries u
+      ∙ h.unwoken u stood
 
   was_open : (sort : Sort) → IsOpen sort v.lock → IsOpen sort s.lock
   was_open Mutex e = e
@@ -157,32 +212,52 @@ module _ (r : Rules) (s : Site) (t : ℕ) (h : IsSite r s) (n : Needed r Out s t
   was_open Condvar e = e
 
   -- a thread that tries again is in nobody's hand
-  in_no_hand : (u : ℕ) → counts_some r.sort (s.role u).retries ≡ true → (o : Option Taken) → s.lock.taken u ≡ o → keep_from t o ≡ o
+  in_no_hand : (u : ℕ) → counts_some r.sort (s.role u).retries ≡ true → (o : Option Taken) → s.lock.taken u
+      ≡ o → keep_from t o ≡ o
   in_no_hand u c None e = refl
   in_no_hand u c (Some a) e = absurd (
-      let stood : 1 ≤ standing u s.lock = (let k : standing u s.lock ≡ times u s.lock.queue + one_if_thread u s.lock.aside + 1 = ap (λ (o : Option Taken). times u s.lock.queue + one_if_thread u s.lock.aside + one_if_some o) e in omega arith) in
+      let stood : 1 ≤ standing u s.lock =
+      (let k : standing u s.lock ≡ times u s.lock.queue + one_if_thread u s.lock.aside + 1 =
+      ap (λ (o : Option Taken). times u s.lock.queue + one_if_thread u s.lock.aside + one_if_some o) e
+      in omega arith) in
       let g : counts_some r.sort None ≡ true = rw (h.unwoken u stood) at c in
       cc)
 
   -- where t covers, it is alone inside, so nobody else brings
-  left_by : (v.lock.queue ≢ []) ⊎ ((u : ℕ) × ((v.role u).brings ≡ true)) → (s.role t).covers ≡ true → s.lock.queue ≢ []
+  left_by : (v.lock.queue ≢ []) ⊎ ((u : ℕ) × ((v.role u).brings ≡ true)) → (s.role t).covers ≡ true
+      → s.lock.queue ≢ []
   left_by (inl k) c = k
-  left_by (inr one) c = let b = brings_other one.0 one.1 in absurd (b.0 (h.alone one.0 t Main (h.brought one.0 b.1).0 (h.covered t c).0))
+  left_by (inr one) c = let b = brings_other one.0 one.1
+      in absurd (b.0 (h.alone one.0 t Main (h.brought one.0 b.1).0 (h.covered t c).0))
 
-  still_main : (v.lock.queue ≢ []) ⊎ ((u : ℕ) × ((v.role u).brings ≡ true)) → IsOpen r.sort v.lock → v.filled ≡ false → (u : ℕ) × IsDebtorRole r.sort (v.role u)
-  still_main left free room = let one = h.main (was_awaited left) (was_open r.sort free) room in by_debt one.0 one.1
+  still_main : (v.lock.queue ≢ []) ⊎ ((u : ℕ) × ((v.role u).brings ≡ true)) → IsOpen r.sort v.lock
+      → v.filled ≡ false → (u : ℕ) × IsDebtorRole r.sort (v.role u)
+  still_main left free room = let one = h.main (was_awaited left) (was_open r.sort free) room
+      in by_debt one.0 one.1
     where
       by_debt : (u : ℕ) → IsDebtorRole r.sort (s.role u) → (x : ℕ) × IsDebtorRole r.sort (v.role x)
-      by_debt u (inl w) = let ne : u ≢ t = (λ e. let k : (s.role t).wakes ≡ Some Main = rw e at w in let g = n.1 in cc) in (u, inl ((other u ne).wakes ∙ w))
+      by_debt u (inl w) = let ne : u ≢ t = (λ e. let k : (s.role t).wakes ≡ Some Main = rw e at w in let g =
+          n.1 in cc) in (u, inl ((other u ne).wakes ∙ w))
       by_debt u (inr (inl c)) = elim (cases_eq u t) [
-        | inl e ↦ let one = (h.covered t (rw e at c)).2 (left_by left (rw e at c)) in (one.0, inr (inr (wakened_counts r.sort t (s.lock.taken one.0) (putting s.role t (leaves (s.role t)) one.0) one.1)))
+        | inl e ↦ let one = (h.covered t (rw e at c)).2 (left_by left (rw e at c))
+            in (
+              one.0,
+              inr (inr (wakened_counts r.sort t (s.lock.taken one.0)
+                  (putting s.role t (leaves (s.role t)) one.0) one.1)),
+            )
         | inr ne ↦ (u, inr (inl ((other u ne).covers ∙ c)))
       ]
-      by_debt u (inr (inr c)) = (u, inr (inr (ap (counts_some r.sort) (unwakened t (s.lock.taken u) (putting s.role t (leaves (s.role t)) u) (in_no_hand u c (s.lock.taken u) refl) ∙ same_retries u) ∙ c)))
+      by_debt u (inr (inr c)) = (
+        u,
+        inr (inr (ap (counts_some r.sort)
+            (unwakened t (s.lock.taken u) (putting s.role t (leaves (s.role t)) u)
+            (in_no_hand u c (s.lock.taken u) refl) ∙ same_retries u) ∙ c)),
+      )
 
   still_second : v.lock.aside ≢ None → readers v.lock ≡ 0 → (u : ℕ) × ((v.role u).wakes ≡ Some Second)
   still_second stands none = let one = h.second stands none in
-      let ne : one.0 ≢ t = (λ e. let k : (s.role t).wakes ≡ Some Second = rw e at one.1 in let g = n.1 in cc) in (one.0, (other one.0 ne).wakes ∙ one.1)
+      let ne : one.0 ≢ t = (λ e. let k : (s.role t).wakes ≡ Some Second = rw e at one.1 in let g = n.1 in cc)
+      in (one.0, (other one.0 ne).wakes ∙ one.1)
 
   pub out_keeps : IsSite r v
   out_keeps = record {

@@ -8,7 +8,8 @@ use Rattle.spec_locks.specs.declared.calls.Call.{Call}
 use Rattle.spec_locks.specs.declared.calls.Call.TheVariants as call
 use Rattle.spec_locks.specs.declared.calls.CondvarCall.TheVariants.{Wait, Notify}
 use Rattle.spec_locks.specs.declared.calls.Downgrade.TheVariants.{ToShared, ToUpgradable, UpgradableToShared}
-use Rattle.spec_locks.specs.declared.calls.MutexCall.TheVariants.{Lock, LockTimed, TryLock, Unlock, UnlockFair, Bump}
+use Rattle.spec_locks.specs.declared.calls.MutexCall.TheVariants.{Lock, LockTimed, TryLock, Unlock}
+use Rattle.spec_locks.specs.declared.calls.MutexCall.TheVariants.{UnlockFair, Bump}
 use Rattle.spec_locks.specs.declared.calls.OnceCall.TheVariants as once
 use Rattle.spec_locks.specs.declared.calls.RwLockCall.TheVariants as rwlock
 use Rattle.spec_locks.specs.declared.calls.SemaphoreCall.TheVariants as semaphore
@@ -16,13 +17,18 @@ use Rattle.spec_locks.specs.declared.calls.Turn.{Turn}
 use Rattle.spec_locks.specs.declared.calls.Turn.TheVariants as turn
 use Rattle.spec_locks.specs.declared.calls.Turn.TheVariants.{Begin, Go, Late, Spin}
 use Rattle.spec_locks.specs.declared.outcomes.Answer.{Answer}
-use Rattle.spec_locks.specs.declared.outcomes.Answer.TheVariants.{Ok, Yes, No, Notified, TimedOut, Number, ReadersFull, Failed, Poisoned as IsPoisoned, TwoMutexes}
+use Rattle.spec_locks.specs.declared.outcomes.Answer.TheVariants.{Ok, Yes, No, Notified, TimedOut, Number}
+use Rattle.spec_locks.specs.declared.outcomes.Answer.TheVariants.{ReadersFull, Failed, Poisoned as IsPoisoned}
+use Rattle.spec_locks.specs.declared.outcomes.Answer.TheVariants.{TwoMutexes}
 use Rattle.spec_locks.specs.Calls.{lock_in}
 use Rattle.spec_locks.specs.Kinds.{has_call, is_fair}
 use Rattle.spec_locks.specs.Onces.{Done, Poisoned}
-use Rattle.spec_locks.specs.Locks.{Mutex, Rights, IsBlocked, IsFree, Owns, count, putting, readers, with_right}
-use Rattle.spec_locks.specs.Purposes.{Purpose, Enters, Releases, Converts, Bumps, CallsOnce, Awaits, Waits, Notifies, HasMoved, Patient, Timed, Try}
-use Rattle.spec_locks.specs.Runs.{LocksState, CallState, HasRight, IsNotified, MayBeLate, MayGo, MovedNobody, rights_in, rules_at}
+use Rattle.spec_locks.specs.Locks.{Mutex, Rights, IsBlocked, IsFree, Owns, count, putting, readers}
+use Rattle.spec_locks.specs.Locks.{with_right}
+use Rattle.spec_locks.specs.Purposes.{Purpose, Enters, Releases, Converts, Bumps, CallsOnce, Awaits, Waits}
+use Rattle.spec_locks.specs.Purposes.{Notifies, HasMoved, Patient, Timed, Try}
+use Rattle.spec_locks.specs.Runs.{LocksState, CallState, HasRight, IsNotified, MayBeLate, MayGo, MovedNobody}
+use Rattle.spec_locks.specs.Runs.{rights_in, rules_at}
 
 -- ---------------------------------------------------------------- goals
 

@@ -1,8 +1,12 @@
 -- The word of a lock, and what a thread reads in it.
-use Rattle.std.specs.Prelude.{ℕ, Bool, true, false, Option, Some, None, if◌then◌else◌, ◌==◌, ◌&&◌, ◌||◌, not, ◌+◌, ◌-◌, ◌*◌, ◌/◌, ◌%◌, ◌<◌, ◌≤◌, ◌≡◌, length, nat_le}
+use Rattle.std.specs.Prelude.{ℕ, Bool, true, false, Option, Some, None, if◌then◌else◌, ◌==◌, ◌&&◌, ◌||◌, not}
+use Rattle.std.specs.Prelude.{◌+◌, ◌-◌, ◌*◌, ◌/◌, ◌%◌, ◌<◌, ◌≤◌, ◌≡◌, length, nat_le}
 use Rattle.core_base.specs.declared.wants.Want.{Want}
 use Rattle.core_base.specs.declared.wants.Want.TheVariants.{Exclusive, Upgradable, Shared}
-use Rattle.spec_locks.specs.Locks.{LockState, Pending, Sort, Mutex, Normal, Recursive, Semaphore, Once, Condvar, Rules, LockCase, Enter, Pend, Leave, Convert, HandOff, Rollback, Knows, NoWriter, IsFree, IsBlocked, is_recursive, count, readers, one_if_some, Needs, IsLockState}
+use Rattle.spec_locks.specs.Locks.{LockState, Pending, Sort, Mutex, Normal, Recursive, Semaphore, Once}
+use Rattle.spec_locks.specs.Locks.{Condvar, Rules, LockCase, Enter, Pend, Leave, Convert, HandOff, Rollback}
+use Rattle.spec_locks.specs.Locks.{Knows, NoWriter, IsFree, IsBlocked, is_recursive, count, readers}
+use Rattle.spec_locks.specs.Locks.{one_if_some, Needs, IsLockState}
 use Rattle.spec_locks.specs.Onces.{phase_code}
 use Rattle.spec_locks.specs.Locks as locks
 use Rattle.spec_locks.specs.Sites.{Site, IsSite, Case, Needed, after_deed, has_readers}

@@ -1,6 +1,7 @@
 -- The abstract condition variable, and what a thread inside its section does. No word, no place and
 -- no loop.
-use Rattle.std.specs.Prelude.{ℕ, Bool, true, false, Option, Some, None, if◌then◌else◌, ◌≤◌, ◌≡◌, ◌≢◌, ◌⊎◌, List, [], ◌∷◌, ◌++◌, map, take, drop}
+use Rattle.std.specs.Prelude.{ℕ, Bool, true, false, Option, Some, None, if◌then◌else◌, ◌≤◌, ◌≡◌, ◌≢◌, ◌⊎◌}
+use Rattle.std.specs.Prelude.{List, [], ◌∷◌, ◌++◌, map, take, drop}
 use Rattle.core_base.specs.declared.wants.Want.TheVariants.{Exclusive, Wait}
 use Rattle.spec_locks.specs.Locks.{Queued, Mutex, Rules, putting, times, standing, without}
 use Rattle.spec_locks.specs.Sites.{Main, Site, Bring, Needed, is_empty}

@@ -1,16 +1,19 @@
 -- The guarantees of each state: exclusion, quiescence, no stuck world, what condition variables show, what
 -- their sleepers own, which thread runs a `Once`, and that a fair mutex is kept for its waiters.
-use Rattle.std.specs.Prelude.{ℕ, Bool, true, false, None, Some, ◌||◌, ◌≡◌, ◌≢◌, ◌≤◌, ◌⊎◌, ◌↔◌, List, length, get_or}
+use Rattle.std.specs.Prelude.{ℕ, Bool, true, false, None, Some, ◌||◌, ◌≡◌, ◌≢◌, ◌≤◌, ◌⊎◌, ◌↔◌, List, length}
+use Rattle.std.specs.Prelude.{get_or}
 use Rattle.core_base.specs.declared.wants.Want.TheVariants.{Exclusive}
 use Rattle.spec_locks.specs.declared.kinds.Kind.{Kind}
 use Rattle.spec_locks.specs.declared.kinds.Kind.TheVariants as kind
 use Rattle.spec_locks.specs.CallTable.{Trades}
 use Rattle.spec_locks.specs.Kinds.{is_fair}
 use Rattle.spec_locks.specs.Onces.{Done, InProgress, IsRunning}
-use Rattle.spec_locks.specs.Locks.{Sort, Mutex, Normal, Recursive, Semaphore, Once, Condvar, LockState, has_caller, readers, standing, times}
+use Rattle.spec_locks.specs.Locks.{Sort, Mutex, Normal, Recursive, Semaphore, Once, Condvar, LockState}
+use Rattle.spec_locks.specs.Locks.{has_caller, readers, standing, times}
 use Rattle.spec_locks.specs.Purposes.{CallsOnce, Waits}
 use Rattle.spec_locks.specs.Sites.{has_readers, is_full}
-use Rattle.spec_locks.specs.Runs.{LocksState, Status, AreLockStates, IsNotified, IsOpening, LetsGo, MayGo, ShowsWaiters, rules_at}
+use Rattle.spec_locks.specs.Runs.{LocksState, Status, AreLockStates, IsNotified, IsOpening, LetsGo, MayGo}
+use Rattle.spec_locks.specs.Runs.{ShowsWaiters, rules_at}
 
 -- ---------------------------------------------------------------- a world at rest
 

@@ -1,6 +1,7 @@
 -- The guarantees of each step: turns that are refused where they aren't possible, true answers, calls that go
 -- on as they began, rights that change by their owner's call, and queues that keep their order.
-use Rattle.std.specs.Prelude.{ℕ, Bool, true, None, Some, if◌then◌else◌, ◌≡◌, ◌≢◌, ◌≤◌, ◌⊎◌, ◌↔◌, List, [], ◌∷◌, ◌++◌, drop, length}
+use Rattle.std.specs.Prelude.{ℕ, Bool, true, None, Some, if◌then◌else◌, ◌≡◌, ◌≢◌, ◌≤◌, ◌⊎◌, ◌↔◌, List, []}
+use Rattle.std.specs.Prelude.{◌∷◌, ◌++◌, drop, length}
 use Rattle.spec_locks.specs.declared.calls.Call.{Call}
 use Rattle.spec_locks.specs.declared.calls.Step.{Step}
 use Rattle.spec_locks.specs.declared.calls.Turn.TheVariants.{Begin, Late, Ok, Err}
@@ -13,7 +14,8 @@ use Rattle.spec_locks.specs.Kinds.{is_fair}
 use Rattle.spec_locks.specs.Locks.{Queued, TakesOneAtATime, first_thread, times}
 use Rattle.spec_locks.specs.Onces.{New, Poisoned, InProgress, Done}
 use Rattle.spec_locks.specs.Purposes.{CallsOnce, HasMoved, MayWait, Notifies, Saw, Waits}
-use Rattle.spec_locks.specs.Runs.{LocksState, CallState, IsNotified, MayWake, is_closure, is_taken_by, new_call, no_call, rights_in, rules_at}
+use Rattle.spec_locks.specs.Runs.{LocksState, CallState, IsNotified, MayWake, is_closure, is_taken_by}
+use Rattle.spec_locks.specs.Runs.{new_call, no_call, rights_in, rules_at}
 use Rattle.spec_locks.specs.CallTable.{IsPossible, IsTrue, MayChange, goal_of}
 use Rattle.spec_locks.specs.CondvarLaws.{NobodyWakesByItself}
 use Rattle.spec_locks.specs.UserLaws.{ReadersStayOut}
@@ -59,7 +61,8 @@ pub record Recalls (w : LocksState) (t : ℕ) (now : CallState) : Type 0 where
   pub gave_up : (now.gave_up ≡ (w.calls t).gave_up) ⊎ ((w.calls t).late ≡ true)
   pub notified : IsNotified now.recalls → IsNotified (w.calls t).recalls
 
--- what a call recalls now: a notification, the mutex that it saw shown, and how many it has moved, the first or
+-- what a call recalls now: a notification, the mutex that it saw shown, and how many it has moved, the first
+-- or
 -- all that stood there; a call of a `Once`, that the run of its thread left that poisoned
 pub record RecallsTruly (w v : LocksState) (t : ℕ) (now : CallState) : Type 0 where
   pub saw : (m : ℕ) → now.recalls ≡ Saw m → ((w.calls t).recalls ≡ Saw m)

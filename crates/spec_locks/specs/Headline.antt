@@ -1,7 +1,9 @@
--- The headline, the second page: what any list of steps comes to is a run of the abstract locks, and each waiter
+-- The headline, the second page: what any list of steps comes to is a run of the abstract locks, and each
+-- waiter
 -- whose way nobody bars has a thread that looks after it. There is no word here, no place of a call, and no
 -- queue of the machine. The first page is Guarantees, which follows of this one.
-use Rattle.std.specs.Prelude.{ℕ, Bool, true, false, Option, Some, None, ◌≡◌, ◌≢◌, ◌≤◌, ◌<◌, ◌-◌, ◌⊎◌, ◌↔◌, List, [], ◌∷◌}
+use Rattle.std.specs.Prelude.{ℕ, Bool, true, false, Option, Some, None, ◌≡◌, ◌≢◌, ◌≤◌, ◌<◌, ◌-◌, ◌⊎◌, ◌↔◌}
+use Rattle.std.specs.Prelude.{List, [], ◌∷◌}
 use Rattle.core_base.specs.declared.keys.Keys.TheVariants.{One}
 use Rattle.core_base.specs.declared.wants.Want.{Want}
 use Rattle.core_base.specs.declared.wants.Want.TheVariants.{Exclusive, Upgradable}
@@ -12,10 +14,14 @@ use Rattle.spec_locks.specs.declared.outcomes.Outcome.{Outcome}
 use Rattle.spec_locks.specs.CallTable.{Trades}
 use Rattle.spec_locks.specs.Kinds.{is_fair}
 use Rattle.spec_locks.specs.Onces.{Done, InProgress}
-use Rattle.spec_locks.specs.Locks.{Sort, Semaphore, Once, Condvar, LockState, Rules, Taken, Owns, IsSomePending, readers, standing, times}
-use Rattle.spec_locks.specs.Purposes.{Purpose, Enters, Releases, Converts, Bumps, CallsOnce, Awaits, Waits, Notifies, Recall, Blank, Saw, SawOwner, HasMoved, WasMoved, WasNotified, MayWait}
+use Rattle.spec_locks.specs.Locks.{Sort, Semaphore, Once, Condvar, LockState, Rules, Taken, Owns}
+use Rattle.spec_locks.specs.Locks.{IsSomePending, readers, standing, times}
+use Rattle.spec_locks.specs.Purposes.{Purpose, Enters, Releases, Converts, Bumps, CallsOnce, Awaits, Waits}
+use Rattle.spec_locks.specs.Purposes.{Notifies, Recall, Blank, Saw, SawOwner, HasMoved, WasMoved, WasNotified}
+use Rattle.spec_locks.specs.Purposes.{MayWait}
 use Rattle.spec_locks.specs.Sites.{Line, Main, Second, IsOpen, counts_some, has_readers}
-use Rattle.spec_locks.specs.Runs.{LocksState, Status, AreLockStates, IsNotified, IsStep, LetsGo, ShowsWaiters, rules_at}
+use Rattle.spec_locks.specs.Runs.{LocksState, Status, AreLockStates, IsNotified, IsStep, LetsGo, ShowsWaiters}
+use Rattle.spec_locks.specs.Runs.{rules_at}
 pub use Rattle.spec_locks.specs.EachState.{IsUp, Opens, full_by, sort_in}
 
 -- ---------------------------------------------------------------- threads that wake the next waiter

@@ -1,7 +1,8 @@
 -- The kinds of lock.
 use Rattle.std.specs.Prelude.{ℕ, Bool, true, false, ◌&&◌, nat_le}
 use Rattle.spec_locks.specs.declared.kinds.Kind.{Kind}
-use Rattle.spec_locks.specs.declared.kinds.Kind.TheVariants.{Mutex, Fair, RwLock, Recursive, Condvar, Once, Semaphore}
+use Rattle.spec_locks.specs.declared.kinds.Kind.TheVariants.{Mutex, Fair, RwLock, Recursive, Condvar, Once}
+use Rattle.spec_locks.specs.declared.kinds.Kind.TheVariants.{Semaphore}
 use Rattle.spec_locks.specs.declared.calls.Call.{Call}
 use Rattle.spec_locks.specs.declared.calls.Call as call
 use Rattle.spec_locks.specs.declared.kinds.TheConstants.{MOST_READERS, MOST_PERMITS}

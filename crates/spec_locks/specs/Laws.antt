@@ -11,7 +11,8 @@ use Rattle.spec_locks.specs.declared.outcomes.Answer as answer
 use Rattle.spec_locks.specs.declared.outcomes.Outcome as outcome
 use Rattle.spec_locks.specs.Locks.{Wake, Enter, IsFree, opening_lock}
 use Rattle.spec_locks.specs.Purposes.{Enters, Releases, Try}
-use Rattle.spec_locks.specs.Runs.{LocksState, AtLock, MayHappen, MayTurn, IsStep, new_call, no_rights, rules_at}
+use Rattle.spec_locks.specs.Runs.{LocksState, AtLock, MayHappen, MayTurn, IsStep, new_call, no_rights}
+use Rattle.spec_locks.specs.Runs.{rules_at}
 
 -- a turn that is possible isn't refused
 abbrev pub PossibleTurnsAreTaken : Type 0

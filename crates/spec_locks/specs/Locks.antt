@@ -1,9 +1,12 @@
 -- The abstract locks: their owners, their waiters, and what one thread may do to a lock in one step.
-use Rattle.std.specs.Prelude.{ℕ, Bool, true, false, Option, Some, None, if◌then◌else◌, ◌==◌, ◌&&◌, ◌||◌, not, ◌+◌, ◌-◌, ◌<◌, ◌≤◌, ◌≡◌, ◌≢◌, ◌↔◌, List, [], ◌∷◌, ◌++◌, filter, sum, slice_index, slice_set, take, drop, length, replicate, find, is_some, ◌⊎◌}
+use Rattle.std.specs.Prelude.{ℕ, Bool, true, false, Option, Some, None, if◌then◌else◌, ◌==◌, ◌&&◌, ◌||◌, not}
+use Rattle.std.specs.Prelude.{◌+◌, ◌-◌, ◌<◌, ◌≤◌, ◌≡◌, ◌≢◌, ◌↔◌, List, [], ◌∷◌, ◌++◌, filter, sum}
+use Rattle.std.specs.Prelude.{slice_index, slice_set, take, drop, length, replicate, find, is_some, ◌⊎◌}
 use Rattle.std.specs.List.{prefix_len}
 use Rattle.core_base.specs.declared.wants.Want.{Want}
 use Rattle.core_base.specs.declared.wants.Want.TheVariants.{Exclusive, Upgradable, Shared, Wait, CallOnce}
-use Rattle.spec_locks.specs.Onces.{Phase, New, InProgress, OnceCase, Start, Finish, Fail, Rest, TakeAll, MayStart, MayRest, phase_after, wants_to_run}
+use Rattle.spec_locks.specs.Onces.{Phase, New, InProgress, OnceCase, Start, Finish, Fail, Rest, TakeAll}
+use Rattle.spec_locks.specs.Onces.{MayStart, MayRest, phase_after, wants_to_run}
 
 -- a thread in a queue, and what it wants
 pub record Queued : Type 0 where

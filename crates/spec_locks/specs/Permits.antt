@@ -1,5 +1,6 @@
 -- At a semaphore at least as many threads look after the line as permits are free.
-use Rattle.std.specs.Prelude.{ℕ, true, Option, Some, None, zero, suc, false, ◌+◌, ◌<◌, ◌≤◌, ◌≡◌, ◌≢◌, ◌⊎◌, [], length}
+use Rattle.std.specs.Prelude.{ℕ, true, Option, Some, None, zero, suc, false, ◌+◌, ◌<◌, ◌≤◌, ◌≡◌, ◌≢◌, ◌⊎◌, []}
+use Rattle.std.specs.Prelude.{length}
 use Rattle.spec_locks.specs.Locks.{Semaphore, Rules, readers, standing, one_if_some}
 use Rattle.spec_locks.specs.Sites.{Line, Main, Role, Site, IsSite, Deed, Needed, after_deed}
 use Rattle.spec_locks.specs.Codes.{bit}

@@ -23,7 +23,10 @@ use Rattle.spec_locks.specs.declared.calls.OnceCall.TheVariants as once_call
 use Rattle.spec_locks.specs.declared.calls.SemaphoreCall.{SemaphoreCall}
 use Rattle.spec_locks.specs.declared.calls.SemaphoreCall.TheVariants as semaphore_call
 use Rattle.spec_locks.specs.Onces.{Start, Rest}
-use Rattle.spec_locks.specs.Locks.{Rules, Mutex, Normal, Recursive, Once, Condvar, Semaphore, LockCase, Enter, Pend, Settle, Leave, Convert, Park, Aside, TakeFirst, TakeAside, TakePicked, Wake, HandOff, Late, Rollback, OfOnce, Look, Show, Hide, OfCondvar, SeeOwner}
+use Rattle.spec_locks.specs.Locks.{Rules, Mutex, Normal, Recursive, Once, Condvar, Semaphore, LockCase, Enter}
+use Rattle.spec_locks.specs.Locks.{Pend, Settle, Leave, Convert, Park, Aside, TakeFirst, TakeAside}
+use Rattle.spec_locks.specs.Locks.{TakePicked, Wake, HandOff, Late, Rollback, OfOnce, Look, Show, Hide}
+use Rattle.spec_locks.specs.Locks.{OfCondvar, SeeOwner}
 
 -- the goal of a call of a lock
 pub data Purpose : Type 0 where

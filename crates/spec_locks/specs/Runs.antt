@@ -1,7 +1,8 @@
 -- A run of the abstract locks: each step is one event, which is one case of one lock, a move of a
 -- condition variable's waiters to their mutex, or nothing; each answer is true, and a step is
 -- refused exactly where it isn't possible.
-use Rattle.std.specs.Prelude.{ℕ, Option, Some, None, ◌<◌, ◌≤◌, ◌≡◌, ◌≢◌, ◌⊎◌, List, [], ◌∷◌, ◌++◌, length, nat_le, Bool, true, false, if◌then◌else◌, ◌==◌, ◌*◌, ◌+◌, ◌↔◌}
+use Rattle.std.specs.Prelude.{ℕ, Option, Some, None, ◌<◌, ◌≤◌, ◌≡◌, ◌≢◌, ◌⊎◌, List, [], ◌∷◌, ◌++◌, length}
+use Rattle.std.specs.Prelude.{nat_le, Bool, true, false, if◌then◌else◌, ◌==◌, ◌*◌, ◌+◌, ◌↔◌}
 use Rattle.core_base.specs.declared.keys.Keys.{Keys}
 use Rattle.core_base.specs.declared.keys.Keys as keys
 use Rattle.core_base.specs.declared.keys.Line.TheVariants.{Main}
@@ -21,10 +22,18 @@ use Rattle.spec_locks.specs.declared.outcomes.OnceState.{OnceState}
 use Rattle.spec_locks.specs.declared.outcomes.OnceState as once_state
 use Rattle.spec_locks.specs.Calls.{lock_in}
 use Rattle.spec_locks.specs.Kinds.{is_plain_mutex}
-use Rattle.spec_locks.specs.Onces.{Phase, New, Poisoned, InProgress, Done, OnceCase, Start, Finish, Fail, Rest}
+use Rattle.spec_locks.specs.Onces.{Phase, New, Poisoned, InProgress, Done, OnceCase, Start, Finish, Fail}
+use Rattle.spec_locks.specs.Onces.{Rest}
 use Rattle.spec_locks.specs.Condvars.{moved_of, taken_of, line_of}
-use Rattle.spec_locks.specs.Locks.{LockState, Queued, taking, Taken, LockCase, Enter, Pend, Settle, Leave, Park, Aside, Wake, HandOff, Late, OfOnce, Look, OfCondvar, SeeOwner, Condvar, Rules, Rights, Mutex, Needs, after_case, rights_of, with_right, without_right, Owns, IsFree, IsBlocked, count, readers, putting, standing, HasTakenNobody, IsLockState, left_behind, opening_lock, times}
-use Rattle.spec_locks.specs.Purposes.{Purpose, Enters, Releases, Converts, Bumps, CallsOnce, Awaits, Waits, Notifies, Recall, Blank, Saw, SawOwner, HasMoved, WasMoved, WasNotified, Patience, Patient, Timed, Try, lock_for, purpose_of, rules_of, MayWait, IsMadeOf}
+use Rattle.spec_locks.specs.Locks.{LockState, Queued, taking, Taken, LockCase, Enter, Pend, Settle, Leave}
+use Rattle.spec_locks.specs.Locks.{Park, Aside, Wake, HandOff, Late, OfOnce, Look, OfCondvar, SeeOwner}
+use Rattle.spec_locks.specs.Locks.{Condvar, Rules, Rights, Mutex, Needs, after_case, rights_of, with_right}
+use Rattle.spec_locks.specs.Locks.{without_right, Owns, IsFree, IsBlocked, count, readers, putting, standing}
+use Rattle.spec_locks.specs.Locks.{HasTakenNobody, IsLockState, left_behind, opening_lock, times}
+use Rattle.spec_locks.specs.Purposes.{Purpose, Enters, Releases, Converts, Bumps, CallsOnce, Awaits, Waits}
+use Rattle.spec_locks.specs.Purposes.{Notifies, Recall, Blank, Saw, SawOwner, HasMoved, WasMoved, WasNotified}
+use Rattle.spec_locks.specs.Purposes.{Patience, Patient, Timed, Try, lock_for, purpose_of, rules_of, MayWait}
+use Rattle.spec_locks.specs.Purposes.{IsMadeOf}
 
 -- the memory of a call: what its answer needs of earlier steps, and whether it tries again
 pub record CallState : Type 0 where

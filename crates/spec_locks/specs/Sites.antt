@@ -1,11 +1,17 @@
 -- A lock of the lot: its abstract state, its parked bits, and what each thread does about it. No
 -- word, no place and no loop.
-use Rattle.std.specs.Prelude.{ℕ, Bool, true, false, Option, Some, None, if◌then◌else◌, ◌==◌, ◌&&◌, ◌||◌, not, ◌≤◌, ◌≡◌, ◌≢◌, ◌⊎◌, length, ◌<◌, List, [], ◌∷◌, ◌++◌, nat_le, is_none}
+use Rattle.std.specs.Prelude.{ℕ, Bool, true, false, Option, Some, None, if◌then◌else◌, ◌==◌, ◌&&◌, ◌||◌, not}
+use Rattle.std.specs.Prelude.{◌≤◌, ◌≡◌, ◌≢◌, ◌⊎◌, length, ◌<◌, List, [], ◌∷◌, ◌++◌, nat_le, is_none}
 pub use Rattle.core_base.specs.declared.keys.Line.{Line}
 pub use Rattle.core_base.specs.declared.keys.Line.TheVariants.{Main, Second}
 use Rattle.core_base.specs.declared.wants.Want.{Want}
 use Rattle.core_base.specs.declared.wants.Want.TheVariants.{Exclusive, Upgradable, Shared}
-use Rattle.spec_locks.specs.Locks.{LockState, Taken, Queued, Pending, Sort, Mutex, Normal, Recursive, Semaphore, Once, Condvar, Rules, LockCase, Enter, Pend, Settle, Leave, Convert, Park, Aside, TakeFirst, TakeAside, TakePicked, Wake, HandOff, Late, Rollback, OfOnce, OfCondvar, SeeOwner, Needs, Owns, NoWriter, IsLockState, KnowsAll, putting, taking, readers, count, times, standing, has_caller, keeps_more, wants_shared, left_behind, let_go, opening_lock}
+use Rattle.spec_locks.specs.Locks.{LockState, Taken, Queued, Pending, Sort, Mutex, Normal, Recursive}
+use Rattle.spec_locks.specs.Locks.{Semaphore, Once, Condvar, Rules, LockCase, Enter, Pend, Settle, Leave}
+use Rattle.spec_locks.specs.Locks.{Convert, Park, Aside, TakeFirst, TakeAside, TakePicked, Wake, HandOff}
+use Rattle.spec_locks.specs.Locks.{Late, Rollback, OfOnce, OfCondvar, SeeOwner, Needs, Owns, NoWriter}
+use Rattle.spec_locks.specs.Locks.{IsLockState, KnowsAll, putting, taking, readers, count, times, standing}
+use Rattle.spec_locks.specs.Locks.{has_caller, keeps_more, wants_shared, left_behind, let_go, opening_lock}
 use Rattle.spec_locks.specs.Onces.{InProgress, Done, IsRunning, OnceCase, Start, Finish, Fail, Rest, TakeAll}
 use Rattle.spec_locks.specs.Locks as locks
 

@@ -6,11 +6,15 @@ pub mod calls;
 pub mod kinds;
 pub mod outcomes;
 
-ghost use Rattle.spec_locks.specs.Laws.{CallsTakeSteps, FairReleasesHandOver, FreeMutexIsGot, OwnersExclude, PossibleTurnsAreTaken};
-ghost use Rattle.spec_locks.specs.UserLaws.{DowngradesOwn, OfEachStep, ReadersStayOut, RereadersPass, UpgradesLetNobodyWrite};
+ghost use Rattle.spec_locks.specs.Laws.{CallsTakeSteps, FairReleasesHandOver, FreeMutexIsGot, OwnersExclude};
+ghost use Rattle.spec_locks.specs.Laws.{PossibleTurnsAreTaken};
+ghost use Rattle.spec_locks.specs.UserLaws.{DowngradesOwn, OfEachStep, ReadersStayOut, RereadersPass};
+ghost use Rattle.spec_locks.specs.UserLaws.{UpgradesLetNobodyWrite};
 ghost use Rattle.spec_locks.specs.Bypass.{BypassIsBounded};
 ghost use Rattle.spec_locks.specs.EachStep.{QueuesKeepOrder};
-ghost use Rattle.spec_locks.specs.GuaranteeLaws.{HeadlineGuarantees, NoNotificationIsLost, NotificationsReach, OwnersExcludeInRuns, QuietWorldsRest, SafeStatesHold, SomebodyGoes};
+ghost use Rattle.spec_locks.specs.GuaranteeLaws.{HeadlineGuarantees, NoNotificationIsLost};
+ghost use Rattle.spec_locks.specs.GuaranteeLaws.{NotificationsReach, OwnersExcludeInRuns, QuietWorldsRest};
+ghost use Rattle.spec_locks.specs.GuaranteeLaws.{SafeStatesHold, SomebodyGoes};
 ghost use Rattle.spec_locks.specs.Picks.{PickersPickAsTheLocksSay};
 ghost use Rattle.spec_locks.specs.Sites.{EachDeedKeeps};
 ghost use Rattle.spec_locks.specs.Permits.{EachDeedKeepsPermits, PermitsAreLookedAfter};

@@ -1,5 +1,7 @@
--- A test of a row and of what its thread does next, which computes: where it passes, the row keeps its promises.
-use Rattle.std.proofs.Common.{ℕ, Bool, true, false, Option, Some, None, if◌then◌else◌, ◌||◌, ◌&&◌, not, ◌≡◌, ◌≢◌, ◌*◌, ◌+◌, ◌⊎◌, inl, inr, refl, sym, ◌∙◌, subst, ap, arith}
+-- A test of a row and of what its thread does next, which computes: where it passes, the row keeps its
+-- promises.
+use Rattle.std.proofs.Common.{ℕ, Bool, true, false, Option, Some, None, if◌then◌else◌, ◌||◌, ◌&&◌, not, ◌≡◌}
+use Rattle.std.proofs.Common.{◌≢◌, ◌*◌, ◌+◌, ◌⊎◌, inl, inr, refl, sym, ◌∙◌, subst, ap, arith}
 use Rattle.core_base.specs.declared.keys.Keys.TheVariants.{One}
 use Rattle.core_base.specs.declared.keys.Line.{Line}
 use Rattle.core_base.specs.declared.keys.Line.TheVariants.{Main, Second}
@@ -11,11 +13,14 @@ use Rattle.steps_base.specs.declared.acts.Act.{Act}
 use Rattle.steps_base.specs.declared.acts.Act.TheVariants.{Enter, Leave, Sleep}
 use Rattle.steps_base.specs.declared.acts.Wakes as wakes
 use Rattle.steps_base.specs.Profiles.{Profile, Hand, Of, hand}
-use Rattle.steps_base.specs.Rows.{is_acting, taken_in_row, IsWaiting, HasClaimed, WasHanded, LetsIn, LetsInAt, IsDebtorIn, HasDebt, RowLooksAfter, RowIsLate, RowPromises, IsDowngrade, WakesAside, KnowsRights}
+use Rattle.steps_base.specs.Rows.{is_acting, taken_in_row, IsWaiting, HasClaimed, WasHanded, LetsIn, LetsInAt}
+use Rattle.steps_base.specs.Rows.{IsDebtorIn, HasDebt, RowLooksAfter, RowIsLate, RowPromises, IsDowngrade}
+use Rattle.steps_base.specs.Rows.{WakesAside, KnowsRights}
 use Rattle.spec_locks.specs.Headline.{WakesWaiters, want_of}
 use Rattle.spec_locks.specs.Locks.{Sort, Taken, Knows, wants_exclusive}
 use Rattle.spec_locks.specs.Locks as sorts
-use Rattle.spec_locks.specs.Purposes.{Purpose, Enters, Releases, Converts, Bumps, CallsOnce, Awaits, Waits, Notifies, MayWait, IsReleasing, lock_for, Recall}
+use Rattle.spec_locks.specs.Purposes.{Purpose, Enters, Releases, Converts, Bumps, CallsOnce, Awaits, Waits}
+use Rattle.spec_locks.specs.Purposes.{Notifies, MayWait, IsReleasing, lock_for, Recall}
 use Rattle.spec_locks.specs.declared.calls.Patience.{Patience}
 use Rattle.spec_locks.specs.declared.calls.Patience.TheVariants.{Try, Timed, Patient}
 use Rattle.spec_locks.specs.Runs.{IsTimed}
@@ -115,7 +120,8 @@ wakes_waiters sort (CallsOnce k forced) gave_up = true
 wakes_waiters sort q gave_up = false
 
 abbrev pub lets_in : Sort → Profile → Purpose → Bool
-lets_in sort row q = releases q row.released || (has_readers sort && (downgrades q || (row.gave_up && no_line row.role.inside)))
+lets_in sort row q = releases q row.released ||
+    (has_readers sort && (downgrades q || (row.gave_up && no_line row.role.inside)))
 
 abbrev pub lets_in_at : Sort → Profile → Purpose → Line → Bool
 lets_in_at sort row q m = lets_in sort row q || wakes_aside q m
@@ -140,11 +146,13 @@ is_debtor_in sort d Main = is_line Main d.wakes || (d.covers || counts_some sort
 is_debtor_in sort d Second = is_line Second d.wakes
 
 abbrev pub has_debt : Sort → Profile → Purpose → Line → Bool
-has_debt sort row q Main = (is_line Main row.owes && wakes_waiters sort q row.gave_up) || (row.retries && counts_some sort (want_of (Some q)))
+has_debt sort row q Main = (is_line Main row.owes && wakes_waiters sort q row.gave_up) ||
+    (row.retries && counts_some sort (want_of (Some q)))
 has_debt sort row q Second = is_line Second row.owes
 
 abbrev pub looks_after : Sort → Profile → Purpose → Going → Line → Bool
-looks_after sort row q g m = has_debt sort row q m && (not (sleeps g) && (no_line row.stands && not (is_taken (taken_in_row row))))
+looks_after sort row q g m = has_debt sort row q m &&
+    (not (sleeps g) && (no_line row.stands && not (is_taken (taken_in_row row))))
 
 abbrev pub told : Option Bool → Bool
 told (Some true) = true
@@ -166,7 +174,8 @@ has_claimed sort (Some (Pends b)) (Some y) = wants_exclusive y && has_readers so
 has_claimed sort c x = false
 
 abbrev pub was_handed : Sort → Profile → Purpose → Bool
-was_handed sort row q = is_handed row.hand && (may_wait q && has_claimed sort row.role.claims (want_of (Some q)))
+was_handed sort row q = is_handed row.hand && (may_wait q && has_claimed sort row.role.claims
+    (want_of (Some q)))
 
 -- for one line
 abbrev pub keeps_line : Sort → Profile → Purpose → Going → Line → Bool
@@ -175,7 +184,8 @@ keeps_line sort row q g m =
     && (implies (is_line m row.role.inside) (is_line m row.owes)
     && (implies (goes_into m g && lets_in_at sort row q m) (is_line m row.owes)
     && (implies (is_debtor_in sort row.role m) (owns_alone row.role.claims || looks_after sort row q g m)
-    && (implies (is_line m row.late_line) (is_line m row.stands && (sleeps g && (has_deadline q && not (lets_in sort row q))))
+    && (implies (is_line m row.late_line)
+    (is_line m row.stands && (sleeps g && (has_deadline q && not (lets_in sort row q))))
     && implies (is_line m row.stands && (sleeps g && has_deadline q)) (is_line m row.late_line)))))
 
 -- for one lock
@@ -316,10 +326,12 @@ once_so : (s : Sort) → is_once s ≡ true → s ≡ sorts.Once
 once_so sorts.Once h = refl
 once_so s h = absurd cc
 
-knows_so : (s : Sort) (q : Purpose) (of : ℕ → Sort) → knows s q ≡ true → of (lock_for q) ≡ s → KnowsRights of (Some q)
+knows_so : (s : Sort) (q : Purpose) (of : ℕ → Sort) → knows s q ≡ true → of (lock_for q) ≡ s
+    → KnowsRights of (Some q)
 knows_so s (Enters l x how) of h e = rw e (knows_right_so s x h)
 knows_so s (Releases l x fair) of h e = rw e (knows_right_so s x h)
-knows_so s (Converts l x y how) of h e = let k : (knows_right s x ≡ true) × (knows_right s y ≡ true) = both (knows_right s x) (knows_right s y) h in rw e (knows_right_so s x k.0, knows_right_so s y k.1)
+knows_so s (Converts l x y how) of h e = let k : (knows_right s x ≡ true) × (knows_right s y ≡ true) =
+    both (knows_right s x) (knows_right s y) h in rw e (knows_right_so s x k.0, knows_right_so s y k.1)
 knows_so s (Bumps l x) of h e = rw e (knows_right_so s x h)
 knows_so s (CallsOnce l forced) of h e = e ∙ once_so s h
 knows_so s (Awaits l forced timed) of h e = e ∙ once_so s h
@@ -347,7 +359,8 @@ deadline_so (Converts l x y how) r h = (refl, timed_is how h)
 deadline_so (Awaits l forced timed) r h = (refl, h)
 deadline_so q r h = absurd cc
 
-has_a_deadline : (q : Purpose) (r : Recall) (k : ℕ) → is_single q ≡ true → IsTimed (Some q) r k → has_deadline q ≡ true
+has_a_deadline : (q : Purpose) (r : Recall) (k : ℕ) → is_single q ≡ true → IsTimed (Some q) r k
+    → has_deadline q ≡ true
 has_a_deadline (Enters l x how) r k one h = rw (h.1) refl
 has_a_deadline (Converts l x y how) r k one h = rw (h.1) refl
 has_a_deadline (Awaits l forced timed) r k one h = h.1
@@ -361,7 +374,8 @@ releases_so (Bumps l x) true h = absurd cc
 releases_so (CallsOnce l forced) b h = (refl, h)
 releases_so q b h = absurd cc
 
-releasing : (q : Purpose) (b : Bool) (k : ℕ) → is_single q ≡ true → IsReleasing (Some q) b k → releases q b ≡ true
+releasing : (q : Purpose) (b : Bool) (k : ℕ) → is_single q ≡ true → IsReleasing (Some q) b k
+    → releases q b ≡ true
 releasing (Releases l x fair) b k one h = refl
 releasing (Bumps l x) b k one h = rw (h.1) refl
 releasing (CallsOnce l forced) b k one h = h.1
@@ -405,9 +419,24 @@ false_is false h = refl
 
 wakes_so : (s : Sort) (q : Purpose) (b : Bool) (c : Recall) → wakes_waiters s q b ≡ true
     → WakesWaiters s (Some q) (if b then Some (lock_for q) else None) c (lock_for q)
-wakes_so s (Releases k x fair) b c h = (refl, elim (either (not fair) (is_upgradable x) h) [ inl f ↦ inl (false_is fair f) | inr u ↦ inr (upgradable_is x u) ])
-wakes_so s (Converts k x y how) b c h = (refl, elim (either (not (wants_exclusive y)) (b && has_readers s) h) [ inl f ↦ inl (alone_not y f) | inr g ↦ let r : (b ≡ true) × (has_readers s ≡ true) = both b (has_readers s) g in inr (rw (r.0) refl, r.1) ])
-wakes_so s (Enters k x how) b c h = let r : (b ≡ true) × (has_readers s ≡ true) = both b (has_readers s) h in (refl, rw (r.0) refl, r.1)
+wakes_so s (Releases k x fair) b c h = (
+  refl,
+  elim (either (not fair) (is_upgradable x) h) [
+    | inl f ↦ inl (false_is fair f)
+    | inr u ↦
+        inr (upgradable_is x u)
+  ],
+)
+wakes_so s (Converts k x y how) b c h = (
+  refl,
+  elim (either (not (wants_exclusive y)) (b && has_readers s) h) [
+    | inl f ↦ inl (alone_not y f)
+    | inr g ↦ let r : (b ≡ true) × (has_readers s ≡ true) = both b (has_readers s) g
+        in inr (rw (r.0) refl, r.1)
+  ],
+)
+wakes_so s (Enters k x how) b c h = let r : (b ≡ true) × (has_readers s ≡ true) = both b (has_readers s) h
+    in (refl, rw (r.0) refl, r.1)
 wakes_so s (Bumps k x) b c h = (refl, alone_not x h)
 wakes_so s (CallsOnce k forced) b c h = refl
 wakes_so s q b c h = absurd cc
@@ -415,14 +444,16 @@ wakes_so s q b c h = absurd cc
 asleep_is : (l : ℕ) (a : Act) (g : Going) → GoesAs l a g → a ≡ Sleep → sleeps g ≡ true
 asleep_is l a Asleep goes e = refl
 asleep_is l a (Into m) goes e = let f : Enter (One (key_of l m)) ≡ Sleep = sym goes ∙ e in absurd cc
-asleep_is l a HandsOver goes e = let f : Leave (One (2 * l)) (wakes.TheVariants.All note.HandOff) ≡ Sleep = sym goes ∙ e in absurd cc
+asleep_is l a HandsOver goes e = let f : Leave (One (2 * l)) (wakes.TheVariants.All note.HandOff) ≡ Sleep =
+    sym goes ∙ e in absurd cc
 asleep_is l a Other goes e = absurd (goes.awake e)
 
 sleeps_so : (l : ℕ) (a : Act) (g : Going) → GoesAs l a g → sleeps g ≡ true → a ≡ Sleep
 sleeps_so l a Asleep goes h = goes
 sleeps_so l a g goes h = absurd cc
 
-into_so : (l : ℕ) (a : Act) (g : Going) (m : Line) → GoesAs l a g → goes_into m g ≡ true → a ≡ Enter (One (key_of l m))
+into_so : (l : ℕ) (a : Act) (g : Going) (m : Line) → GoesAs l a g → goes_into m g ≡ true → a
+    ≡ Enter (One (key_of l m))
 into_so l a (Into Main) Main goes h = goes
 into_so l a (Into Second) Second goes h = goes
 into_so l a (Into Main) Second goes h = absurd cc
@@ -433,12 +464,14 @@ into_so l a g Second goes h = absurd cc
 apart : (l : ℕ) → Enter (One (2 * l)) ≡ Enter (One (2 * l + 1)) → ⊥
 apart l h = let e : 2 * l ≡ 2 * l + 1 = cc in omega arith
 
-into_is : (l : ℕ) (a : Act) (g : Going) (m : Line) → GoesAs l a g → a ≡ Enter (One (key_of l m)) → goes_into m g ≡ true
+into_is : (l : ℕ) (a : Act) (g : Going) (m : Line) → GoesAs l a g → a ≡ Enter (One (key_of l m))
+    → goes_into m g ≡ true
 into_is l a (Into Main) Main goes e = refl
 into_is l a (Into Second) Second goes e = refl
 into_is l a (Into Main) Second goes e = absurd (apart l (sym goes ∙ e))
 into_is l a (Into Second) Main goes e = absurd (apart l (sym e ∙ goes))
-into_is l a HandsOver m goes e = let f : Leave (One (2 * l)) (wakes.TheVariants.All note.HandOff) ≡ Enter (One (key_of l m)) = sym goes ∙ e in absurd cc
+into_is l a HandsOver m goes e = let f : Leave (One (2 * l)) (wakes.TheVariants.All note.HandOff)
+    ≡ Enter (One (key_of l m)) = sym goes ∙ e in absurd cc
 into_is l a Asleep m goes e = let f : Sleep ≡ Enter (One (key_of l m)) = sym goes ∙ e in absurd cc
 into_is l a Other m goes e = absurd (goes.elsewhere m e)
 
@@ -448,7 +481,8 @@ acts_so l a HandsOver goes = rw goes refl
 acts_so l a Asleep goes = rw goes refl
 acts_so l a Other goes = goes.acts
 
-over_so : (l : ℕ) (a : Act) (g : Going) → GoesAs l a g → hands_over g ≡ true → a ≡ Leave (One (2 * l)) (wakes.TheVariants.All note.HandOff)
+over_so : (l : ℕ) (a : Act) (g : Going) → GoesAs l a g → hands_over g ≡ true
+    → a ≡ Leave (One (2 * l)) (wakes.TheVariants.All note.HandOff)
 over_so l a HandsOver goes h = goes
 over_so l a g goes h = absurd cc
 
@@ -467,29 +501,36 @@ exclusive_is : (x : Want) → wants_exclusive x ≡ true → x ≡ w.Exclusive
 exclusive_is w.Exclusive h = refl
 exclusive_is x h = absurd cc
 
-claimed_so : (s : Sort) (c : Option Claim) (x : Option Want) → has_claimed s c x ≡ true → (y : Want) × (x ≡ Some y) × HasClaimed s c y
+claimed_so : (s : Sort) (c : Option Claim) (x : Option Want) → has_claimed s c x ≡ true → (y : Want)
+    × (x ≡ Some y) × HasClaimed s c y
 claimed_so s (Some (Has x)) (Some y) h = (y, refl, inl (ap (λ z. Some (Has z)) (same_is x y h)))
-claimed_so s (Some (Pends b)) (Some y) h = let k : (wants_exclusive y ≡ true) × (has_readers s ≡ true) = both _ _ h in (y, refl, inr (exclusive_is y k.0, k.1, (b, refl)))
+claimed_so s (Some (Pends b)) (Some y) h = let k : (wants_exclusive y ≡ true) × (has_readers s ≡ true) =
+    both _ _ h in (y, refl, inr (exclusive_is y k.0, k.1, (b, refl)))
 claimed_so s c x h = absurd cc
 
 told_is : (x : Option Bool) → x ≡ Some true → told x ≡ true
 told_is x e = rw e refl
 
--- ---------------------------------------------------------------- so a row that passes the test owes what is promised
+-- ------------------------------------------------------- so a row that passes the test owes what is promised
 
-module _ (sort : Sort) (l : ℕ) (row : Profile) (a : Act) (g : Going) (own : lock_for (row.purpose l) ≡ l) (goes : GoesAs l a g) where
+module _ (sort : Sort) (l : ℕ) (row : Profile) (a : Act) (g : Going) (own : lock_for (row.purpose l) ≡ l)
+    (goes : GoesAs l a g) where
   single_of : keeps_row sort row (row.purpose l) g ≡ true → is_single (row.purpose l) ≡ true
   single_of h = (both _ _ h).0
 
   lets_so : lets_in sort row (row.purpose l) ≡ true → LetsIn sort l row
   lets_so h = elim (either (releases (row.purpose l) row.released) _ h) [
-    | inl r ↦ inl (subst (λ k. IsReleasing (Some (row.purpose l)) row.released k) own (releases_so (row.purpose l) row.released r))
-    | inr s ↦ let p : (has_readers sort ≡ true) × ((downgrades (row.purpose l) || (row.gave_up && no_line row.role.inside)) ≡ true) = both _ _ s in
+    | inl r ↦ inl (subst (λ k. IsReleasing (Some (row.purpose l)) row.released k) own
+        (releases_so (row.purpose l) row.released r))
+    | inr s ↦ let p : (has_readers sort ≡ true)
+        × ((downgrades (row.purpose l) || (row.gave_up && no_line row.role.inside)) ≡ true) = both _ _ s in
         inr (
           p.0,
           elim (either (downgrades (row.purpose l)) _ p.1) [
-            | inl d ↦ inl (subst (λ k. IsDowngrade (Some (row.purpose l)) k) own (downgrades_so (row.purpose l) d))
-            | inr u ↦ let v : (row.gave_up ≡ true) × (no_line row.role.inside ≡ true) = both _ _ u in inr (v.0, none_is row.role.inside v.1)
+            | inl d ↦ inl (subst (λ k. IsDowngrade (Some (row.purpose l)) k) own
+                (downgrades_so (row.purpose l) d))
+            | inr u ↦ let v : (row.gave_up ≡ true) × (no_line row.role.inside ≡ true) = both _ _ u
+                in inr (v.0, none_is row.role.inside v.1)
           ],
         )
   ]
@@ -507,7 +548,8 @@ module _ (sort : Sort) (l : ℕ) (row : Profile) (a : Act) (g : Going) (own : lo
     | inr s ↦ inr (subst (λ k. WakesAside (Some (row.purpose l)) k m) own (aside_so (row.purpose l) m s))
   ]
 
-  lets_at_is : is_single (row.purpose l) ≡ true → (m : Line) → LetsInAt sort l row m → lets_in_at sort row (row.purpose l) m ≡ true
+  lets_at_is : is_single (row.purpose l) ≡ true → (m : Line) → LetsInAt sort l row m
+      → lets_in_at sort row (row.purpose l) m ≡ true
   lets_at_is one m (inl r) = or_l _ _ (lets_is one r)
   lets_at_is one m (inr s) = or_r (lets_in sort row (row.purpose l)) _ (aside_is (row.purpose l) l m s)
 
@@ -519,14 +561,23 @@ module _ (sort : Sort) (l : ℕ) (row : Profile) (a : Act) (g : Going) (own : lo
 
   debt_so : (m : Line) → has_debt sort row (row.purpose l) m ≡ true → HasDebt sort l row m
   debt_so Main h = elim (either _ _ h) [
-    | inl r ↦ let p : (is_line Main row.owes ≡ true) × (wakes_waiters sort (row.purpose l) row.gave_up ≡ true) = both _ _ r in
-        inl (line_is Main row.owes p.0, subst (λ k. WakesWaiters sort (Some (row.purpose l)) (if row.gave_up then Some k else None) row.recalls k) own (wakes_so sort (row.purpose l) row.gave_up row.recalls p.1))
+    | inl r ↦ let p : (is_line Main row.owes ≡ true) × (wakes_waiters sort (row.purpose l) row.gave_up
+        ≡ true) = both _ _ r in
+        inl (
+          line_is Main row.owes p.0,
+          subst (λ k. WakesWaiters sort (Some (row.purpose l)) (if row.gave_up then Some k else None)
+              row.recalls k) own (wakes_so sort (row.purpose l) row.gave_up row.recalls p.1),
+        )
     | inr s ↦ inr (both _ _ s)
   ]
   debt_so Second h = line_is Second row.owes h
 
   waiting_so : is_waiting row ≡ true → IsWaiting row
-  waiting_so h = elim (either _ _ h) [ inl r ↦ inl (not_none row.stands r) | inr s ↦ inr (is_taken_so (taken_in_row row) s) ]
+  waiting_so h = elim (either _ _ h) [
+    | inl r ↦ inl (not_none row.stands r)
+    | inr s ↦
+        inr (is_taken_so (taken_in_row row) s)
+  ]
 
   waiting_is : IsWaiting row → is_waiting row ≡ true
   waiting_is (inl n) = or_l _ _ (some_is row.stands n)
@@ -534,11 +585,22 @@ module _ (sort : Sort) (l : ℕ) (row : Profile) (a : Act) (g : Going) (own : lo
 
   handed_so : was_handed sort row (row.purpose l) ≡ true → WasHanded sort l row
   handed_so h =
-      let p : (is_handed row.hand ≡ true) × ((may_wait (row.purpose l) && has_claimed sort row.role.claims (want_of (Some (row.purpose l)))) ≡ true) = both _ _ h in
-      let r : (may_wait (row.purpose l) ≡ true) × (has_claimed sort row.role.claims (want_of (Some (row.purpose l))) ≡ true) = both _ _ p.1 in
+      let p : (is_handed row.hand ≡ true)
+      × ((may_wait (row.purpose l) && has_claimed sort row.role.claims (want_of (Some (row.purpose l))))
+      ≡ true) = both _ _ h in
+      let r : (may_wait (row.purpose l) ≡ true)
+      × (has_claimed sort row.role.claims (want_of (Some (row.purpose l))) ≡ true) = both _ _ p.1 in
       let b : (by : ℕ) × (row.hand ≡ hand by true) = handed_by row.hand p.0 in
-      let c : (x : Want) × (want_of (Some (row.purpose l)) ≡ Some x) × HasClaimed sort row.role.claims x = claimed_so sort row.role.claims (want_of (Some (row.purpose l))) r.1 in
-      record { by = b.0; in_hand = b.1; waited = subst (λ k. MayWait (Some (row.purpose l)) k) own (may_wait_so (row.purpose l) r.0); want = c.0; wants = c.1; has = c.2 }
+      let c : (x : Want) × (want_of (Some (row.purpose l)) ≡ Some x) × HasClaimed sort row.role.claims x =
+      claimed_so sort row.role.claims (want_of (Some (row.purpose l))) r.1 in
+      record {
+        by = b.0;
+        in_hand = b.1;
+        waited = subst (λ k. MayWait (Some (row.purpose l)) k) own (may_wait_so (row.purpose l) r.0);
+        want = c.0;
+        wants = c.1;
+        has = c.2;
+      }
 
   -- tells what the test says, part by part
   record Tested : Type 0 where
@@ -561,48 +623,77 @@ module _ (sort : Sort) (l : ℕ) (row : Profile) (a : Act) (g : Going) (own : lo
       let a6 = both (implies (is_line Second row.stands) (pends row.role.claims)) _ a5.1 in
       let a7 = both (implies (is_line Second row.owes) (has_readers sort)) _ a6.1 in
       let a8 = both (implies (sleeps g) (is_waiting row || was_handed sort row (row.purpose l))) _ a7.1 in
-      record { single = a1.0; knows = a2.0; line = lines a3.0 a4.0; waits = a5.0; aside = a6.0; second = a7.0; asleep = a8.0; tells = a8.1 }
+      record {
+        single = a1.0;
+        knows = a2.0;
+        line = lines a3.0 a4.0;
+        waits = a5.0;
+        aside = a6.0;
+        second = a7.0;
+        asleep = a8.0;
+        tells = a8.1;
+      }
     where
-      lines : keeps_line sort row (row.purpose l) g Main ≡ true → keeps_line sort row (row.purpose l) g Second ≡ true
+      lines : keeps_line sort row (row.purpose l) g Main ≡ true → keeps_line sort row (row.purpose l) g Second
+          ≡ true
           → (m : Line) → keeps_line sort row (row.purpose l) g m ≡ true
       lines x y Main = x
       lines x y Second = y
 
   record LineTested (m : Line) : Type 0 where
-    owes : implies (is_line m row.owes) (is_line m row.role.inside || (goes_into m g && lets_in_at sort row (row.purpose l) m)) ≡ true
+    owes : implies (is_line m row.owes)
+        (is_line m row.role.inside || (goes_into m g && lets_in_at sort row (row.purpose l) m)) ≡ true
     inside : implies (is_line m row.role.inside) (is_line m row.owes) ≡ true
     entering : implies (goes_into m g && lets_in_at sort row (row.purpose l) m) (is_line m row.owes) ≡ true
-    debtor : implies (is_debtor_in sort row.role m) (owns_alone row.role.claims || looks_after sort row (row.purpose l) g m) ≡ true
-    late : implies (is_line m row.late_line) (is_line m row.stands && (sleeps g && (has_deadline (row.purpose l) && not (lets_in sort row (row.purpose l))))) ≡ true
-    may_be_late : implies (is_line m row.stands && (sleeps g && has_deadline (row.purpose l))) (is_line m row.late_line) ≡ true
+    debtor : implies (is_debtor_in sort row.role m) (owns_alone row.role.claims || looks_after sort row
+        (row.purpose l) g m) ≡ true
+    late : implies (is_line m row.late_line)
+        (is_line m row.stands && (sleeps g && (has_deadline (row.purpose l) && not
+        (lets_in sort row (row.purpose l))))) ≡ true
+    may_be_late : implies (is_line m row.stands && (sleeps g && has_deadline (row.purpose l)))
+        (is_line m row.late_line) ≡ true
 
   line_parts : (m : Line) → keeps_line sort row (row.purpose l) g m ≡ true → LineTested m
   line_parts m h =
-      let b1 = both (implies (is_line m row.owes) (is_line m row.role.inside || (goes_into m g && lets_in_at sort row (row.purpose l) m))) _ h in
+      let b1 = both (implies (is_line m row.owes) (is_line m row.role.inside ||
+      (goes_into m g && lets_in_at sort row (row.purpose l) m))) _ h in
       let b2 = both (implies (is_line m row.role.inside) (is_line m row.owes)) _ b1.1 in
-      let b3 = both (implies (goes_into m g && lets_in_at sort row (row.purpose l) m) (is_line m row.owes)) _ b2.1 in
-      let b4 = both (implies (is_debtor_in sort row.role m) (owns_alone row.role.claims || looks_after sort row (row.purpose l) g m)) _ b3.1 in
-      let b5 = both (implies (is_line m row.late_line) (is_line m row.stands && (sleeps g && (has_deadline (row.purpose l) && not (lets_in sort row (row.purpose l)))))) _ b4.1 in
+      let b3 = both (implies (goes_into m g && lets_in_at sort row (row.purpose l) m) (is_line m row.owes)) _
+      b2.1 in
+      let b4 = both (implies (is_debtor_in sort row.role m) (owns_alone row.role.claims || looks_after sort
+      row (row.purpose l) g m)) _ b3.1 in
+      let b5 = both (implies (is_line m row.late_line) (is_line m row.stands &&
+      (sleeps g && (has_deadline (row.purpose l) && not (lets_in sort row (row.purpose l)))))) _ b4.1 in
       record { owes = b1.0; inside = b2.0; entering = b3.0; debtor = b4.0; late = b5.0; may_be_late = b5.1 }
 
   pub by_test : keeps_row sort row (row.purpose l) g ≡ true → RowPromises sort l row a
   by_test h = record {
     own = own;
     acts = acts_so l a g goes;
-    waits = λ w. subst (λ k. MayWait (Some (row.purpose l)) k) own (may_wait_so (row.purpose l) (so _ _ t.waits (waiting_is w)));
+    waits = λ w. subst (λ k. MayWait (Some (row.purpose l)) k) own (may_wait_so (row.purpose l)
+        (so _ _ t.waits (waiting_is w)));
     known = λ of e. knows_so sort (row.purpose l) of t.knows (ap of own ∙ e);
     aside = λ e. pends_so row.role.claims (so _ _ t.aside (is_the_line Second row.stands e));
     owing = record {
       owes = owed;
       inside = λ m e. line_is m row.owes (so _ _ (of m).inside (is_the_line m row.role.inside e));
-      entering = λ m e lets. line_is m row.owes (so _ _ (of m).entering (and_so _ _ (into_is l a g m goes e) (lets_at_is t.single m lets)));
+      entering = λ m e lets. line_is m row.owes
+          (so _ _ (of m).entering (and_so _ _ (into_is l a g m goes e) (lets_at_is t.single m lets)));
       second = λ e. so _ _ t.second (is_the_line Second row.owes e);
     };
     debtor = pays;
-    asleep = λ e. elim (either (is_waiting row) _ (so _ _ t.asleep (asleep_is l a g goes e))) [ inl x ↦ inl (waiting_so x) | inr x ↦ inr (handed_so x) ];
-    tells = λ e. let k : (hands_over g ≡ true) × (is_line Main row.role.inside ≡ true) = both _ _ (so _ _ t.tells (told_is row.carries e)) in (over_so l a g goes k.0, line_is Main row.role.inside k.1);
+    asleep = λ e. elim (either (is_waiting row) _ (so _ _ t.asleep (asleep_is l a g goes e))) [
+      | inl x ↦
+          inl (waiting_so x)
+      | inr x ↦ inr (handed_so x)
+    ];
+    tells = λ e. let k : (hands_over g ≡ true) × (is_line Main row.role.inside ≡ true) =
+        both _ _ (so _ _ t.tells (told_is row.carries e))
+        in (over_so l a g goes k.0, line_is Main row.role.inside k.1);
     late = is_late;
-    may_be_late = λ m e s timed. line_is m row.late_line (so _ _ (of m).may_be_late (and_so _ _ (is_the_line m row.stands e) (and_so _ _ (asleep_is l a g goes s) (has_a_deadline (row.purpose l) row.recalls l t.single timed))));
+    may_be_late = λ m e s timed. line_is m row.late_line
+        (so _ _ (of m).may_be_late (and_so _ _ (is_the_line m row.stands e)
+        (and_so _ _ (asleep_is l a g goes s) (has_a_deadline (row.purpose l) row.recalls l t.single timed))));
   }
     where
       t : Tested
@@ -611,20 +702,31 @@ module _ (sort : Sort) (l : ℕ) (row : Profile) (a : Act) (g : Going) (own : lo
       of : (m : Line) → LineTested m
       of m = line_parts m (t.line m)
 
-      owed : (m : Line) → row.owes ≡ Some m → (row.role.inside ≡ Some m) ⊎ ((a ≡ Enter (One (key_of l m))) × LetsInAt sort l row m)
+      owed : (m : Line) → row.owes ≡ Some m → (row.role.inside ≡ Some m) ⊎ ((a ≡ Enter (One (key_of l m)))
+          × LetsInAt sort l row m)
       owed m e = elim (either (is_line m row.role.inside) _ (so _ _ (of m).owes (is_the_line m row.owes e))) [
         | inl i ↦ inl (line_is m row.role.inside i)
-        | inr r ↦ let k : (goes_into m g ≡ true) × (lets_in_at sort row (row.purpose l) m ≡ true) = both _ _ r in inr (into_so l a g m goes k.0, lets_at_so m k.1)
+        | inr r ↦ let k : (goes_into m g ≡ true) × (lets_in_at sort row (row.purpose l) m ≡ true) = both _ _ r
+            in inr (into_so l a g m goes k.0, lets_at_so m k.1)
       ]
 
       looks : (m : Line) → looks_after sort row (row.purpose l) g m ≡ true → RowLooksAfter sort l row a m
       looks m x =
-          let p : (has_debt sort row (row.purpose l) m ≡ true) × ((not (sleeps g) && (no_line row.stands && not (is_taken (taken_in_row row)))) ≡ true) = both _ _ x in
-          let r : (not (sleeps g) ≡ true) × ((no_line row.stands && not (is_taken (taken_in_row row))) ≡ true) = both _ _ p.1 in
+          let p : (has_debt sort row (row.purpose l) m ≡ true)
+          × ((not (sleeps g) && (no_line row.stands && not (is_taken (taken_in_row row)))) ≡ true) =
+          both _ _ x in
+          let r : (not (sleeps g) ≡ true) × ((no_line row.stands && not (is_taken (taken_in_row row)))
+          ≡ true) = both _ _ p.1 in
           let s : (no_line row.stands ≡ true) × (not (is_taken (taken_in_row row)) ≡ true) = both _ _ r.1 in
-          record { debt = debt_so m p.0; awake = λ e. no (sleeps g) r.0 (asleep_is l a g goes e); stands = none_is row.stands s.0; taken = not_taken (taken_in_row row) s.1 }
+          record {
+            debt = debt_so m p.0;
+            awake = λ e. no (sleeps g) r.0 (asleep_is l a g goes e);
+            stands = none_is row.stands s.0;
+            taken = not_taken (taken_in_row row) s.1;
+          }
 
-      pays : (m : Line) → IsDebtorIn sort row.role m → (row.role.claims ≡ Some (Has w.Exclusive) → ⊥) → RowLooksAfter sort l row a m
+      pays : (m : Line) → IsDebtorIn sort row.role m → (row.role.claims ≡ Some (Has w.Exclusive) → ⊥)
+          → RowLooksAfter sort l row a m
       pays m d free = elim (either (owns_alone row.role.claims) _ (so _ _ (of m).debtor (debtor_is m d))) [
         | inl x ↦ absurd (free (alone_so row.role.claims x))
         | inr x ↦ looks m x
@@ -632,12 +734,17 @@ module _ (sort : Sort) (l : ℕ) (row : Profile) (a : Act) (g : Going) (own : lo
 
       is_late : (m : Line) → row.late_line ≡ Some m → RowIsLate sort l row a m
       is_late m e =
-          let p : (is_line m row.stands ≡ true) × ((sleeps g && (has_deadline (row.purpose l) && not (lets_in sort row (row.purpose l)))) ≡ true) = both _ _ (so _ _ (of m).late (is_the_line m row.late_line e)) in
-          let r : (sleeps g ≡ true) × ((has_deadline (row.purpose l) && not (lets_in sort row (row.purpose l))) ≡ true) = both _ _ p.1 in
-          let s : (has_deadline (row.purpose l) ≡ true) × (not (lets_in sort row (row.purpose l)) ≡ true) = both _ _ r.1 in
+          let p : (is_line m row.stands ≡ true)
+          × ((sleeps g && (has_deadline (row.purpose l) && not (lets_in sort row (row.purpose l))))
+          ≡ true) = both _ _ (so _ _ (of m).late (is_the_line m row.late_line e)) in
+          let r : (sleeps g ≡ true) × ((has_deadline (row.purpose l) && not
+          (lets_in sort row (row.purpose l))) ≡ true) = both _ _ p.1 in
+          let s : (has_deadline (row.purpose l) ≡ true) × (not (lets_in sort row (row.purpose l)) ≡ true) =
+          both _ _ r.1 in
           record {
             stands = line_is m row.stands p.0;
             asleep = sleeps_so l a g goes r.0;
-            timed = subst (λ k. IsTimed (Some (row.purpose l)) row.recalls k) own (deadline_so (row.purpose l) row.recalls s.0);
+            timed = subst (λ k. IsTimed (Some (row.purpose l)) row.recalls k) own
+                (deadline_so (row.purpose l) row.recalls s.0);
             shut = λ lets. no (lets_in sort row (row.purpose l)) s.1 (lets_is t.single lets);
           }

@@ -9,7 +9,8 @@ use Rattle.steps_base.specs.declared.acts.Next.TheVariants.{At, End}
 use Rattle.steps_base.specs.Profiles.{Profile}
 use Rattle.spec_locks.specs.Locks.{LockState, Rules, Rights, rights_of, putting}
 use Rattle.spec_locks.specs.Purposes.{IsMadeOf}
-use Rattle.spec_locks.specs.Runs.{LocksState, CallState, Event, Nothing, AtLock, Moves, IsTimely, AnswerHolds, going_on, rights_in, rules_at}
+use Rattle.spec_locks.specs.Runs.{LocksState, CallState, Event, Nothing, AtLock, Moves, IsTimely, AnswerHolds}
+use Rattle.spec_locks.specs.Runs.{going_on, rights_in, rules_at}
 use Rattle.spec_locks.specs.Sites.{Deed}
 use Rattle.spec_locks.specs.Deeds.{AreOneCase, event_of, after_event}
 

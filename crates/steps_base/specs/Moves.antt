@@ -1,7 +1,8 @@
 -- Where a step takes its thread in the machine, by its act: into sections and lines, out of them,
 -- and into hands. For locks of every sort, by the row of a place, the rows that replies lead to,
 -- and the deeds.
-use Rattle.std.specs.Prelude.{ℕ, Bool, true, false, Option, Some, None, if◌then◌else◌, ◌≡◌, ◌≢◌, ◌≤◌, ◌⊎◌, List, [], ◌∷◌}
+use Rattle.std.specs.Prelude.{ℕ, Bool, true, false, Option, Some, None, if◌then◌else◌, ◌≡◌, ◌≢◌, ◌≤◌, ◌⊎◌}
+use Rattle.std.specs.Prelude.{List, [], ◌∷◌}
 use Rattle.core_base.specs.declared.keys.Keys.TheVariants.{One}
 use Rattle.core_base.specs.declared.notes.Note.TheVariants.{Normal, HandOff as HandOffNote}
 use Rattle.core_base.specs.declared.ops.Op.{Op}
@@ -14,14 +15,17 @@ use Rattle.steps_base.specs.declared.acts.Check.{Check}
 use Rattle.steps_base.specs.declared.acts.Next.{Next}
 use Rattle.steps_base.specs.declared.acts.Next.TheVariants.{At, End as Ends}
 use Rattle.steps_base.specs.declared.acts.Reply.{Reply}
-use Rattle.steps_base.specs.declared.acts.Reply.TheVariants.{Done, Value, Parked, Took, Picked, Removed, TakenBy, HandedBy, Woken}
+use Rattle.steps_base.specs.declared.acts.Reply.TheVariants.{Done, Value, Parked, Took, Picked, Removed}
+use Rattle.steps_base.specs.declared.acts.Reply.TheVariants.{TakenBy, HandedBy, Woken}
 use Rattle.steps_base.specs.declared.acts.Wakes.{Wakes}
 use Rattle.steps_base.specs.declared.acts.Whom as whom
 use Rattle.steps_base.specs.Acts.{holds, takes_effect, wakes_taken, any_picked}
 use Rattle.steps_base.specs.Profiles.{Profile, blank_row, hand, in_hand}
 use Rattle.steps_base.specs.Locations.{Location, location_by, nowhere}
-use Rattle.spec_locks.specs.Locks.{Rules, Queued, Aside, HandOff, Late as GivesUp, Park, TakeAside, TakePicked, Wake, standing, times, unpicked, without}
-use Rattle.spec_locks.specs.Sites.{Site, Claim, Has, Pends, Deed, Line, Main, Second, End, In, Out, Mark, Clear, FindNobody, Case, is_empty}
+use Rattle.spec_locks.specs.Locks.{Rules, Queued, Aside, HandOff, Late as GivesUp, Park, TakeAside}
+use Rattle.spec_locks.specs.Locks.{TakePicked, Wake, standing, times, unpicked, without}
+use Rattle.spec_locks.specs.Sites.{Site, Claim, Has, Pends, Deed, Line, Main, Second, End, In, Out, Mark}
+use Rattle.spec_locks.specs.Sites.{Clear, FindNobody, Case, is_empty}
 use Rattle.spec_locks.specs.Codes.{code}
 
 -- the row of the next place, or of none

@@ -13,9 +13,11 @@ use Rattle.steps_base.specs.Profiles.{Profile, hand, taken_from}
 use Rattle.spec_locks.specs.Headline.{WakesWaiters, want_of}
 use Rattle.spec_locks.specs.Locks.{Sort, Taken, Knows, Once}
 use Rattle.spec_locks.specs.Locks as locks
-use Rattle.spec_locks.specs.Purposes.{Purpose, Enters, Releases, Converts, Bumps, CallsOnce, Awaits, Waits, Notifies, MayWait, IsReleasing, lock_for}
+use Rattle.spec_locks.specs.Purposes.{Purpose, Enters, Releases, Converts, Bumps, CallsOnce, Awaits, Waits}
+use Rattle.spec_locks.specs.Purposes.{Notifies, MayWait, IsReleasing, lock_for}
 use Rattle.spec_locks.specs.Runs.{IsTimed}
-use Rattle.spec_locks.specs.Sites.{Claim, Role, Line, Main, Second, Has, Pends, IsDebtorRole, counts_some, has_readers}
+use Rattle.spec_locks.specs.Sites.{Claim, Role, Line, Main, Second, Has, Pends, IsDebtorRole, counts_some}
+use Rattle.spec_locks.specs.Sites.{has_readers}
 
 -- ---------------------------------------------------------------- calls
 
@@ -61,7 +63,8 @@ IsWaiting row = (row.stands ≢ None) ⊎ (taken_in_row row ≢ None)
 -- it has this right, or, to a lock that is shared, its pending one
 abbrev pub HasClaimed : Sort → Option Claim → Want → Type 0
 HasClaimed sort claims x =
-    (claims ≡ Some (Has x)) ⊎ ((x ≡ Exclusive) × (has_readers sort ≡ true) × ((b : Bool) × (claims ≡ Some (Pends b))))
+    (claims ≡ Some (Has x)) ⊎ ((x ≡ Exclusive) × (has_readers sort ≡ true)
+    × ((b : Bool) × (claims ≡ Some (Pends b))))
 
 -- it was handed what it waited for
 pub record WasHanded (sort : Sort) (l : ℕ) (row : Profile) : Type 0 where
@@ -76,7 +79,8 @@ pub record WasHanded (sort : Sort) (l : ℕ) (row : Profile) : Type 0 where
 abbrev pub LetsIn : Sort → ℕ → Profile → Type 0
 LetsIn sort l row =
     IsReleasing (Some (row.purpose l)) row.released l
-    ⊎ ((has_readers sort ≡ true) × (IsDowngrade (Some (row.purpose l)) l ⊎ ((row.gave_up ≡ true) × (row.role.inside ≡ None))))
+    ⊎ ((has_readers sort ≡ true) × (IsDowngrade (Some (row.purpose l)) l ⊎ ((row.gave_up ≡ true)
+    × (row.role.inside ≡ None))))
 
 -- on its way into the section of this line
 abbrev pub LetsInAt : Sort → ℕ → Profile → Line → Type 0
@@ -97,7 +101,8 @@ IsDebtorIn sort d Second = d.wakes ≡ Some Second
 
 abbrev pub HasDebt : Sort → ℕ → Profile → Line → Type 0
 HasDebt sort l row Main =
-    ((row.owes ≡ Some Main) × WakesWaiters sort (Some (row.purpose l)) (if row.gave_up then Some l else None) row.recalls l)
+    ((row.owes ≡ Some Main) × WakesWaiters sort (Some (row.purpose l)) (if row.gave_up then Some l else None)
+    row.recalls l)
     ⊎ ((row.retries ≡ true) × (counts_some sort (want_of (Some (row.purpose l))) ≡ true))
 HasDebt sort l row Second = row.owes ≡ Some Second
 
@@ -134,5 +139,6 @@ pub record RowPromises (sort : Sort) (l : ℕ) (row : Profile) (a : Act) : Type 
   pub tells : row.carries ≡ Some true
       → (a ≡ Leave (One (2 * l)) (wakes.TheVariants.All note.HandOff)) × (row.role.inside ≡ Some Main)
   pub late : (m : Line) → row.late_line ≡ Some m → RowIsLate sort l row a m
-  pub may_be_late : (m : Line) → row.stands ≡ Some m → a ≡ Sleep → IsTimed (Some (row.purpose l)) row.recalls l
+  pub may_be_late : (m : Line) → row.stands ≡ Some m → a ≡ Sleep → IsTimed (Some (row.purpose l)) row.recalls
+      l
       → row.late_line ≡ Some m

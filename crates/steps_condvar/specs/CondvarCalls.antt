@@ -1,22 +1,26 @@
 -- The effect of each step in a call of a condition variable on that call. The call is made of what
 -- the step does to the two locks. The rows of the next place are what that makes of it, and its
 -- answer is true. An event that befalls a waiter makes of its call what its next row says.
-use Rattle.std.specs.Prelude.{ℕ, Bool, true, false, Option, Some, None, if◌then◌else◌, ◌==◌, ◌≡◌, ◌≢◌, ◌≤◌, List, ◌∷◌}
+use Rattle.std.specs.Prelude.{ℕ, Bool, true, false, Option, Some, None, if◌then◌else◌, ◌==◌, ◌≡◌, ◌≢◌, ◌≤◌}
+use Rattle.std.specs.Prelude.{List, ◌∷◌}
 use Rattle.core_base.specs.declared.notes.Note.TheVariants.{Normal}
 use Rattle.core_base.specs.declared.wants.Want.TheVariants.{Exclusive, Wait as WaitHere}
 use Rattle.steps_base.specs.declared.acts.Next.{Next}
 use Rattle.steps_base.specs.declared.acts.Next.TheVariants.{At, End as Over}
 use Rattle.steps_base.specs.declared.acts.Reply.{Reply}
-use Rattle.steps_base.specs.declared.acts.Reply.TheVariants.{Done, Value, Took, Requeued, HandedBy, Late, Woken}
+use Rattle.steps_base.specs.declared.acts.Reply.TheVariants.{Done, Value, Took, Requeued, HandedBy, Late}
+use Rattle.steps_base.specs.declared.acts.Reply.TheVariants.{Woken}
 use Rattle.steps_base.specs.Calls.{MayCome, call_of_two, rights_where}
 use Rattle.steps_base.specs.Profiles.{Profile}
 use Rattle.spec_locks.specs.Condvars as condvars
 use Rattle.spec_locks.specs.Condvars.{CondvarDeed, CondvarSite, IsCondvar, LeaveList, Show, StandLast}
 use Rattle.spec_locks.specs.Deeds.{after_all, event_by, event_of}
 use Rattle.spec_locks.specs.Locks as locks
-use Rattle.spec_locks.specs.Locks.{LockCase, LockState, Mutex, OfCondvar, Park, Rights, Rules, SeeOwner, Wake, rights_of}
+use Rattle.spec_locks.specs.Locks.{LockCase, LockState, Mutex, OfCondvar, Park, Rights, Rules, SeeOwner, Wake}
+use Rattle.spec_locks.specs.Locks.{rights_of}
 use Rattle.spec_locks.specs.Purposes.{Notifies, SawOwner, WasMoved}
-use Rattle.spec_locks.specs.Runs.{AnswerHolds, AtLock, CallState, Event, LocksState, Moves, Nothing, behind_wake, going_on, one_more_at, rights_in}
+use Rattle.spec_locks.specs.Runs.{AnswerHolds, AtLock, CallState, Event, LocksState, Moves, Nothing}
+use Rattle.spec_locks.specs.Runs.{behind_wake, going_on, one_more_at, rights_in}
 use Rattle.spec_locks.specs.Sites.{IsSite, Site}
 use Rattle.steps_mutex.specs.declared.lock.Entry.TheVariants as entry
 use Rattle.steps_mutex.specs.declared.lock.LockAt.{LockAt}
@@ -34,7 +38,8 @@ use Rattle.steps_condvar.specs.declared.wait.Stands.TheVariants as stands
 use Rattle.steps_condvar.specs.declared.wait.WaitAt.{WaitAt}
 use Rattle.steps_condvar.specs.declared.wait.WaitAt.TheVariants as wait
 use Rattle.steps_condvar.specs.CondvarSteps.{condvar_next, mutex_shown, next_wait}
-use Rattle.steps_condvar.specs.CondvarProfiles.{condvar_profile, has_mutex, may_give_up, mutex_side, notify_row, wait_carries, wait_row}
+use Rattle.steps_condvar.specs.CondvarProfiles.{condvar_profile, has_mutex, may_give_up, mutex_side}
+use Rattle.steps_condvar.specs.CondvarProfiles.{notify_row, wait_carries, wait_row}
 use Rattle.steps_condvar.specs.CondvarDeeds as deeds
 use Rattle.steps_condvar.specs.CondvarDeeds.{IsAt, MayHear, condvar_deeds, wait_deeds}
 use Rattle.steps_condvar.specs.CondvarMutex.{MayHearBeside, beside_deeds}

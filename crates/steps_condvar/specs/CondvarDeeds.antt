@@ -1,6 +1,7 @@
 -- The deeds of each place at the condition variable, which are the effects of a step on it, and
 -- their laws. The step's effects on the mutex beside it are no part of them.
-use Rattle.std.specs.Prelude.{ℕ, Bool, true, false, Option, Some, None, if◌then◌else◌, ◌==◌, ◌||◌, ◌≡◌, ◌≢◌, List, [], ◌∷◌, drop, length}
+use Rattle.std.specs.Prelude.{ℕ, Bool, true, false, Option, Some, None, if◌then◌else◌, ◌==◌, ◌||◌, ◌≡◌, ◌≢◌}
+use Rattle.std.specs.Prelude.{List, [], ◌∷◌, drop, length}
 use Rattle.core_base.specs.declared.ops.Op.{Op}
 use Rattle.core_base.specs.Words.{apply}
 use Rattle.steps_base.specs.declared.acts.Act.TheVariants as act
@@ -9,7 +10,10 @@ use Rattle.steps_base.specs.declared.acts.Next.TheVariants.{At, End}
 use Rattle.steps_base.specs.declared.acts.Reply.{Reply}
 use Rattle.steps_base.specs.declared.acts.Reply.TheVariants.{Done, Value, Took, Requeued, Removed, Late}
 use Rattle.steps_base.specs.declared.owners.Owners.{Owners}
-use Rattle.spec_locks.specs.Condvars.{CondvarStage, CondvarSite, IsCondvar, CondvarDeed, EndsWait, GoIn, GoOut, Show, SeeOther, StandLast, SeeAgain, MissIt, HideAndTakeAll, MoveFirst, MoveAll, LeaveList, ShowNone, CondvarNeeded, IsInsideAt, IsInsideNot, MoveFits, WaitsAside, condvar_leads}
+use Rattle.spec_locks.specs.Condvars.{CondvarStage, CondvarSite, IsCondvar, CondvarDeed, EndsWait, GoIn}
+use Rattle.spec_locks.specs.Condvars.{GoOut, Show, SeeOther, StandLast, SeeAgain, MissIt, HideAndTakeAll}
+use Rattle.spec_locks.specs.Condvars.{MoveFirst, MoveAll, LeaveList, ShowNone, CondvarNeeded, IsInsideAt}
+use Rattle.spec_locks.specs.Condvars.{IsInsideNot, MoveFits, WaitsAside, condvar_leads}
 use Rattle.spec_locks.specs.Locks.{Mutex, Rules, times, without}
 use Rattle.spec_locks.specs.Sites.{Site, is_empty}
 use Rattle.steps_mutex.specs.declared.places.MutexPlace.{MutexPlace}
@@ -21,7 +25,8 @@ use Rattle.steps_condvar.specs.declared.places.CondvarPlace.TheVariants.{Wait, L
 use Rattle.steps_condvar.specs.declared.wait.Stands.TheVariants as stands
 use Rattle.steps_condvar.specs.declared.wait.WaitAt.{WaitAt}
 use Rattle.steps_condvar.specs.declared.wait.WaitAt.TheVariants as wait
-use Rattle.steps_condvar.specs.CondvarSteps.{comes_from_another, condvar_act, condvar_next, condvar_owners, is_shown, mutex_beside, shown_as}
+use Rattle.steps_condvar.specs.CondvarSteps.{comes_from_another, condvar_act, condvar_next, condvar_owners}
+use Rattle.steps_condvar.specs.CondvarSteps.{is_shown, mutex_beside, shown_as}
 use Rattle.steps_condvar.specs.CondvarProfiles.{condvar_row, notify_row}
 
 -- ---------------------------------------------------------------- the deeds of each step

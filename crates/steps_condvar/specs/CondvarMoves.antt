@@ -1,6 +1,7 @@
 -- Where each step in a call of a condition variable takes its thread in the machine, at each of its
 -- two locks.
-use Rattle.std.specs.Prelude.{ℕ, Bool, true, false, Option, Some, None, ◌≡◌, ◌⊎◌, List, [], ◌∷◌, if◌then◌else◌, not}
+use Rattle.std.specs.Prelude.{ℕ, Bool, true, false, Option, Some, None, ◌≡◌, ◌⊎◌, List, [], ◌∷◌}
+use Rattle.std.specs.Prelude.{if◌then◌else◌, not}
 use Rattle.core_base.specs.declared.keys.Keys.TheVariants.{One, Two}
 use Rattle.core_base.specs.declared.notes.Note.TheVariants.{Normal, HandOff as HandOffNote}
 use Rattle.core_base.specs.declared.requeues.Requeue.{Requeue}
@@ -13,16 +14,21 @@ use Rattle.steps_base.specs.declared.acts.Act.TheVariants as act
 use Rattle.steps_base.specs.declared.acts.Next.{Next}
 use Rattle.steps_base.specs.declared.acts.Next.TheVariants.{At, End as Over}
 use Rattle.steps_base.specs.declared.acts.Reply.{Reply}
-use Rattle.steps_base.specs.declared.acts.Reply.TheVariants.{Done, Value, Parked, Took, Requeued, Removed, TakenBy, MovedTo, HandedBy, Woken}
+use Rattle.steps_base.specs.declared.acts.Reply.TheVariants.{Done, Value, Parked, Took, Requeued, Removed}
+use Rattle.steps_base.specs.declared.acts.Reply.TheVariants.{TakenBy, MovedTo, HandedBy, Woken}
 use Rattle.steps_base.specs.declared.acts.Wakes.{Wakes}
 use Rattle.steps_base.specs.declared.acts.Whom.TheVariants.{First}
 use Rattle.steps_base.specs.Acts.{wakes_taken}
-use Rattle.steps_base.specs.Moves.{Accepts, AreLeaving, AreOfWord, Hears, IsSectionFree, LeavesLine, Move, Parks, inside_of, location_of, location_then}
+use Rattle.steps_base.specs.Moves.{Accepts, AreLeaving, AreOfWord, Hears, IsSectionFree, LeavesLine, Move}
+use Rattle.steps_base.specs.Moves.{Parks, inside_of, location_of, location_then}
 use Rattle.steps_base.specs.Profiles.{Profile, blank_row, hand, in_hand}
 use Rattle.steps_base.specs.Locations.{Location, location_by, nowhere}
-use Rattle.spec_locks.specs.Condvars.{BeginsWait, CondvarNeeded, condvar_leads, CondvarDeed, CondvarSite, EndsWait, GoIn, GoOut, LeaveList, MoveAll, MoveFirst, StandLast, line_of, moved_of, taken_of}
+use Rattle.spec_locks.specs.Condvars.{BeginsWait, CondvarNeeded, condvar_leads, CondvarDeed, CondvarSite}
+use Rattle.spec_locks.specs.Condvars.{EndsWait, GoIn, GoOut, LeaveList, MoveAll, MoveFirst, StandLast}
+use Rattle.spec_locks.specs.Condvars.{line_of, moved_of, taken_of}
 use Rattle.spec_locks.specs.Locks.{HasTakenNobody, Owns, Queued, Rights, Rules}
-use Rattle.spec_locks.specs.Sites.{Begin, Bring, Deed, Has, In, Main, MarkBrought, MarkOwned, Needed, Site, after_deed, idle}
+use Rattle.spec_locks.specs.Sites.{Begin, Bring, Deed, Has, In, Main, MarkBrought, MarkOwned, Needed, Site}
+use Rattle.spec_locks.specs.Sites.{after_deed, idle}
 use Rattle.spec_locks.specs.Purposes.{Waits}
 use Rattle.spec_locks.specs.Runs.{new_call}
 use Rattle.steps_mutex.specs.MutexDeeds.{take_deeds}
@@ -38,7 +44,7 @@ use Rattle.steps_condvar.specs.CondvarMutex.{MayHearBeside, beside_deeds}
 use Rattle.steps_condvar.specs.CondvarWaits.{MayHearWaiter, TakesFirst, waiter_deeds}
 use Rattle.steps_condvar.specs.CondvarCalls.{IsReached, condvar_call_by}
 
--- ---------------------------------------------------------------- a thread at a place, seen at each of its locks
+-- ------------------------------------------------------------ a thread at a place, seen at each of its locks
 
 abbrev pub row_there : Next CondvarPlace → Profile
 row_there (At p) = condvar_profile p
@@ -298,7 +304,7 @@ abbrev pub WaitersMove : Type 0
 WaitersMove = (m : ℕ) (timed : Bool) (at : WaitAt) → IsReached (Wait m timed at)
     → WaitsAtBoth (Wait m timed at)
 
--- ---------------------------------------------------------------- where a call begins, and where it looks at its mutex once more
+-- -------------------------------------------- where a call begins, and where it looks at its mutex once more
 
 -- it stands nowhere, and a wait owns its mutex
 pub record BeginsAt (v : CondvarSite) (r : Rules) (s : Site) (t c m : ℕ)

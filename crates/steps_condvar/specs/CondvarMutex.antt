@@ -1,5 +1,6 @@
 -- The deeds of each place of a notification at the mutex beside it, and their law.
-use Rattle.std.specs.Prelude.{ℕ, Bool, true, false, None, if◌then◌else◌, ◌==◌, ◌≡◌, ◌≢◌, Some, List, [], ◌∷◌, length}
+use Rattle.std.specs.Prelude.{ℕ, Bool, true, false, None, if◌then◌else◌, ◌==◌, ◌≡◌, ◌≢◌, Some, List, [], ◌∷◌}
+use Rattle.std.specs.Prelude.{length}
 use Rattle.core_base.specs.declared.ops.Op.{Op}
 use Rattle.core_base.specs.Words.{apply}
 use Rattle.steps_base.specs.declared.acts.Act.TheVariants as act

@@ -1,14 +1,17 @@
 -- The rows of the places of a condition variable, there and at the mutex beside it. A row says all
 -- that is asked of a place's thread.
-use Rattle.std.specs.Prelude.{ℕ, Bool, true, false, Option, Some, None, if◌then◌else◌, ◌==◌, ◌&&◌, ◌||◌, ◌*◌, is_none}
+use Rattle.std.specs.Prelude.{ℕ, Bool, true, false, Option, Some, None, if◌then◌else◌, ◌==◌, ◌&&◌, ◌||◌, ◌*◌}
+use Rattle.std.specs.Prelude.{is_none}
 use Rattle.core_base.specs.declared.notes.Note.TheVariants as note
 use Rattle.core_base.specs.declared.wants.Want.{Want}
 use Rattle.core_base.specs.declared.wants.Want.TheVariants as wants
 use Rattle.steps_base.specs.Profiles as profiles
 use Rattle.steps_base.specs.Profiles.{Hand, Profile, hand, hand_owner, in_hand, in_line}
-use Rattle.spec_locks.specs.Condvars.{CondvarStage, NothingToDo, ToStandLast, SeesOther, Misses, Sees, Clears, moving}
+use Rattle.spec_locks.specs.Condvars.{CondvarStage, NothingToDo, ToStandLast, SeesOther, Misses, Sees, Clears}
+use Rattle.spec_locks.specs.Condvars.{moving}
 use Rattle.spec_locks.specs.Locks.{Rights}
-use Rattle.spec_locks.specs.Purposes.{Purpose, Waits, Notifies, Recall, Blank, Saw, SawOwner, HasMoved, WasMoved, WasNotified}
+use Rattle.spec_locks.specs.Purposes.{Purpose, Waits, Notifies, Recall, Blank, Saw, SawOwner, HasMoved}
+use Rattle.spec_locks.specs.Purposes.{WasMoved, WasNotified}
 use Rattle.spec_locks.specs.Sites.{Role, Line, Has, Main, found, idle}
 use Rattle.steps_mutex.specs.MutexProfiles.{before_release, inside, mutex_profile, owner}
 use Rattle.steps_condvar.specs.declared.notify.NotifyAt.{NotifyAt}

@@ -1,5 +1,6 @@
 -- The deeds of each place of a wait at its mutex, the events that befall it there, and their laws.
-use Rattle.std.specs.Prelude.{ℕ, Bool, false, Option, Some, None, ◌==◌, not, ◌≡◌, ◌≢◌, ◌≤◌, List, [], ◌∷◌, drop, is_none}
+use Rattle.std.specs.Prelude.{ℕ, Bool, false, Option, Some, None, ◌==◌, not, ◌≡◌, ◌≢◌, ◌≤◌, List, [], ◌∷◌}
+use Rattle.std.specs.Prelude.{drop, is_none}
 use Rattle.core_base.specs.declared.notes.Note.TheVariants.{Normal, HandOff as HandOffNote}
 use Rattle.core_base.specs.declared.ops.Op.{Op}
 use Rattle.core_base.specs.declared.wants.Want.TheVariants.{Exclusive}
@@ -8,13 +9,16 @@ use Rattle.steps_base.specs.declared.acts.Act.TheVariants as act
 use Rattle.steps_base.specs.declared.acts.Next.{Next}
 use Rattle.steps_base.specs.declared.acts.Next.TheVariants.{At, End as Over}
 use Rattle.steps_base.specs.declared.acts.Reply.{Reply}
-use Rattle.steps_base.specs.declared.acts.Reply.TheVariants.{Done, Value, Parked, Took, Removed, TakenBy, MovedTo, HandedBy, Late, Woken}
+use Rattle.steps_base.specs.declared.acts.Reply.TheVariants.{Done, Value, Parked, Took, Removed, TakenBy}
+use Rattle.steps_base.specs.declared.acts.Reply.TheVariants.{MovedTo, HandedBy, Late, Woken}
 use Rattle.steps_base.specs.declared.owners.Owners.{Owners}
 use Rattle.steps_base.specs.Moves.{IsSectionFree}
 use Rattle.spec_locks.specs.Codes.{code}
 use Rattle.spec_locks.specs.Deeds.{AllNeeded, after_all}
-use Rattle.spec_locks.specs.Locks.{HasTakenNobody, Late as GivesUp, Mutex, Rules, first_thread, standing, times, without}
-use Rattle.spec_locks.specs.Sites.{Case, Deed, Role, End, Has, In, IsSite, Main, Out, Site, idle, is_empty, wakened}
+use Rattle.spec_locks.specs.Locks.{HasTakenNobody, Late as GivesUp, Mutex, Rules, first_thread, standing}
+use Rattle.spec_locks.specs.Locks.{times, without}
+use Rattle.spec_locks.specs.Sites.{Case, Deed, Role, End, Has, In, IsSite, Main, Out, Site, idle, is_empty}
+use Rattle.spec_locks.specs.Sites.{wakened}
 use Rattle.steps_mutex.specs.declared.lock.LockAt.{LockAt}
 use Rattle.steps_mutex.specs.declared.lock.LockAt.TheVariants as lock
 use Rattle.steps_mutex.specs.declared.places.MutexPlace.TheVariants as mutex

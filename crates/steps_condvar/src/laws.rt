@@ -1,7 +1,10 @@
 //! The laws of the steps of a condition variable.
-ghost use Rattle.steps_condvar.specs.CondvarCalls.{CondvarPlacesReached, LooksTell, NotifiesTell, WaitersAreTold, WaitsTell};
-ghost use Rattle.steps_condvar.specs.CondvarDeeds.{CondvarMovesFit, CondvarOwnersFollow, CondvarStepsCode, CondvarStepsFollow};
-ghost use Rattle.steps_condvar.specs.CondvarMoves.{LooksMove, NotifiesMove, WaitersLookAgain, WaitersMove, WaitsBegin, WaitsMove};
+ghost use Rattle.steps_condvar.specs.CondvarCalls.{CondvarPlacesReached, LooksTell, NotifiesTell};
+ghost use Rattle.steps_condvar.specs.CondvarCalls.{WaitersAreTold, WaitsTell};
+ghost use Rattle.steps_condvar.specs.CondvarDeeds.{CondvarMovesFit, CondvarOwnersFollow, CondvarStepsCode};
+ghost use Rattle.steps_condvar.specs.CondvarDeeds.{CondvarStepsFollow};
+ghost use Rattle.steps_condvar.specs.CondvarMoves.{LooksMove, NotifiesMove, WaitersLookAgain, WaitersMove};
+ghost use Rattle.steps_condvar.specs.CondvarMoves.{WaitsBegin, WaitsMove};
 ghost use Rattle.steps_condvar.specs.CondvarMutex.{NotifiersCode, NotifiersFollow};
 ghost use Rattle.steps_condvar.specs.CondvarWaits.{WaitersCode, WaitersFollow, WaitersHear};
 

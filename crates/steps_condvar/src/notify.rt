@@ -14,7 +14,8 @@
 //! | `MarkMoved` | sets the bit `PARKED` of the mutex | `Leave` |
 //! | `Leave` | leaves the sections, and wakes the one that it took | ends |
 ghost use Rattle.std.specs.Prelude.{◌≡◌, ◌<◌, ◌^◌};
-ghost use Rattle.steps_condvar.specs.CondvarSteps.{marks, again_next, moved_all, moved_one, notified, next_notify, move_act, notify_act};
+ghost use Rattle.steps_condvar.specs.CondvarSteps.{marks, again_next, moved_all, moved_one, notified};
+ghost use Rattle.steps_condvar.specs.CondvarSteps.{next_notify, move_act, notify_act};
 
 use crate::places::shows;
 use core_base::{Keys, Note, Op, Requeue, main_key};

@@ -8,8 +8,11 @@
 //! A thread that waits, and one that a notification takes or moves, is also in a call of its mutex.
 ghost use Rattle.std.specs.Prelude.{ℕ, ◌≡◌, ◌<◌, ◌^◌};
 ghost use Rattle.steps_base.specs.Acts.{outcome_of};
-ghost use Rattle.steps_condvar.specs.CondvarProfiles.{condvar_taker, condvar_wants, condvar_late_key, condvar_owes, condvar_retries};
-ghost use Rattle.steps_condvar.specs.CondvarSteps.{HasMutexKey, condvar_act, condvar_first, condvar_looking, condvar_next, condvar_owners, condvar_right, is_shown, look_next, mutex_beside, mutex_shown, shown_as};
+ghost use Rattle.steps_condvar.specs.CondvarProfiles.{condvar_taker, condvar_wants, condvar_late_key};
+ghost use Rattle.steps_condvar.specs.CondvarProfiles.{condvar_owes, condvar_retries};
+ghost use Rattle.steps_condvar.specs.CondvarSteps.{HasMutexKey, condvar_act, condvar_first, condvar_looking};
+ghost use Rattle.steps_condvar.specs.CondvarSteps.{condvar_next, condvar_owners, condvar_right, is_shown};
+ghost use Rattle.steps_condvar.specs.CondvarSteps.{look_next, mutex_beside, mutex_shown, shown_as};
 
 use crate::notify::{NotifyAt, next_notify, notified, notify_act};
 use crate::wait::{Stands, WaitAt, next_wait, wait_act};

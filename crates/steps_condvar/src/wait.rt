@@ -17,7 +17,9 @@
 //! | `Lock` | locks its mutex, as `lock` does | ends |
 ghost use Rattle.std.specs.Prelude.{◌≡◌, ◌<◌, ◌^◌};
 ghost use Rattle.steps_condvar.specs.CondvarProfiles.{is_woken, taker_of, want_of, wait_row};
-ghost use Rattle.steps_condvar.specs.CondvarSteps.{comes_from_another, behind_release, first_lock, late_place, relocked, released, waited, stands_after, asleep_next, next_wait, wait_act};
+ghost use Rattle.steps_condvar.specs.CondvarSteps.{comes_from_another, behind_release, first_lock};
+ghost use Rattle.steps_condvar.specs.CondvarSteps.{late_place, relocked, released, waited, stands_after};
+ghost use Rattle.steps_condvar.specs.CondvarSteps.{asleep_next, next_wait, wait_act};
 
 use crate::places::{shown, shows};
 use core_base::{Keys, Line, Note, Op, Want, main_key};

@@ -1,5 +1,6 @@
 -- Each step of a mutex may do to it what its deeds say, and leaves its word and its owner.
-use Rattle.std.proofs.Common.{ℕ, Bool, true, false, Option, Some, None, if◌then◌else◌, ◌==◌, ◌≡◌, ◌≢◌, ◌⊎◌, inl, inr, List, [], ◌∷◌, refl, sym, ap, ◌∙◌, subst, arith}
+use Rattle.std.proofs.Common.{ℕ, Bool, true, false, Option, Some, None, if◌then◌else◌, ◌==◌, ◌≡◌, ◌≢◌, ◌⊎◌}
+use Rattle.std.proofs.Common.{inl, inr, List, [], ◌∷◌, refl, sym, ap, ◌∙◌, subst, arith}
 use Rattle.std.specs.Prelude.{not, drop, is_none, ◌&&◌}
 use Rattle.core_base.specs.declared.wants.Want.TheVariants.{Exclusive}
 use Rattle.spec_locks.specs.declared.outcomes.Answer.TheVariants as answer
@@ -9,22 +10,30 @@ use Rattle.steps_base.specs.declared.acts.Reply.{Reply}
 use Rattle.steps_base.specs.declared.acts.Reply.TheVariants.{Done, Value, Parked, Took, Removed, Late}
 use Rattle.steps_base.specs.Moves.{IsSectionFree, StandsAlone}
 use Rattle.spec_locks.specs.Deeds.{AllNeeded, after_all}
-use Rattle.spec_locks.specs.Locks.{Enter, HandOff as HandsOff, HasTakenNobody, IsSomePending, IsSuccessor, Late as GivesUp, Leave, Mutex, Pending, Rules, aside_without, putting, standing, without}
-use Rattle.spec_locks.specs.Sites.{Case, Clear, Deed, Role, End, Has, In, IsSite, Main, Mark, Out, Second, Site, StandsIn, after_deed, counts_some, found, idle, is_empty, late_found, leaves, seen_main, wakened}
+use Rattle.spec_locks.specs.Locks.{Enter, HandOff as HandsOff, HasTakenNobody, IsSomePending, IsSuccessor}
+use Rattle.spec_locks.specs.Locks.{Late as GivesUp, Leave, Mutex, Pending, Rules, aside_without, putting}
+use Rattle.spec_locks.specs.Locks.{standing, without}
+use Rattle.spec_locks.specs.Sites.{Case, Clear, Deed, Role, End, Has, In, IsSite, Main, Mark, Out, Second}
+use Rattle.spec_locks.specs.Sites.{Site, StandsIn, after_deed, counts_some, found, idle, is_empty, late_found}
+use Rattle.spec_locks.specs.Sites.{leaves, seen_main, wakened}
 use Rattle.steps_mutex.specs.declared.lock.Entry.{Entry}
 use Rattle.steps_mutex.specs.declared.lock.LockAt.{LockAt}
 use Rattle.steps_mutex.specs.declared.lock.LockAt.TheVariants as lock
 use Rattle.steps_mutex.specs.declared.places.MutexPlace.{MutexPlace}
-use Rattle.steps_mutex.specs.declared.places.MutexPlace.TheVariants.{Lock, TryLock, Unlock, UnlockFair, Bump, HandOff}
+use Rattle.steps_mutex.specs.declared.places.MutexPlace.TheVariants.{Lock, TryLock, Unlock, UnlockFair, Bump}
+use Rattle.steps_mutex.specs.declared.places.MutexPlace.TheVariants.{HandOff}
 use Rattle.steps_mutex.specs.declared.unlock.UnlockAt.{UnlockAt}
 use Rattle.steps_mutex.specs.declared.unlock.UnlockAt.TheVariants as unlock
 use Rattle.steps_mutex.specs.declared.hand_off.HandOffAt.{HandOffAt}
 use Rattle.steps_mutex.specs.declared.hand_off.HandOffAt.TheVariants as hand_off
 use Rattle.steps_mutex.specs.MutexDeeds.{enter_deeds, handing_deeds, mutex_deeds, queued, take_deeds}
-use Rattle.steps_mutex.specs.MutexLaws.{Follows, MayHear, MayHearHandingOff, MayHearLocking, MayHearUnlocking, MutexStepsFollow, TakesFirst, role_next, heir, mutex_role}
+use Rattle.steps_mutex.specs.MutexLaws.{Follows, MayHear, MayHearHandingOff, MayHearLocking, MayHearUnlocking}
+use Rattle.steps_mutex.specs.MutexLaws.{MutexStepsFollow, TakesFirst, role_next, heir, mutex_role}
 use Rattle.steps_mutex.specs.MutexProfiles.{with_retry, carrying, inside, owner, seen_empty}
-use Rattle.steps_mutex.specs.MutexSteps.{entered, in_hand_off, in_lock, in_unlock, is_locked, is_parked, looked, mutex_next}
-use Rattle.steps_mutex.proofs.MutexWords.{first_is, nobody_first, one, parked_is, put_same, three, unlocked_free, word_of, zero_free}
+use Rattle.steps_mutex.specs.MutexSteps.{entered, in_hand_off, in_lock, in_unlock, is_locked, is_parked}
+use Rattle.steps_mutex.specs.MutexSteps.{looked, mutex_next}
+use Rattle.steps_mutex.proofs.MutexWords.{first_is, nobody_first, one, parked_is, put_same, three}
+use Rattle.steps_mutex.proofs.MutexWords.{unlocked_free, word_of, zero_free}
 
 module _ (limit : ℕ) (s : Site) (t : ℕ) (h : IsSite (record { sort = Mutex; limit = limit }) s) where
   abbrev r : Rules
@@ -34,7 +43,8 @@ module _ (limit : ℕ) (s : Site) (t : ℕ) (h : IsSite (record { sort = Mutex; 
   abbrev Does : List Deed → Next MutexPlace → Type 0
   Does ds n = AllNeeded r ds s t × ((after_all r ds s t).role t ≡ role_next n)
 
-  follows : (p : MutexPlace) (whom : Option ℕ) (told : Reply) → Does (mutex_deeds p whom told) (mutex_next p told) → Follows r s t p whom told
+  follows : (p : MutexPlace) (whom : Option ℕ) (told : Reply) → Does (mutex_deeds p whom told)
+      (mutex_next p told) → Follows r s t p whom told
   follows p whom told d = record { needed = d.0; role = d.1 }
 
   owns : s.role t ≡ owner → s.lock.exclusive ≡ Some t
@@ -42,39 +52,84 @@ module _ (limit : ℕ) (s : Site) (t : ℕ) (h : IsSite (record { sort = Mutex; 
 
   -- a call ends outside of the section, and nothing is owed
   ends : (c : Option _) → s.role t ≡ record idle { claims = c } → AllNeeded r (End ∷ []) s t
-  ends c is = ((ap (λ (d : Role). d.inside) is, ap (λ (d : Role). d.wakes) is, ap (λ (d : Role). d.carries) is, λ some. absurd (let g : false ≡ true = sym (ap (λ (d : Role). counts_some Mutex d.retries) is) ∙ some in cc)), tt)
+  ends c is = (
+    (
+      ap (λ (d : Role). d.inside) is,
+      ap (λ (d : Role). d.wakes) is,
+      ap (λ (d : Role). d.carries) is,
+      λ some. absurd (let g : false ≡ true =
+          sym (ap (λ (d : Role). counts_some Mutex d.retries) is) ∙ some in cc),
+    ),
+    tt,
+  )
 
-  goes_in : (d : Role) → s.role t ≡ d → d.inside ≡ None → d.empty ≡ None → IsSectionFree s Main → AllNeeded r (In Main ∷ []) s t × ((after_all r (In Main ∷ []) s t).role t ≡ record d { inside = Some Main })
-  goes_in d is out e free = (((free, ap (λ (d : Role). d.inside) is ∙ out, ap (λ (d : Role). d.empty) is ∙ e), tt), put_same s.role t _ ∙ ap (λ (d : Role). record d { inside = Some Main }) is)
+  goes_in : (d : Role) → s.role t ≡ d → d.inside ≡ None → d.empty ≡ None → IsSectionFree s Main
+      → AllNeeded r (In Main ∷ []) s t
+      × ((after_all r (In Main ∷ []) s t).role t ≡ record d { inside = Some Main })
+  goes_in d is out e free = (
+    (
+      (free, ap (λ (d : Role). d.inside) is ∙ out, ap (λ (d : Role). d.empty) is ∙ e),
+      tt,
+    ),
+    put_same s.role t _ ∙ ap (λ (d : Role). record d { inside = Some Main }) is,
+  )
 
-  goes_out : (d : Role) → s.role t ≡ d → d.inside ≡ Some Main → d.wakes ≡ None → d.sets ≡ false → s.lock.taken t ≡ None
+  goes_out : (d : Role) → s.role t ≡ d → d.inside ≡ Some Main → d.wakes ≡ None → d.sets ≡ false
+      → s.lock.taken t ≡ None
       → AllNeeded r (Out ∷ []) s t × ((after_all r (Out ∷ []) s t).role t ≡ leaves d)
   goes_out d is i w b free = (
-    ((λ e. let g : Some Main ≡ None = sym (ap (λ (d : Role). d.inside) is ∙ i) ∙ e in cc, ap (λ (d : Role). d.wakes) is ∙ w, ap (λ (d : Role). d.sets) is ∙ b), tt),
+    (
+      (
+        λ e. let g : Some Main ≡ None = sym (ap (λ (d : Role). d.inside) is ∙ i) ∙ e in cc,
+        ap (λ (d : Role). d.wakes) is ∙ w,
+        ap (λ (d : Role). d.sets) is ∙ b,
+      ),
+      tt,
+    ),
     ap (λ o. wakened t o (putting s.role t (leaves (s.role t)) t)) free ∙ put_same s.role t _ ∙ ap leaves is,
   )
 
-  clears : (d : Role) → s.role t ≡ d → d.empty ≡ Some Main → AllNeeded r (Clear Main ∷ []) s t × ((after_all r (Clear Main ∷ []) s t).role t ≡ record d { empty = None; brings = false })
-  clears d is e = ((ap (λ (d : Role). d.empty) is ∙ e, tt), put_same s.role t _ ∙ ap (λ (d : Role). record d { empty = None; brings = false }) is)
+  clears : (d : Role) → s.role t ≡ d → d.empty ≡ Some Main → AllNeeded r (Clear Main ∷ []) s t
+      × ((after_all r (Clear Main ∷ []) s t).role t ≡ record d {
+        empty = None;
+        brings = false;
+      })
+  clears d is e = (
+    (ap (λ (d : Role). d.empty) is ∙ e, tt),
+    put_same s.role t _ ∙ ap (λ (d : Role). record d {
+      empty = None;
+      brings = false;
+    }) is,
+  )
 
   -- ---------------------------------------------------------------- calls that enter
 
-  wants_it : (b : Bool) → ((if b then Some Exclusive else None) ≡ None) ⊎ ((if b then Some Exclusive else None) ≡ Some Exclusive)
+  wants_it : (b : Bool) → ((if b then Some Exclusive else None) ≡ None)
+      ⊎ ((if b then Some Exclusive else None) ≡ Some Exclusive)
   wants_it true = inr refl
   wants_it false = inl refl
 
   -- it enters, and its call ends
-  comes_in : (retries : Bool) (a : _) → s.role t ≡ with_retry retries idle → s.lock.exclusive ≡ None → Does enter_deeds (Over a)
+  comes_in : (retries : Bool) (a : _) → s.role t ≡ with_retry retries idle → s.lock.exclusive ≡ None
+      → Does enter_deeds (Over a)
   comes_in retries a is free =
-      let own : (after_deed r (Case (Enter Exclusive)) s t).role t ≡ record (s.role t) { retries = None; claims = None } = put_same s.role t _ in (
+      let own : (after_deed r (Case (Enter Exclusive)) s t).role t ≡ record (s.role t) {
+        retries = None;
+        claims = None;
+      } = put_same s.role t _ in (
         (
-          ((((tt, free), tt), h.state.unshared (λ x. x)), subst (λ w. (w ≡ None) ⊎ (w ≡ Some Exclusive)) (sym (ap (λ (d : Role). d.retries) is)) (wants_it retries)),
+          (
+            (((tt, free), tt), h.state.unshared (λ x. x)),
+            subst (λ w. (w ≡ None) ⊎ (w ≡ Some Exclusive))
+                (sym (ap (λ (d : Role). d.retries) is)) (wants_it retries),
+          ),
           (
             (
               ap (λ (d : Role). d.inside) own ∙ ap (λ (d : Role). d.inside) is,
               ap (λ (d : Role). d.wakes) own ∙ ap (λ (d : Role). d.wakes) is,
               ap (λ (d : Role). d.carries) own ∙ ap (λ (d : Role). d.carries) is,
-              λ some. absurd (let g : false ≡ true = sym (ap (λ (d : Role). counts_some Mutex d.retries) own) ∙ some in cc),
+              λ some. absurd (let g : false ≡ true = sym (ap (λ (d : Role). counts_some Mutex d.retries) own)
+                  ∙ some in cc),
             ),
             tt,
           ),
@@ -83,22 +138,42 @@ module _ (limit : ℕ) (s : Site) (t : ℕ) (h : IsSite (record { sort = Mutex; 
       )
 
   module _ (e : Entry) (retries : Bool) where
-    tries : s.role t ≡ with_retry retries idle → (b : Bool) → (b ≡ true → s.lock.exclusive ≡ None) → Does (if b then enter_deeds else []) (in_lock e retries (if b then Over (entered e) else At lock.Load))
+    tries : s.role t ≡ with_retry retries idle → (b : Bool) → (b ≡ true → s.lock.exclusive ≡ None)
+        → Does (if b then enter_deeds else []) (in_lock e retries (if b then Over (entered e)
+        else At lock.Load))
     tries is true free = comes_in retries (entered e) is (free refl)
     tries is false free = (tt, is)
 
     -- an exchange, and whether it saw the mutex locked
-    decides : s.role t ≡ with_retry retries idle → (v : ℕ) (same locked : Bool) → (locked ≡ false → s.lock.exclusive ≡ None)
-        → Does (if not same then [] else if locked then Mark Main ∷ [] else enter_deeds) (in_lock e retries (if not same then At (lock.Decide v) else if locked then At (lock.Decide 3) else Over (entered e)))
+    decides : s.role t ≡ with_retry retries idle → (v : ℕ) (same locked : Bool)
+        → (locked ≡ false → s.lock.exclusive ≡ None)
+        → Does (if not same then [] else if locked then Mark Main ∷ [] else enter_deeds)
+        (in_lock e retries (if not same then At (lock.Decide v) else if locked then At (lock.Decide 3)
+        else Over (entered e)))
     decides is v false locked free = (tt, is)
     decides is v true true free = ((tt, tt), is)
     decides is v true false free = comes_in retries (entered e) is (free refl)
 
-    parks : s.role t ≡ with_retry retries inside → (b : Bool) → b ≡ (word_of s.parked s.lock.exclusive == 3) → standing t s.lock ≡ 0
+    parks : s.role t ≡ with_retry retries inside → (b : Bool) → b ≡ (word_of s.parked s.lock.exclusive == 3)
+        → standing t s.lock ≡ 0
         → Follows r s t (Lock e retries lock.Check) None (Parked b)
     parks is true f out = let w = three s.parked s.lock.exclusive (sym f) in record {
-      needed = (((((tt, w.0), out), (ap (λ (d : Role). d.inside) is, w.1, ap (λ (d : Role). d.wakes) is, ap (λ (d : Role). d.covers) is)), tt));
-      role = put_same s.role t _ ∙ ap (λ (d : Role). record d { retries = None; empty = None }) is ∙ unparked retries;
+      needed = ((
+        (
+          ((tt, w.0), out),
+          (
+            ap (λ (d : Role). d.inside) is,
+            w.1,
+            ap (λ (d : Role). d.wakes) is,
+            ap (λ (d : Role). d.covers) is,
+          ),
+        ),
+        tt,
+      ));
+      role = put_same s.role t _ ∙ ap (λ (d : Role). record d {
+        retries = None;
+        empty = None;
+      }) is ∙ unparked retries;
     }
       where
         unparked : (b : Bool) → inside ≡ mutex_role (Lock e (b && false) (lock.Leave true))
@@ -110,98 +185,196 @@ module _ (limit : ℕ) (s : Site) (t : ℕ) (h : IsSite (record { sort = Mutex; 
         still true = refl
         still false = refl
 
-    late : s.role t ≡ inside → (b : Bool) → StandsAlone s t Main b → Does (Case GivesUp ∷ []) (in_lock e retries (if b then At lock.Clear else At lock.GiveUp))
+    late : s.role t ≡ inside → (b : Bool) → StandsAlone s t Main b → Does (Case GivesUp ∷ [])
+        (in_lock e retries (if b then At lock.Clear else At lock.GiveUp))
     late is b f = (
-      ((omega (arith, f.0), subst (λ n. StandsIn s.lock t n × ((s.role t).carries ≡ false)) (sym (ap (λ (d : Role). d.inside) is)) (beside, ap (λ (d : Role). d.carries) is)), tt),
+      (
+        (
+          omega (arith, f.0),
+          subst (λ n. StandsIn s.lock t n × ((s.role t).carries ≡ false))
+              (sym (ap (λ (d : Role). d.inside) is)) (beside, ap (λ (d : Role). d.carries) is),
+        ),
+        tt,
+      ),
       put_same s.role t _
-          ∙ (λ i. record (is i) { empty = late_found (record s.lock { queue = without t s.lock.queue; aside = aside_without t s.lock.aside }) (is i).inside })
+          ∙ (λ i. record (is i) {
+            empty = late_found (record s.lock {
+              queue = without t s.lock.queue;
+              aside = aside_without t s.lock.aside;
+            }) (is i).inside;
+          })
           ∙ ap (λ c. record inside { empty = found Main c }) (sym f.1) ∙ left b,
     )
       where
-        left : (c : Bool) → record inside { empty = found Main c } ≡ role_next (in_lock e retries (if c then At lock.Clear else At lock.GiveUp))
+        left : (c : Bool) → record inside { empty = found Main c } ≡ role_next
+            (in_lock e retries (if c then At lock.Clear else At lock.GiveUp))
         left true = refl
         left false = refl
 
         beside : s.lock.aside ≢ Some t
-        beside a = let p = h.state.aside_pending t a in absurd (nobody_pends s.lock.pending (h.state.unpending (λ x. x)).0 p)
+        beside a = let p = h.state.aside_pending t a
+            in absurd (nobody_pends s.lock.pending (h.state.unpending (λ x. x)).0 p)
           where
             nobody_pends : (o : Option Pending) → o ≡ None → IsSomePending o t → ⊥
             nobody_pends None e p = p
             nobody_pends (Some x) e p = cc
 
-    leaves_section : (parked : Bool) → s.role t ≡ with_retry (if parked then false else retries) inside → s.lock.taken t ≡ None
+    leaves_section : (parked : Bool) → s.role t ≡ with_retry (if parked then false else retries) inside
+        → s.lock.taken t ≡ None
         → Does (Out ∷ []) (in_lock e retries (if parked then At lock.Asleep else At lock.Load))
     leaves_section true is free = let d = goes_out inside is refl refl refl free in (d.0, d.1)
-    leaves_section false is free = let d = goes_out (with_retry retries inside) is refl refl refl free in (d.0, d.1)
+    leaves_section false is free = let d = goes_out (with_retry retries inside) is refl refl refl free
+        in (d.0, d.1)
 
-    locks : (at : LockAt) (whom : Option ℕ) (told : Reply) → s.role t ≡ mutex_role (Lock e retries at) → MayHearLocking r s t e at told
+    locks : (at : LockAt) (whom : Option ℕ) (told : Reply) → s.role t ≡ mutex_role (Lock e retries at)
+        → MayHearLocking r s t e at told
         → Follows r s t (Lock e retries at) whom told
-    locks lock.First whom (Value seen) is f = follows _ whom (Value seen) (tries is (seen == 0) (λ z. zero_free s.parked s.lock.exclusive (ap (λ n. n == 0) (sym f) ∙ z)))
+    locks lock.First whom (Value seen) is f =
+        follows _ whom (Value seen) (tries is (seen == 0) (λ z. zero_free s.parked s.lock.exclusive
+        (ap (λ n. n == 0) (sym f) ∙ z)))
     locks lock.Load whom (Value seen) is f = record { needed = tt; role = is }
     locks (lock.Decide expected) whom (Value seen) is f =
-        follows _ whom (Value seen) (decides is seen (seen == expected) (is_locked seen) (λ z. unlocked_free s.parked s.lock.exclusive (ap is_locked (sym f) ∙ z)))
-    locks (lock.Decide expected) whom Done is f = follows _ whom Done (goes_in (with_retry retries idle) is refl refl f)
-    locks lock.Check whom (Parked true) is f = let d = parks is true f.0 f.1 in record { needed = d.needed; role = d.role }
-    locks lock.Check whom (Parked false) is f = let d = parks is false f.0 f.1 in record { needed = d.needed; role = d.role }
+        follows _ whom (Value seen) (decides is seen (seen == expected) (is_locked seen)
+        (λ z. unlocked_free s.parked s.lock.exclusive (ap is_locked (sym f) ∙ z)))
+    locks (lock.Decide expected) whom Done is f =
+        follows _ whom Done (goes_in (with_retry retries idle) is refl refl f)
+    locks lock.Check whom (Parked true) is f = let d = parks is true f.0 f.1 in record {
+      needed = d.needed;
+      role = d.role;
+    }
+    locks lock.Check whom (Parked false) is f = let d = parks is false f.0 f.1 in record {
+      needed = d.needed;
+      role = d.role;
+    }
     locks (lock.Leave parked) whom Done is f = follows _ whom Done (leaves_section parked is f)
     locks lock.Asleep whom Late is f = follows _ whom Late (goes_in idle is refl refl f.1)
-    locks lock.Accept whom Done is f = record { needed = ends (Some (Has Exclusive)) is; role = put_same s.role t idle }
-    locks lock.Remove whom (Removed none_left) is f = follows _ whom (Removed none_left) (late is none_left f.1)
-    locks lock.Clear whom (Value seen) is f = follows _ whom (Value seen) (clears (record inside { empty = Some Main }) is refl)
+    locks lock.Accept whom Done is f = record {
+      needed = ends (Some (Has Exclusive)) is;
+      role = put_same s.role t idle;
+    }
+    locks lock.Remove whom (Removed none_left) is f = follows _ whom (Removed none_left)
+        (late is none_left f.1)
+    locks lock.Clear whom (Value seen) is f =
+        follows _ whom (Value seen) (clears (record inside { empty = Some Main }) is refl)
     locks lock.GiveUp whom Done is f = follows _ whom Done (goes_out inside is refl refl refl f.1)
     locks at whom told is f = absurd f
 
   -- ---------------------------------------------------------------- calls that release
 
   -- its right is given up, by the bit that it saw
-  left_mutex : s.role t ≡ owner → (b : Bool) → s.parked ≡ b → (after_deed r (Case (Leave Exclusive)) s t).role t ≡ record idle { wakes = seen_main b }
-  left_mutex is b e = put_same s.role t _ ∙ (λ i. record (is i) { wakes = if (is i).covers then (is i).wakes else seen_main (e i); claims = None })
+  left_mutex : s.role t ≡ owner → (b : Bool) → s.parked ≡ b → (after_deed r (Case (Leave Exclusive)) s t).role
+      t ≡ record idle { wakes = seen_main b }
+  left_mutex is b e = put_same s.role t _ ∙ (λ i. record (is i) {
+    wakes = if (is i).covers then (is i).wakes else seen_main (e i);
+    claims = None;
+  })
 
   subtracts : s.role t ≡ owner → (b : Bool) → s.parked ≡ b
-      → Does (Case (Leave Exclusive) ∷ (if b then [] else End ∷ [])) (in_unlock (if b then At unlock.Enter else Over answer.Ok))
+      → Does (Case (Leave Exclusive) ∷ (if b then [] else End ∷ []))
+      (in_unlock (if b then At unlock.Enter else Over answer.Ok))
   subtracts is true e = (((owns is, ap (λ (d : Role). d.wakes) is), tt), left_mutex is true e)
   subtracts is false e = let d = left_mutex is false e in (
-    ((owns is, ap (λ (d : Role). d.wakes) is), ((ap (λ (d : Role). d.inside) d, ap (λ (d : Role). d.wakes) d, ap (λ (d : Role). d.carries) d, λ some. absurd (let g : false ≡ true = sym (ap (λ (d : Role). counts_some Mutex d.retries) d) ∙ some in cc)), tt)),
+    (
+      (owns is, ap (λ (d : Role). d.wakes) is),
+      (
+        (
+          ap (λ (d : Role). d.inside) d,
+          ap (λ (d : Role). d.wakes) d,
+          ap (λ (d : Role). d.carries) d,
+          λ some. absurd (let g : false ≡ true = sym (ap (λ (d : Role). counts_some Mutex d.retries) d) ∙ some
+              in cc),
+        ),
+        tt,
+      ),
+    ),
     put_same (after_deed r (Case (Leave Exclusive)) s t).role t idle,
   )
 
   -- it takes the first waiter, if there is one
-  takes_first : (d : Role) → s.role t ≡ d → d.inside ≡ Some Main → d.carries ≡ false → ((d.wakes ≡ None) ⊎ (d.wakes ≡ Some Main)) → (whom : Option ℕ) (any none_left : Bool) → TakesFirst s whom any none_left → HasTakenNobody s.lock t
-      → AllNeeded r (take_deeds whom) s t × ((after_all r (take_deeds whom) s t).role t ≡ record d { wakes = None; carries = true; covers = true; empty = found Main none_left })
+  takes_first : (d : Role) → s.role t ≡ d → d.inside ≡ Some Main → d.carries ≡ false
+      → ((d.wakes ≡ None) ⊎ (d.wakes ≡ Some Main)) → (whom : Option ℕ) (any none_left : Bool)
+      → TakesFirst s whom any none_left → HasTakenNobody s.lock t
+      → AllNeeded r (take_deeds whom) s t × ((after_all r (take_deeds whom) s t).role t ≡ record d {
+        wakes = None;
+        carries = true;
+        covers = true;
+        empty = found Main none_left;
+      })
   takes_first d is i c w None any none_left f nobody =
       let e : s.lock.queue ≡ [] = nobody_first s.lock.queue (sym f.first) in
       let left : none_left ≡ true = f.left ∙ ap (λ q. is_empty (drop 1 q)) e in (
-        ((ap (λ (d : Role). d.inside) is ∙ i, ap (λ (d : Role). d.carries) is ∙ c, e, subst (λ x. (x ≡ None) ⊎ (x ≡ Some Main)) (sym (ap (λ (d : Role). d.wakes) is)) w), tt),
-        put_same s.role t _ ∙ ap (λ (d : Role). record d { wakes = None; carries = true; covers = true; empty = Some Main }) is
-            ∙ ap (λ b. record d { wakes = None; carries = true; covers = true; empty = found Main b }) (sym left),
+        (
+          (
+            ap (λ (d : Role). d.inside) is ∙ i,
+            ap (λ (d : Role). d.carries) is ∙ c,
+            e,
+            subst (λ x. (x ≡ None) ⊎ (x ≡ Some Main)) (sym (ap (λ (d : Role). d.wakes) is)) w,
+          ),
+          tt,
+        ),
+        put_same s.role t _ ∙ ap (λ (d : Role). record d {
+          wakes = None;
+          carries = true;
+          covers = true;
+          empty = Some Main;
+        }) is
+            ∙ ap (λ b. record d {
+              wakes = None;
+              carries = true;
+              covers = true;
+              empty = found Main b;
+            }) (sym left),
       )
   takes_first d is i c w (Some u) any none_left f nobody =
       let e = first_is s.lock.queue u h.state.known_queue (sym f.first) in (
-        ((((drop 1 s.lock.queue, e), nobody, tt), (ap (λ (d : Role). d.inside) is ∙ i, ap (λ (d : Role). d.carries) is ∙ c, λ second. not_second d.wakes w (sym (ap (λ (d : Role). d.wakes) is) ∙ second))), tt),
-        put_same s.role t _ ∙ (λ i. record (is i) { wakes = None; carries = true; covers = true; empty = found Main (sym f.left i) }),
+        (
+          (
+            ((drop 1 s.lock.queue, e), nobody, tt),
+            (
+              ap (λ (d : Role). d.inside) is ∙ i,
+              ap (λ (d : Role). d.carries) is ∙ c,
+              λ second. not_second d.wakes w
+                  (sym (ap (λ (d : Role). d.wakes) is) ∙ second),
+            ),
+          ),
+          tt,
+        ),
+        put_same s.role t _ ∙ (λ i. record (is i) {
+          wakes = None;
+          carries = true;
+          covers = true;
+          empty = found Main (sym f.left i);
+        }),
       )
     where
       not_second : (x : Option _) → ((x ≡ None) ⊎ (x ≡ Some Main)) → x ≡ Some Second → ⊥
       not_second x (inl a) b = let g : None ≡ Some Second = sym a ∙ b in cc
       not_second x (inr a) b = let g : Some Main ≡ Some Second = sym a ∙ b in cc
 
-  unlocks : (at : UnlockAt) (whom : Option ℕ) (told : Reply) → s.role t ≡ mutex_role (Unlock at) → MayHearUnlocking r s t at whom told → Follows r s t (Unlock at) whom told
-  unlocks unlock.Subtract whom (Value seen) is f = follows _ whom (Value seen) (subtracts is (is_parked seen) (sym (ap is_parked f ∙ parked_is s.parked s.lock.exclusive)))
-  unlocks unlock.Enter whom Done is f = follows _ whom Done (goes_in (record idle { wakes = Some Main }) is refl refl f)
+  unlocks : (at : UnlockAt) (whom : Option ℕ) (told : Reply) → s.role t ≡ mutex_role (Unlock at)
+      → MayHearUnlocking r s t at whom told → Follows r s t (Unlock at) whom told
+  unlocks unlock.Subtract whom (Value seen) is f = follows _ whom (Value seen)
+      (subtracts is (is_parked seen) (sym (ap is_parked f ∙ parked_is s.parked s.lock.exclusive)))
+  unlocks unlock.Enter whom Done is f =
+      follows _ whom Done (goes_in (record idle { wakes = Some Main }) is refl refl f)
   unlocks unlock.Take whom (Took any none_left) is f =
-      let d = takes_first (record inside { wakes = Some Main }) is refl refl (inr refl) whom any none_left f.0 f.1 in follows _ whom (Took any none_left) (d.0, d.1 ∙ took none_left)
+      let d = takes_first (record inside { wakes = Some Main }) is refl refl (inr refl) whom any none_left f.0
+      f.1 in follows _ whom (Took any none_left) (d.0, d.1 ∙ took none_left)
     where
-      took : (b : Bool) → record carrying { empty = found Main b } ≡ role_next (in_unlock (if b then At (unlock.Clear any) else At (unlock.Leave any)))
+      took : (b : Bool) → record carrying { empty = found Main b } ≡ role_next
+          (in_unlock (if b then At (unlock.Clear any) else At (unlock.Leave any)))
       took true = refl
       took false = refl
-  unlocks (unlock.Clear any) whom (Value seen) is f = follows _ whom (Value seen) (clears (record carrying { empty = Some Main }) is refl)
+  unlocks (unlock.Clear any) whom (Value seen) is f = follows _ whom (Value seen)
+      (clears (record carrying { empty = Some Main }) is refl)
   unlocks (unlock.Leave any) whom Done is f = follows _ whom Done (goes_out carrying is refl refl refl f)
   unlocks at whom told is f = absurd f
 
   -- ---------------------------------------------------------------- hand-offs
 
   -- the word that it sees leads it to hand the mutex over, or its call ends
-  unlocks_fairly : s.role t ≡ owner → (b : Bool) → (b ≡ true → s.parked ≡ false) → Does (if b then Case (Leave Exclusive) ∷ End ∷ [] else []) (looked false (not b))
+  unlocks_fairly : s.role t ≡ owner → (b : Bool) → (b ≡ true → s.parked ≡ false)
+      → Does (if b then Case (Leave Exclusive) ∷ End ∷ [] else []) (looked false (not b))
   unlocks_fairly is true e = subtracts is false (e refl)
   unlocks_fairly is false e = (tt, is)
 
@@ -212,59 +385,122 @@ module _ (limit : ℕ) (s : Site) (t : ℕ) (h : IsSite (record { sort = Mutex; 
   -- it hands the mutex to the heir, and the store writes the bit anew
   module _ (bumping any : Bool) where
     abbrev storing : Bool → Role
-    storing none_left = record carrying { claims = Some (Has Exclusive); empty = found Main (seen_empty any none_left) }
+    storing none_left = record carrying {
+      claims = Some (Has Exclusive);
+      empty = found Main (seen_empty any none_left);
+    }
 
-    gives : (whom : Option ℕ) (none_left : Bool) → s.role t ≡ storing none_left → IsSuccessor s.lock t (heir whom) → AllNeeded r (Case (HandsOff Exclusive (heir whom)) ∷ []) s t
-    gives whom none_left is to = (((h.held t (Has Exclusive) (ap (λ (d : Role). d.claims) is), (λ e. cc), to, tt), (ap (λ (d : Role). d.inside) is, ap (λ (d : Role). d.covers) is, ap (λ (d : Role). d.retries) is, ap (λ (d : Role). d.wakes) is)), tt)
+    gives : (whom : Option ℕ) (none_left : Bool) → s.role t ≡ storing none_left
+        → IsSuccessor s.lock t (heir whom) → AllNeeded r (Case (HandsOff Exclusive (heir whom)) ∷ []) s t
+    gives whom none_left is to = (
+      (
+        (
+          h.held t (Has Exclusive) (ap (λ (d : Role). d.claims) is),
+          (λ e. cc),
+          to,
+          tt,
+        ),
+        (
+          ap (λ (d : Role). d.inside) is,
+          ap (λ (d : Role). d.covers) is,
+          ap (λ (d : Role). d.retries) is,
+          ap (λ (d : Role). d.wakes) is,
+        ),
+      ),
+      tt,
+    )
 
-    given : (whom : Option ℕ) (none_left : Bool) → s.role t ≡ storing none_left → (after_deed r (Case (HandsOff Exclusive (heir whom))) s t).role t ≡ record inside { carries = true; empty = found Main (seen_empty any none_left) }
-    given whom none_left is = put_same s.role t _ ∙ ap (λ (d : Role). record d { covers = false; claims = None; brings = false; sets = false }) is
+    given : (whom : Option ℕ) (none_left : Bool) → s.role t ≡ storing none_left
+        → (after_deed r (Case (HandsOff Exclusive (heir whom))) s t).role t ≡ record inside {
+          carries = true;
+          empty = found Main (seen_empty any none_left);
+        }
+    given whom none_left is = put_same s.role t _ ∙ ap (λ (d : Role). record d {
+      covers = false;
+      claims = None;
+      brings = false;
+      sets = false;
+    }) is
 
-    stores : (whom : Option ℕ) (none_left : Bool) → s.role t ≡ storing none_left → any ≡ not (is_none whom) → IsSuccessor s.lock t (heir whom)
+    stores : (whom : Option ℕ) (none_left : Bool) → s.role t ≡ storing none_left → any ≡ not (is_none whom)
+        → IsSuccessor s.lock t (heir whom)
         → Does (handing_deeds whom none_left) (At (HandOff bumping (hand_off.Leave any)))
     stores None none_left is some to =
-        let d = given None none_left is ∙ ap (λ b. record inside { carries = true; empty = found Main (seen_empty b none_left) }) some in (
+        let d = given None none_left is ∙ ap (λ b. record inside {
+          carries = true;
+          empty = found Main (seen_empty b none_left);
+        }) some in (
           ((gives None none_left is to).0, (ap (λ (d : Role). d.empty) d, tt)),
-          put_same (after_deed r (Case (HandsOff Exclusive None)) s t).role t _ ∙ ap (λ (d : Role). record d { empty = None; brings = false }) d,
+          put_same (after_deed r (Case (HandsOff Exclusive None)) s t).role t _ ∙ ap (λ (d : Role). record d {
+            empty = None;
+            brings = false;
+          }) d,
         )
     stores (Some u) true is some to =
-        let d = given (Some u) true is ∙ ap (λ b. record inside { carries = true; empty = found Main (seen_empty b true) }) some in (
+        let d = given (Some u) true is ∙ ap (λ b. record inside {
+          carries = true;
+          empty = found Main (seen_empty b true);
+        }) some in (
           ((gives (Some u) true is to).0, (ap (λ (d : Role). d.empty) d, tt)),
-          put_same (after_deed r (Case (HandsOff Exclusive (Some (queued u)))) s t).role t _ ∙ ap (λ (d : Role). record d { empty = None; brings = false }) d,
+          put_same (after_deed r (Case (HandsOff Exclusive (Some (queued u)))) s t).role t _
+              ∙ ap (λ (d : Role). record d {
+                empty = None;
+                brings = false;
+              }) d,
         )
     stores (Some u) false is some to = (
       ((gives (Some u) false is to).0, (tt, tt)),
-      given (Some u) false is ∙ ap (λ b. record inside { carries = true; empty = found Main (seen_empty b false) }) some,
+      given (Some u) false is ∙ ap (λ b. record inside {
+        carries = true;
+        empty = found Main (seen_empty b false);
+      }) some,
     )
 
   left_section : (bumping : Bool) → idle ≡ role_next (in_hand_off bumping (Over answer.Ok))
   left_section true = refl
   left_section false = refl
 
-  hands_off : (bumping : Bool) (at : HandOffAt) (whom : Option ℕ) (told : Reply) → s.role t ≡ mutex_role (HandOff bumping at) → MayHearHandingOff r s t at whom told → Follows r s t (HandOff bumping at) whom told
+  hands_off : (bumping : Bool) (at : HandOffAt) (whom : Option ℕ) (told : Reply)
+      → s.role t ≡ mutex_role (HandOff bumping at) → MayHearHandingOff r s t at whom told
+      → Follows r s t (HandOff bumping at) whom told
   hands_off bumping hand_off.Enter whom Done is f = follows _ whom Done (goes_in owner is refl refl f)
   hands_off bumping hand_off.Take whom (Took any none_left) is f =
-      let d = takes_first (record owner { inside = Some Main }) is refl refl (inl refl) whom any none_left f.0 f.1 in
-      follows _ whom (Took any none_left) (d.0, d.1 ∙ ap (λ b. record carrying { claims = Some (Has Exclusive); empty = found Main b }) (seen whom any f.0))
+      let d = takes_first (record owner { inside = Some Main }) is refl refl (inl refl) whom any none_left f.0
+      f.1 in
+      follows _ whom (Took any none_left) (
+        d.0,
+        d.1 ∙ ap (λ b. record carrying {
+          claims = Some (Has Exclusive);
+          empty = found Main b;
+        }) (seen whom any f.0),
+      )
     where
       seen : (o : Option ℕ) (b : Bool) → TakesFirst s o b none_left → none_left ≡ seen_empty b none_left
-      seen None b f = let e : s.lock.queue ≡ [] = nobody_first s.lock.queue (sym f.first) in f.left ∙ ap (λ q. is_empty (drop 1 q)) e ∙ sym (ap (λ c. seen_empty c none_left) f.some)
+      seen None b f = let e : s.lock.queue ≡ [] = nobody_first s.lock.queue (sym f.first) in f.left
+          ∙ ap (λ q. is_empty (drop 1 q)) e ∙ sym (ap (λ c. seen_empty c none_left) f.some)
       seen (Some u) b f = sym (ap (λ c. seen_empty c none_left) f.some)
-  hands_off bumping (hand_off.Store any none_left) whom (Value seen) is f = follows _ whom (Value seen) (stores bumping any whom none_left is f.1 f.2)
-  hands_off bumping (hand_off.Leave any) whom Done is f = let d = goes_out (record inside { carries = true }) is refl refl refl f in follows _ whom Done (d.0, d.1 ∙ left_section bumping)
+  hands_off bumping (hand_off.Store any none_left) whom (Value seen) is f =
+      follows _ whom (Value seen) (stores bumping any whom none_left is f.1 f.2)
+  hands_off bumping (hand_off.Leave any) whom Done is f = let d = goes_out (record inside { carries = true })
+      is refl refl refl f in follows _ whom Done (d.0, d.1 ∙ left_section bumping)
   hands_off bumping at whom told is f = absurd f
 
   -- ---------------------------------------------------------------- each place
 
-  tries_once : s.role t ≡ idle → (b : Bool) → (b ≡ false → s.lock.exclusive ≡ None) → Does (if b then End ∷ [] else enter_deeds) (if b then Over answer.No else Over answer.Yes)
+  tries_once : s.role t ≡ idle → (b : Bool) → (b ≡ false → s.lock.exclusive ≡ None)
+      → Does (if b then End ∷ [] else enter_deeds) (if b then Over answer.No else Over answer.Yes)
   tries_once is true free = (ends None is, put_same s.role t idle)
   tries_once is false free = comes_in false answer.Yes is (free refl)
 
-  each_follows : (p : MutexPlace) (whom : Option ℕ) (told : Reply) → s.role t ≡ mutex_role p → MayHear r s t p whom told → Follows r s t p whom told
+  each_follows : (p : MutexPlace) (whom : Option ℕ) (told : Reply) → s.role t ≡ mutex_role p
+      → MayHear r s t p whom told → Follows r s t p whom told
   each_follows (Lock e retries at) whom told is f = locks e retries at whom told is f
-  each_follows TryLock whom (Value seen) is f = follows _ whom (Value seen) (tries_once is (is_locked seen) (λ z. unlocked_free s.parked s.lock.exclusive (ap is_locked (sym f) ∙ z)))
+  each_follows TryLock whom (Value seen) is f = follows _ whom (Value seen)
+      (tries_once is (is_locked seen) (λ z. unlocked_free s.parked s.lock.exclusive (ap is_locked (sym f)
+      ∙ z)))
   each_follows (Unlock at) whom told is f = unlocks at whom told is f
-  each_follows UnlockFair whom (Value seen) is f = follows _ whom (Value seen) (unlocks_fairly is (seen == 1) (λ z. one s.parked s.lock.exclusive (ap (λ n. n == 1) (sym f) ∙ z)))
+  each_follows UnlockFair whom (Value seen) is f = follows _ whom (Value seen)
+      (unlocks_fairly is (seen == 1) (λ z. one s.parked s.lock.exclusive (ap (λ n. n == 1) (sym f) ∙ z)))
   each_follows Bump whom (Value seen) is f = follows _ whom (Value seen) (bumps is (is_parked seen))
   each_follows (HandOff bumping at) whom told is f = hands_off bumping at whom told is f
   each_follows p whom told is f = absurd f
@@ -272,4 +508,7 @@ module _ (limit : ℕ) (s : Site) (t : ℕ) (h : IsSite (record { sort = Mutex; 
 pub mutex_steps_follow : MutexStepsFollow
 mutex_steps_follow r s t p whom told a f =
     subst (λ x. IsSite x s → MayHear x s t p whom told → Follows x s t p whom told)
-    (λ i. record { sort = sym a.sort i; limit = r.limit }) (λ h f. each_follows r.limit s t h p whom told a.role f) a.site f
+    (λ i. record {
+      sort = sym a.sort i;
+      limit = r.limit;
+    }) (λ h f. each_follows r.limit s t h p whom told a.role f) a.site f

@@ -18,7 +18,8 @@ use Rattle.steps_mutex.specs.declared.places.MutexPlace.{MutexPlace}
 use Rattle.steps_mutex.specs.declared.places.MutexPlace.TheVariants.{Lock, Unlock, HandOff}
 use Rattle.steps_mutex.specs.MutexSteps.{hand_off_act, is_locked, lock_act, mutex_act, unlock_act}
 use Rattle.steps_mutex.specs.MutexLaws.{MutexRowsKeep, mutex_row}
-use Rattle.steps_base.proofs.RowCheck.{Going, Into, HandsOver, Asleep, Other, GoesAs, keeps_row, by_test, both}
+use Rattle.steps_base.proofs.RowCheck.{Going, Into, HandsOver, Asleep, Other, GoesAs, keeps_row, by_test}
+use Rattle.steps_base.proofs.RowCheck.{both}
 
 -- ---------------------------------------------------------------- the next act of a thread
 
@@ -48,7 +49,8 @@ going (HandOff b at) = hand_off_going at
 going at = Other
 
 decided_goes : (l s : ℕ) (a b : Bool) → GoesAs l
-    (if not a then act.Word l (op.Exchange s (s + 1)) else if b then act.Word l (op.Exchange 1 3) else act.Enter (One (2 * l))) (decided_going a b)
+    (if not a then act.Word l (op.Exchange s (s + 1)) else if b then act.Word l (op.Exchange 1 3)
+    else act.Enter (One (2 * l))) (decided_going a b)
 decided_goes l s false b = record { acts = refl; awake = λ e. cc; elsewhere = λ m e. cc }
 decided_goes l s true true = record { acts = refl; awake = λ e. cc; elsewhere = λ m e. cc }
 decided_goes l s true false = refl
@@ -67,8 +69,16 @@ unlock_goes l at = record { acts = refl; awake = λ e. cc; elsewhere = λ m e. c
 hand_off_goes : (l : ℕ) (at : HandOffAt) → GoesAs l (hand_off_act l at) (hand_off_going at)
 hand_off_goes l hand_off.Enter = refl
 hand_off_goes l (hand_off.Leave true) = refl
-hand_off_goes l (hand_off.Store true none_left) = record { acts = refl; awake = λ e. cc; elsewhere = λ m e. cc }
-hand_off_goes l (hand_off.Store false none_left) = record { acts = refl; awake = λ e. cc; elsewhere = λ m e. cc }
+hand_off_goes l (hand_off.Store true none_left) = record {
+  acts = refl;
+  awake = λ e. cc;
+  elsewhere = λ m e. cc;
+}
+hand_off_goes l (hand_off.Store false none_left) = record {
+  acts = refl;
+  awake = λ e. cc;
+  elsewhere = λ m e. cc;
+}
 hand_off_goes l at = record { acts = refl; awake = λ e. cc; elsewhere = λ m e. cc }
 
 goes : (l : ℕ) (at : MutexPlace) → GoesAs l (mutex_act l at) (going at)
@@ -84,7 +94,8 @@ Passes l at g = keeps_row Mutex (mutex_row at) ((mutex_row at).purpose l) g
 
 -- for every call, woken or not
 each : (f : Entry → Bool → Bool)
-    → (f entries.Lock true && (f entries.Lock false && (f entries.LockTimed true && (f entries.LockTimed false && (f entries.Bump true && f entries.Bump false))))) ≡ true
+    → (f entries.Lock true && (f entries.Lock false && (f entries.LockTimed true &&
+    (f entries.LockTimed false && (f entries.Bump true && f entries.Bump false))))) ≡ true
     → (e : Entry) (r : Bool) → f e r ≡ true
 each f h =
     let a = both (f entries.Lock true) _ h in
@@ -94,7 +105,8 @@ each f h =
     let g = both (f entries.Bump true) _ d.1 in
     picks a.0 b.0 c.0 d.0 g.0 g.1
   where
-    picks : f entries.Lock true ≡ true → f entries.Lock false ≡ true → f entries.LockTimed true ≡ true → f entries.LockTimed false ≡ true
+    picks : f entries.Lock true ≡ true → f entries.Lock false ≡ true → f entries.LockTimed true ≡ true
+        → f entries.LockTimed false ≡ true
         → f entries.Bump true ≡ true → f entries.Bump false ≡ true → (e : Entry) (r : Bool) → f e r ≡ true
     picks a b c d g i entries.Lock true = a
     picks a b c d g i entries.Lock false = b
@@ -159,4 +171,5 @@ own l (HandOff false at) = refl
 own l at = refl
 
 pub mutex_promises : MutexRowsKeep
-mutex_promises l at = by_test Mutex l (mutex_row at) (mutex_act l at) (going at) (own l at) (goes l at) (passes l at)
+mutex_promises l at = by_test Mutex l (mutex_row at) (mutex_act l at) (going at) (own l at) (goes l at)
+    (passes l at)

@@ -1,6 +1,7 @@
 -- The word of a mutex tells a thread the truth, and each operation leaves the word that its deeds
 -- say.
-use Rattle.std.proofs.Common.{ℕ, Bool, true, false, Option, Some, None, ◌==◌, ◌≡◌, ◌≢◌, ◌+◌, ◌*◌, List, [], ◌∷◌, refl, ap, ◌∙◌, arith}
+use Rattle.std.proofs.Common.{ℕ, Bool, true, false, Option, Some, None, ◌==◌, ◌≡◌, ◌≢◌, ◌+◌, ◌*◌, List, []}
+use Rattle.std.proofs.Common.{◌∷◌, refl, ap, ◌∙◌, arith}
 use Rattle.std.proofs.lemmas.Bool.Decides.{nat_tests}
 use Rattle.std.specs.Prelude.{drop}
 use Rattle.core_base.specs.declared.ops.Op.TheVariants as op
@@ -78,7 +79,8 @@ entered_zero true None t e = absurd cc
 entered_zero true (Some u) t e = absurd cc
 entered_zero false (Some u) t e = absurd cc
 
-pub entered_free : (p : Bool) (o : Option ℕ) (t : ℕ) → is_locked (word_of p o) ≡ false → word_of p o + 1 ≡ word_of p (Some t)
+pub entered_free : (p : Bool) (o : Option ℕ) (t : ℕ) → is_locked (word_of p o) ≡ false → word_of p o + 1
+    ≡ word_of p (Some t)
 entered_free true None t e = refl
 entered_free false None t e = refl
 entered_free true (Some u) t e = absurd cc
@@ -89,13 +91,15 @@ owned_word p (Some u) e = refl
 owned_word true None e = absurd cc
 owned_word false None e = absurd cc
 
-pub tried_free : (p : Bool) (o : Option ℕ) (t : ℕ) → is_locked (word_of p o) ≡ false → apply (op.Or 1) (word_of p o) ≡ word_of p (Some t)
+pub tried_free : (p : Bool) (o : Option ℕ) (t : ℕ) → is_locked (word_of p o) ≡ false
+    → apply (op.Or 1) (word_of p o) ≡ word_of p (Some t)
 tried_free true None t e = refl
 tried_free false None t e = refl
 tried_free true (Some u) t e = absurd cc
 tried_free false (Some u) t e = absurd cc
 
-pub tried_owned : (p : Bool) (o : Option ℕ) → is_locked (word_of p o) ≡ true → apply (op.Or 1) (word_of p o) ≡ word_of p o
+pub tried_owned : (p : Bool) (o : Option ℕ) → is_locked (word_of p o) ≡ true → apply (op.Or 1) (word_of p o)
+    ≡ word_of p o
 tried_owned true (Some u) e = refl
 tried_owned false (Some u) e = refl
 tried_owned true None e = absurd cc
@@ -114,6 +118,8 @@ exclusive_wanted x k = λ i. record { thread = x.thread; want = wanted x.want k 
     wanted Exclusive k = refl
     wanted w k = absurd k
 
-pub first_is : (q : List Queued) (u : ℕ) → KnowsAll Mutex q → first_thread q ≡ Some u → q ≡ queued u ∷ drop 1 q
+pub first_is : (q : List Queued) (u : ℕ) → KnowsAll Mutex q → first_thread q ≡ Some u → q ≡ queued u
+    ∷ drop 1 q
 first_is [] u k e = absurd cc
-first_is (x ∷ q) u k e = let same : x.thread ≡ u = cc in ap (λ y. y ∷ q) (exclusive_wanted x k.0 ∙ ap queued same)
+first_is (x ∷ q) u k e = let same : x.thread ≡ u = cc in ap (λ y. y ∷ q) (exclusive_wanted x k.0
+    ∙ ap queued same)

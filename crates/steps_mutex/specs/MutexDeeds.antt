@@ -2,7 +2,8 @@
 use Rattle.std.specs.Prelude.{ℕ, Bool, true, Option, Some, None, if◌then◌else◌, ◌==◌, not, List, [], ◌∷◌}
 use Rattle.core_base.specs.declared.wants.Want.TheVariants.{Exclusive}
 use Rattle.steps_mutex.specs.declared.places.MutexPlace.{MutexPlace}
-use Rattle.steps_mutex.specs.declared.places.MutexPlace.TheVariants.{Lock, TryLock, Unlock, UnlockFair, Bump, HandOff}
+use Rattle.steps_mutex.specs.declared.places.MutexPlace.TheVariants.{Lock, TryLock, Unlock, UnlockFair, Bump}
+use Rattle.steps_mutex.specs.declared.places.MutexPlace.TheVariants.{HandOff}
 use Rattle.steps_mutex.specs.declared.lock.LockAt.{LockAt}
 use Rattle.steps_mutex.specs.declared.lock.LockAt.TheVariants as lock
 use Rattle.steps_mutex.specs.declared.unlock.UnlockAt.{UnlockAt}
@@ -12,7 +13,8 @@ use Rattle.steps_mutex.specs.declared.hand_off.HandOffAt.TheVariants as hand_off
 use Rattle.steps_base.specs.declared.acts.Reply.{Reply}
 use Rattle.steps_base.specs.declared.acts.Reply.TheVariants.{Done, Value, Parked, Took, Removed, Late}
 use Rattle.steps_mutex.specs.MutexSteps.{is_locked, is_parked}
-use Rattle.spec_locks.specs.Locks.{Queued, Enter, Leave, Park, TakeFirst, HandOff as HandsOff, Late as GivesUp}
+use Rattle.spec_locks.specs.Locks.{Queued, Enter, Leave, Park, TakeFirst, HandOff as HandsOff}
+use Rattle.spec_locks.specs.Locks.{Late as GivesUp}
 use Rattle.spec_locks.specs.Sites.{Main, Deed, End, In, Out, Mark, Clear, FindNobody, Case}
 
 abbrev pub enter_deeds : List Deed

@@ -3,7 +3,8 @@ use Rattle.std.specs.Prelude.{ℕ, Bool, true, false, Option, Some, None, if◌t
 use Rattle.core_base.specs.declared.wants.Want.{Want}
 use Rattle.core_base.specs.declared.wants.Want.TheVariants.{Exclusive}
 use Rattle.steps_mutex.specs.declared.places.MutexPlace.{MutexPlace}
-use Rattle.steps_mutex.specs.declared.places.MutexPlace.TheVariants.{Lock, TryLock, Unlock, UnlockFair, Bump, HandOff}
+use Rattle.steps_mutex.specs.declared.places.MutexPlace.TheVariants.{Lock, TryLock, Unlock, UnlockFair, Bump}
+use Rattle.steps_mutex.specs.declared.places.MutexPlace.TheVariants.{HandOff}
 use Rattle.steps_mutex.specs.declared.lock.Entry.{Entry}
 use Rattle.steps_mutex.specs.declared.lock.Entry.TheVariants as entry
 use Rattle.steps_mutex.specs.declared.lock.LockAt.{LockAt}

@@ -7,7 +7,8 @@
 //! | `Store` | stores the word: the one that it took owns the mutex | `Leave` |
 //! | `Leave` | leaves the section, and wakes the new owner | ends, or enters again as it bumps |
 ghost use Rattle.std.specs.Prelude.{◌≡◌, ◌<◌, ◌^◌};
-ghost use Rattle.steps_mutex.specs.MutexSteps.{next_hand_off, looked, hand_off_word, hand_off_store, hand_off_act};
+ghost use Rattle.steps_mutex.specs.MutexSteps.{next_hand_off, looked, hand_off_word, hand_off_store};
+ghost use Rattle.steps_mutex.specs.MutexSteps.{hand_off_act};
 
 use crate::places::{LOCKED, MutexPlace, PARKED};
 use core_base::{Keys, Note, Op, main_key};

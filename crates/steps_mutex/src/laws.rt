@@ -1,5 +1,6 @@
 //! The laws of the steps of a mutex.
-ghost use Rattle.steps_mutex.specs.MutexLaws.{MutexHandOversCode, MutexRowsKeep, MutexStepsCode, MutexStepsFollow, MutexStepsTell};
+ghost use Rattle.steps_mutex.specs.MutexLaws.{MutexHandOversCode, MutexRowsKeep, MutexStepsCode};
+ghost use Rattle.steps_mutex.specs.MutexLaws.{MutexStepsFollow, MutexStepsTell};
 
 /// Each step of a mutex may do to it what its deeds say, and its next place says what the thread
 /// does then.

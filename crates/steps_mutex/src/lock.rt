@@ -17,7 +17,8 @@
 //! | `Clear` | clears `PARKED` | `GiveUp` |
 //! | `GiveUp` | leaves the section | ends with `No` |
 ghost use Rattle.std.specs.Prelude.{◌≡◌, ◌<◌, ◌^◌};
-ghost use Rattle.steps_mutex.specs.MutexSteps.{is_timed, entry_place, entered, next_lock, still_retries, lock_act, decided, lock_owners};
+ghost use Rattle.steps_mutex.specs.MutexSteps.{is_timed, entry_place, entered, next_lock, still_retries};
+ghost use Rattle.steps_mutex.specs.MutexSteps.{lock_act, decided, lock_owners};
 
 use crate::places::{LOCKED, MutexPlace, NOT_PARKED, PARKED, is_locked};
 use core_base::{Keys, Note, Op, Want, main_key};

@@ -8,8 +8,10 @@
 //! | 3 | owned; somebody may stand in the queue |
 ghost use Rattle.std.specs.Prelude.{ℕ, ◌≡◌, ◌<◌, ◌^◌};
 ghost use Rattle.steps_base.specs.Acts.{outcome_of};
-ghost use Rattle.steps_mutex.specs.MutexProfiles.{mutex_taker, mutex_wants, mutex_late_line, mutex_owes, mutex_retries};
-ghost use Rattle.steps_mutex.specs.MutexSteps.{is_locked, is_parked, mutex_first, mutex_right, mutex_act, mutex_next, mutex_looking, mutex_owners};
+ghost use Rattle.steps_mutex.specs.MutexProfiles.{mutex_taker, mutex_wants, mutex_late_line, mutex_owes};
+ghost use Rattle.steps_mutex.specs.MutexProfiles.{mutex_retries};
+ghost use Rattle.steps_mutex.specs.MutexSteps.{is_locked, is_parked, mutex_first, mutex_right, mutex_act};
+ghost use Rattle.steps_mutex.specs.MutexSteps.{mutex_next, mutex_looking, mutex_owners};
 
 use crate::hand_off::{HandOffAt, hand_off_act, looked, next_hand_off};
 use crate::lock::{Entry, LockAt, lock_act, lock_owners, next_lock, still_retries};

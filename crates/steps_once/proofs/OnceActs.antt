@@ -1,5 +1,7 @@
--- Each step of a `Once` takes its thread in the machine where its act says, and so does what befalls it asleep.
-use Rattle.std.proofs.Common.{ℕ, Bool, true, false, Option, Some, None, if◌then◌else◌, ◌==◌, ◌≡◌, inl, inr, refl, sym, ap, ◌∙◌, subst}
+-- Each step of a `Once` takes its thread in the machine where its act says, and so does what befalls it
+-- asleep.
+use Rattle.std.proofs.Common.{ℕ, Bool, true, false, Option, Some, None, if◌then◌else◌, ◌==◌, ◌≡◌, inl, inr}
+use Rattle.std.proofs.Common.{refl, sym, ap, ◌∙◌, subst}
 use Rattle.std.specs.Prelude.{◌&&◌}
 use Rattle.core_base.specs.declared.wants.Want.TheVariants as wants
 use Rattle.spec_locks.specs.declared.calls.OnceCall.{OnceCall}
@@ -7,7 +9,8 @@ use Rattle.spec_locks.specs.declared.calls.OnceCall.TheVariants.{CallOnce, Wait,
 use Rattle.steps_base.specs.declared.acts.Next.{Next}
 use Rattle.steps_base.specs.declared.acts.Next.TheVariants.{At, End as Over}
 use Rattle.steps_base.specs.declared.acts.Reply.TheVariants as reply
-use Rattle.steps_base.specs.Moves.{AreOfWord, GoesIn, inside_of, location_then, IsHeld, Sleeps, StaysPut, RowWaits, row_of}
+use Rattle.steps_base.specs.Moves.{AreOfWord, GoesIn, inside_of, location_then, IsHeld, Sleeps, StaysPut}
+use Rattle.steps_base.specs.Moves.{RowWaits, row_of}
 use Rattle.steps_base.specs.Profiles.{Hand, hand}
 use Rattle.steps_base.specs.Locations.{Location, location_by, nowhere}
 use Rattle.spec_locks.specs.Sites.{Line, Main, Second}
@@ -19,18 +22,21 @@ use Rattle.steps_once.specs.declared.run.RunAt.TheVariants as run
 use Rattle.steps_once.specs.declared.give_up.GiveUpAt.TheVariants as give_up
 use Rattle.steps_once.specs.declared.places.OncePlace.{OncePlace}
 use Rattle.steps_once.specs.declared.places.OncePlace.TheVariants.{Look, Run, GiveUp}
-use Rattle.steps_once.specs.OnceSteps.{course_act, course_of, ended, closure_begun, in_look, in_run, is_forced, is_mark, is_run, looked_by, marked, want_of}
+use Rattle.steps_once.specs.OnceSteps.{course_act, course_of, ended, closure_begun, in_look, in_run}
+use Rattle.steps_once.specs.OnceSteps.{is_forced, is_mark, is_run, looked_by, marked, want_of}
 use Rattle.steps_once.specs.OnceProfiles.{once_profile}
 use Rattle.steps_once.specs.OnceDeeds.{closes, exchanged_deeds, looked_deeds}
 use Rattle.steps_once.specs.OnceCalls.{next_row}
-use Rattle.steps_once.specs.OnceMoves.{OnceActsMove, OnceLateMove, OnceMoves, OnceSleepersMove, once_hears, once_move}
+use Rattle.steps_once.specs.OnceMoves.{OnceActsMove, OnceLateMove, OnceMoves, OnceSleepersMove, once_hears}
+use Rattle.steps_once.specs.OnceMoves.{once_move}
 
 abbrev location_next : Next OncePlace → Location
 location_next n = location_by (row_of (next_row n))
 
 -- ---------------------------------------------------------------- the word
 
-looks_rest : (c : OnceCall) (again : Bool) (v : ℕ) (k : Course) → location_next (in_look c again (looked_by v k)) ≡ nowhere
+looks_rest : (c : OnceCall) (again : Bool) (v : ℕ) (k : Course)
+    → location_next (in_look c again (looked_by v k)) ≡ nowhere
 looks_rest c again v (Ends answer) = refl
 looks_rest c again v Runs = refl
 looks_rest c again v Marks = refl
@@ -44,7 +50,9 @@ looks_word Parks = tt
 
 -- by whether the exchange succeeded
 exchanged_rest : (c : OnceCall) (again won : Bool) (v : ℕ) (k : Course)
-    → location_next (if won && is_run k then At (Run (is_forced c) (closure_begun (reply.Value v))) else in_look c again (if won && is_mark k then At (look.Decide (marked v)) else looked_by v k)) ≡ nowhere
+    → location_next (if won && is_run k then At (Run (is_forced c) (closure_begun (reply.Value v)))
+    else in_look c again (if won && is_mark k then At (look.Decide (marked v)) else looked_by v k))
+    ≡ nowhere
 exchanged_rest c again true v (Ends answer) = refl
 exchanged_rest c again true v Runs = refl
 exchanged_rest c again true v Marks = refl
@@ -67,11 +75,13 @@ closes_word true false = tt
 closes_word false true = tt
 closes_word false false = tt
 
-closes_rest : (forced succeeded b : Bool) → location_next (in_run forced (if b then At (run.Enter succeeded) else Over (ended succeeded))) ≡ nowhere
+closes_rest : (forced succeeded b : Bool)
+    → location_next (in_run forced (if b then At (run.Enter succeeded) else Over (ended succeeded))) ≡ nowhere
 closes_rest forced succeeded true = refl
 closes_rest forced succeeded false = refl
 
-decides_put : (c : OnceCall) (again : Bool) (expected : ℕ) → StaysPut (once_move (Look c again (look.Decide expected)))
+decides_put : (c : OnceCall) (again : Bool) (expected : ℕ)
+    → StaysPut (once_move (Look c again (look.Decide expected)))
 decides_put c again expected = record {
   out = refl;
   free = refl;
@@ -82,44 +92,179 @@ decides_put c again expected = record {
 -- ---------------------------------------------------------------- each place
 
 decides : (l : ℕ) (c : OnceCall) (again : Bool) (expected : ℕ) (k : Course)
-    → OnceMoves l (once_move (Look c again (look.Decide expected))) (once_hears (Look c again (look.Decide expected))) (course_act l expected k)
+    → OnceMoves l (once_move (Look c again (look.Decide expected)))
+    (once_hears (Look c again (look.Decide expected))) (course_act l expected k)
 decides l c again expected (Ends answer) = (refl, decides_put c again expected)
 decides l c again expected Runs = (refl, decides_put c again expected)
 decides l c again expected Marks = (refl, decides_put c again expected)
-decides l c again expected Parks = (Main, refl, record { out = refl; free = refl; deeds = refl; goes = refl; may = λ r s t free. free })
+decides l c again expected Parks = (
+  Main,
+  refl,
+  record {
+    out = refl;
+    free = refl;
+    deeds = refl;
+    goes = refl;
+    may = λ r s t free. free;
+  },
+)
 
 pub once_acts_move : OnceActsMove
-once_acts_move l (Look c again look.Load) = (refl, record { out = refl; free = refl; deeds = λ seen. looks_word (course_of c seen); goes = λ seen. looks_rest c again seen (course_of c seen) })
+once_acts_move l (Look c again look.Load) = (
+  refl,
+  record {
+    out = refl;
+    free = refl;
+    deeds = λ seen. looks_word (course_of c seen);
+    goes = λ seen. looks_rest c again seen (course_of c seen);
+  },
+)
 once_acts_move l (Look c again (look.Decide expected)) = decides l c again expected (course_of c expected)
-once_acts_move l (Look c again look.Check) = (refl, refl, record { forced = is_forced c; was = refl; rests = refl; rested = refl; turns = refl; turned = refl; may = λ r s t b e out. (e, out) })
-once_acts_move l (Look c again (look.Leave true)) = (Main, refl, record { any = false; notes = refl; inside = refl; carries = refl; free = refl; deeds = tt; goes = refl; may = λ r s t out. out })
-once_acts_move l (Look c again (look.Leave false)) = (Main, refl, record { any = false; notes = refl; inside = refl; carries = refl; free = refl; deeds = tt; goes = refl; may = λ r s t out. out })
+once_acts_move l (Look c again look.Check) = (
+  refl,
+  refl,
+  record {
+    forced = is_forced c;
+    was = refl;
+    rests = refl;
+    rested = refl;
+    turns = refl;
+    turned = refl;
+    may = λ r s t b e out. (e, out);
+  },
+)
+once_acts_move l (Look c again (look.Leave true)) = (
+  Main,
+  refl,
+  record {
+    any = false;
+    notes = refl;
+    inside = refl;
+    carries = refl;
+    free = refl;
+    deeds = tt;
+    goes = refl;
+    may = λ r s t out. out;
+  },
+)
+once_acts_move l (Look c again (look.Leave false)) = (
+  Main,
+  refl,
+  record {
+    any = false;
+    notes = refl;
+    inside = refl;
+    carries = refl;
+    free = refl;
+    deeds = tt;
+    goes = refl;
+    may = λ r s t out. out;
+  },
+)
 once_acts_move l (Look c again look.Asleep) = tt
 once_acts_move l (Look c again (look.Taken by)) = tt
-once_acts_move l (Run forced (run.Closure poisoned)) = record { was = refl; deeds = λ succeeded. refl; goes = λ succeeded. refl; role = λ succeeded. refl }
-once_acts_move l (Run forced (run.Close succeeded)) = (refl, record { out = refl; free = refl; deeds = λ seen. closes_word succeeded (is_marked seen); goes = λ seen. closes_rest forced succeeded (is_marked seen) })
-once_acts_move l (Run forced (run.Enter succeeded)) = (Main, refl, record { out = refl; free = refl; deeds = refl; goes = refl; may = λ r s t free. free })
-once_acts_move l (Run forced (run.Take succeeded)) = (refl, record { was = refl; deeds = λ any none_left. refl; goes = λ any none_left. refl; may = λ r s t any none_left nobody. nobody })
-once_acts_move l (Run forced (run.Leave succeeded any)) = (Main, refl, record { any = any; notes = refl; inside = refl; carries = refl; free = refl; deeds = tt; goes = refl; may = λ r s t out. out })
-once_acts_move l (GiveUp retries give_up.Remove) = (Main, refl, record { want = wants.Wait; was = refl; deeds = λ none_left. refl; goes = removed; may = λ r s t none_left stands. stands })
+once_acts_move l (Run forced (run.Closure poisoned)) = record {
+  was = refl;
+  deeds = λ succeeded. refl;
+  goes = λ succeeded. refl;
+  role = λ succeeded. refl;
+}
+once_acts_move l (Run forced (run.Close succeeded)) = (
+  refl,
+  record {
+    out = refl;
+    free = refl;
+    deeds = λ seen. closes_word succeeded (is_marked seen);
+    goes = λ seen. closes_rest forced succeeded (is_marked seen);
+  },
+)
+once_acts_move l (Run forced (run.Enter succeeded)) = (
+  Main,
+  refl,
+  record {
+    out = refl;
+    free = refl;
+    deeds = refl;
+    goes = refl;
+    may = λ r s t free. free;
+  },
+)
+once_acts_move l (Run forced (run.Take succeeded)) = (
+  refl,
+  record {
+    was = refl;
+    deeds = λ any none_left. refl;
+    goes = λ any none_left. refl;
+    may = λ r s t any none_left nobody. nobody;
+  },
+)
+once_acts_move l (Run forced (run.Leave succeeded any)) = (
+  Main,
+  refl,
+  record {
+    any = any;
+    notes = refl;
+    inside = refl;
+    carries = refl;
+    free = refl;
+    deeds = tt;
+    goes = refl;
+    may = λ r s t out. out;
+  },
+)
+once_acts_move l (GiveUp retries give_up.Remove) = (
+  Main,
+  refl,
+  record {
+    want = wants.Wait;
+    was = refl;
+    deeds = λ none_left. refl;
+    goes = removed;
+    may = λ r s t none_left stands. stands;
+  },
+)
   where
-    removed : (none_left : Bool) → location_then (once_move (GiveUp retries give_up.Remove)) (reply.Removed none_left) ≡ inside_of Main
+    removed : (none_left : Bool) → location_then (once_move (GiveUp retries give_up.Remove))
+        (reply.Removed none_left) ≡ inside_of Main
     removed true = refl
     removed false = refl
-once_acts_move l (GiveUp retries give_up.Clear) = (refl, record { out = refl; free = refl; deeds = λ seen. tt; goes = λ seen. refl })
-once_acts_move l (GiveUp retries give_up.Leave) = (Main, refl, record { any = false; notes = refl; inside = refl; carries = refl; free = refl; deeds = tt; goes = refl; may = λ r s t out. out })
+once_acts_move l (GiveUp retries give_up.Clear) = (
+  refl,
+  record {
+    out = refl;
+    free = refl;
+    deeds = λ seen. tt;
+    goes = λ seen. refl;
+  },
+)
+once_acts_move l (GiveUp retries give_up.Leave) = (
+  Main,
+  refl,
+  record {
+    any = false;
+    notes = refl;
+    inside = refl;
+    carries = refl;
+    free = refl;
+    deeds = tt;
+    goes = refl;
+    may = λ r s t out. out;
+  },
+)
 
 -- ---------------------------------------------------------------- threads asleep
 
 -- it stands in no line, and is in nobody's hand
-awake : (p : OncePlace) → (once_profile p).stands ≡ None → (once_profile p).hand ≡ None → RowWaits (once_move p)
+awake : (p : OncePlace) → (once_profile p).stands ≡ None → (once_profile p).hand ≡ None
+    → RowWaits (once_move p)
 awake p out free = record {
   aside = λ h. absurd (let e : ◌≡◌ {A = Option Line} None (Some Second) = sym out ∙ h in cc);
   stands = λ m h. absurd (let e : ◌≡◌ {A = Option Line} None (Some m) = sym out ∙ h in cc);
   held = λ u handed h. absurd (let e : ◌≡◌ {A = Option Hand} None (hand u handed) = sym free ∙ h in cc);
 }
 
-asleep_in : (c : OnceCall) (again : Bool) (m : Line) → m ≡ Main → Sleeps (once_move (Look c again look.Asleep)) m
+asleep_in : (c : OnceCall) (again : Bool) (m : Line) → m ≡ Main
+    → Sleeps (once_move (Look c again look.Asleep)) m
 asleep_in c again m e = record {
   want = want_of c;
   was = ap (λ (n : Line). record nowhere { stands = Some n; waits = Some (want_of c) }) (sym e);
@@ -140,7 +285,8 @@ once_sleepers_move (Look c again (look.Taken by)) = record {
   held = λ u handed h. held u handed (let e : by ≡ u = cc in e) (let e : handed ≡ false = cc in e);
 }
   where
-    held : (u : ℕ) (handed : Bool) → by ≡ u → handed ≡ false → (handed ≡ false) × IsHeld (once_move (Look c again (look.Taken by))) u
+    held : (u : ℕ) (handed : Bool) → by ≡ u → handed ≡ false → (handed ≡ false)
+        × IsHeld (once_move (Look c again (look.Taken by))) u
     held u handed whose fresh = (
       fresh,
       record {
@@ -170,12 +316,21 @@ once_sleepers_move (GiveUp retries give_up.Leave) = awake (GiveUp retries give_u
 
 -- ---------------------------------------------------------------- giving up
 
-goes_late : (again : Bool) → GoesIn (once_move (Look WaitTimed again look.Asleep)) (once_hears (Look WaitTimed again look.Asleep)) Main reply.Late
-goes_late again = record { out = refl; free = refl; deeds = refl; goes = refl; may = λ r s t free. (refl, free) }
+goes_late : (again : Bool) → GoesIn (once_move (Look WaitTimed again look.Asleep))
+    (once_hears (Look WaitTimed again look.Asleep)) Main reply.Late
+goes_late again = record {
+  out = refl;
+  free = refl;
+  deeds = refl;
+  goes = refl;
+  may = λ r s t free. (refl, free);
+}
 
 pub once_late_move : OnceLateMove
 once_late_move (Look WaitTimed again look.Asleep) m h =
-    subst (λ n. GoesIn (once_move (Look WaitTimed again look.Asleep)) (once_hears (Look WaitTimed again look.Asleep)) n reply.Late) (let e : Main ≡ m = cc in e) (goes_late again)
+    subst (λ n. GoesIn (once_move (Look WaitTimed again look.Asleep))
+    (once_hears (Look WaitTimed again look.Asleep)) n reply.Late) (let e : Main ≡ m = cc in e)
+    (goes_late again)
 once_late_move (Look (CallOnce forced) again look.Asleep) m h = absurd cc
 once_late_move (Look (Wait forced) again look.Asleep) m h = absurd cc
 once_late_move (Look c again at) m h = absurd cc

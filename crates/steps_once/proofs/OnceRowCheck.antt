@@ -54,20 +54,25 @@ give_up_goes l give_up.Leave = record { acts = refl; awake = λ e. cc; elsewhere
 
 -- the test passes whatever the call, and whether it was woken
 abbrev passes : ℕ → LookAt → Going → OnceCall → Bool → Bool
-passes l at g c again = keeps_row Once (once_profile (Look c again at)) ((once_profile (Look c again at)).purpose l) g
+passes l at g c again = keeps_row Once (once_profile (Look c again at))
+    ((once_profile (Look c again at)).purpose l) g
 
 calls : (f : OnceCall → Bool → Bool)
-    → ((forced : Bool) → (f (CallOnce forced) true && (f (CallOnce forced) false && (f (Wait forced) true && f (Wait forced) false))) ≡ true)
+    → ((forced : Bool) → (f (CallOnce forced) true && (f (CallOnce forced) false &&
+    (f (Wait forced) true && f (Wait forced) false))) ≡ true)
     → (f WaitTimed true && f WaitTimed false) ≡ true
     → (c : OnceCall) (again : Bool) → f c again ≡ true
 calls f h timed (CallOnce forced) true = (both _ _ (h forced)).0
 calls f h timed (CallOnce forced) false = (both _ _ (both (f (CallOnce forced) true) _ (h forced)).1).0
-calls f h timed (Wait forced) true = (both _ _ (both (f (CallOnce forced) false) _ (both (f (CallOnce forced) true) _ (h forced)).1).1).0
-calls f h timed (Wait forced) false = (both _ _ (both (f (CallOnce forced) false) _ (both (f (CallOnce forced) true) _ (h forced)).1).1).1
+calls f h timed (Wait forced) true =
+    (both _ _ (both (f (CallOnce forced) false) _ (both (f (CallOnce forced) true) _ (h forced)).1).1).0
+calls f h timed (Wait forced) false =
+    (both _ _ (both (f (CallOnce forced) false) _ (both (f (CallOnce forced) true) _ (h forced)).1).1).1
 calls f h timed WaitTimed true = (both _ _ timed).0
 calls f h timed WaitTimed false = (both (f WaitTimed true) _ timed).1
 
-look_keeps : (l : ℕ) (c : OnceCall) (again : Bool) (at : LookAt) → passes l at (look_going c at) c again ≡ true
+look_keeps : (l : ℕ) (c : OnceCall) (again : Bool) (at : LookAt) → passes l at (look_going c at) c again
+    ≡ true
 look_keeps l c again (look.Decide seen) = decide (course_of c seen)
   where
     decide : (k : Course) → passes l (look.Decide seen) (course_going k) c again ≡ true
@@ -75,13 +80,16 @@ look_keeps l c again (look.Decide seen) = decide (course_of c seen)
     decide k = calls (passes l (look.Decide seen) Other) (λ forced. refl) refl c again
 look_keeps l c again look.Load = calls (passes l look.Load Other) (λ forced. refl) refl c again
 look_keeps l c again look.Check = calls (passes l look.Check Other) (λ forced. refl) refl c again
-look_keeps l c again (look.Leave true) = calls (passes l (look.Leave true) Other) (λ forced. refl) refl c again
-look_keeps l c again (look.Leave false) = calls (passes l (look.Leave false) Other) (λ forced. refl) refl c again
+look_keeps l c again (look.Leave true) = calls (passes l (look.Leave true) Other) (λ forced. refl) refl c
+    again
+look_keeps l c again (look.Leave false) = calls (passes l (look.Leave false) Other) (λ forced. refl) refl c
+    again
 look_keeps l c again look.Asleep = calls (passes l look.Asleep Asleep) (λ forced. refl) refl c again
 look_keeps l c again (look.Taken by) = calls (passes l (look.Taken by) Asleep) (λ forced. refl) refl c again
 
 run_keeps : (l : ℕ) (forced : Bool) (at : RunAt)
-    → keeps_row Once (once_profile (Run forced at)) ((once_profile (Run forced at)).purpose l) (run_going at) ≡ true
+    → keeps_row Once (once_profile (Run forced at)) ((once_profile (Run forced at)).purpose l) (run_going at)
+    ≡ true
 run_keeps l forced (run.Enter true) = refl
 run_keeps l forced (run.Enter false) = refl
 run_keeps l forced (run.Take true) = refl
@@ -92,7 +100,8 @@ run_keeps l forced (run.Leave false true) = refl
 run_keeps l forced (run.Leave false false) = refl
 run_keeps l forced at = refl
 
-give_up_keeps : (l : ℕ) (retries : Bool) (at : GiveUpAt) → keeps_row Once (once_profile (GiveUp retries at)) ((once_profile (GiveUp retries at)).purpose l) Other ≡ true
+give_up_keeps : (l : ℕ) (retries : Bool) (at : GiveUpAt) → keeps_row Once (once_profile (GiveUp retries at))
+    ((once_profile (GiveUp retries at)).purpose l) Other ≡ true
 give_up_keeps l true give_up.Remove = refl
 give_up_keeps l false give_up.Remove = refl
 give_up_keeps l true give_up.Clear = refl
@@ -106,6 +115,9 @@ own_of l (Wait forced) = refl
 own_of l WaitTimed = refl
 
 pub once_promises : OnceRowsKeep
-once_promises l (Look c again at) = by_test Once l (once_profile (Look c again at)) (look_act l c at) (look_going c at) (own_of l c) (look_goes l c at) (look_keeps l c again at)
-once_promises l (Run forced at) = by_test Once l (once_profile (Run forced at)) (run_act l at) (run_going at) refl (run_goes l at) (run_keeps l forced at)
-once_promises l (GiveUp retries at) = by_test Once l (once_profile (GiveUp retries at)) (give_up_act l at) Other refl (give_up_goes l at) (give_up_keeps l retries at)
+once_promises l (Look c again at) = by_test Once l (once_profile (Look c again at)) (look_act l c at)
+    (look_going c at) (own_of l c) (look_goes l c at) (look_keeps l c again at)
+once_promises l (Run forced at) = by_test Once l (once_profile (Run forced at)) (run_act l at) (run_going at)
+    refl (run_goes l at) (run_keeps l forced at)
+once_promises l (GiveUp retries at) = by_test Once l (once_profile (GiveUp retries at)) (give_up_act l at)
+    Other refl (give_up_goes l at) (give_up_keeps l retries at)

@@ -33,7 +33,8 @@ MayGo c parked phase Runs = MayStart phase (is_forced c) × (runs c ≡ true)
 MayGo c parked phase Marks = MayRest (want_of c) (is_forced c) phase
 MayGo c parked phase Parks = (parked ≡ true) × MayRest (want_of c) (is_forced c) phase
 
-pub may_go : (c : OnceCall) (parked : Bool) (phase : Phase) → MayGo c parked phase (course_of c (word parked phase))
+pub may_go : (c : OnceCall) (parked : Bool) (phase : Phase)
+    → MayGo c parked phase (course_of c (word parked phase))
 may_go (CallOnce forced) true New = (tt, refl)
 may_go (CallOnce forced) false New = (tt, refl)
 may_go (CallOnce true) true Poisoned = (tt, refl)
@@ -74,7 +75,8 @@ marks_tell false (InProgress u) = refl
 marks_tell false Done = refl
 
 -- the word of a run that begins, and the word with the bit
-pub started_is : (parked : Bool) (phase : Phase) (t : ℕ) → started (word parked phase) ≡ word parked (InProgress t)
+pub started_is : (parked : Bool) (phase : Phase) (t : ℕ) → started (word parked phase) ≡ word parked
+    (InProgress t)
 started_is true New t = refl
 started_is true Poisoned t = refl
 started_is true (InProgress u) t = refl
@@ -95,7 +97,8 @@ marked_is false (InProgress u) = refl
 marked_is false Done = refl
 
 -- the word without the bit
-pub unmarked_is : (parked : Bool) (phase : Phase) → apply (op.And NOT_PARKED) (word parked phase) ≡ word false phase
+pub unmarked_is : (parked : Bool) (phase : Phase) → apply (op.And NOT_PARKED) (word parked phase)
+    ≡ word false phase
 unmarked_is true New = refl
 unmarked_is true Poisoned = refl
 unmarked_is true (InProgress u) = refl

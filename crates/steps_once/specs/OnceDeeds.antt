@@ -1,5 +1,6 @@
 -- The deeds of each place of a `Once`, which are the effects of a step on it, and their laws.
-use Rattle.std.specs.Prelude.{ℕ, Bool, true, false, Option, Some, None, if◌then◌else◌, ◌==◌, ◌≡◌, ◌≢◌, List, [], ◌∷◌}
+use Rattle.std.specs.Prelude.{ℕ, Bool, true, false, Option, Some, None, if◌then◌else◌, ◌==◌, ◌≡◌, ◌≢◌, List}
+use Rattle.std.specs.Prelude.{[], ◌∷◌}
 use Rattle.core_base.specs.declared.ops.Op.{Op}
 use Rattle.core_base.specs.declared.wants.Waiter.{Waiter}
 use Rattle.core_base.specs.Words.{apply}
@@ -28,7 +29,8 @@ use Rattle.steps_once.specs.declared.give_up.GiveUpAt.{GiveUpAt}
 use Rattle.steps_once.specs.declared.give_up.GiveUpAt.TheVariants as give_up
 use Rattle.steps_once.specs.declared.places.OncePlace.{OncePlace}
 use Rattle.steps_once.specs.declared.places.OncePlace.TheVariants.{Look, Run, GiveUp}
-use Rattle.steps_once.specs.OnceSteps.{is_forced, is_timed, want_of, course_of, check_of, once_act, once_next, once_owners}
+use Rattle.steps_once.specs.OnceSteps.{is_forced, is_timed, want_of, course_of, check_of, once_act, once_next}
+use Rattle.steps_once.specs.OnceSteps.{once_owners}
 use Rattle.steps_once.specs.OnceProfiles.{once_profile}
 
 -- ---------------------------------------------------------------- the deeds of each step

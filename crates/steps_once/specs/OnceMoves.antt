@@ -8,7 +8,8 @@ use Rattle.steps_base.specs.declared.acts.Check.{Check}
 use Rattle.steps_base.specs.declared.acts.Reply.TheVariants.{Parked, Took, Late, Closed}
 use Rattle.steps_base.specs.declared.acts.Whom.TheVariants.{All}
 use Rattle.steps_base.specs.Acts.{holds}
-use Rattle.steps_base.specs.Moves.{Move, Hears, GoesIn, MovesByAct, RowWaits, row_of, location_of, location_then, inside_of}
+use Rattle.steps_base.specs.Moves.{Move, Hears, GoesIn, MovesByAct, RowWaits, row_of, location_of}
+use Rattle.steps_base.specs.Moves.{location_then, inside_of}
 use Rattle.steps_base.specs.Profiles.{in_hand}
 use Rattle.steps_base.specs.Locations.{nowhere}
 use Rattle.spec_locks.specs.Onces.{Rest, TakeAll}

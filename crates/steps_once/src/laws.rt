@@ -2,7 +2,8 @@
 ghost use Rattle.steps_once.specs.OnceCalls.{OnceSectionsTell, OnceSleepersHear, OnceStepsTell};
 ghost use Rattle.steps_once.specs.OnceMoves.{OnceActsMove, OnceLateMove, OnceSleepersMove};
 ghost use Rattle.steps_once.specs.OnceRows.{OnceRowsKeep};
-ghost use Rattle.steps_once.specs.OnceDeeds.{OnceOwnersFollow, OnceSectionsFollow, OnceStepsCode, OnceStepsFollow};
+ghost use Rattle.steps_once.specs.OnceDeeds.{OnceOwnersFollow, OnceSectionsFollow, OnceStepsCode};
+ghost use Rattle.steps_once.specs.OnceDeeds.{OnceStepsFollow};
 
 /// Each step on the word of a `Once` may do to it what its deeds say, and its next place says what
 /// the thread does then.

@@ -12,7 +12,9 @@
 //! | `Asleep` | sleeps | `Taken`, or it gives up where its time is up |
 //! | `Taken` | sleeps | `Load` at a wake |
 ghost use Rattle.std.specs.Prelude.{◌≡◌, ◌<◌, ◌^◌};
-ghost use Rattle.steps_once.specs.OnceSteps.{is_forced, is_timed, runs, want_of, when_done, course_of, started, marked, begins_run, is_late_asleep, looked, next_look, still_retries, check_of, decided, look_act};
+ghost use Rattle.steps_once.specs.OnceSteps.{is_forced, is_timed, runs, want_of, when_done, course_of};
+ghost use Rattle.steps_once.specs.OnceSteps.{started, marked, begins_run, is_late_asleep, looked, next_look};
+ghost use Rattle.steps_once.specs.OnceSteps.{still_retries, check_of, decided, look_act};
 
 use crate::places::{LOCKED, PARKED};
 use core_base::{Keys, Note, Op, Want, main_key};

@@ -10,7 +10,8 @@
 //! At most one of the first three is set.
 ghost use Rattle.std.specs.Prelude.{ℕ, ◌≡◌, ◌<◌, ◌^◌};
 ghost use Rattle.steps_base.specs.Acts.{outcome_of};
-ghost use Rattle.steps_once.specs.OnceProfiles.{once_taker, once_wants, once_late_line, once_owes, once_retries};
+ghost use Rattle.steps_once.specs.OnceProfiles.{once_taker, once_wants, once_late_line, once_owes};
+ghost use Rattle.steps_once.specs.OnceProfiles.{once_retries};
 ghost use Rattle.steps_once.specs.OnceSteps.{once_first, once_act, once_next, once_looking, once_owners};
 
 use crate::give_up::{GiveUpAt, give_up_act, next_give_up};

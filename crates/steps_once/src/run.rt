@@ -8,7 +8,8 @@
 //! | `Take` | takes all waiters | `Leave` |
 //! | `Leave` | leaves the section, and wakes them | ends |
 ghost use Rattle.std.specs.Prelude.{◌≡◌, ◌<◌, ◌^◌};
-ghost use Rattle.steps_once.specs.OnceSteps.{closure_begun, state_before, phase_behind, word_behind, ended, next_run, run_act};
+ghost use Rattle.steps_once.specs.OnceSteps.{closure_begun, state_before, phase_behind, word_behind, ended};
+ghost use Rattle.steps_once.specs.OnceSteps.{next_run, run_act};
 
 use crate::places::{DONE, POISONED};
 use core_base::{Keys, Note, Op, main_key};

@@ -1,5 +1,6 @@
 -- Each step of a reader-writer call takes its thread in the machine where its act says.
-use Rattle.std.proofs.Common.{ℕ, Bool, true, false, Option, Some, None, [], ◌∷◌, if◌then◌else◌, ◌==◌, ◌&&◌, not, ◌≡◌, ◌+◌, ◌*◌, ◌⊎◌, inl, inr, refl, ap}
+use Rattle.std.proofs.Common.{ℕ, Bool, true, false, Option, Some, None, [], ◌∷◌, if◌then◌else◌, ◌==◌, ◌&&◌}
+use Rattle.std.proofs.Common.{not, ◌≡◌, ◌+◌, ◌*◌, ◌⊎◌, inl, inr, refl, ap}
 use Rattle.core_base.specs.declared.keys.Keys.TheVariants.{One}
 use Rattle.core_base.specs.declared.keys.Line.{Line}
 use Rattle.core_base.specs.declared.keys.Line.TheVariants.{Main, Second}
@@ -15,7 +16,8 @@ use Rattle.steps_base.specs.declared.acts.Act.TheVariants as act
 use Rattle.steps_base.specs.declared.acts.Next.{Next}
 use Rattle.steps_base.specs.declared.acts.Next.TheVariants as next
 use Rattle.steps_base.specs.declared.acts.Reply.TheVariants as reply
-use Rattle.steps_base.specs.Moves.{Move, StaysPut, GoesIn, MovesByAct, Sleeps, IsHeld, RowWaits, AreOfWord, location_of, AreLeaving, takes_aside, inside_of, row_of}
+use Rattle.steps_base.specs.Moves.{Move, StaysPut, GoesIn, MovesByAct, Sleeps, IsHeld, RowWaits, AreOfWord}
+use Rattle.steps_base.specs.Moves.{location_of, AreLeaving, takes_aside, inside_of, row_of}
 use Rattle.steps_base.specs.Acts.{any_picked}
 use Rattle.steps_base.specs.Profiles.{hand, in_hand}
 use Rattle.steps_base.specs.Locations.{Location, location_by, nowhere}
@@ -34,11 +36,17 @@ use Rattle.steps_rwlock.specs.declared.park.ParkAt.{ParkAt}
 use Rattle.steps_rwlock.specs.declared.park.ParkAt.TheVariants as parking
 use Rattle.steps_rwlock.specs.declared.release.WakeAt.{WakeAt}
 use Rattle.steps_rwlock.specs.declared.release.WakeAt.TheVariants as waking
-use Rattle.steps_rwlock.specs.RwLockSteps.{wanted, from_of, to_of, access_of, patience_of, start_of, exchange, decided, decided_for, decided_act, looked_by, looked, missed, stays, goes, came_in, exchanged_next, parks_at, wakes, released, gave_way_by, took, entered, plus, rwlock_act}
-use Rattle.steps_rwlock.specs.RwLockDeeds.{at_rest, claimed, falls_back, missed_deeds, looked_deeds, enters_deeds, exchanged_deeds, does_and_wakes, gives_deeds, sees_waiter, take_deed, leaves_with}
+use Rattle.steps_rwlock.specs.RwLockSteps.{wanted, from_of, to_of, access_of, patience_of, start_of, exchange}
+use Rattle.steps_rwlock.specs.RwLockSteps.{decided, decided_for, decided_act, looked_by, looked, missed}
+use Rattle.steps_rwlock.specs.RwLockSteps.{stays, goes, came_in, exchanged_next, parks_at, wakes, released}
+use Rattle.steps_rwlock.specs.RwLockSteps.{gave_way_by, took, entered, plus, rwlock_act}
+use Rattle.steps_rwlock.specs.RwLockDeeds.{at_rest, claimed, falls_back, missed_deeds, looked_deeds}
+use Rattle.steps_rwlock.specs.RwLockDeeds.{enters_deeds, exchanged_deeds, does_and_wakes, gives_deeds}
+use Rattle.steps_rwlock.specs.RwLockDeeds.{sees_waiter, take_deed, leaves_with}
 use Rattle.steps_rwlock.specs.RwLockProfiles.{rwlock_profile, late_line_at, wants_for}
 use Rattle.steps_rwlock.specs.RwLockCalls.{StandsAt, next_row}
-use Rattle.steps_rwlock.specs.RwLockMoves.{rwlock_move, rwlock_hears, RwLockActsMove, RwLockSleepersMove, RwLockLateMove}
+use Rattle.steps_rwlock.specs.RwLockMoves.{rwlock_move, rwlock_hears, RwLockActsMove, RwLockSleepersMove}
+use Rattle.steps_rwlock.specs.RwLockMoves.{RwLockLateMove}
 
 module _ (l : ℕ) (a : Admission) where
   abbrev of : RwLockPurpose → Bool → RwLockAt → RwLockPlace
@@ -65,7 +73,8 @@ module _ (l : ℕ) (a : Admission) where
   looks_deeds decisions.Mark = tt
   looks_deeds decisions.Park = tt
 
-  missed_rest : (q : RwLockPurpose) (again : Bool) (how : Patience) → location_next (missed (of q again at.First) how) ≡ nowhere
+  missed_rest : (q : RwLockPurpose) (again : Bool) (how : Patience)
+      → location_next (missed (of q again at.First) how) ≡ nowhere
   missed_rest q again Try = refl
   missed_rest q again Patient = refl
   missed_rest q again Timed = refl
@@ -86,7 +95,8 @@ module _ (l : ℕ) (a : Admission) where
   came_word (purpose.Downgrade d) now = enters_word (from_of d)
   came_word (purpose.Upgrade how) now = tt
 
-  came_rest : (q : RwLockPurpose) (again : Bool) (to : RwLockAt) → location_next (came_in (of q again to)) ≡ nowhere
+  came_rest : (q : RwLockPurpose) (again : Bool) (to : RwLockAt) → location_next (came_in (of q again to))
+      ≡ nowhere
   came_rest (purpose.Enter access.Shared how) again to = refl
   came_rest (purpose.Enter access.Upgradable how) again to = refl
   came_rest (purpose.Enter access.Exclusive how) again to = refl
@@ -104,37 +114,49 @@ module _ (l : ℕ) (a : Admission) where
   exchanged_word q (decisions.Refuse answer) now true = looks_deeds now
   exchanged_word q (decisions.Refuse answer) now false = looks_deeds now
 
-  exchanged_rest : (q : RwLockPurpose) (again : Bool) (was seen : ℕ) (d : Decision) → location_next (exchanged_next a (of q again (at.Decide was)) was seen d) ≡ nowhere
+  exchanged_rest : (q : RwLockPurpose) (again : Bool) (was seen : ℕ) (d : Decision)
+      → location_next (exchanged_next a (of q again (at.Decide was)) was seen d) ≡ nowhere
   exchanged_rest q again was seen decisions.Take = either (seen == was)
     where
-      either : (b : Bool) → location_next (if b then came_in (of q again (at.Decide was)) else looked a (of q again (at.Decide was)) seen) ≡ nowhere
+      either : (b : Bool) → location_next (if b then came_in (of q again (at.Decide was)) else looked a
+          (of q again (at.Decide was)) seen) ≡ nowhere
       either true = came_rest q again (at.Decide was)
-      either false = looks_rest (of q again (at.Decide was)) seen (decided a (of q again (at.Decide was)) seen)
+      either false = looks_rest (of q again (at.Decide was)) seen (decided a (of q again (at.Decide was))
+          seen)
   exchanged_rest q again was seen decisions.Mark = either (seen == was)
     where
-      either : (b : Bool) → location_next (if b then stays (of q again (at.Decide was)) (at.Decide (plus was 1)) else looked a (of q again (at.Decide was)) seen) ≡ nowhere
+      either : (b : Bool) → location_next (if b then stays (of q again (at.Decide was))
+          (at.Decide (plus was 1)) else looked a (of q again (at.Decide was)) seen) ≡ nowhere
       either true = refl
-      either false = looks_rest (of q again (at.Decide was)) seen (decided a (of q again (at.Decide was)) seen)
-  exchanged_rest q again was seen decisions.Park = looks_rest (of q again (at.Decide was)) seen (decided a (of q again (at.Decide was)) seen)
-  exchanged_rest q again was seen (decisions.Refuse answer) = looks_rest (of q again (at.Decide was)) seen (decided a (of q again (at.Decide was)) seen)
+      either false = looks_rest (of q again (at.Decide was)) seen (decided a (of q again (at.Decide was))
+          seen)
+  exchanged_rest q again was seen decisions.Park = looks_rest (of q again (at.Decide was)) seen
+      (decided a (of q again (at.Decide was)) seen)
+  exchanged_rest q again was seen (decisions.Refuse answer) = looks_rest (of q again (at.Decide was)) seen
+      (decided a (of q again (at.Decide was)) seen)
 
   settles_word : (b : Bool) → AreOfWord (if b then Case Settle ∷ End ∷ [] else [])
   settles_word true = tt
   settles_word false = tt
 
-  settles_rest : (p : RwLockPlace) (seen : ℕ) (b : Bool) (ans : Answer) → location_next (if b then next.End ans else stays p (at.Count seen)) ≡ nowhere
+  settles_rest : (p : RwLockPlace) (seen : ℕ) (b : Bool) (ans : Answer)
+      → location_next (if b then next.End ans else stays p (at.Count seen)) ≡ nowhere
   settles_rest p seen true ans = refl
   settles_rest p seen false ans = refl
 
-  counts_word : (b c : Bool) → AreOfWord (if b then Mark Second ∷ [] else if c then Case Settle ∷ End ∷ [] else [])
+  counts_word : (b c : Bool) → AreOfWord (if b then Mark Second ∷ [] else if c then Case Settle ∷ End ∷ []
+      else [])
   counts_word true c = tt
   counts_word false c = settles_word c
 
-  counts_rest : (p : RwLockPlace) (seen : ℕ) (b c : Bool) (ans : Answer) → location_next (if b then stays p at.Marked else if c then next.End ans else stays p (at.Count seen)) ≡ nowhere
+  counts_rest : (p : RwLockPlace) (seen : ℕ) (b c : Bool) (ans : Answer)
+      → location_next (if b then stays p at.Marked else if c then next.End ans else stays p (at.Count seen))
+      ≡ nowhere
   counts_rest p seen true c ans = refl
   counts_rest p seen false c ans = settles_rest p seen c ans
 
-  wakes_rest : (p : RwLockPlace) (m : Line) (b : Bool) (ans : Answer) → location_next (if b then stays p (wakes m) else next.End ans) ≡ nowhere
+  wakes_rest : (p : RwLockPlace) (m : Line) (b : Bool) (ans : Answer)
+      → location_next (if b then stays p (wakes m) else next.End ans) ≡ nowhere
   wakes_rest p m true ans = refl
   wakes_rest p m false ans = refl
 
@@ -153,7 +175,8 @@ module _ (l : ℕ) (a : Admission) where
   gives_word : (q : RwLockPurpose) (seen : ℕ) → AreOfWord (gives_deeds q seen)
   gives_word (purpose.Enter x how) seen = leaves_word x (sees_waiter (wanted x) seen)
   gives_word (purpose.Release x) seen = leaves_word x (sees_waiter (wanted x) seen)
-  gives_word (purpose.Downgrade d) seen = lowers_word (wanted (from_of d)) (wanted (to_of d)) (has_parked seen)
+  gives_word (purpose.Downgrade d) seen = lowers_word (wanted (from_of d)) (wanted (to_of d))
+      (has_parked seen)
   gives_word (purpose.Upgrade how) seen = lowers_word Upgradable Exclusive (not (count_in seen == 1))
 
   released_rest : (p : RwLockPlace) (seen : ℕ) (x : Access) → location_next (released p seen x) ≡ nowhere
@@ -161,13 +184,15 @@ module _ (l : ℕ) (a : Admission) where
   released_rest p seen access.Upgradable = wakes_rest p Main (has_parked seen) Ok
   released_rest p seen access.Exclusive = wakes_rest p Main (has_parked seen) Ok
 
-  gave_rest : (p : RwLockPlace) (seen : ℕ) (q : RwLockPurpose) → location_next (gave_way_by p seen q) ≡ nowhere
+  gave_rest : (p : RwLockPlace) (seen : ℕ) (q : RwLockPurpose) → location_next (gave_way_by p seen q)
+      ≡ nowhere
   gave_rest p seen (purpose.Enter x how) = released_rest p seen x
   gave_rest p seen (purpose.Release x) = released_rest p seen x
   gave_rest p seen (purpose.Downgrade d) = wakes_rest p Main (has_parked seen) Ok
   gave_rest p seen (purpose.Upgrade how) = either (count_in seen == 1)
     where
-      either : (b : Bool) → location_next (if b then next.End (entered how) else goes p at.Look false) ≡ nowhere
+      either : (b : Bool) → location_next (if b then next.End (entered how) else goes p at.Look false)
+          ≡ nowhere
       either true = refl
       either false = refl
 
@@ -182,21 +207,46 @@ module _ (l : ℕ) (a : Admission) where
       goes = λ seen. exchanged_rest q again was seen (decided_for a q was);
     }
 
-    decides : (was : ℕ) (d : Decision) → decided_for a q was ≡ d → MovesByAct l a.recursive (rwlock_move a (of q again (at.Decide was))) (rwlock_hears a (of q again (at.Decide was))) (decided_act l q was d)
+    decides : (was : ℕ) (d : Decision) → decided_for a q was ≡ d
+        → MovesByAct l a.recursive (rwlock_move a (of q again (at.Decide was)))
+        (rwlock_hears a (of q again (at.Decide was))) (decided_act l q was d)
     decides was decisions.Take e = (refl, decides_word was)
     decides was decisions.Mark e = (refl, decides_word was)
-    decides was decisions.Park e = (Main, refl, record { out = refl; free = refl; deeds = refl; goes = refl; may = λ r s t free. (e, free) })
+    decides was decisions.Park e = (
+      Main,
+      refl,
+      record {
+        out = refl;
+        free = refl;
+        deeds = refl;
+        goes = refl;
+        may = λ r s t free. (e, free);
+      },
+    )
     decides was (decisions.Refuse answer) e = tt
 
-    counts : (was : ℕ) (b : Bool) → has_aside was ≡ b → MovesByAct l a.recursive (rwlock_move a (of q again (at.Count was))) (rwlock_hears a (of q again (at.Count was))) (if b then act.Enter (One (2 * l + 1)) else exchange l was (plus was 2))
-    counts was true e = (Second, refl, record { out = refl; free = refl; deeds = refl; goes = refl; may = λ r s t free. free })
+    counts : (was : ℕ) (b : Bool) → has_aside was ≡ b → MovesByAct l a.recursive
+        (rwlock_move a (of q again (at.Count was))) (rwlock_hears a (of q again (at.Count was)))
+        (if b then act.Enter (One (2 * l + 1)) else exchange l was (plus was 2))
+    counts was true e = (
+      Second,
+      refl,
+      record {
+        out = refl;
+        free = refl;
+        deeds = refl;
+        goes = refl;
+        may = λ r s t free. free;
+      },
+    )
     counts was false e = (
       refl,
       record {
         out = refl;
         free = refl;
         deeds = λ seen. counts_word (seen == was) (count_in seen == 0);
-        goes = λ seen. counts_rest (of q again (at.Count was)) seen (seen == was) (count_in seen == 0) (entered (patience_of q));
+        goes = λ seen. counts_rest (of q again (at.Count was)) seen (seen == was) (count_in seen == 0)
+            (entered (patience_of q));
       },
     )
 
@@ -204,7 +254,9 @@ module _ (l : ℕ) (a : Admission) where
     leaves_home None = tt
     leaves_home (Some x) = tt
 
-    took_main : (any none_left : Bool) → location_by (rwlock_profile a (of q again (at.Wake Main (took Main any none_left)))) ≡ record (inside_of Main) { carries = in_hand any false }
+    took_main : (any none_left : Bool)
+        → location_by (rwlock_profile a (of q again (at.Wake Main (took Main any none_left))))
+        ≡ record (inside_of Main) { carries = in_hand any false }
     took_main any true = refl
     took_main any false = refl
 
@@ -213,7 +265,17 @@ module _ (l : ℕ) (a : Admission) where
     aside_taken (Some u) = refl
 
     wakes_move : (m : Line) (to : WakeAt) → MovesAt (of q again (at.Wake m to))
-    wakes_move m waking.Enter = (m, refl, record { out = refl; free = refl; deeds = refl; goes = refl; may = λ r s t free. free })
+    wakes_move m waking.Enter = (
+      m,
+      refl,
+      record {
+        out = refl;
+        free = refl;
+        deeds = refl;
+        goes = refl;
+        may = λ r s t free. free;
+      },
+    )
     wakes_move Main waking.Take = (
       refl,
       refl,
@@ -233,7 +295,15 @@ module _ (l : ℕ) (a : Admission) where
         may = λ r s t any none_left. refl;
       },
     )
-    wakes_move m (waking.Clear any) = (refl, record { out = refl; free = refl; deeds = λ seen. tt; goes = λ seen. refl })
+    wakes_move m (waking.Clear any) = (
+      refl,
+      record {
+        out = refl;
+        free = refl;
+        deeds = λ seen. tt;
+        goes = λ seen. refl;
+      },
+    )
     wakes_move m (waking.Leave any) = (
       m,
       refl,
@@ -314,10 +384,20 @@ module _ (l : ℕ) (a : Admission) where
         },
       )
         where
-          left : (b : Bool) → location_by (rwlock_profile a (of q again (at.Park (if b then parking.Clear else parking.GiveUp)))) ≡ inside_of Main
+          left : (b : Bool) → location_by
+              (rwlock_profile a (of q again (at.Park (if b then parking.Clear else parking.GiveUp))))
+              ≡ inside_of Main
           left true = refl
           left false = refl
-      parks_move parking.Clear = (refl, record { out = refl; free = refl; deeds = λ seen. tt; goes = λ seen. refl })
+      parks_move parking.Clear = (
+        refl,
+        record {
+          out = refl;
+          free = refl;
+          deeds = λ seen. tt;
+          goes = λ seen. refl;
+        },
+      )
       parks_move parking.GiveUp = (
         Main,
         refl,
@@ -388,7 +468,15 @@ module _ (l : ℕ) (a : Admission) where
           may = λ r s t none_left alone. alone;
         },
       )
-      asides_move parking.Clear = (refl, record { out = refl; free = refl; deeds = λ seen. tt; goes = λ seen. refl })
+      asides_move parking.Clear = (
+        refl,
+        record {
+          out = refl;
+          free = refl;
+          deeds = λ seen. tt;
+          goes = λ seen. refl;
+        },
+      )
       asides_move parking.GiveUp = (
         Second,
         refl,
@@ -407,18 +495,29 @@ module _ (l : ℕ) (a : Admission) where
   -- ---------------------------------------------------------------- every place
 
   first_move : (q : RwLockPurpose) (again : Bool) → MovesAt (of q again at.First)
-  first_move q again = (refl, record { out = refl; free = refl; deeds = λ seen. word (seen == 0); goes = λ seen. rest (seen == 0) })
+  first_move q again = (
+    refl,
+    record {
+      out = refl;
+      free = refl;
+      deeds = λ seen. word (seen == 0);
+      goes = λ seen. rest (seen == 0);
+    },
+  )
     where
-      word : (b : Bool) → AreOfWord (if b then Case (Enter Exclusive) ∷ End ∷ [] else missed_deeds (patience_of q))
+      word : (b : Bool) → AreOfWord (if b then Case (Enter Exclusive) ∷ End ∷ [] else missed_deeds
+          (patience_of q))
       word true = tt
       word false = missed_word (patience_of q)
 
-      rest : (b : Bool) → location_next (if b then next.End (entered (patience_of q)) else missed (of q again at.First) (patience_of q)) ≡ nowhere
+      rest : (b : Bool) → location_next (if b then next.End (entered (patience_of q)) else missed
+          (of q again at.First) (patience_of q)) ≡ nowhere
       rest true = refl
       rest false = missed_rest q again (patience_of q)
 
   -- only a thread that enters or upgrades waits
-  parks_only : (q : RwLockPurpose) (again : Bool) (to : ParkAt) → StandsAt q again (at.Park to) → MovesAt (of q again (at.Park to))
+  parks_only : (q : RwLockPurpose) (again : Bool) (to : ParkAt) → StandsAt q again (at.Park to)
+      → MovesAt (of q again (at.Park to))
   parks_only (purpose.Enter x how) again to fits = parks_move (purpose.Enter x how) again refl to
   parks_only (purpose.Upgrade how) again to fits = parks_move (purpose.Upgrade how) again refl to
   parks_only (purpose.Release access.Shared) again to fits = absurd fits
@@ -426,7 +525,8 @@ module _ (l : ℕ) (a : Admission) where
   parks_only (purpose.Release access.Exclusive) again to fits = absurd fits
   parks_only (purpose.Downgrade d) again to fits = absurd fits
 
-  asides_only : (q : RwLockPurpose) (again : Bool) (to : ParkAt) → StandsAt q again (at.Aside to) → MovesAt (of q again (at.Aside to))
+  asides_only : (q : RwLockPurpose) (again : Bool) (to : ParkAt) → StandsAt q again (at.Aside to)
+      → MovesAt (of q again (at.Aside to))
   asides_only (purpose.Enter x how) again to fits = asides_move (purpose.Enter x how) again refl to
   asides_only (purpose.Upgrade how) again to fits = asides_move (purpose.Upgrade how) again refl to
   asides_only (purpose.Release access.Shared) again to fits = absurd fits
@@ -434,17 +534,60 @@ module _ (l : ℕ) (a : Admission) where
   asides_only (purpose.Release access.Exclusive) again to fits = absurd fits
   asides_only (purpose.Downgrade d) again to fits = absurd fits
 
-  moves_all : (q : RwLockPurpose) (again : Bool) (to : RwLockAt) → StandsAt q again to → MovesAt (of q again to)
+  moves_all : (q : RwLockPurpose) (again : Bool) (to : RwLockAt) → StandsAt q again to
+      → MovesAt (of q again to)
   moves_all q again at.First fits = first_move q again
-  moves_all q again at.Load fits = (refl, record { out = refl; free = refl; deeds = λ seen. looks_deeds (decided_for a q seen); goes = λ seen. looks_rest (of q again at.Load) seen (decided_for a q seen) })
+  moves_all q again at.Load fits = (
+    refl,
+    record {
+      out = refl;
+      free = refl;
+      deeds = λ seen. looks_deeds (decided_for a q seen);
+      goes = λ seen. looks_rest (of q again at.Load) seen (decided_for a q seen);
+    },
+  )
   moves_all q again (at.Decide was) fits = decides q again was (decided_for a q was) refl
   moves_all q again (at.Park to) fits = parks_only q again to fits
-  moves_all q again at.Look fits = (refl, record { out = refl; free = refl; deeds = λ seen. settles_word (count_in seen == 0); goes = λ seen. settles_rest (of q again at.Look) seen (count_in seen == 0) (entered (patience_of q)) })
+  moves_all q again at.Look fits = (
+    refl,
+    record {
+      out = refl;
+      free = refl;
+      deeds = λ seen. settles_word (count_in seen == 0);
+      goes = λ seen. settles_rest (of q again at.Look) seen (count_in seen == 0) (entered (patience_of q));
+    },
+  )
   moves_all q again (at.Count was) fits = counts q again was (has_aside was) refl
-  moves_all q again at.Marked fits = (Second, refl, record { out = refl; free = refl; deeds = refl; goes = refl; may = λ r s t free. free })
+  moves_all q again at.Marked fits = (
+    Second,
+    refl,
+    record {
+      out = refl;
+      free = refl;
+      deeds = refl;
+      goes = refl;
+      may = λ r s t free. free;
+    },
+  )
   moves_all q again (at.Aside to) fits = asides_only q again to fits
-  moves_all q again at.RollBack fits = (refl, record { out = refl; free = refl; deeds = λ seen. rolls_word (has_parked seen); goes = λ seen. wakes_rest (of q again at.RollBack) Main (has_parked seen) No })
-  moves_all q again at.GiveWay fits = (refl, record { out = refl; free = refl; deeds = λ seen. gives_word q seen; goes = λ seen. gave_rest (of q again at.GiveWay) seen q })
+  moves_all q again at.RollBack fits = (
+    refl,
+    record {
+      out = refl;
+      free = refl;
+      deeds = λ seen. rolls_word (has_parked seen);
+      goes = λ seen. wakes_rest (of q again at.RollBack) Main (has_parked seen) No;
+    },
+  )
+  moves_all q again at.GiveWay fits = (
+    refl,
+    record {
+      out = refl;
+      free = refl;
+      deeds = λ seen. gives_word q seen;
+      goes = λ seen. gave_rest (of q again at.GiveWay) seen q;
+    },
+  )
   moves_all q again (at.Wake m to) fits = wakes_move q again m to
 
 pub rwlock_acts_move : RwLockActsMove
@@ -462,16 +605,19 @@ module _ (a : Admission) where
   -- a thread that stands in a line
   abbrev StandsWell : RwLockPurpose → Bool → RwLockAt → Type 0
   StandsWell q again to =
-      (m : Line) → (rwlock_profile a (place q again to)).stands ≡ Some m → ((location_of (move q again to)).inside ≡ Some m) ⊎ Sleeps (move q again to) m
+      (m : Line) → (rwlock_profile a (place q again to)).stands ≡ Some m
+      → ((location_of (move q again to)).inside ≡ Some m) ⊎ Sleeps (move q again to) m
 
   abbrev AsideWell : RwLockPurpose → Bool → RwLockAt → Type 0
   AsideWell q again to =
       (rwlock_profile a (place q again to)).stands ≡ Some Second
-      → ((rwlock_profile a (place q again to)).wants ≡ Some Exclusive) × ((b : Bool) × ((rwlock_profile a (place q again to)).role.claims ≡ Some (Pends b)))
+      → ((rwlock_profile a (place q again to)).wants ≡ Some Exclusive)
+      × ((b : Bool) × ((rwlock_profile a (place q again to)).role.claims ≡ Some (Pends b)))
 
   abbrev HeldWell : RwLockPurpose → Bool → RwLockAt → Type 0
   HeldWell q again to =
-      (u : ℕ) (handed : Bool) → (rwlock_profile a (place q again to)).hand ≡ hand u handed → (handed ≡ false) × IsHeld (move q again to) u
+      (u : ℕ) (handed : Bool) → (rwlock_profile a (place q again to)).hand ≡ hand u handed → (handed ≡ false)
+      × IsHeld (move q again to) u
 
   module _ (q : RwLockPurpose) (again : Bool) (waits : wants_for q ≡ Some (wanted (access_of q))) where
     abbrev asleep_in : Line → Option Want → Location
@@ -555,18 +701,21 @@ module _ (a : Admission) where
     asides_aside writes to e = absurd cc
 
   -- only a thread that is to write waits aside
-  asides_write : (x : Access) (how : Patience) (again : Bool) (to : ParkAt) → StandsAt (purpose.Enter x how) again (at.Aside to) → wants_for (purpose.Enter x how) ≡ Some Exclusive
+  asides_write : (x : Access) (how : Patience) (again : Bool) (to : ParkAt)
+      → StandsAt (purpose.Enter x how) again (at.Aside to) → wants_for (purpose.Enter x how) ≡ Some Exclusive
   asides_write access.Exclusive how again to fits = refl
   asides_write access.Shared how again to fits = absurd fits
   asides_write access.Upgradable how again to fits = absurd fits
 
   -- an upgrade waits aside alone
-  never_parks : (how : Patience) (again : Bool) (to : ParkAt) → StandsAt (purpose.Upgrade how) again (at.Park to) → ⊥
+  never_parks : (how : Patience) (again : Bool) (to : ParkAt) → StandsAt (purpose.Upgrade how) again
+      (at.Park to) → ⊥
   never_parks Try again to fits = fits
   never_parks Patient again to fits = fits
   never_parks Timed again to fits = fits
 
-  never_released : (x : Access) (again : Bool) (to : ParkAt) (m : Line) → StandsAt (purpose.Release x) again (parks_at m to) → ⊥
+  never_released : (x : Access) (again : Bool) (to : ParkAt) (m : Line) → StandsAt (purpose.Release x) again
+      (parks_at m to) → ⊥
   never_released access.Shared again to Main fits = fits
   never_released access.Upgradable again to Main fits = fits
   never_released access.Exclusive again to Main fits = fits
@@ -574,33 +723,67 @@ module _ (a : Admission) where
   never_released access.Upgradable again to Second fits = fits
   never_released access.Exclusive again to Second fits = fits
 
-  waits_all : (q : RwLockPurpose) (again : Bool) (to : RwLockAt) → StandsAt q again to → RowWaits (move q again to)
-  waits_all (purpose.Enter x how) again (at.Park to) fits = record { aside = parks_aside (purpose.Enter x how) again refl to; stands = parks_stand (purpose.Enter x how) again refl to; held = parks_held (purpose.Enter x how) again refl refl to }
+  waits_all : (q : RwLockPurpose) (again : Bool) (to : RwLockAt) → StandsAt q again to
+      → RowWaits (move q again to)
+  waits_all (purpose.Enter x how) again (at.Park to) fits = record {
+    aside = parks_aside (purpose.Enter x how) again refl to;
+    stands = parks_stand (purpose.Enter x how) again refl to;
+    held = parks_held (purpose.Enter x how) again refl refl to;
+  }
   waits_all (purpose.Upgrade how) again (at.Park to) fits = absurd (never_parks how again to fits)
   waits_all (purpose.Release x) again (at.Park to) fits = absurd (never_released x again to Main fits)
   waits_all (purpose.Downgrade d) again (at.Park to) fits = absurd fits
-  waits_all (purpose.Enter x how) again (at.Aside to) fits = record { aside = asides_aside (purpose.Enter x how) again refl (asides_write x how again to fits) to; stands = asides_stand (purpose.Enter x how) again refl to; held = asides_held (purpose.Enter x how) again refl to }
-  waits_all (purpose.Upgrade how) again (at.Aside to) fits = record { aside = asides_aside (purpose.Upgrade how) again refl refl to; stands = asides_stand (purpose.Upgrade how) again refl to; held = asides_held (purpose.Upgrade how) again refl to }
+  waits_all (purpose.Enter x how) again (at.Aside to) fits = record {
+    aside = asides_aside (purpose.Enter x how) again refl (asides_write x how again to fits) to;
+    stands = asides_stand (purpose.Enter x how) again refl to;
+    held = asides_held (purpose.Enter x how) again refl to;
+  }
+  waits_all (purpose.Upgrade how) again (at.Aside to) fits = record {
+    aside = asides_aside (purpose.Upgrade how) again refl refl to;
+    stands = asides_stand (purpose.Upgrade how) again refl to;
+    held = asides_held (purpose.Upgrade how) again refl to;
+  }
   waits_all (purpose.Release x) again (at.Aside to) fits = absurd (never_released x again to Second fits)
   waits_all (purpose.Downgrade d) again (at.Aside to) fits = absurd fits
-  waits_all q again to fits = record { aside = λ e. absurd cc; stands = λ m e. absurd cc; held = λ u handed e. absurd cc }
+  waits_all q again to fits = record {
+    aside = λ e. absurd cc;
+    stands = λ m e. absurd cc;
+    held = λ u handed e. absurd cc;
+  }
 
   -- a thread whose time is up goes into the section of its line
-  parks_late : (q : RwLockPurpose) (again : Bool) (how : Patience) (to : ParkAt) (m : Line) → late_line_at how (at.Park to) ≡ Some m → GoesIn (move q again (at.Park to)) (rwlock_hears a (place q again (at.Park to))) m reply.Late
-  parks_late q again Timed parking.Asleep Main e = record { out = refl; free = refl; deeds = refl; goes = refl; may = λ r s t free. free }
+  parks_late : (q : RwLockPurpose) (again : Bool) (how : Patience) (to : ParkAt) (m : Line)
+      → late_line_at how (at.Park to) ≡ Some m → GoesIn (move q again (at.Park to))
+      (rwlock_hears a (place q again (at.Park to))) m reply.Late
+  parks_late q again Timed parking.Asleep Main e = record {
+    out = refl;
+    free = refl;
+    deeds = refl;
+    goes = refl;
+    may = λ r s t free. free;
+  }
   parks_late q again Timed parking.Asleep Second e = absurd cc
   parks_late q again Patient parking.Asleep m e = absurd cc
   parks_late q again Try parking.Asleep m e = absurd cc
   parks_late q again how to m e = absurd cc
 
-  asides_late : (q : RwLockPurpose) (again : Bool) (how : Patience) (to : ParkAt) (m : Line) → late_line_at how (at.Aside to) ≡ Some m → GoesIn (move q again (at.Aside to)) (rwlock_hears a (place q again (at.Aside to))) m reply.Late
-  asides_late q again Timed parking.Asleep Second e = record { out = refl; free = refl; deeds = refl; goes = refl; may = λ r s t free. free }
+  asides_late : (q : RwLockPurpose) (again : Bool) (how : Patience) (to : ParkAt) (m : Line)
+      → late_line_at how (at.Aside to) ≡ Some m → GoesIn (move q again (at.Aside to))
+      (rwlock_hears a (place q again (at.Aside to))) m reply.Late
+  asides_late q again Timed parking.Asleep Second e = record {
+    out = refl;
+    free = refl;
+    deeds = refl;
+    goes = refl;
+    may = λ r s t free. free;
+  }
   asides_late q again Timed parking.Asleep Main e = absurd cc
   asides_late q again Patient parking.Asleep m e = absurd cc
   asides_late q again Try parking.Asleep m e = absurd cc
   asides_late q again how to m e = absurd cc
 
-  late_all : (q : RwLockPurpose) (again : Bool) (to : RwLockAt) (m : Line) → late_line_at (patience_of q) to ≡ Some m → GoesIn (move q again to) (rwlock_hears a (place q again to)) m reply.Late
+  late_all : (q : RwLockPurpose) (again : Bool) (to : RwLockAt) (m : Line) → late_line_at (patience_of q) to
+      ≡ Some m → GoesIn (move q again to) (rwlock_hears a (place q again to)) m reply.Late
   late_all q again (at.Park to) m e = parks_late q again (patience_of q) to m e
   late_all q again (at.Aside to) m e = asides_late q again (patience_of q) to m e
   late_all q again to m e = absurd cc

@@ -1,6 +1,7 @@
 -- A call of a reader-writer lock goes on where it may stand: a try isn't woken, and no thread that has to be
 -- refused comes to decide.
-use Rattle.std.proofs.Common.{length, ℕ, Bool, true, false, if◌then◌else◌, ◌==◌, ◌&&◌, not, ◌≡◌, ◌+◌, ◌/◌, ◌%◌, ◌^◌, ◌<◌, refl, sym, ap, ◌∙◌, subst, arith, nat_le, ◌||◌}
+use Rattle.std.proofs.Common.{length, ℕ, Bool, true, false, if◌then◌else◌, ◌==◌, ◌&&◌, not, ◌≡◌, ◌+◌, ◌/◌}
+use Rattle.std.proofs.Common.{◌%◌, ◌^◌, ◌<◌, refl, sym, ap, ◌∙◌, subst, arith, nat_le, ◌||◌}
 use Rattle.std.proofs.lemmas.Bool.{eqb-true}
 use Rattle.std.proofs.lemmas.Bool.Decides.{nat_tests}
 use Rattle.core_base.specs.declared.keys.Line.{Line}
@@ -31,18 +32,25 @@ use Rattle.steps_rwlock.specs.declared.park.ParkAt.{ParkAt}
 use Rattle.steps_rwlock.specs.declared.park.ParkAt.TheVariants as parking
 use Rattle.steps_rwlock.specs.declared.release.WakeAt.{WakeAt}
 use Rattle.steps_rwlock.specs.declared.release.WakeAt.TheVariants as waking
-use Rattle.steps_rwlock.specs.RwLockSteps.{wanted, access_of, patience_of, is_counted, park_or_mark, decision_blocked, decision, decided_for, plus, stays, goes, missed, entered, looked_by, looked, came_in, exchanged_next, after_count, wakes, parks_at, released, gave_way_by, park_next, wake_next, rwlock_next}
+use Rattle.steps_rwlock.specs.RwLockSteps.{wanted, access_of, patience_of, is_counted, park_or_mark}
+use Rattle.steps_rwlock.specs.RwLockSteps.{decision_blocked, decision, decided_for, plus, stays, goes, missed}
+use Rattle.steps_rwlock.specs.RwLockSteps.{entered, looked_by, looked, came_in, exchanged_next, after_count}
+use Rattle.steps_rwlock.specs.RwLockSteps.{wakes, parks_at, released, gave_way_by, park_next, wake_next}
+use Rattle.steps_rwlock.specs.RwLockSteps.{rwlock_next}
 use Rattle.steps_rwlock.specs.RwLockDeeds.{Admits, AtFits, AtUpgrade, IsAt, IsFreshTry, rwlock_role}
 use Rattle.spec_locks.specs.Locks.{Rules}
 use Rattle.spec_locks.specs.Sites.{Site, IsSite}
-use Rattle.steps_rwlock.specs.RwLockCalls.{WaitsIfBlocked, HasDeadline, ParksBy, StandsAt, UpgradesAt, IsNoRefusal, IsDecided, MayStand, MayBeTold, MayStandNext, RwLockCallsStand}
+use Rattle.steps_rwlock.specs.RwLockCalls.{WaitsIfBlocked, HasDeadline, ParksBy, StandsAt, UpgradesAt}
+use Rattle.steps_rwlock.specs.RwLockCalls.{IsNoRefusal, IsDecided, MayStand, MayBeTold, MayStandNext}
+use Rattle.steps_rwlock.specs.RwLockCalls.{RwLockCallsStand}
 use Rattle.steps_rwlock.proofs.RwLockCodes.{blocked_unset, fits_even, fits_aside}
 use Rattle.steps_rwlock.proofs.RwLockCallPlaces.{StandsNext, stands_on}
 
 -- ---------------------------------------------------------------- words
 
 -- a parked bit that is set in an even word keeps out the threads that it kept out
-blocked_same : (b : Bool) (x : Want) (v : ℕ) → v < 2 ^ 64 → has_parked v ≡ false → is_blocked b x (plus v 1) ≡ is_blocked b x v
+blocked_same : (b : Bool) (x : Want) (v : ℕ) → v < 2 ^ 64 → has_parked v ≡ false → is_blocked b x (plus v 1)
+    ≡ is_blocked b x v
 blocked_same b x v few even = ap (is_blocked b x) (fits_even v few even) ∙ by_want x
   where
     zero_end : v % 2 ≡ 0
@@ -66,27 +74,37 @@ blocked_same b x v few even = ap (is_blocked b x) (fits_even v few even) ∙ by_
 
 -- a thread that decides to set it, decides to park then
 module _ (a : Admission) where
-  marks_by : (how : Patience) (word : ℕ) (b c : Bool) → (if b then decision_blocked how word else if c then decisions.Refuse ReadersFull else decisions.Take) ≡ decisions.Mark → (b ≡ true) × WaitsIfBlocked how
+  marks_by : (how : Patience) (word : ℕ) (b c : Bool) → (if b then decision_blocked how word else if c
+      then decisions.Refuse ReadersFull else decisions.Take) ≡ decisions.Mark → (b ≡ true)
+      × WaitsIfBlocked how
   marks_by Patient word true c e = (refl, tt)
   marks_by Timed word true c e = (refl, tt)
   marks_by Try word true c e = absurd cc
   marks_by how word false true e = absurd cc
   marks_by how word false false e = absurd cc
 
-  is_even : (x : Want) (how : Patience) (word : ℕ) → decision a x how word ≡ decisions.Mark → has_parked word ≡ false
-  is_even x how word e = by_tests (is_blocked a.recursive x word) (is_counted x && nat_le a.limit (count_in word)) e
+  is_even : (x : Want) (how : Patience) (word : ℕ) → decision a x how word ≡ decisions.Mark → has_parked word
+      ≡ false
+  is_even x how word e = by_tests (is_blocked a.recursive x word) (is_counted x && nat_le a.limit
+      (count_in word)) e
     where
-      by_tests : (b c : Bool) → (if b then decision_blocked how word else if c then decisions.Refuse ReadersFull else decisions.Take) ≡ decisions.Mark → has_parked word ≡ false
+      by_tests : (b c : Bool) → (if b then decision_blocked how word else if c then decisions.Refuse
+          ReadersFull else decisions.Take) ≡ decisions.Mark → has_parked word ≡ false
       by_tests true c f = blocked_unset how word f
       by_tests false true f = absurd cc
       by_tests false false f = absurd cc
 
-  marked_parks : (x : Want) (how : Patience) (word : ℕ) → word < 2 ^ 64 → decision a x how word ≡ decisions.Mark → decision a x how (plus word 1) ≡ decisions.Park
-  marked_parks x how word few e = let found = marks_by how word (is_blocked a.recursive x word) (is_counted x && nat_le a.limit (count_in word)) e in
-      ap (λ b. if b then decision_blocked how (plus word 1) else if is_counted x && nat_le a.limit (count_in (plus word 1)) then decisions.Refuse ReadersFull else decisions.Take) (blocked_same a.recursive x word few (is_even x how word e) ∙ found.0) ∙ by_how how found.1
+  marked_parks : (x : Want) (how : Patience) (word : ℕ) → word < 2 ^ 64 → decision a x how word
+      ≡ decisions.Mark → decision a x how (plus word 1) ≡ decisions.Park
+  marked_parks x how word few e = let found = marks_by how word (is_blocked a.recursive x word)
+      (is_counted x && nat_le a.limit (count_in word)) e in
+      ap (λ b. if b then decision_blocked how (plus word 1) else if is_counted x && nat_le a.limit
+      (count_in (plus word 1)) then decisions.Refuse ReadersFull else decisions.Take)
+      (blocked_same a.recursive x word few (is_even x how word e) ∙ found.0) ∙ by_how how found.1
     where
       odd : has_parked (plus word 1) ≡ true
-      odd = let next : plus word 1 ≡ word + 1 = fits_even word few (is_even x how word e) in let even : has_parked word ≡ false = is_even x how word e in grind (arith, nat_tests)
+      odd = let next : plus word 1 ≡ word + 1 = fits_even word few (is_even x how word e)
+          in let even : has_parked word ≡ false = is_even x how word e in grind (arith, nat_tests)
 
       by_how : (y : Patience) → WaitsIfBlocked y → decision_blocked y (plus word 1) ≡ decisions.Park
       by_how Patient w = ap park_or_mark odd
@@ -94,10 +112,12 @@ module _ (a : Admission) where
       by_how Try w = absurd w
 
   -- A call that decides to park never refuses, whatever it is for.
-  pub decides_to_park : (q : RwLockPurpose) (word : ℕ) → word < 2 ^ 64 → decided_for a q word ≡ decisions.Mark → decided_for a q (plus word 1) ≡ decisions.Park
+  pub decides_to_park : (q : RwLockPurpose) (word : ℕ) → word < 2 ^ 64 → decided_for a q word ≡ decisions.Mark
+      → decided_for a q (plus word 1) ≡ decisions.Park
   decides_to_park (purpose.Enter x how) word few e = marked_parks (wanted x) how word few e
   decides_to_park (purpose.Release x) word few e = marked_parks (wanted x) Patient word few e
-  decides_to_park (purpose.Downgrade d) word few e = marked_parks (wanted (access_of (purpose.Downgrade d))) Patient word few e
+  decides_to_park (purpose.Downgrade d) word few e = marked_parks (wanted (access_of (purpose.Downgrade d)))
+      Patient word few e
   decides_to_park (purpose.Upgrade how) word few e = absurd (never (count_in word == 1) e)
     where
       never : (b : Bool) → (if b then decisions.Take else decisions.Refuse No) ≡ decisions.Mark → ⊥
@@ -105,8 +125,13 @@ module _ (a : Admission) where
       never false f = cc
 
 -- a writer that sets the bit of the second line finds it set, and as many readers
-pub aside_set : (word : ℕ) → word < 2 ^ 64 → has_aside word ≡ false → (has_aside (plus word 2) ≡ true) × (count_in (plus word 2) ≡ count_in word)
-aside_set word few unset = (grind (arith, nat_tests), let more : plus word 2 ≡ word + 2 = fits_aside word few unset in let unset_bit : word / 2 % 2 ≡ 0 = zero in omega arith)
+pub aside_set : (word : ℕ) → word < 2 ^ 64 → has_aside word ≡ false → (has_aside (plus word 2) ≡ true)
+    × (count_in (plus word 2) ≡ count_in word)
+aside_set word few unset = (
+  grind (arith, nat_tests),
+  let more : plus word 2 ≡ word + 2 =
+      fits_aside word few unset in let unset_bit : word / 2 % 2 ≡ 0 = zero in omega arith,
+)
   where
     zero : word / 2 % 2 ≡ 0
     zero = grind (arith, nat_tests)
@@ -135,7 +160,8 @@ parks_wait how parking.Clear by = timed_waits how by
 parks_wait how parking.GiveUp by = timed_waits how by
 parks_wait how to by = by
 
-lines_wait : (q : RwLockPurpose) (again : Bool) (m : Line) (to : ParkAt) → StandsAt q again (parks_at m to) → WaitsIfBlocked (patience_of q)
+lines_wait : (q : RwLockPurpose) (again : Bool) (m : Line) (to : ParkAt) → StandsAt q again (parks_at m to)
+    → WaitsIfBlocked (patience_of q)
 lines_wait (purpose.Enter access.Exclusive how) again Main to fits = parks_wait how to fits
 lines_wait (purpose.Enter access.Exclusive how) again Second to fits = parks_wait how to fits
 lines_wait (purpose.Enter access.Shared how) again Main to fits = parks_wait how to fits
@@ -161,13 +187,15 @@ module _ (a : Admission) where
   of q again to = record { purpose = q; retries = again; at = to }
 
   module _ (q : RwLockPurpose) (again : Bool) (fresh : IsFreshTry (patience_of q) again) where
-    looks : (to : RwLockAt) (seen : ℕ) (d : Decision) → decided_for a q seen ≡ d → Keeps (looked_by (of q again to) seen d)
+    looks : (to : RwLockAt) (seen : ℕ) (d : Decision) → decided_for a q seen ≡ d
+        → Keeps (looked_by (of q again to) seen d)
     looks to seen (decisions.Refuse answer) e = tt
     looks to seen decisions.Take e = (fresh, subst IsNoRefusal (sym e) tt)
     looks to seen decisions.Mark e = (fresh, subst IsNoRefusal (sym e) tt)
     looks to seen decisions.Park e = (fresh, subst IsNoRefusal (sym e) tt)
 
-    exchanges : (was seen : ℕ) → seen < 2 ^ 64 → (d : Decision) → decided_for a q was ≡ d → Keeps (exchanged_next a (of q again (at.Decide was)) was seen d)
+    exchanges : (was seen : ℕ) → seen < 2 ^ 64 → (d : Decision) → decided_for a q was ≡ d
+        → Keeps (exchanged_next a (of q again (at.Decide was)) was seen d)
     exchanges was seen few decisions.Take e = either (seen == was)
       where
         came : (q : RwLockPurpose) → Keeps (came_in (of q again (at.Decide was)))
@@ -178,32 +206,44 @@ module _ (a : Admission) where
         came (purpose.Downgrade d) = tt
         came (purpose.Upgrade how) = tt
 
-        either : (b : Bool) → Keeps (if b then came_in (of q again (at.Decide was)) else looked a (of q again (at.Decide was)) seen)
+        either : (b : Bool) → Keeps (if b then came_in (of q again (at.Decide was)) else looked a
+            (of q again (at.Decide was)) seen)
         either true = came q
         either false = looks (at.Decide was) seen (decided_for a q seen) refl
     exchanges was seen few decisions.Mark e = either (seen == was) refl
       where
-        either : (b : Bool) → (seen == was) ≡ b → Keeps (if b then stays (of q again (at.Decide was)) (at.Decide (plus was 1)) else looked a (of q again (at.Decide was)) seen)
-        either true f = (fresh, subst IsNoRefusal (sym (decides_to_park a q was (subst (λ n. n < 2 ^ 64) (eqb-true seen was f) few) e)) tt)
+        either : (b : Bool) → (seen == was) ≡ b
+            → Keeps (if b then stays (of q again (at.Decide was)) (at.Decide (plus was 1)) else looked a
+            (of q again (at.Decide was)) seen)
+        either true f = (
+          fresh,
+          subst IsNoRefusal
+              (sym (decides_to_park a q was (subst (λ n. n < 2 ^ 64) (eqb-true seen was f) few) e)) tt,
+        )
         either false f = looks (at.Decide was) seen (decided_for a q seen) refl
     exchanges was seen few decisions.Park e = looks (at.Decide was) seen (decided_for a q seen) refl
-    exchanges was seen few (decisions.Refuse answer) e = looks (at.Decide was) seen (decided_for a q seen) refl
+    exchanges was seen few (decisions.Refuse answer) e = looks (at.Decide was) seen (decided_for a q seen)
+        refl
 
-    counts : (to : RwLockAt) (seen : ℕ) (b : Bool) (ans : Answer) → Keeps (if b then next.End ans else stays (of q again to) (at.Count seen))
+    counts : (to : RwLockAt) (seen : ℕ) (b : Bool) (ans : Answer)
+        → Keeps (if b then next.End ans else stays (of q again to) (at.Count seen))
     counts to seen true ans = tt
     counts to seen false ans = (fresh, tt)
 
-    wakes_or : (to : RwLockAt) (m : Line) (b : Bool) (ans : Answer) → Keeps (if b then stays (of q again to) (wakes m) else next.End ans)
+    wakes_or : (to : RwLockAt) (m : Line) (b : Bool) (ans : Answer)
+        → Keeps (if b then stays (of q again to) (wakes m) else next.End ans)
     wakes_or to m true ans = (fresh, tt)
     wakes_or to m false ans = tt
 
-    firsts : (b : Bool) (ans : Answer) (how : Patience) → Keeps (if b then next.End ans else missed (of q again at.First) how)
+    firsts : (b : Bool) (ans : Answer) (how : Patience)
+        → Keeps (if b then next.End ans else missed (of q again at.First) how)
     firsts true ans how = tt
     firsts false ans Try = tt
     firsts false ans Patient = (fresh, tt)
     firsts false ans Timed = (fresh, tt)
 
-    counts_again : (was seen : ℕ) (b : Bool) → Keeps (if b then stays (of q again (at.Count was)) at.Marked else after_count (of q again (at.Count was)) seen)
+    counts_again : (was seen : ℕ) (b : Bool) → Keeps (if b then stays (of q again (at.Count was)) at.Marked
+        else after_count (of q again (at.Count was)) seen)
     counts_again was seen true = (fresh, tt)
     counts_again was seen false = counts (at.Count was) seen (count_in seen == 0) (entered (patience_of q))
 
@@ -212,11 +252,13 @@ module _ (a : Admission) where
     releases seen access.Upgradable = wakes_or at.GiveWay Main (has_parked seen) Ok
     releases seen access.Exclusive = wakes_or at.GiveWay Main (has_parked seen) Ok
 
-    gives : (seen : ℕ) (how : Patience) (b : Bool) → IsFreshTry (patience_of q) false → Keeps (if b then next.End (entered how) else goes (of q again at.GiveWay) at.Look false)
+    gives : (seen : ℕ) (how : Patience) (b : Bool) → IsFreshTry (patience_of q) false
+        → Keeps (if b then next.End (entered how) else goes (of q again at.GiveWay) at.Look false)
     gives seen how true unwoken = tt
     gives seen how false unwoken = (unwoken, tt)
 
-    wakes_on : (m : Line) (to : WakeAt) (told : Reply) → Keeps (wake_next (of q again (at.Wake m to)) m to told)
+    wakes_on : (m : Line) (to : WakeAt) (told : Reply)
+        → Keeps (wake_next (of q again (at.Wake m to)) m to told)
     wakes_on m waking.Enter reply.Done = (fresh, tt)
     wakes_on m waking.Take (reply.Took any none_left) = (fresh, tt)
     wakes_on m waking.Take (reply.Picked n y none_left) = (fresh, tt)
@@ -224,11 +266,14 @@ module _ (a : Admission) where
     wakes_on m (waking.Leave any) reply.Done = tt
     wakes_on m to told = (fresh, tt)
 
-  gave : (q : RwLockPurpose) (again : Bool) → IsFreshTry (patience_of q) again → (seen : ℕ) → Keeps (gave_way_by (of q again at.GiveWay) seen q)
+  gave : (q : RwLockPurpose) (again : Bool) → IsFreshTry (patience_of q) again → (seen : ℕ)
+      → Keeps (gave_way_by (of q again at.GiveWay) seen q)
   gave (purpose.Enter x how) again fresh seen = releases (purpose.Enter x how) again fresh seen x
   gave (purpose.Release x) again fresh seen = releases (purpose.Release x) again fresh seen x
-  gave (purpose.Downgrade d) again fresh seen = wakes_or (purpose.Downgrade d) again fresh at.GiveWay Main (has_parked seen) Ok
-  gave (purpose.Upgrade how) again fresh seen = gives (purpose.Upgrade how) again fresh seen how (count_in seen == 1) (unwoken_fresh how)
+  gave (purpose.Downgrade d) again fresh seen = wakes_or (purpose.Downgrade d) again fresh at.GiveWay Main
+      (has_parked seen) Ok
+  gave (purpose.Upgrade how) again fresh seen = gives (purpose.Upgrade how) again fresh seen how
+      (count_in seen == 1) (unwoken_fresh how)
 
   module _ (q : RwLockPurpose) (again : Bool) (ready : (b : Bool) → IsFreshTry (patience_of q) b) where
     parks : (to : ParkAt) (told : Reply) → Keeps (park_next (of q again (at.Park to)) Main to told)
@@ -257,24 +302,34 @@ module _ (a : Admission) where
     asides parking.GiveUp reply.Done = (ready again, tt)
     asides to told = (ready again, tt)
 
-  keeps_all : (q : RwLockPurpose) (again : Bool) (to : RwLockAt) (told : Reply) → StandsAt q again to → IsFreshTry (patience_of q) again → IsDecided a q to → MayBeTold a (of q again to) to told → Keeps (rwlock_next a (of q again to) told)
-  keeps_all q again at.First (reply.Value seen) fits fresh on may = firsts q again fresh (seen == 0) (entered (patience_of q)) (patience_of q)
+  keeps_all : (q : RwLockPurpose) (again : Bool) (to : RwLockAt) (told : Reply) → StandsAt q again to
+      → IsFreshTry (patience_of q) again → IsDecided a q to → MayBeTold a (of q again to) to told
+      → Keeps (rwlock_next a (of q again to) told)
+  keeps_all q again at.First (reply.Value seen) fits fresh on may = firsts q again fresh (seen == 0)
+      (entered (patience_of q)) (patience_of q)
   keeps_all q again at.First told fits fresh on may = (fresh, tt)
-  keeps_all q again at.Load (reply.Value seen) fits fresh on may = looks q again fresh at.Load seen (decided_for a q seen) refl
+  keeps_all q again at.Load (reply.Value seen) fits fresh on may = looks q again fresh at.Load seen
+      (decided_for a q seen) refl
   keeps_all q again at.Load told fits fresh on may = (fresh, tt)
-  keeps_all q again (at.Decide was) (reply.Value seen) fits fresh on may = exchanges q again fresh was seen may (decided_for a q was) refl
+  keeps_all q again (at.Decide was) (reply.Value seen) fits fresh on may =
+      exchanges q again fresh was seen may (decided_for a q was) refl
   keeps_all q again (at.Decide was) reply.Done fits fresh on may = (fresh, tt)
   keeps_all q again (at.Decide was) told fits fresh on may = (fresh, on)
-  keeps_all q again (at.Park to) told fits fresh on may = parks q again (fresh_waits (patience_of q) (lines_wait q again Main to fits)) to told
-  keeps_all q again at.Look (reply.Value seen) fits fresh on may = counts q again fresh at.Look seen (count_in seen == 0) (entered (patience_of q))
+  keeps_all q again (at.Park to) told fits fresh on may =
+      parks q again (fresh_waits (patience_of q) (lines_wait q again Main to fits)) to told
+  keeps_all q again at.Look (reply.Value seen) fits fresh on may = counts q again fresh at.Look seen
+      (count_in seen == 0) (entered (patience_of q))
   keeps_all q again at.Look told fits fresh on may = (fresh, tt)
-  keeps_all q again (at.Count was) (reply.Value seen) fits fresh on may = counts_again q again fresh was seen (seen == was)
+  keeps_all q again (at.Count was) (reply.Value seen) fits fresh on may = counts_again q again fresh was seen
+      (seen == was)
   keeps_all q again (at.Count was) reply.Done fits fresh on may = (fresh, tt)
   keeps_all q again (at.Count was) told fits fresh on may = (fresh, tt)
   keeps_all q again at.Marked reply.Done fits fresh on may = (fresh, tt)
   keeps_all q again at.Marked told fits fresh on may = (fresh, tt)
-  keeps_all q again (at.Aside to) told fits fresh on may = asides q again (fresh_waits (patience_of q) (lines_wait q again Second to fits)) to told
-  keeps_all q again at.RollBack (reply.Value seen) fits fresh on may = wakes_or q again fresh at.RollBack Main (has_parked seen) No
+  keeps_all q again (at.Aside to) told fits fresh on may =
+      asides q again (fresh_waits (patience_of q) (lines_wait q again Second to fits)) to told
+  keeps_all q again at.RollBack (reply.Value seen) fits fresh on may = wakes_or q again fresh at.RollBack Main
+      (has_parked seen) No
   keeps_all q again at.RollBack told fits fresh on may = (fresh, tt)
   keeps_all q again at.GiveWay (reply.Value seen) fits fresh on may = gave q again fresh seen
   keeps_all q again at.GiveWay told fits fresh on may = (fresh, tt)
@@ -285,7 +340,8 @@ module _ (a : Admission) where
   both (next.End answer) stands keeps = tt
 
 pub rwlock_calls_stand : RwLockCallsStand
-rwlock_calls_stand a p told stands may = both a (rwlock_next a p told) (stands_on a p told stands.place may) (keeps_all a p.purpose p.retries p.at told stands.place stands.fresh stands.decided may)
+rwlock_calls_stand a p told stands may = both a (rwlock_next a p told) (stands_on a p told stands.place may)
+    (keeps_all a p.purpose p.retries p.at told stands.place stands.fresh stands.decided may)
 
 -- a call stands only where it fits
 upgrade_fits : (how : Patience) (again : Bool) (to : RwLockAt) → UpgradesAt how again to → AtUpgrade how to
@@ -324,5 +380,13 @@ place_fits (purpose.Downgrade d) again to fits = fits
 place_fits (purpose.Upgrade how) again to fits = upgrade_fits how again to fits
 
 -- the bit is there, by what the lock is and what the thread does
-pub is_at : (r : Rules) (a : Admission) (s : Site) (t : ℕ) (p : RwLockPlace) → Admits r a → IsSite r s → s.role t ≡ rwlock_role p → MayStand a p → t < length s.lock.shared → IsAt r a s t p
-is_at r a s t p admits site role stands there = record { there = there; admits = admits; site = site; role = role; fresh = stands.fresh; place = place_fits p.purpose p.retries p.at stands.place }
+pub is_at : (r : Rules) (a : Admission) (s : Site) (t : ℕ) (p : RwLockPlace) → Admits r a → IsSite r s
+    → s.role t ≡ rwlock_role p → MayStand a p → t < length s.lock.shared → IsAt r a s t p
+is_at r a s t p admits site role stands there = record {
+  there = there;
+  admits = admits;
+  site = site;
+  role = role;
+  fresh = stands.fresh;
+  place = place_fits p.purpose p.retries p.at stands.place;
+}

@@ -1,6 +1,7 @@
 -- The steps of a reader-writer lock, told by what a thread does about the abstract lock: what each
 -- place is, and the deeds of each step.
-use Rattle.std.specs.Prelude.{ℕ, Bool, true, false, Option, Some, None, if◌then◌else◌, ◌==◌, ◌&&◌, not, ◌≡◌, ◌<◌, ◌-◌, ◌^◌, List, [], ◌∷◌, length, slice_index}
+use Rattle.std.specs.Prelude.{ℕ, Bool, true, false, Option, Some, None, if◌then◌else◌, ◌==◌, ◌&&◌, not, ◌≡◌}
+use Rattle.std.specs.Prelude.{◌<◌, ◌-◌, ◌^◌, List, [], ◌∷◌, length, slice_index}
 use Rattle.core_base.specs.declared.keys.Line.{Line}
 use Rattle.core_base.specs.declared.keys.Line.TheVariants.{Main, Second}
 use Rattle.core_base.specs.declared.ops.Op.{Op}
@@ -28,13 +29,17 @@ use Rattle.steps_rwlock.specs.declared.park.ParkAt.{ParkAt}
 use Rattle.steps_rwlock.specs.declared.park.ParkAt.TheVariants as parking
 use Rattle.steps_rwlock.specs.declared.release.WakeAt.{WakeAt}
 use Rattle.steps_rwlock.specs.declared.release.WakeAt.TheVariants as waking
-use Rattle.steps_rwlock.specs.RwLockSteps.{wanted, from_of, to_of, access_of, start_of, want_at, patience_at, decided, park_check, rwlock_act, rwlock_next, rwlock_owners, rwlock_shares}
+use Rattle.steps_rwlock.specs.RwLockSteps.{wanted, from_of, to_of, access_of, start_of, want_at, patience_at}
+use Rattle.steps_rwlock.specs.RwLockSteps.{decided, park_check, rwlock_act, rwlock_next, rwlock_owners}
+use Rattle.steps_rwlock.specs.RwLockSteps.{rwlock_shares}
 use Rattle.steps_base.specs.Acts.{holds}
 use Rattle.steps_base.specs.declared.owners.Owners.{Owners}
 use Rattle.steps_base.specs.Owners.{lock_seen, shares_then}
 use Rattle.steps_base.specs.Moves.{IsSectionFree, StandsAlone, MayTake}
-use Rattle.spec_locks.specs.Locks.{Rules, Taken, Enter, Pend, Settle, Leave, Convert, Park, Aside, TakeAside, TakePicked, Late, Rollback, is_recursive, keeps_more, standing}
-use Rattle.spec_locks.specs.Sites.{Claim, Has, Pends, Role, idle, is_main, Site, IsSite, has_readers, Deed, End, In, Out, Mark, Clear, FindNobody, Case}
+use Rattle.spec_locks.specs.Locks.{Rules, Taken, Enter, Pend, Settle, Leave, Convert, Park, Aside, TakeAside}
+use Rattle.spec_locks.specs.Locks.{TakePicked, Late, Rollback, is_recursive, keeps_more, standing}
+use Rattle.spec_locks.specs.Sites.{Claim, Has, Pends, Role, idle, is_main, Site, IsSite, has_readers, Deed}
+use Rattle.spec_locks.specs.Sites.{End, In, Out, Mark, Clear, FindNobody, Case}
 pub use Rattle.spec_locks.specs.Deeds.{after_all, AllNeeded}
 use Rattle.spec_locks.specs.Codes.{code, HasLimit, count_in, has_aside, has_parked}
 

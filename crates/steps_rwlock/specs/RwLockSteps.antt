@@ -1,6 +1,7 @@
 -- The steps of a reader-writer lock: what a thread does at each place, and where each reply leads
 -- it.
-use Rattle.std.specs.Prelude.{ℕ, Bool, true, false, Option, Some, None, if◌then◌else◌, ◌==◌, ◌&&◌, not, ◌+◌, ◌-◌, ◌*◌, nat_le, ◌≡◌}
+use Rattle.std.specs.Prelude.{ℕ, Bool, true, false, Option, Some, None, if◌then◌else◌, ◌==◌, ◌&&◌, not, ◌+◌}
+use Rattle.std.specs.Prelude.{◌-◌, ◌*◌, nat_le, ◌≡◌}
 use Rattle.core_base.specs.declared.keys.Keys.TheVariants.{One}
 use Rattle.core_base.specs.declared.keys.Line.{Line}
 use Rattle.core_base.specs.declared.keys.Line.TheVariants.{Main, Second}
@@ -29,7 +30,8 @@ use Rattle.steps_base.specs.declared.acts.Check as check
 use Rattle.steps_base.specs.declared.acts.Next.{Next}
 use Rattle.steps_base.specs.declared.acts.Next.TheVariants.{At, End}
 use Rattle.steps_base.specs.declared.acts.Reply.{Reply}
-use Rattle.steps_base.specs.declared.acts.Reply.TheVariants.{Done, Value, Parked, Took, Picked, Removed, TakenBy, Late, Woken}
+use Rattle.steps_base.specs.declared.acts.Reply.TheVariants.{Done, Value, Parked, Took, Picked, Removed}
+use Rattle.steps_base.specs.declared.acts.Reply.TheVariants.{TakenBy, Late, Woken}
 use Rattle.steps_base.specs.declared.acts.Wakes as wake_notes
 use Rattle.steps_base.specs.declared.acts.Whom.{Whom}
 use Rattle.steps_base.specs.declared.acts.Whom as whom_taken

@@ -1,6 +1,7 @@
 //! The owners of a reader-writer lock after an operation on its word.
 ghost use Rattle.std.specs.Prelude.{◌≡◌};
-ghost use Rattle.steps_rwlock.specs.RwLockSteps.{came_change, settle_change, gives_change, rollback_change, change, owners_by, rwlock_owners, rwlock_shares};
+ghost use Rattle.steps_rwlock.specs.RwLockSteps.{came_change, settle_change, gives_change, rollback_change};
+ghost use Rattle.steps_rwlock.specs.RwLockSteps.{change, owners_by, rwlock_owners, rwlock_shares};
 
 use crate::enter::Decision;
 use crate::places::{Admission, RwLockAt, RwLockPlace};

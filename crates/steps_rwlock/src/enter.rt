@@ -12,7 +12,8 @@
 //! `No`. A try that is blocked ends with `No`. A thread that counts, and isn't blocked, ends with
 //! `ReadersFull` where the count is at the limit.
 ghost use Rattle.std.specs.Prelude.{◌≡◌, ◌<◌, ◌^◌};
-ghost use Rattle.steps_rwlock.specs.RwLockSteps.{wanted, decision, decided_for, decided_act, exchange, first_next, looked, came_in, exchanged_next, decided_next};
+ghost use Rattle.steps_rwlock.specs.RwLockSteps.{wanted, decision, decided_for, decided_act, exchange};
+ghost use Rattle.steps_rwlock.specs.RwLockSteps.{first_next, looked, came_in, exchanged_next, decided_next};
 
 use crate::park::ParkAt;
 use crate::places::{Admission, PARKED, RwLockAt, RwLockPlace};

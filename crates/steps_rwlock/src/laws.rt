@@ -1,8 +1,10 @@
 //! The laws of the steps of a reader-writer lock.
-ghost use Rattle.steps_rwlock.specs.RwLockCalls.{RwLockCallsStand, RwLockLooksStand, RwLockSectionsTell, RwLockSleepersHear, RwLockStepsTell};
+ghost use Rattle.steps_rwlock.specs.RwLockCalls.{RwLockCallsStand, RwLockLooksStand, RwLockSectionsTell};
+ghost use Rattle.steps_rwlock.specs.RwLockCalls.{RwLockSleepersHear, RwLockStepsTell};
 ghost use Rattle.steps_rwlock.specs.RwLockMoves.{RwLockActsMove, RwLockLateMove, RwLockSleepersMove};
 ghost use Rattle.steps_rwlock.specs.RwLockOpenings.{RwLockCallsOpen};
-ghost use Rattle.steps_rwlock.specs.RwLockDeeds.{RwLockOwnersFollow, RwLockSectionsFollow, RwLockStepsCode, RwLockStepsFollow};
+ghost use Rattle.steps_rwlock.specs.RwLockDeeds.{RwLockOwnersFollow, RwLockSectionsFollow, RwLockStepsCode};
+ghost use Rattle.steps_rwlock.specs.RwLockDeeds.{RwLockStepsFollow};
 
 /// Each step on the word of a reader-writer lock may do to the lock what its deeds say, and its
 /// next place says what the thread does then.

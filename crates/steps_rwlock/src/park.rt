@@ -10,7 +10,8 @@
 //! | `Clear` | clears the parked bit of the queue | `GiveUp` |
 //! | `GiveUp` | leaves the section | ends with `No`; a pending writer rolls back |
 ghost use Rattle.std.specs.Prelude.{◌≡◌, ◌<◌, ◌^◌};
-ghost use Rattle.steps_rwlock.specs.RwLockSteps.{IsTold, wanted, unparked, parks_at, looks_again, park_check, park_act, clears, gave_up, park_next};
+ghost use Rattle.steps_rwlock.specs.RwLockSteps.{IsTold, wanted, unparked, parks_at, looks_again};
+ghost use Rattle.steps_rwlock.specs.RwLockSteps.{park_check, park_act, clears, gave_up, park_next};
 ghost use Rattle.core_base.specs.Keys.{key_of};
 ghost use Rattle.steps_rwlock.specs.RwLockProfiles.{is_inside};
 

@@ -4,7 +4,8 @@ ghost use Rattle.steps_base.specs.Acts.{outcome_of};
 ghost use Rattle.spec_locks.specs.Codes as codes;
 ghost use Rattle.steps_rwlock.specs.RwLockSteps.{wanted, goes, rwlock_act, rwlock_next};
 ghost use Rattle.core_base.specs.Keys.{key_of};
-ghost use Rattle.steps_rwlock.specs.RwLockProfiles.{rwlock_taker, rwlock_wants, rwlock_looking, rwlock_late_line, rwlock_owes};
+ghost use Rattle.steps_rwlock.specs.RwLockProfiles.{rwlock_taker, rwlock_wants, rwlock_looking};
+ghost use Rattle.steps_rwlock.specs.RwLockProfiles.{rwlock_late_line, rwlock_owes};
 
 use crate::enter::{Decision, decided_act, looked, next_decided, next_first};
 use crate::park::{ParkAt, next_park, park_act};

@@ -8,7 +8,9 @@
 //! | upgrades | subtracts 12: an upgradable reader less, a writer more | owns where it was the only one, else it is pending and waits for the readers |
 //! | tries to upgrade | the same, by an exchange, where it is the only one | owns, or ends with `No` |
 ghost use Rattle.std.specs.Prelude.{◌≡◌};
-ghost use Rattle.steps_rwlock.specs.RwLockSteps.{wanted, token, from_of, to_of, access_of, patience_of, start_of, ends_with, entered, give_op, rollback_op, word_taken};
+ghost use Rattle.steps_rwlock.specs.RwLockSteps.{wanted, token, from_of, to_of, access_of, patience_of};
+ghost use Rattle.steps_rwlock.specs.RwLockSteps.{start_of, ends_with, entered, give_op, rollback_op};
+ghost use Rattle.steps_rwlock.specs.RwLockSteps.{word_taken};
 
 use crate::places::{READER, UPGRADABLE, WRITER};
 use core_base::{Op, Want};

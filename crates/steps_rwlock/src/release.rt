@@ -12,7 +12,8 @@
 //! every downgrade, those in the main queue.
 ghost use Rattle.std.specs.Prelude.{◌≡◌, ◌<◌, ◌^◌};
 ghost use Rattle.core_base.specs.Keys.{key_of};
-ghost use Rattle.steps_rwlock.specs.RwLockSteps.{wakes, wakes_or_ends, gave_way, whom, wake_act, took, wake_next};
+ghost use Rattle.steps_rwlock.specs.RwLockSteps.{wakes, wakes_or_ends, gave_way, whom, wake_act, took};
+ghost use Rattle.steps_rwlock.specs.RwLockSteps.{wake_next};
 
 use crate::park::{clears, unparked};
 use crate::places::{Admission, RwLockAt, RwLockPlace};

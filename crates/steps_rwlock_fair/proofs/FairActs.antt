@@ -1,6 +1,8 @@
--- Each step of a call that may hand the lock over, or be handed it, takes its thread in the machine where its act says.
+-- Each step of a call that may hand the lock over, or be handed it, takes its thread in the machine where its
+-- act says.
 use Rattle.std.proofs.lemmas.Bool.{eqb-true}
-use Rattle.std.proofs.Common.{ℕ, Bool, true, false, Option, Some, None, List, if◌then◌else◌, ◌==◌, ◌≡◌, ◌⊎◌, inl, inr, refl, ap, sym, subst, ◌∙◌}
+use Rattle.std.proofs.Common.{ℕ, Bool, true, false, Option, Some, None, List, if◌then◌else◌, ◌==◌, ◌≡◌, ◌⊎◌}
+use Rattle.std.proofs.Common.{inl, inr, refl, ap, sym, subst, ◌∙◌}
 use Rattle.core_base.specs.declared.keys.Line.{Line}
 use Rattle.core_base.specs.declared.keys.Line.TheVariants.{Main, Second}
 use Rattle.core_base.specs.declared.notes.Note.TheVariants as note
@@ -18,10 +20,13 @@ use Rattle.steps_base.specs.declared.acts.Wakes.{Wakes}
 use Rattle.steps_base.specs.declared.acts.Next.{Next}
 use Rattle.steps_base.specs.declared.acts.Next.TheVariants as next
 use Rattle.steps_base.specs.declared.acts.Reply.{Reply}
-use Rattle.steps_base.specs.declared.acts.Reply.TheVariants.{Done, Value, Parked, Took, Picked, Removed, TakenBy, HandedBy, Woken, Late}
+use Rattle.steps_base.specs.declared.acts.Reply.TheVariants.{Done, Value, Parked, Took, Picked, Removed}
+use Rattle.steps_base.specs.declared.acts.Reply.TheVariants.{TakenBy, HandedBy, Woken, Late}
 use Rattle.steps_base.specs.declared.acts.Whom as whom
 use Rattle.steps_base.specs.Acts.{any_picked}
-use Rattle.steps_base.specs.Moves.{Move, Hears, StaysPut, GoesIn, Parks, Picks, TakesAside, LeavesLine, GoesOut, MovesByAct, Sleeps, IsHeld, RowWaits, AreOfWord, AreLeaving, location_of, location_then, inside_of, row_of}
+use Rattle.steps_base.specs.Moves.{Move, Hears, StaysPut, GoesIn, Parks, Picks, TakesAside, LeavesLine}
+use Rattle.steps_base.specs.Moves.{GoesOut, MovesByAct, Sleeps, IsHeld, RowWaits, AreOfWord, AreLeaving}
+use Rattle.steps_base.specs.Moves.{location_of, location_then, inside_of, row_of}
 use Rattle.steps_base.specs.Profiles.{Profile, in_hand}
 use Rattle.steps_base.specs.Locations.{Location, location_by, nowhere}
 use Rattle.spec_locks.specs.Sites.{Deed, Case}
@@ -40,17 +45,20 @@ use Rattle.steps_rwlock.specs.RwLockCalls.{MayStand, StandsAt, next_row}
 use Rattle.steps_rwlock.specs.RwLockMoves.{rwlock_move, rwlock_hears}
 use Rattle.steps_rwlock.proofs.RwLockMoves.{rwlock_acts_move, rwlock_sleepers_move, rwlock_late_moves}
 use Rattle.steps_rwlock_fair.specs.declared.places.RwLockCallPlace.{RwLockCallPlace}
-use Rattle.steps_rwlock_fair.specs.declared.places.RwLockCallPlace.TheVariants.{Plain, Glance, HandOver, Bump, Handed}
+use Rattle.steps_rwlock_fair.specs.declared.places.RwLockCallPlace.TheVariants.{Plain, Glance, HandOver, Bump}
+use Rattle.steps_rwlock_fair.specs.declared.places.RwLockCallPlace.TheVariants.{Handed}
 use Rattle.steps_rwlock_fair.specs.declared.hand_over.Taken.{Taken}
 use Rattle.steps_rwlock_fair.specs.declared.hand_over.HandOverAt.{HandOverAt}
 use Rattle.steps_rwlock_fair.specs.declared.hand_over.HandOverAt.TheVariants as handing
 use Rattle.steps_rwlock_fair.specs.declared.handed.HandedAt.TheVariants as handed
-use Rattle.steps_rwlock_fair.specs.FairSteps.{has_room, any_taken, looked, freed_next, took, released, gives_way, gives_up_at, given, plain_next, bump_next, call_act}
+use Rattle.steps_rwlock_fair.specs.FairSteps.{has_room, any_taken, looked, freed_next, took, released}
+use Rattle.steps_rwlock_fair.specs.FairSteps.{gives_way, gives_up_at, given, plain_next, bump_next, call_act}
 use Rattle.steps_rwlock_fair.specs.FairDeeds.{glance_deeds, freed_deeds, exchanged_deeds}
 use Rattle.steps_rwlock_fair.specs.FairProfiles.{bumping, call_profile}
 use Rattle.steps_rwlock_fair.specs.FairLaws.{next_rows}
 use Rattle.steps_rwlock_fair.specs.FairCalls.{HandsOverAt, IsOfBump}
-use Rattle.steps_rwlock_fair.specs.FairMoves.{call_move, call_hears, CallMoves, CallWaits, FairActsMove, FairSleepersMove, FairLateMove}
+use Rattle.steps_rwlock_fair.specs.FairMoves.{call_move, call_hears, CallMoves, CallWaits, FairActsMove}
+use Rattle.steps_rwlock_fair.specs.FairMoves.{FairSleepersMove, FairLateMove}
 use Rattle.steps_rwlock_fair.proofs.FairMoves.{hand_overs_move}
 
 -- ---------------------------------------------------------------- calls that move alike
@@ -72,7 +80,8 @@ module _ (x y : Move) (hears : Hears) (alike : IsAs x y) where
   stays_as g = record {
     out = ap (λ (s : Location). s.stands) alike.here ∙ g.out;
     free = ap (λ (s : Location). s.hand) alike.here ∙ g.free;
-    deeds = λ seen. subst (λ (d : Option ℕ → Reply → List Deed). AreOfWord (d None (Value seen))) (sym alike.deeds) (g.deeds seen);
+    deeds = λ seen. subst (λ (d : Option ℕ → Reply → List Deed). AreOfWord (d None (Value seen)))
+        (sym alike.deeds) (g.deeds seen);
     goes = λ seen. alike.goes (Value seen) tt ∙ g.goes seen ∙ sym alike.here;
   }
 
@@ -81,7 +90,8 @@ module _ (x y : Move) (hears : Hears) (alike : IsAs x y) where
     out = ap (λ (s : Location). s.inside) alike.here ∙ g.out;
     free = ap (λ (s : Location). s.hand) alike.here ∙ g.free;
     deeds = ap (λ (d : Option ℕ → Reply → List Deed). d None told) alike.deeds ∙ g.deeds;
-    goes = alike.goes told plain ∙ g.goes ∙ sym (ap (λ (s : Location). record s { inside = Some m }) alike.here);
+    goes = alike.goes told plain ∙ g.goes
+        ∙ sym (ap (λ (s : Location). record s { inside = Some m }) alike.here);
     may = g.may;
   }
 
@@ -98,7 +108,8 @@ module _ (x y : Move) (hears : Hears) (alike : IsAs x y) where
   picks_as : (start : Option Want) → Picks y hears start → Picks x hears start
   picks_as start g = record {
     was = alike.here ∙ g.was;
-    deeds = λ n z none_left. ap (λ (d : Option ℕ → Reply → List Deed). d None (Picked n z none_left)) alike.deeds ∙ g.deeds n z none_left;
+    deeds = λ n z none_left. ap (λ (d : Option ℕ → Reply → List Deed). d None (Picked n z none_left))
+        alike.deeds ∙ g.deeds n z none_left;
     goes = λ n z none_left. alike.goes (Picked n z none_left) tt ∙ g.goes n z none_left;
     may = g.may;
   }
@@ -106,7 +117,8 @@ module _ (x y : Move) (hears : Hears) (alike : IsAs x y) where
   takes_as : TakesAside y hears → TakesAside x hears
   takes_as g = record {
     was = alike.here ∙ g.was;
-    deeds = λ u any none_left. ap (λ (d : Option ℕ → Reply → List Deed). d u (Took any none_left)) alike.deeds ∙ g.deeds u any none_left;
+    deeds = λ u any none_left. ap (λ (d : Option ℕ → Reply → List Deed). d u (Took any none_left)) alike.deeds
+        ∙ g.deeds u any none_left;
     goes = λ any none_left. alike.goes (Took any none_left) tt ∙ g.goes any none_left;
     may = g.may;
   }
@@ -115,7 +127,8 @@ module _ (x y : Move) (hears : Hears) (alike : IsAs x y) where
   leaves_line_as m g = record {
     want = g.want;
     was = alike.here ∙ g.was;
-    deeds = λ none_left. ap (λ (d : Option ℕ → Reply → List Deed). d None (Removed none_left)) alike.deeds ∙ g.deeds none_left;
+    deeds = λ none_left. ap (λ (d : Option ℕ → Reply → List Deed). d None (Removed none_left)) alike.deeds
+        ∙ g.deeds none_left;
     goes = λ none_left. alike.goes (Removed none_left) tt ∙ g.goes none_left;
     may = g.may;
   }
@@ -128,12 +141,16 @@ module _ (x y : Move) (hears : Hears) (alike : IsAs x y) where
     carries = ap (λ (s : Location). s.carries) alike.here ∙ g.carries;
     free = ap (λ (s : Location). s.hand) alike.here ∙ g.free;
     deeds = subst (λ (d : Option ℕ → Reply → List Deed). AreLeaving (d None Done)) (sym alike.deeds) g.deeds;
-    goes = alike.goes Done tt ∙ g.goes ∙ sym (ap (λ (s : Location). record s { inside = None; carries = None }) alike.here);
+    goes = alike.goes Done tt ∙ g.goes ∙ sym (ap (λ (s : Location). record s {
+      inside = None;
+      carries = None;
+    }) alike.here);
     may = g.may;
   }
 
   -- A call that hands nothing over moves as one that may.
-  moves_as : (l : ℕ) (recursive : Bool) (act : Act) → MovesByAct l recursive y hears act → CallMoves l recursive x hears act
+  moves_as : (l : ℕ) (recursive : Bool) (act : Act) → MovesByAct l recursive y hears act
+      → CallMoves l recursive x hears act
   moves_as l b (act.Word k op) g = (g.0, stays_as g.1)
   moves_as l b (act.Enter keys) g = (g.0, g.1, goes_in_as g.0 Done tt g.2)
   moves_as l b (act.Park k key check x) g = (g.0, g.1, g.2, parks_as g.0 check x g.3)
@@ -162,11 +179,16 @@ module _ (a : Admission) where
   plain_row (next.At p) = refl
   plain_row (next.End answer) = refl
 
-  plain_goes : (p : RwLockPlace) (told : Reply) → IsPlain told → (call_move a (Plain p)).next told ≡ (rwlock_move a p).next told
+  plain_goes : (p : RwLockPlace) (told : Reply) → IsPlain told → (call_move a (Plain p)).next told
+      ≡ (rwlock_move a p).next told
   plain_goes p told plain = rw (none_given false p told plain) (plain_row (rwlock_next a p told))
 
   plain_as : (p : RwLockPlace) → IsAs (call_move a (Plain p)) (rwlock_move a p)
-  plain_as p = record { here = refl; deeds = refl; goes = λ told plain. ap location_by (plain_goes p told plain) }
+  plain_as p = record {
+    here = refl;
+    deeds = refl;
+    goes = λ told plain. ap location_by (plain_goes p told plain);
+  }
 
   -- a bump is where the plain call is
   bumping_stands : (q : RwLockPurpose) (row : Profile) → location_by (bumping q row) ≡ location_by row
@@ -175,7 +197,8 @@ module _ (a : Admission) where
   bumping_stands (purpose.Downgrade d) row = refl
   bumping_stands (purpose.Upgrade how) row = refl
 
-  bump_stands : (q : RwLockPurpose) (n : Next RwLockPlace) → location_by (row_of (next_rows a (bump_next q n))) ≡ location_by (row_of (next_row a n))
+  bump_stands : (q : RwLockPurpose) (n : Next RwLockPlace)
+      → location_by (row_of (next_rows a (bump_next q n))) ≡ location_by (row_of (next_row a n))
   bump_stands q (next.At p) = bumping_stands p.purpose (rwlock_profile a p)
   bump_stands (purpose.Release access.Shared) (next.End answer) = refl
   bump_stands (purpose.Release access.Upgradable) (next.End answer) = refl
@@ -207,13 +230,22 @@ module _ (l : ℕ) (a : Admission) where
   released_rest access.Exclusive true = refl
 
   glance_moves : (x : Access) → MovesAt (Glance x)
-  glance_moves x = (refl, record { out = refl; free = refl; deeds = λ seen. word (gives_way a x seen); goes = λ seen. rest x (gives_way a x seen) })
+  glance_moves x = (
+    refl,
+    record {
+      out = refl;
+      free = refl;
+      deeds = λ seen. word (gives_way a x seen);
+      goes = λ seen. rest x (gives_way a x seen);
+    },
+  )
     where
       word : (b : Bool) → AreOfWord (glance_deeds b)
       word true = tt
       word false = tt
 
-      rest : (x : Access) (b : Bool) → location_next (if b then next.At (gives_up_at x) else next.End Ok) ≡ nowhere
+      rest : (x : Access) (b : Bool) → location_next (if b then next.At (gives_up_at x) else next.End Ok)
+          ≡ nowhere
       rest x false = refl
       rest access.Shared true = refl
       rest access.Upgradable true = refl
@@ -226,7 +258,8 @@ module _ (l : ℕ) (a : Admission) where
     looked_rest : (seen : ℕ) → location_next (next.At (over (looked seen))) ≡ nowhere
     looked_rest seen = either (has_parked seen)
       where
-        either : (c : Bool) → location_next (next.At (over (if c then handing.Enter else handing.Free seen))) ≡ nowhere
+        either : (c : Bool) → location_next (next.At (over (if c then handing.Enter else handing.Free seen)))
+            ≡ nowhere
         either true = refl
         either false = refl
 
@@ -236,10 +269,26 @@ module _ (l : ℕ) (a : Admission) where
     freed_rest access.Exclusive seen = refl
 
     load_moves : MovesAt (over handing.Load)
-    load_moves = (refl, record { out = refl; free = refl; deeds = λ seen. tt; goes = λ seen. looked_rest seen })
+    load_moves = (
+      refl,
+      record {
+        out = refl;
+        free = refl;
+        deeds = λ seen. tt;
+        goes = λ seen. looked_rest seen;
+      },
+    )
 
     free_moves : (expected : ℕ) → MovesAt (over (handing.Free expected))
-    free_moves expected = (refl, record { out = refl; free = refl; deeds = λ seen. word (seen == expected); goes = λ seen. rest seen (seen == expected) })
+    free_moves expected = (
+      refl,
+      record {
+        out = refl;
+        free = refl;
+        deeds = λ seen. word (seen == expected);
+        goes = λ seen. rest seen (seen == expected);
+      },
+    )
       where
         word : (c : Bool) → AreOfWord (freed_deeds (wanted x) b c)
         word false = tt
@@ -249,17 +298,42 @@ module _ (l : ℕ) (a : Admission) where
             by_bump true = tt
             by_bump false = tt
 
-        rest : (seen : ℕ) (c : Bool) → location_next (if c then released x b else next.At (over (freed_next x seen))) ≡ nowhere
+        rest : (seen : ℕ) (c : Bool) → location_next (if c then released x b
+            else next.At (over (freed_next x seen))) ≡ nowhere
         rest seen true = released_rest x b
         rest seen false = freed_rest x seen
 
     enter_moves : MovesAt (over handing.Enter)
-    enter_moves = (Main, refl, record { out = refl; free = refl; deeds = refl; goes = refl; may = λ r s t free. free })
+    enter_moves = (
+      Main,
+      refl,
+      record {
+        out = refl;
+        free = refl;
+        deeds = refl;
+        goes = refl;
+        may = λ r s t free. free;
+      },
+    )
 
     take_moves : MovesAt (over handing.Take)
-    take_moves = (refl, refl, record { was = refl; deeds = λ n y none_left. refl; goes = λ n y none_left. goes x n y none_left; may = λ r s t n y none_left left. left })
+    take_moves = (
+      refl,
+      refl,
+      record {
+        was = refl;
+        deeds = λ n y none_left. refl;
+        goes = λ n y none_left. goes x n y none_left;
+        may = λ r s t n y none_left left. left;
+      },
+    )
       where
-        goes : (z : Access) (n : ℕ) (y : Option Want) (none_left : Bool) → location_next (next.At (over (took z (record { sharers = n; successor = y; none_left = none_left })))) ≡ record (inside_of Main) { carries = in_hand (any_picked n y) false }
+        goes : (z : Access) (n : ℕ) (y : Option Want) (none_left : Bool)
+            → location_next (next.At (over (took z (record {
+              sharers = n;
+              successor = y;
+              none_left = none_left;
+            })))) ≡ record (inside_of Main) { carries = in_hand (any_picked n y) false }
         goes access.Shared n y none_left = refl
         goes access.Upgradable n y none_left = refl
         goes access.Exclusive n y none_left = refl
@@ -298,7 +372,8 @@ module _ (l : ℕ) (a : Admission) where
   store_moves b k = hand_overs_move l l a (HandOver access.Exclusive b (handing.Store k)) _ k tt refl refl
 
   -- where there is room, and where there is none
-  exchange_moves : (b : Bool) (k : Taken) (expected : ℕ) → MovesAt (HandOver access.Upgradable b (handing.Exchange k expected))
+  exchange_moves : (b : Bool) (k : Taken) (expected : ℕ)
+      → MovesAt (HandOver access.Upgradable b (handing.Exchange k expected))
   exchange_moves b k expected = either (has_room a.limit k expected) refl
     where
       c : RwLockCallPlace
@@ -306,19 +381,33 @@ module _ (l : ℕ) (a : Admission) where
 
       either : (room : Bool) → has_room a.limit k expected ≡ room → MovesAt c
       either true e = rw e (hand_overs_move l l a c _ k tt refl (rw e refl))
-      either false e = rw e (refl, record { out = refl; free = refl; deeds = λ seen. rw e (word (seen == expected)); goes = λ seen. rest seen (seen == expected) refl })
+      either false e = rw e (
+        refl,
+        record {
+          out = refl;
+          free = refl;
+          deeds = λ seen. rw e (word (seen == expected));
+          goes = λ seen. rest seen (seen == expected) refl;
+        },
+      )
         where
           word : (won : Bool) → AreOfWord (exchanged_deeds Upgradable k None won false)
           word false = tt
           word true = by_left k.none_left
             where
-              by_left : (z : Bool) → AreOfWord (exchanged_deeds Upgradable (record k { none_left = z }) None true false)
+              by_left : (z : Bool) → AreOfWord (exchanged_deeds Upgradable (record k { none_left = z }) None
+                  true false)
               by_left true = tt
               by_left false = tt
 
-          rest : (seen : ℕ) (won : Bool) → (seen == expected) ≡ won → location_next (if won then next.At (HandOver access.Upgradable b (handing.Leave (any_taken k) (has_room a.limit k seen))) else next.At (HandOver access.Upgradable b (handing.Exchange k seen))) ≡ location_by (call_profile a c)
+          rest : (seen : ℕ) (won : Bool) → (seen == expected) ≡ won
+              → location_next (if won then next.At (HandOver access.Upgradable b
+              (handing.Leave (any_taken k) (has_room a.limit k seen))) else next.At
+              (HandOver access.Upgradable b (handing.Exchange k seen))) ≡ location_by (call_profile a c)
           rest seen false f = refl
-          rest seen true f = ap (λ z. location_next (next.At (HandOver access.Upgradable b (handing.Leave (any_taken k) z)))) (ap (has_room a.limit k) (eqb-true seen expected f) ∙ e)
+          rest seen true f = ap (λ z. location_next
+              (next.At (HandOver access.Upgradable b (handing.Leave (any_taken k) z))))
+              (ap (has_room a.limit k) (eqb-true seen expected f) ∙ e)
 
   over_moves : (x : Access) (b : Bool) (to : HandOverAt) → HandsOverAt x to → MovesAt (HandOver x b to)
   over_moves access.Shared b to fits = absurd fits
@@ -334,13 +423,23 @@ module _ (l : ℕ) (a : Admission) where
   over_moves x b (handing.Leave any told) fits = leave_moves x b any told
 
   accepts_moves : (x : Access) (how : Patience) (b : Bool) → MovesAt (Handed x how b handed.Accept)
-  accepts_moves access.Exclusive how b = (refl, record { out = refl; free = refl; deeds = λ seen. tt; goes = λ seen. refl })
+  accepts_moves access.Exclusive how b = (
+    refl,
+    record {
+      out = refl;
+      free = refl;
+      deeds = λ seen. tt;
+      goes = λ seen. refl;
+    },
+  )
   accepts_moves access.Shared how b = record { was = refl; deeds = refl; goes = refl; may = λ r s t. tt }
   accepts_moves access.Upgradable how b = record { was = refl; deeds = refl; goes = refl; may = λ r s t. tt }
 
 pub fair_acts_move : FairActsMove
-fair_acts_move l a (Plain p) stands = moves_as (call_move a (Plain p)) (rwlock_move a p) (rwlock_hears a p) (plain_as a p) l a.recursive (rwlock_act l a p) (rwlock_acts_move l a p stands)
-fair_acts_move l a (Bump p) stands = moves_as (call_move a (Bump p)) (rwlock_move a p) (rwlock_hears a p) (bump_as a p) l a.recursive (rwlock_act l a p) (rwlock_acts_move l a p stands.0)
+fair_acts_move l a (Plain p) stands = moves_as (call_move a (Plain p)) (rwlock_move a p) (rwlock_hears a p)
+    (plain_as a p) l a.recursive (rwlock_act l a p) (rwlock_acts_move l a p stands)
+fair_acts_move l a (Bump p) stands = moves_as (call_move a (Bump p)) (rwlock_move a p) (rwlock_hears a p)
+    (bump_as a p) l a.recursive (rwlock_act l a p) (rwlock_acts_move l a p stands.0)
 fair_acts_move l a (Glance x) stands = glance_moves l a x
 fair_acts_move l a (HandOver x b to) stands = over_moves l a x b to stands
 fair_acts_move l a (Handed x how b (handed.Asleep by alone)) stands = tt
@@ -356,7 +455,8 @@ module _ (a : Admission) where
       w : RowWaits (rwlock_move a p)
       w = rwlock_sleepers_move a p may
 
-      stands : (m : Line) → (rwlock_profile a p).stands ≡ Some m → ((location_of (rwlock_move a p)).inside ≡ Some m) ⊎ Sleeps (call_move a (Plain p)) m
+      stands : (m : Line) → (rwlock_profile a p).stands ≡ Some m
+          → ((location_of (rwlock_move a p)).inside ≡ Some m) ⊎ Sleeps (call_move a (Plain p)) m
       stands m e = elim (w.stands m e) [
         | inl within ↦ inl within
         | inr k ↦ inr (record {
@@ -394,18 +494,22 @@ module _ (a : Admission) where
     bumping_role (purpose.Downgrade d) row = refl
     bumping_role (purpose.Upgrade how) row = refl
 
-    wants_same : (n : Next RwLockPlace) → (row_of (next_rows a (bump_next (purpose.Enter x Patient) n))).wants ≡ (row_of (next_row a n)).wants
+    wants_same : (n : Next RwLockPlace) → (row_of (next_rows a (bump_next (purpose.Enter x Patient) n))).wants
+        ≡ (row_of (next_row a n)).wants
     wants_same (next.At q) = bumping_wants q.purpose (rwlock_profile a q)
     wants_same (next.End answer) = refl
 
-    role_same : (n : Next RwLockPlace) → (row_of (next_rows a (bump_next (purpose.Enter x Patient) n))).role ≡ (row_of (next_row a n)).role
+    role_same : (n : Next RwLockPlace) → (row_of (next_rows a (bump_next (purpose.Enter x Patient) n))).role
+        ≡ (row_of (next_row a n)).role
     role_same (next.At q) = bumping_role q.purpose (rwlock_profile a q)
     role_same (next.End answer) = refl
 
-    wants_then : (told : Reply) → IsPlain told → ((call_move a (Bump p)).next told).wants ≡ ((rwlock_move a p).next told).wants
+    wants_then : (told : Reply) → IsPlain told → ((call_move a (Bump p)).next told).wants
+        ≡ ((rwlock_move a p).next told).wants
     wants_then told plain = rw (none_given true p told plain) (wants_same (rwlock_next a p told))
 
-    role_then : (told : Reply) → IsPlain told → ((call_move a (Bump p)).next told).role ≡ ((rwlock_move a p).next told).role
+    role_then : (told : Reply) → IsPlain told → ((call_move a (Bump p)).next told).role
+        ≡ ((rwlock_move a p).next told).role
     role_then told plain = rw (none_given true p told plain) (role_same (rwlock_next a p told))
 
     again_waits : MayStand a p → CallWaits (call_move a (Bump p))
@@ -414,7 +518,8 @@ module _ (a : Admission) where
         w : RowWaits (rwlock_move a p)
         w = rwlock_sleepers_move a p may
 
-        stands : (m : Line) → (rwlock_profile a p).stands ≡ Some m → ((location_of (rwlock_move a p)).inside ≡ Some m) ⊎ Sleeps (call_move a (Bump p)) m
+        stands : (m : Line) → (rwlock_profile a p).stands ≡ Some m
+            → ((location_of (rwlock_move a p)).inside ≡ Some m) ⊎ Sleeps (call_move a (Bump p)) m
         stands m e = elim (w.stands m e) [
           | inl within ↦ inl within
           | inr k ↦ inr (record {
@@ -435,27 +540,55 @@ module _ (a : Admission) where
           role = role_then (Woken note.Normal) tt ∙ k.role;
         }
 
-  bump_waits : (q : RwLockPurpose) (again : Bool) (to : RwLockAt) → MayStand a (of a q again to) → IsOfBump q again → CallWaits (call_move a (Bump (of a q again to)))
+  bump_waits : (q : RwLockPurpose) (again : Bool) (to : RwLockAt) → MayStand a (of a q again to)
+      → IsOfBump q again → CallWaits (call_move a (Bump (of a q again to)))
   bump_waits (purpose.Enter x Patient) again to may bump = again_waits x again to may
   bump_waits (purpose.Release access.Shared) again to may bump = by_place to may.place
     where
-      by_place : (to : RwLockAt) → StandsAt (purpose.Release access.Shared) again to → CallWaits (call_move a (Bump (of a (purpose.Release access.Shared) again to)))
-      by_place at.GiveWay fits = record { aside = λ e. absurd cc; stands = λ m e. absurd cc; held = λ u e. absurd cc }
-      by_place (at.Wake Second to) fits = record { aside = λ e. absurd cc; stands = λ m e. absurd cc; held = λ u e. absurd cc }
+      by_place : (to : RwLockAt) → StandsAt (purpose.Release access.Shared) again to
+          → CallWaits (call_move a (Bump (of a (purpose.Release access.Shared) again to)))
+      by_place at.GiveWay fits = record {
+        aside = λ e. absurd cc;
+        stands = λ m e. absurd cc;
+        held = λ u e. absurd cc;
+      }
+      by_place (at.Wake Second to) fits = record {
+        aside = λ e. absurd cc;
+        stands = λ m e. absurd cc;
+        held = λ u e. absurd cc;
+      }
       by_place to fits = absurd fits
   bump_waits q again to may bump = absurd bump
 
 pub fair_sleepers_move : FairSleepersMove
 fair_sleepers_move a (Plain p) stands = plain_waits a p stands
 fair_sleepers_move a (Bump p) stands = bump_waits a p.purpose p.retries p.at stands.0 stands.1
-fair_sleepers_move a (Glance x) stands = record { aside = λ e. absurd cc; stands = λ m e. absurd cc; held = λ u e. absurd cc }
-fair_sleepers_move a (HandOver x b to) stands = record { aside = λ e. absurd cc; stands = λ m e. absurd cc; held = λ u e. absurd cc }
-fair_sleepers_move a (Handed x how b (handed.Asleep by alone)) stands = record { aside = λ e. absurd cc; stands = λ m e. absurd cc; held = λ u e. absurd cc }
-fair_sleepers_move a (Handed x how b handed.Accept) stands = record { aside = λ e. absurd cc; stands = λ m e. absurd cc; held = λ u e. absurd cc }
+fair_sleepers_move a (Glance x) stands = record {
+  aside = λ e. absurd cc;
+  stands = λ m e. absurd cc;
+  held = λ u e. absurd cc;
+}
+fair_sleepers_move a (HandOver x b to) stands = record {
+  aside = λ e. absurd cc;
+  stands = λ m e. absurd cc;
+  held = λ u e. absurd cc;
+}
+fair_sleepers_move a (Handed x how b (handed.Asleep by alone)) stands = record {
+  aside = λ e. absurd cc;
+  stands = λ m e. absurd cc;
+  held = λ u e. absurd cc;
+}
+fair_sleepers_move a (Handed x how b handed.Accept) stands = record {
+  aside = λ e. absurd cc;
+  stands = λ m e. absurd cc;
+  held = λ u e. absurd cc;
+}
 
 pub fair_late_moves : FairLateMove
-fair_late_moves a (Plain p) m e = goes_in_as (call_move a (Plain p)) (rwlock_move a p) (rwlock_hears a p) (plain_as a p) m Late tt (rwlock_late_moves a p m e)
-fair_late_moves a (Bump p) m e = goes_in_as (call_move a (Bump p)) (rwlock_move a p) (rwlock_hears a p) (bump_as a p) m Late tt (rwlock_late_moves a p m e)
+fair_late_moves a (Plain p) m e = goes_in_as (call_move a (Plain p)) (rwlock_move a p) (rwlock_hears a p)
+    (plain_as a p) m Late tt (rwlock_late_moves a p m e)
+fair_late_moves a (Bump p) m e = goes_in_as (call_move a (Bump p)) (rwlock_move a p) (rwlock_hears a p)
+    (bump_as a p) m Late tt (rwlock_late_moves a p m e)
 fair_late_moves a (Glance x) m e = absurd cc
 fair_late_moves a (HandOver x b to) m e = absurd cc
 fair_late_moves a (Handed x how b to) m e = absurd cc

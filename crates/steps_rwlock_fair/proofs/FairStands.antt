@@ -1,5 +1,6 @@
 -- A call that hands the lock over, bumps, or was handed the lock goes on where it may stand.
-use Rattle.std.proofs.Common.{ℕ, Bool, true, false, Option, Some, None, if◌then◌else◌, ◌==◌, ◌&&◌, ◌≡◌, refl, sym, subst}
+use Rattle.std.proofs.Common.{ℕ, Bool, true, false, Option, Some, None, if◌then◌else◌, ◌==◌, ◌&&◌, ◌≡◌, refl}
+use Rattle.std.proofs.Common.{sym, subst}
 use Rattle.core_base.specs.declared.keys.Line.{Line}
 use Rattle.core_base.specs.declared.keys.Line.TheVariants.{Main, Second}
 use Rattle.core_base.specs.declared.notes.Note.TheVariants as note
@@ -26,18 +27,26 @@ use Rattle.steps_rwlock.specs.declared.park.ParkAt.{ParkAt}
 use Rattle.steps_rwlock.specs.declared.park.ParkAt.TheVariants as parking
 use Rattle.steps_rwlock.specs.declared.release.WakeAt.{WakeAt}
 use Rattle.steps_rwlock.specs.declared.release.WakeAt.TheVariants as waking
-use Rattle.steps_rwlock.specs.RwLockSteps.{patience_of, plus, stays, wakes, missed, decided, looked_by, looked, goes, came_in, came_in_for, exchanged_next, after_count, wakes_or_ends, released, gave_way_by, park_next, wake_next, next_at, rwlock_next, entered}
+use Rattle.steps_rwlock.specs.RwLockSteps.{patience_of, plus, stays, wakes, missed, decided, looked_by}
+use Rattle.steps_rwlock.specs.RwLockSteps.{looked, goes, came_in, came_in_for, exchanged_next, after_count}
+use Rattle.steps_rwlock.specs.RwLockSteps.{wakes_or_ends, released, gave_way_by, park_next, wake_next}
+use Rattle.steps_rwlock.specs.RwLockSteps.{next_at, rwlock_next, entered}
 use Rattle.steps_rwlock.specs.RwLockCalls.{WaitsIfBlocked, ReleasesAt, StandsAt, MayStand, MayStandNext}
 use Rattle.steps_rwlock.proofs.RwLockStands.{rwlock_calls_stand, unwoken_fresh}
 use Rattle.steps_rwlock_fair.specs.declared.places.RwLockCallPlace.{RwLockCallPlace}
-use Rattle.steps_rwlock_fair.specs.declared.places.RwLockCallPlace.TheVariants.{Plain, Glance, HandOver, Bump, Handed}
+use Rattle.steps_rwlock_fair.specs.declared.places.RwLockCallPlace.TheVariants.{Plain, Glance, HandOver, Bump}
+use Rattle.steps_rwlock_fair.specs.declared.places.RwLockCallPlace.TheVariants.{Handed}
 use Rattle.steps_rwlock_fair.specs.declared.hand_over.Taken.{Taken}
 use Rattle.steps_rwlock_fair.specs.declared.hand_over.HandOverAt.{HandOverAt}
 use Rattle.steps_rwlock_fair.specs.declared.hand_over.HandOverAt.TheVariants as handing
 use Rattle.steps_rwlock_fair.specs.declared.handed.HandedAt.{HandedAt}
 use Rattle.steps_rwlock_fair.specs.declared.handed.HandedAt.TheVariants as handed
-use Rattle.steps_rwlock_fair.specs.FairSteps.{any_taken, has_room, entering, enters_again, given, handed_by, woken_with, handed_woken, handed_next, looked as looked_at, freed_next, hand_over_next, gives_way, gives_up_at, plain_next, bump_next, unless_given, released as released_next}
-use Rattle.steps_rwlock_fair.specs.FairCalls.{IsOfBump, HandsOverAt, WaitsWithPatience, CallStands, CallStandsNext}
+use Rattle.steps_rwlock_fair.specs.FairSteps.{any_taken, has_room, entering, enters_again, given, handed_by}
+use Rattle.steps_rwlock_fair.specs.FairSteps.{woken_with, handed_woken, handed_next, looked as looked_at}
+use Rattle.steps_rwlock_fair.specs.FairSteps.{freed_next, hand_over_next, gives_way, gives_up_at, plain_next}
+use Rattle.steps_rwlock_fair.specs.FairSteps.{bump_next, unless_given, released as released_next}
+use Rattle.steps_rwlock_fair.specs.FairCalls.{IsOfBump, HandsOverAt, WaitsWithPatience, CallStands}
+use Rattle.steps_rwlock_fair.specs.FairCalls.{CallStandsNext}
 use Rattle.steps_rwlock_fair.specs.FairLaws.{FairCallsStand}
 
 -- in the queue, or taken of it
@@ -75,18 +84,21 @@ module _ (a : Admission) (p : RwLockPlace) where
       either false = looks_for seen (decided a p seen)
   exchanges_for was seen decisions.Mark = either (seen == was)
     where
-      either : (b : Bool) → StaysFor p.purpose (if b then stays p (at.Decide (plus was 1)) else looked a p seen)
+      either : (b : Bool) → StaysFor p.purpose (if b then stays p (at.Decide (plus was 1)) else looked a p
+          seen)
       either true = refl
       either false = looks_for seen (decided a p seen)
   exchanges_for was seen decisions.Park = looks_for seen (decided a p seen)
   exchanges_for was seen (decisions.Refuse answer) = looks_for seen (decided a p seen)
 
   -- it ends, or goes on
-  ends_or : (b : Bool) (answer : Answer) (to : RwLockAt) → StaysFor p.purpose (if b then next.End answer else stays p to)
+  ends_or : (b : Bool) (answer : Answer) (to : RwLockAt)
+      → StaysFor p.purpose (if b then next.End answer else stays p to)
   ends_or true answer to = tt
   ends_or false answer to = refl
 
-  or_ends : (b : Bool) (answer : Answer) (to : RwLockAt) → StaysFor p.purpose (if b then stays p to else next.End answer)
+  or_ends : (b : Bool) (answer : Answer) (to : RwLockAt)
+      → StaysFor p.purpose (if b then stays p to else next.End answer)
   or_ends true answer to = refl
   or_ends false answer to = tt
 
@@ -95,11 +107,13 @@ module _ (a : Admission) (p : RwLockPlace) where
   misses_for Patient = refl
   misses_for Timed = refl
 
-  firsts_for : (b : Bool) (answer : Answer) (how : Patience) → StaysFor p.purpose (if b then next.End answer else missed p how)
+  firsts_for : (b : Bool) (answer : Answer) (how : Patience)
+      → StaysFor p.purpose (if b then next.End answer else missed p how)
   firsts_for true answer how = tt
   firsts_for false answer how = misses_for how
 
-  counts_for : (was seen : ℕ) (b : Bool) → StaysFor p.purpose (if b then stays p at.Marked else after_count p seen)
+  counts_for : (was seen : ℕ) (b : Bool)
+      → StaysFor p.purpose (if b then stays p at.Marked else after_count p seen)
   counts_for was seen true = refl
   counts_for was seen false = ends_or (count_in seen == 0) (entered (patience_of p.purpose)) (at.Count seen)
 
@@ -141,13 +155,15 @@ module _ (a : Admission) (p : RwLockPlace) where
   wakes_for m to told = refl
 
   stays_at : (to : RwLockAt) (told : Reply) → StaysFor p.purpose (next_at a p to told)
-  stays_at at.First (reply.Value seen) = firsts_for (seen == 0) (entered (patience_of p.purpose)) (patience_of p.purpose)
+  stays_at at.First (reply.Value seen) = firsts_for (seen == 0) (entered (patience_of p.purpose))
+      (patience_of p.purpose)
   stays_at at.Load (reply.Value seen) = looks_for seen (decided a p seen)
   stays_at (at.Decide was) (reply.Value seen) = exchanges_for was seen (decided a p was)
   stays_at (at.Decide was) reply.Done = refl
   stays_at (at.Decide was) told = refl
   stays_at (at.Park to) told = parks_for Main to told
-  stays_at at.Look (reply.Value seen) = ends_or (count_in seen == 0) (entered (patience_of p.purpose)) (at.Count seen)
+  stays_at at.Look (reply.Value seen) = ends_or (count_in seen == 0) (entered (patience_of p.purpose))
+      (at.Count seen)
   stays_at (at.Count was) (reply.Value seen) = counts_for was seen (seen == was)
   stays_at (at.Count was) reply.Done = refl
   stays_at (at.Count was) told = refl
@@ -169,20 +185,23 @@ module _ (a : Admission) where
   GivenStands None = Unit {0}
   GivenStands (Some c) = CallStands a c
 
-  waits_as : (b : Bool) (x : Access) (how : Patience) → WaitsIfBlocked how → (b ≡ true → IsOfBump (purpose.Enter x how) false) → WaitsWithPatience b how
+  waits_as : (b : Bool) (x : Access) (how : Patience) → WaitsIfBlocked how
+      → (b ≡ true → IsOfBump (purpose.Enter x how) false) → WaitsWithPatience b how
   waits_as true x Patient waits of = refl
   waits_as true x Timed waits of = absurd (of refl)
   waits_as true x Try waits of = absurd waits
   waits_as false x how waits of = waits
 
   -- which call enters is no matter of whether it was woken
-  patient : (x : Access) (how : Patience) (again : Bool) → IsOfBump (purpose.Enter x how) again → IsOfBump (purpose.Enter x how) false
+  patient : (x : Access) (how : Patience) (again : Bool) → IsOfBump (purpose.Enter x how) again
+      → IsOfBump (purpose.Enter x how) false
   patient x Patient again of = tt
   patient x Timed again of = absurd of
   patient x Try again of = absurd of
 
   -- a thread that is handed the lock waited for it
-  waited : (x : Access) (how : Patience) (again : Bool) (to : ParkAt) → IsAsleep to → StandsAt (purpose.Enter x how) again (at.Park to) → WaitsIfBlocked how
+  waited : (x : Access) (how : Patience) (again : Bool) (to : ParkAt) → IsAsleep to
+      → StandsAt (purpose.Enter x how) again (at.Park to) → WaitsIfBlocked how
   waited access.Exclusive how again parking.Asleep is stands = stands
   waited access.Shared how again parking.Asleep is stands = stands
   waited access.Upgradable how again parking.Asleep is stands = stands
@@ -192,32 +211,47 @@ module _ (a : Admission) where
   waited x how again to is stands = absurd is
 
   -- a writer beside readers looks
-  looks_stand : (b : Bool) (how : Patience) → WaitsIfBlocked how → WaitsWithPatience b how → CallStands a (entering b (record { purpose = purpose.Enter access.Exclusive how; retries = false; at = at.Look }))
+  looks_stand : (b : Bool) (how : Patience) → WaitsIfBlocked how → WaitsWithPatience b how
+      → CallStands a (entering b (record {
+        purpose = purpose.Enter access.Exclusive how;
+        retries = false;
+        at = at.Look;
+      }))
   looks_stand false how waits is = record { place = waits; fresh = unwoken_fresh how; decided = tt }
   looks_stand true Patient waits is = (record { place = waits; fresh = tt; decided = tt }, tt)
   looks_stand true Timed waits is = absurd (let e : Timed ≡ Patient = is in cc)
   looks_stand true Try waits is = absurd waits
 
-  waking_stands : (x : Access) (how : Patience) (b alone : Bool) → WaitsIfBlocked how → WaitsWithPatience b how → CallStands a (handed_woken x how b alone)
+  waking_stands : (x : Access) (how : Patience) (b alone : Bool) → WaitsIfBlocked how
+      → WaitsWithPatience b how → CallStands a (handed_woken x how b alone)
   waking_stands access.Shared how b alone waits is = is
   waking_stands access.Upgradable how b alone waits is = is
   waking_stands access.Exclusive how b true waits is = is
   waking_stands access.Exclusive how b false waits is = looks_stand b how waits is
 
-  handed_stands : (b : Bool) (q : RwLockPurpose) (again : Bool) (to : RwLockAt) (by : ℕ) (alone : Bool) → StandsAt q again to → (b ≡ true → IsOfBump q again) → GivenStands (handed_by b q to by alone)
-  handed_stands b (purpose.Enter x how) again (at.Park (parking.Taken u)) by alone stands of = waits_as b x how (waited x how again (parking.Taken u) tt stands) (λ e. patient x how again (of e))
+  handed_stands : (b : Bool) (q : RwLockPurpose) (again : Bool) (to : RwLockAt) (by : ℕ) (alone : Bool)
+      → StandsAt q again to → (b ≡ true → IsOfBump q again) → GivenStands (handed_by b q to by alone)
+  handed_stands b (purpose.Enter x how) again (at.Park (parking.Taken u)) by alone stands of =
+      waits_as b x how (waited x how again (parking.Taken u) tt stands) (λ e. patient x how again (of e))
   handed_stands b q again to by alone stands of = tt
 
-  woken_stands : (b : Bool) (q : RwLockPurpose) (again : Bool) (to : RwLockAt) → StandsAt q again to → (b ≡ true → IsOfBump q again) → GivenStands (woken_with b q to)
-  woken_stands b (purpose.Enter x how) again (at.Park parking.Asleep) stands of = let waits = waited x how again parking.Asleep tt stands in waking_stands x how b false waits (waits_as b x how waits (λ e. patient x how again (of e)))
+  woken_stands : (b : Bool) (q : RwLockPurpose) (again : Bool) (to : RwLockAt) → StandsAt q again to
+      → (b ≡ true → IsOfBump q again) → GivenStands (woken_with b q to)
+  woken_stands b (purpose.Enter x how) again (at.Park parking.Asleep) stands of = let waits =
+      waited x how again parking.Asleep tt stands in waking_stands x how b false waits
+      (waits_as b x how waits (λ e. patient x how again (of e)))
   woken_stands b q again to stands of = tt
 
-  given_stands : (b : Bool) (p : RwLockPlace) (told : Reply) → MayStand a p → (b ≡ true → IsOfBump p.purpose p.retries) → GivenStands (given b p told)
-  given_stands b p (reply.HandedBy by alone) stands of = handed_stands b p.purpose p.retries p.at by alone stands.place of
-  given_stands b p (reply.Woken note.HandOff) stands of = woken_stands b p.purpose p.retries p.at stands.place of
+  given_stands : (b : Bool) (p : RwLockPlace) (told : Reply) → MayStand a p
+      → (b ≡ true → IsOfBump p.purpose p.retries) → GivenStands (given b p told)
+  given_stands b p (reply.HandedBy by alone) stands of = handed_stands b p.purpose p.retries p.at by alone
+      stands.place of
+  given_stands b p (reply.Woken note.HandOff) stands of = woken_stands b p.purpose p.retries p.at stands.place
+      of
   given_stands b p told stands of = tt
 
-  unless_stands : (o : Option RwLockCallPlace) (n : Next RwLockCallPlace) → GivenStands o → CallStandsNext a n → CallStandsNext a (unless_given o n)
+  unless_stands : (o : Option RwLockCallPlace) (n : Next RwLockCallPlace) → GivenStands o → CallStandsNext a n
+      → CallStandsNext a (unless_given o n)
   unless_stands None n is stands = stands
   unless_stands (Some c) n is stands = is
 
@@ -249,7 +283,8 @@ module _ (a : Admission) where
   wakes_on (waking.Leave any) reply.Done = tt
   wakes_on to told = refl
 
-  releases_on : (to : RwLockAt) (told : Reply) → ReleasesAt access.Shared to → BumpNext (rwlock_next a (leaver to) told)
+  releases_on : (to : RwLockAt) (told : Reply) → ReleasesAt access.Shared to
+      → BumpNext (rwlock_next a (leaver to) told)
   releases_on at.GiveWay (reply.Value seen) stands = gives_way_on (has_aside seen && (count_in seen == 1))
   releases_on at.GiveWay told stands = refl
   releases_on (at.Wake Second to) told stands = wakes_on to told
@@ -260,20 +295,31 @@ module _ (a : Admission) where
   enters_on x (next.End answer) e = tt
 
   -- a bump stays one
-  stays_bump : (q : RwLockPurpose) (again : Bool) (to : RwLockAt) (told : Reply) → StandsAt q again to → IsOfBump q again → BumpNext (rwlock_next a (record { purpose = q; retries = again; at = to }) told)
-  stays_bump (purpose.Enter x Patient) again to told stands of = enters_on x _ (stays_for a (record { purpose = purpose.Enter x Patient; retries = again; at = to }) told)
+  stays_bump : (q : RwLockPurpose) (again : Bool) (to : RwLockAt) (told : Reply) → StandsAt q again to
+      → IsOfBump q again → BumpNext (rwlock_next a (record {
+        purpose = q;
+        retries = again;
+        at = to;
+      }) told)
+  stays_bump (purpose.Enter x Patient) again to told stands of = enters_on x _ (stays_for a (record {
+    purpose = purpose.Enter x Patient;
+    retries = again;
+    at = to;
+  }) told)
   stays_bump (purpose.Release access.Shared) false to told stands of = releases_on to told stands
   stays_bump (purpose.Release access.Shared) true to told stands of = absurd (let e : true ≡ false = of in cc)
   stays_bump q again to told stands of = absurd of
 
-  bump_stands : (q : RwLockPurpose) (n : Next RwLockPlace) → BumpNext n → MayStandNext a n → CallStandsNext a (bump_next q n)
+  bump_stands : (q : RwLockPurpose) (n : Next RwLockPlace) → BumpNext n → MayStandNext a n
+      → CallStandsNext a (bump_next q n)
   bump_stands q (next.At p) of stands = (stands, of)
   bump_stands (purpose.Release x) (next.End answer) of stands = again_stands x
   bump_stands (purpose.Enter x how) (next.End answer) of stands = tt
   bump_stands (purpose.Downgrade d) (next.End answer) of stands = tt
   bump_stands (purpose.Upgrade how) (next.End answer) of stands = tt
 
-  glances_stand : (x : Access) (seen : ℕ) (b : Bool) → CallStandsNext a (if b then next.At (gives_up_at x) else next.End Ok)
+  glances_stand : (x : Access) (seen : ℕ) (b : Bool) → CallStandsNext a (if b then next.At (gives_up_at x)
+      else next.End Ok)
   glances_stand access.Shared seen true = (record { place = tt; fresh = tt; decided = tt }, refl)
   glances_stand access.Upgradable seen true = tt
   glances_stand access.Exclusive seen true = tt
@@ -286,26 +332,34 @@ module _ (a : Admission) where
   looked_stands : (seen : ℕ) → HandsOverAt access.Upgradable (looked_at seen)
   looked_stands seen = either (has_parked seen) refl
     where
-      either : (b : Bool) → has_parked seen ≡ b → HandsOverAt access.Upgradable (if b then handing.Enter else handing.Free seen)
+      either : (b : Bool) → has_parked seen ≡ b → HandsOverAt access.Upgradable (if b then handing.Enter
+          else handing.Free seen)
       either true e = tt
       either false e = e
 
-  freed_stands : (x : Access) (b : Bool) (seen : ℕ) (won : Bool) → (x ≡ access.Shared → ⊥) → CallStandsNext a (if won then released_next x b else next.At (HandOver x b (freed_next x seen)))
+  freed_stands : (x : Access) (b : Bool) (seen : ℕ) (won : Bool) → (x ≡ access.Shared → ⊥)
+      → CallStandsNext a (if won then released_next x b else next.At (HandOver x b (freed_next x seen)))
   freed_stands x b seen true more = released_stands x b
   freed_stands access.Shared b seen false more = absurd (more refl)
   freed_stands access.Upgradable b seen false more = looked_stands seen
   freed_stands access.Exclusive b seen false more = tt
 
-  exchanged_stands : (b : Bool) (k : Taken) (seen : ℕ) (room won : Bool) → CallStandsNext a (if won then next.At (HandOver access.Upgradable b (handing.Leave (any_taken k) room)) else next.At (HandOver access.Upgradable b (handing.Exchange k seen)))
+  exchanged_stands : (b : Bool) (k : Taken) (seen : ℕ) (room won : Bool)
+      → CallStandsNext a (if won then next.At (HandOver access.Upgradable b
+      (handing.Leave (any_taken k) room))
+      else next.At (HandOver access.Upgradable b (handing.Exchange k seen)))
   exchanged_stands b k seen room true = tt
   exchanged_stands b k seen room false = tt
 
-  hand_over_stands : (x : Access) (b : Bool) (to : HandOverAt) (told : Reply) → HandsOverAt x to → CallStandsNext a (hand_over_next a x b to told)
+  hand_over_stands : (x : Access) (b : Bool) (to : HandOverAt) (told : Reply) → HandsOverAt x to
+      → CallStandsNext a (hand_over_next a x b to told)
   hand_over_stands access.Upgradable b handing.Load (reply.Value seen) stands = looked_stands seen
   hand_over_stands access.Exclusive b handing.Load (reply.Value seen) stands = absurd stands
   hand_over_stands access.Shared b to told stands = absurd stands
-  hand_over_stands access.Exclusive b (handing.Free was) (reply.Value seen) stands = freed_stands access.Exclusive b seen (seen == was) (λ e. cc)
-  hand_over_stands access.Upgradable b (handing.Free was) (reply.Value seen) stands = freed_stands access.Upgradable b seen (seen == was) (λ e. cc)
+  hand_over_stands access.Exclusive b (handing.Free was) (reply.Value seen) stands =
+      freed_stands access.Exclusive b seen (seen == was) (λ e. cc)
+  hand_over_stands access.Upgradable b (handing.Free was) (reply.Value seen) stands =
+      freed_stands access.Upgradable b seen (seen == was) (λ e. cc)
   hand_over_stands access.Exclusive b handing.Enter reply.Done stands = tt
   hand_over_stands access.Upgradable b handing.Enter reply.Done stands = tt
   hand_over_stands access.Exclusive b handing.Take (reply.Picked n y none_left) stands = tt
@@ -314,7 +368,8 @@ module _ (a : Admission) where
   hand_over_stands access.Upgradable b (handing.Store k) (reply.Value seen) stands = absurd stands
   hand_over_stands access.Upgradable b (handing.Look k) (reply.Value seen) stands = tt
   hand_over_stands access.Exclusive b (handing.Look k) (reply.Value seen) stands = absurd stands
-  hand_over_stands access.Upgradable b (handing.Exchange k was) (reply.Value seen) stands = exchanged_stands b k seen (has_room a.limit k seen) (seen == was)
+  hand_over_stands access.Upgradable b (handing.Exchange k was) (reply.Value seen) stands =
+      exchanged_stands b k seen (has_room a.limit k seen) (seen == was)
   hand_over_stands access.Exclusive b (handing.Exchange k was) (reply.Value seen) stands = absurd stands
   hand_over_stands x b (handing.Leave any handed) reply.Done stands = released_stands x b
   hand_over_stands x b to told stands = stands
@@ -323,15 +378,22 @@ module _ (a : Admission) where
   waits_on true how is = subst WaitsIfBlocked (sym is) tt
   waits_on false how is = is
 
-  handed_on : (x : Access) (how : Patience) (b : Bool) (to : HandedAt) (told : Reply) → WaitsWithPatience b how → CallStandsNext a (handed_next x how b to told)
-  handed_on x how b (handed.Asleep by alone) (reply.Woken note.HandOff) is = waking_stands x how b alone (waits_on b how is) is
+  handed_on : (x : Access) (how : Patience) (b : Bool) (to : HandedAt) (told : Reply)
+      → WaitsWithPatience b how → CallStandsNext a (handed_next x how b to told)
+  handed_on x how b (handed.Asleep by alone) (reply.Woken note.HandOff) is =
+      waking_stands x how b alone (waits_on b how is) is
   handed_on x how b handed.Accept reply.Done is = tt
   handed_on x how b handed.Accept (reply.Value seen) is = tt
   handed_on x how b to told is = is
 
 pub fair_calls_stand : FairCallsStand
-fair_calls_stand a (Plain p) told stands may = unless_stands a (given false p told) _ (given_stands a false p told stands (λ e. absurd cc)) (plain_stands a _ (rwlock_calls_stand a p told stands may))
-fair_calls_stand a (Bump p) told stands may = unless_stands a (given true p told) _ (given_stands a true p told stands.0 (λ e. stands.1)) (bump_stands a p.purpose _ (stays_bump a p.purpose p.retries p.at told stands.0.place stands.1) (rwlock_calls_stand a p told stands.0 may))
+fair_calls_stand a (Plain p) told stands may = unless_stands a (given false p told) _
+    (given_stands a false p told stands (λ e. absurd cc))
+    (plain_stands a _ (rwlock_calls_stand a p told stands may))
+fair_calls_stand a (Bump p) told stands may = unless_stands a (given true p told) _
+    (given_stands a true p told stands.0 (λ e. stands.1))
+    (bump_stands a p.purpose _ (stays_bump a p.purpose p.retries p.at told stands.0.place stands.1)
+    (rwlock_calls_stand a p told stands.0 may))
 fair_calls_stand a (Glance x) (reply.Value seen) stands may = glances_stand a x seen (gives_way a x seen)
 fair_calls_stand a (Glance x) told stands may = tt
 fair_calls_stand a (HandOver x b to) told stands may = hand_over_stands a x b to told stands

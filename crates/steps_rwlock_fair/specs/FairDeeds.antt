@@ -1,6 +1,7 @@
 -- The steps of fair releases and bumps, told by what a thread does about the abstract lock: what
 -- each place is, and the deeds of each step.
-use Rattle.std.specs.Prelude.{ℕ, Bool, true, false, Option, Some, None, if◌then◌else◌, ◌==◌, not, List, [], ◌∷◌}
+use Rattle.std.specs.Prelude.{ℕ, Bool, true, false, Option, Some, None, if◌then◌else◌, ◌==◌, not, List, []}
+use Rattle.std.specs.Prelude.{◌∷◌}
 use Rattle.core_base.specs.declared.keys.Line.TheVariants.{Main}
 use Rattle.core_base.specs.declared.wants.Want.{Want}
 use Rattle.spec_locks.specs.declared.calls.Access.{Access}
@@ -15,7 +16,8 @@ use Rattle.steps_rwlock.specs.declared.places.Admission.{Admission}
 use Rattle.steps_rwlock.specs.RwLockSteps.{wanted}
 use Rattle.steps_rwlock.specs.RwLockDeeds.{at_rest, within, rwlock_role, rwlock_deeds, does_and_wakes}
 use Rattle.steps_rwlock_fair.specs.declared.places.RwLockCallPlace.{RwLockCallPlace}
-use Rattle.steps_rwlock_fair.specs.declared.places.RwLockCallPlace.TheVariants.{Plain, Glance, HandOver, Bump, Handed}
+use Rattle.steps_rwlock_fair.specs.declared.places.RwLockCallPlace.TheVariants.{Plain, Glance, HandOver, Bump}
+use Rattle.steps_rwlock_fair.specs.declared.places.RwLockCallPlace.TheVariants.{Handed}
 use Rattle.steps_rwlock_fair.specs.declared.hand_over.Taken.{Taken}
 use Rattle.steps_rwlock_fair.specs.declared.hand_over.HandOverAt.{HandOverAt}
 use Rattle.steps_rwlock_fair.specs.declared.hand_over.HandOverAt.TheVariants as handing

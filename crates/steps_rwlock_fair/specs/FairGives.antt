@@ -1,11 +1,13 @@
 -- A fair release, or a bump, of more than a shared right gives all that it takes what they waited
 -- for, in one step. Where the limit would be passed, it gives it to none of them.
-use Rattle.std.specs.Prelude.{ℕ, Bool, true, false, Option, Some, None, ◌≡◌, ◌≢◌, ◌<◌, ◌≤◌, ◌+◌, ◌⊎◌, [], length, slice_index}
+use Rattle.std.specs.Prelude.{ℕ, Bool, true, false, Option, Some, None, ◌≡◌, ◌≢◌, ◌<◌, ◌≤◌, ◌+◌, ◌⊎◌, []}
+use Rattle.std.specs.Prelude.{length, slice_index}
 use Rattle.core_base.specs.declared.ops.Op.{Op}
 use Rattle.core_base.specs.declared.wants.Want.{Want}
 use Rattle.core_base.specs.declared.wants.Want.TheVariants.{Exclusive, Upgradable, Shared, Wait, CallOnce}
 use Rattle.steps_base.specs.declared.acts.Act.TheVariants as act
-use Rattle.spec_locks.specs.Locks.{LockState, Rules, Queued, Owns, IsTaken, HasTakenNobody, IsSuccessor, count, handed, readers}
+use Rattle.spec_locks.specs.Locks.{LockState, Rules, Queued, Owns, IsTaken, HasTakenNobody, IsSuccessor}
+use Rattle.spec_locks.specs.Locks.{count, handed, readers}
 use Rattle.spec_locks.specs.Purposes.{Purpose, Releases, Bumps}
 use Rattle.spec_locks.specs.Sites.{Site}
 use Rattle.spec_locks.specs.Codes.{code, has_parked}

@@ -1,5 +1,6 @@
 -- The effects of the steps of fair releases and bumps on the lock, and on their calls.
-use Rattle.std.specs.Prelude.{ℕ, Bool, true, false, Option, Some, None, ◌≡◌, ◌≢◌, ◌<◌, ◌+◌, ◌-◌, ◌^◌, ◌==◌, List, length, slice_index}
+use Rattle.std.specs.Prelude.{ℕ, Bool, true, false, Option, Some, None, ◌≡◌, ◌≢◌, ◌<◌, ◌+◌, ◌-◌, ◌^◌, ◌==◌}
+use Rattle.std.specs.Prelude.{List, length, slice_index}
 use Rattle.core_base.specs.declared.ops.Op.{Op}
 use Rattle.core_base.specs.declared.wants.Want.{Want}
 use Rattle.core_base.specs.Words.{apply}
@@ -16,7 +17,8 @@ use Rattle.core_base.specs.declared.wants.Waiter.{Waiter}
 use Rattle.steps_base.specs.declared.owners.Owners.{Owners}
 use Rattle.steps_base.specs.Owners.{lock_seen, shares_then}
 use Rattle.steps_base.specs.Acts.{takes_effect}
-use Rattle.spec_locks.specs.Locks.{LockState, Rules, Rights, IsTaken, Taken as TakenBy, putting, readers, standing, without_owner}
+use Rattle.spec_locks.specs.Locks.{LockState, Rules, Rights, IsTaken, Taken as TakenBy, putting, readers}
+use Rattle.spec_locks.specs.Locks.{standing, without_owner}
 use Rattle.spec_locks.specs.Sites.{Site, Claim, Has, Pends, HasClaim}
 use Rattle.spec_locks.specs.Codes.{code, HasLimit}
 use Rattle.spec_locks.specs.Deeds.{after_all}
@@ -36,7 +38,8 @@ use Rattle.steps_rwlock_fair.specs.declared.hand_over.Taken.{Taken}
 use Rattle.steps_rwlock_fair.specs.declared.hand_over.HandOverAt.{HandOverAt}
 use Rattle.steps_rwlock_fair.specs.FairSteps.{call_act, call_next, call_owners, call_shares, lets_right_go}
 use Rattle.steps_rwlock_fair.specs.FairDeeds.{call_deeds, call_role_next}
-use Rattle.steps_rwlock_fair.specs.FairCalls.{HandsOverAt, CallStands, CallStandsNext, CallMayBeTold, IsInCall, CallMayHear, HasInHand, in_hand_of}
+use Rattle.steps_rwlock_fair.specs.FairCalls.{HandsOverAt, CallStands, CallStandsNext, CallMayBeTold}
+use Rattle.steps_rwlock_fair.specs.FairCalls.{IsInCall, CallMayHear, HasInHand, in_hand_of}
 
 abbrev pub FollowsInCall : Rules → Admission → Site → ℕ → RwLockCallPlace → Option ℕ → Reply
     → Type 0

@@ -12,7 +12,8 @@ use Rattle.steps_base.specs.declared.acts.Act.{Act}
 use Rattle.steps_base.specs.declared.acts.Act.TheVariants as act
 use Rattle.steps_base.specs.declared.acts.Reply.TheVariants.{Late}
 use Rattle.spec_locks.specs.Sites.{Pends}
-use Rattle.steps_base.specs.Moves.{Move, Hears, MovesByAct, GoesIn, TellsHanded, Accepts, Sleeps, IsHeld, HandsOver as Hands, IsGiven, WasGiven, row_of, location_of}
+use Rattle.steps_base.specs.Moves.{Move, Hears, MovesByAct, GoesIn, TellsHanded, Accepts, Sleeps, IsHeld}
+use Rattle.steps_base.specs.Moves.{HandsOver as Hands, IsGiven, WasGiven, row_of, location_of}
 use Rattle.steps_base.specs.Profiles.{hand}
 use Rattle.steps_rwlock.specs.declared.places.Admission.{Admission}
 use Rattle.steps_rwlock_fair.specs.declared.places.RwLockCallPlace.{RwLockCallPlace}

@@ -15,9 +15,11 @@ use Rattle.steps_rwlock.specs.declared.places.RwLockPlace.{RwLockPlace}
 use Rattle.steps_rwlock.specs.declared.purposes.RwLockPurpose.{RwLockPurpose}
 use Rattle.steps_rwlock.specs.declared.purposes.RwLockPurpose.TheVariants as purpose
 use Rattle.steps_rwlock.specs.RwLockSteps.{wanted, access_of}
-use Rattle.steps_rwlock.specs.RwLockProfiles.{is_timed, without_pending, rwlock_profile, rwlock_taker, rwlock_wants, rwlock_looking, rwlock_late_line, rwlock_owes}
+use Rattle.steps_rwlock.specs.RwLockProfiles.{is_timed, without_pending, rwlock_profile, rwlock_taker}
+use Rattle.steps_rwlock.specs.RwLockProfiles.{rwlock_wants, rwlock_looking, rwlock_late_line, rwlock_owes}
 use Rattle.steps_rwlock_fair.specs.declared.places.RwLockCallPlace.{RwLockCallPlace}
-use Rattle.steps_rwlock_fair.specs.declared.places.RwLockCallPlace.TheVariants.{Plain, Glance, HandOver, Bump, Handed}
+use Rattle.steps_rwlock_fair.specs.declared.places.RwLockCallPlace.TheVariants.{Plain, Glance, HandOver, Bump}
+use Rattle.steps_rwlock_fair.specs.declared.places.RwLockCallPlace.TheVariants.{Handed}
 use Rattle.steps_rwlock_fair.specs.declared.hand_over.Taken.{Taken}
 use Rattle.steps_rwlock_fair.specs.declared.hand_over.HandOverAt.{HandOverAt}
 use Rattle.steps_rwlock_fair.specs.declared.hand_over.HandOverAt.TheVariants as handing

@@ -11,7 +11,10 @@
 //! | `Exchange` (upgradable) | exchanges the word seen for one in which all that it has taken own; where there is no room for them, it only releases | `Leave`, or `Exchange` again |
 //! | `Leave` | leaves the section, and wakes the threads that it has taken: where it handed nothing over, they try again | ends, or enters again as it bumps |
 ghost use Rattle.std.specs.Prelude.{◌≡◌, ◌<◌, ◌^◌};
-ghost use Rattle.steps_rwlock_fair.specs.FairSteps.{token_of, tokens, any_taken, has_room, parked_as, word_without, with_taken, looked, freed_next, took, exchange_act, hand_over_act, hand_over_next, released, lets_right_go};
+ghost use Rattle.steps_rwlock_fair.specs.FairSteps.{token_of, tokens, any_taken, has_room, parked_as};
+ghost use Rattle.steps_rwlock_fair.specs.FairSteps.{word_without, with_taken, looked, freed_next, took};
+ghost use Rattle.steps_rwlock_fair.specs.FairSteps.{exchange_act, hand_over_act, hand_over_next, released};
+ghost use Rattle.steps_rwlock_fair.specs.FairSteps.{lets_right_go};
 ghost use Rattle.steps_rwlock_fair.specs.FairProfiles.{owes_handing};
 
 use crate::places::{RwLockCallPlace, enters_again};

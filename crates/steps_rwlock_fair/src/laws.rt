@@ -1,7 +1,12 @@
 //! The laws of the steps of fair releases and bumps.
-ghost use Rattle.steps_rwlock_fair.specs.FairLaws.{FairOwnersFollow, GiversKeep, CallsOpen, FairCallsStand, FairLooksStand, FairSectionsFollow, FairSectionsTell, FairSleepersHear, FairStepsTell, HandOversGive, FairStepsCode, FairStepsFollow, HandOversCode, HandOversFollow, HandOversKeepLimit, HandOversTell};
+ghost use Rattle.steps_rwlock_fair.specs.FairLaws.{FairOwnersFollow, GiversKeep, CallsOpen, FairCallsStand};
+ghost use Rattle.steps_rwlock_fair.specs.FairLaws.{FairLooksStand, FairSectionsFollow, FairSectionsTell};
+ghost use Rattle.steps_rwlock_fair.specs.FairLaws.{FairSleepersHear, FairStepsTell, HandOversGive};
+ghost use Rattle.steps_rwlock_fair.specs.FairLaws.{FairStepsCode, FairStepsFollow, HandOversCode};
+ghost use Rattle.steps_rwlock_fair.specs.FairLaws.{HandOversFollow, HandOversKeepLimit, HandOversTell};
 ghost use Rattle.steps_rwlock_fair.specs.FairGives.{FairReleasesGive};
-ghost use Rattle.steps_rwlock_fair.specs.FairMoves.{FairActsMove, FairLateMove, FairSleepersMove, HandOversMove, HandedMove};
+ghost use Rattle.steps_rwlock_fair.specs.FairMoves.{FairActsMove, FairLateMove, FairSleepersMove};
+ghost use Rattle.steps_rwlock_fair.specs.FairMoves.{HandOversMove, HandedMove};
 
 /// Each step on the word may do to the lock what its deeds say, and its next place says what the
 /// thread does then.

@@ -4,8 +4,11 @@
 //! again.
 ghost use Rattle.std.specs.Prelude.{ℕ, ◌≡◌, ◌<◌, ◌^◌};
 ghost use Rattle.steps_base.specs.Acts.{outcome_of};
-ghost use Rattle.steps_rwlock_fair.specs.FairSteps.{entering, enters_again, call_act, call_next, gives_way, gives_up_at, glance_next, given, plain_next, bump_next, call_owners, call_shares};
-ghost use Rattle.steps_rwlock_fair.specs.FairProfiles.{call_taker, call_wants, call_looking, call_late_line, call_owes, call_retries};
+ghost use Rattle.steps_rwlock_fair.specs.FairSteps.{entering, enters_again, call_act, call_next, gives_way};
+ghost use Rattle.steps_rwlock_fair.specs.FairSteps.{gives_up_at, glance_next, given, plain_next, bump_next};
+ghost use Rattle.steps_rwlock_fair.specs.FairSteps.{call_owners, call_shares};
+ghost use Rattle.steps_rwlock_fair.specs.FairProfiles.{call_taker, call_wants, call_looking, call_late_line};
+ghost use Rattle.steps_rwlock_fair.specs.FairProfiles.{call_owes, call_retries};
 
 use crate::hand_over::{HandOverAt, hand_over_act, hand_over_next};
 use crate::handed::{HandedAt, handed_act, handed_next, handed_woken};

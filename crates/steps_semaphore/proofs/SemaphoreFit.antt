@@ -1,5 +1,6 @@
 -- Each step of a semaphore may do to it what its deeds say.
-use Rattle.std.proofs.Common.{ℕ, Bool, true, false, Option, Some, None, if◌then◌else◌, ◌==◌, ◌≡◌, ◌≢◌, ◌⊎◌, ◌≤◌, inl, inr, List, [], ◌∷◌, refl, sym, ap, ◌∙◌, subst, arith}
+use Rattle.std.proofs.Common.{ℕ, Bool, true, false, Option, Some, None, if◌then◌else◌, ◌==◌, ◌≡◌, ◌≢◌, ◌⊎◌}
+use Rattle.std.proofs.Common.{◌≤◌, inl, inr, List, [], ◌∷◌, refl, sym, ap, ◌∙◌, subst, arith}
 use Rattle.std.specs.Prelude.{not, drop, ◌&&◌}
 use Rattle.core_base.specs.declared.wants.Want.TheVariants.{Shared}
 use Rattle.spec_locks.specs.declared.outcomes.Answer.TheVariants as answer
@@ -10,8 +11,12 @@ use Rattle.steps_base.specs.declared.acts.Reply.TheVariants.{Done, Value, Parked
 use Rattle.steps_base.specs.Moves.{IsSectionFree, StandsAlone}
 use Rattle.spec_locks.specs.Codes.{has_parked}
 use Rattle.spec_locks.specs.Deeds.{AllNeeded, after_all}
-use Rattle.spec_locks.specs.Locks.{Enter, HasTakenNobody, IsSomePending, Late as GivesUp, Leave, Owns, Pending, Rules, Semaphore, aside_without, one_if_some, putting, standing, without}
-use Rattle.spec_locks.specs.Sites.{Case, Clear, Deed, Role, End, Has, In, IsSite, Main, Mark, Out, Second, Site, StandsIn, after_deed, counts_some, found, idle, is_empty, late_found, leaves, seen_main, shares_less, wakened}
+use Rattle.spec_locks.specs.Locks.{Enter, HasTakenNobody, IsSomePending, Late as GivesUp, Leave, Owns}
+use Rattle.spec_locks.specs.Locks.{Pending, Rules, Semaphore, aside_without, one_if_some, putting, standing}
+use Rattle.spec_locks.specs.Locks.{without}
+use Rattle.spec_locks.specs.Sites.{Case, Clear, Deed, Role, End, Has, In, IsSite, Main, Mark, Out, Second}
+use Rattle.spec_locks.specs.Sites.{Site, StandsIn, after_deed, counts_some, found, idle, is_empty, late_found}
+use Rattle.spec_locks.specs.Sites.{leaves, seen_main, shares_less, wakened}
 use Rattle.steps_semaphore.specs.declared.acquire.AcquireAt.{AcquireAt}
 use Rattle.steps_semaphore.specs.declared.acquire.AcquireAt.TheVariants as acquire
 use Rattle.steps_semaphore.specs.declared.tries.TryAt.{TryAt}
@@ -21,10 +26,14 @@ use Rattle.steps_semaphore.specs.declared.release.ReleaseAt.TheVariants as relea
 use Rattle.steps_semaphore.specs.declared.places.SemaphorePlace.{SemaphorePlace}
 use Rattle.steps_semaphore.specs.declared.places.SemaphorePlace.TheVariants.{Acquire, Try, Release}
 use Rattle.steps_semaphore.specs.SemaphoreDeeds.{enter_deeds, semaphore_deeds, take_deeds}
-use Rattle.steps_semaphore.specs.SemaphoreLaws.{Follows, MayHear, MayHearAcquiring, MayHearReleasing, MayHearTrying, SemaphoreStepsFollow, TakesFirst, role_next, semaphore_role}
+use Rattle.steps_semaphore.specs.SemaphoreLaws.{Follows, MayHear, MayHearAcquiring, MayHearReleasing}
+use Rattle.steps_semaphore.specs.SemaphoreLaws.{MayHearTrying, SemaphoreStepsFollow, TakesFirst, role_next}
+use Rattle.steps_semaphore.specs.SemaphoreLaws.{semaphore_role}
 use Rattle.steps_semaphore.specs.SemaphoreProfiles.{with_retry, carrying, permit_holder, inside}
-use Rattle.steps_semaphore.specs.SemaphoreSteps.{acquired, in_acquire, in_release, in_try, is_free, semaphore_next}
-use Rattle.steps_semaphore.proofs.SemaphoreWords.{first_is, free_in, nobody_first, one, parked_is, put_same, some_free, word_of}
+use Rattle.steps_semaphore.specs.SemaphoreSteps.{acquired, in_acquire, in_release, in_try, is_free}
+use Rattle.steps_semaphore.specs.SemaphoreSteps.{semaphore_next}
+use Rattle.steps_semaphore.proofs.SemaphoreWords.{first_is, free_in, nobody_first, one, parked_is, put_same}
+use Rattle.steps_semaphore.proofs.SemaphoreWords.{some_free, word_of}
 
 module _ (limit : ℕ) (s : Site) (t : ℕ) (h : IsSite (record { sort = Semaphore; limit = limit }) s) where
   abbrev r : Rules
@@ -37,7 +46,8 @@ module _ (limit : ℕ) (s : Site) (t : ℕ) (h : IsSite (record { sort = Semapho
   abbrev Does : List Deed → Next SemaphorePlace → Type 0
   Does ds n = AllNeeded r ds s t × ((after_all r ds s t).role t ≡ role_next n)
 
-  follows : (p : SemaphorePlace) (whom : Option ℕ) (told : Reply) → Does (semaphore_deeds p whom told) (semaphore_next p told) → Follows r s t p whom told
+  follows : (p : SemaphorePlace) (whom : Option ℕ) (told : Reply) → Does (semaphore_deeds p whom told)
+      (semaphore_next p told) → Follows r s t p whom told
   follows p whom told d = record { needed = d.0; role = d.1 }
 
   holds : s.role t ≡ permit_holder → Owns s.lock t Shared
@@ -45,40 +55,85 @@ module _ (limit : ℕ) (s : Site) (t : ℕ) (h : IsSite (record { sort = Semapho
 
   -- a call ends outside of the section, and nothing is owed
   ends : (c : Option _) → s.role t ≡ record idle { claims = c } → AllNeeded r (End ∷ []) s t
-  ends c is = ((ap (λ (d : Role). d.inside) is, ap (λ (d : Role). d.wakes) is, ap (λ (d : Role). d.carries) is, λ some. absurd (let g : false ≡ true = sym (ap (λ (d : Role). counts_some Semaphore d.retries) is) ∙ some in cc)), tt)
+  ends c is = (
+    (
+      ap (λ (d : Role). d.inside) is,
+      ap (λ (d : Role). d.wakes) is,
+      ap (λ (d : Role). d.carries) is,
+      λ some. absurd (let g : false ≡ true =
+          sym (ap (λ (d : Role). counts_some Semaphore d.retries) is) ∙ some in cc),
+    ),
+    tt,
+  )
 
-  goes_in : (d : Role) → s.role t ≡ d → d.inside ≡ None → d.empty ≡ None → IsSectionFree s Main → AllNeeded r (In Main ∷ []) s t × ((after_all r (In Main ∷ []) s t).role t ≡ record d { inside = Some Main })
-  goes_in d is out e free = (((free, ap (λ (d : Role). d.inside) is ∙ out, ap (λ (d : Role). d.empty) is ∙ e), tt), put_same s.role t _ ∙ ap (λ (d : Role). record d { inside = Some Main }) is)
+  goes_in : (d : Role) → s.role t ≡ d → d.inside ≡ None → d.empty ≡ None → IsSectionFree s Main
+      → AllNeeded r (In Main ∷ []) s t
+      × ((after_all r (In Main ∷ []) s t).role t ≡ record d { inside = Some Main })
+  goes_in d is out e free = (
+    (
+      (free, ap (λ (d : Role). d.inside) is ∙ out, ap (λ (d : Role). d.empty) is ∙ e),
+      tt,
+    ),
+    put_same s.role t _ ∙ ap (λ (d : Role). record d { inside = Some Main }) is,
+  )
 
-  goes_out : (d : Role) → s.role t ≡ d → d.inside ≡ Some Main → d.wakes ≡ None → d.sets ≡ false → s.lock.taken t ≡ None
+  goes_out : (d : Role) → s.role t ≡ d → d.inside ≡ Some Main → d.wakes ≡ None → d.sets ≡ false
+      → s.lock.taken t ≡ None
       → AllNeeded r (Out ∷ []) s t × ((after_all r (Out ∷ []) s t).role t ≡ leaves d)
   goes_out d is i w b free = (
-    ((λ e. let g : Some Main ≡ None = sym (ap (λ (d : Role). d.inside) is ∙ i) ∙ e in cc, ap (λ (d : Role). d.wakes) is ∙ w, ap (λ (d : Role). d.sets) is ∙ b), tt),
+    (
+      (
+        λ e. let g : Some Main ≡ None = sym (ap (λ (d : Role). d.inside) is ∙ i) ∙ e in cc,
+        ap (λ (d : Role). d.wakes) is ∙ w,
+        ap (λ (d : Role). d.sets) is ∙ b,
+      ),
+      tt,
+    ),
     ap (λ o. wakened t o (putting s.role t (leaves (s.role t)) t)) free ∙ put_same s.role t _ ∙ ap leaves is,
   )
 
-  clears : (d : Role) → s.role t ≡ d → d.empty ≡ Some Main → AllNeeded r (Clear Main ∷ []) s t × ((after_all r (Clear Main ∷ []) s t).role t ≡ record d { empty = None; brings = false })
-  clears d is e = ((ap (λ (d : Role). d.empty) is ∙ e, tt), put_same s.role t _ ∙ ap (λ (d : Role). record d { empty = None; brings = false }) is)
+  clears : (d : Role) → s.role t ≡ d → d.empty ≡ Some Main → AllNeeded r (Clear Main ∷ []) s t
+      × ((after_all r (Clear Main ∷ []) s t).role t ≡ record d {
+        empty = None;
+        brings = false;
+      })
+  clears d is e = (
+    (ap (λ (d : Role). d.empty) is ∙ e, tt),
+    put_same s.role t _ ∙ ap (λ (d : Role). record d {
+      empty = None;
+      brings = false;
+    }) is,
+  )
 
   -- ---------------------------------------------------------------- calls that acquire
 
-  wants_it : (b : Bool) → ((if b then Some Shared else None) ≡ None) ⊎ ((if b then Some Shared else None) ≡ Some Shared)
+  wants_it : (b : Bool) → ((if b then Some Shared else None) ≡ None)
+      ⊎ ((if b then Some Shared else None) ≡ Some Shared)
   wants_it true = inr refl
   wants_it false = inl refl
 
   -- it takes a free permit, and its call ends
-  comes_in : (retries : Bool) (a : _) → s.role t ≡ with_retry retries idle → 1 ≤ free_in limit s → Does enter_deeds (Over a)
+  comes_in : (retries : Bool) (a : _) → s.role t ≡ with_retry retries idle → 1 ≤ free_in limit s
+      → Does enter_deeds (Over a)
   comes_in retries a is free =
-      let own : (after_deed r (Case (Enter Shared)) s t).role t ≡ record (s.role t) { retries = None; claims = None } = put_same s.role t _ in
+      let own : (after_deed r (Case (Enter Shared)) s t).role t ≡ record (s.role t) {
+        retries = None;
+        claims = None;
+      } = put_same s.role t _ in
       let alone = ap one_if_some (h.state.unpending (λ k. k)).1 in (
         (
-          (((tt, omega arith), omega arith), subst (λ w. (w ≡ None) ⊎ (w ≡ Some Shared)) (sym (ap (λ (d : Role). d.retries) is)) (wants_it retries)),
+          (
+            ((tt, omega arith), omega arith),
+            subst (λ w. (w ≡ None) ⊎ (w ≡ Some Shared))
+                (sym (ap (λ (d : Role). d.retries) is)) (wants_it retries),
+          ),
           (
             (
               ap (λ (d : Role). d.inside) own ∙ ap (λ (d : Role). d.inside) is,
               ap (λ (d : Role). d.wakes) own ∙ ap (λ (d : Role). d.wakes) is,
               ap (λ (d : Role). d.carries) own ∙ ap (λ (d : Role). d.carries) is,
-              λ some. absurd (let g : false ≡ true = sym (ap (λ (d : Role). counts_some Semaphore d.retries) own) ∙ some in cc),
+              λ some. absurd (let g : false ≡ true =
+                  sym (ap (λ (d : Role). counts_some Semaphore d.retries) own) ∙ some in cc),
             ),
             tt,
           ),
@@ -88,8 +143,11 @@ module _ (limit : ℕ) (s : Site) (t : ℕ) (h : IsSite (record { sort = Semapho
 
   module _ (timed retries : Bool) where
     -- an exchange, and whether it saw a free permit
-    decides : s.role t ≡ with_retry retries idle → (seen : ℕ) (same free : Bool) → (free ≡ true → 1 ≤ free_in limit s)
-        → Does (if not same then [] else if free then enter_deeds else Mark Main ∷ []) (in_acquire timed retries (if not same then At (acquire.Decide seen) else if free then Over (acquired timed) else At (acquire.Decide 1)))
+    decides : s.role t ≡ with_retry retries idle → (seen : ℕ) (same free : Bool)
+        → (free ≡ true → 1 ≤ free_in limit s)
+        → Does (if not same then [] else if free then enter_deeds else Mark Main ∷ [])
+        (in_acquire timed retries (if not same then At (acquire.Decide seen) else if free
+        then Over (acquired timed) else At (acquire.Decide 1)))
     decides is seen false free some = (tt, is)
     decides is seen true true some = comes_in retries (acquired timed) is (some refl)
     decides is seen true false some = ((tt, tt), is)
@@ -97,8 +155,22 @@ module _ (limit : ℕ) (s : Site) (t : ℕ) (h : IsSite (record { sort = Semapho
     parks : s.role t ≡ with_retry retries inside → (b : Bool) → b ≡ (v == 1) → standing t s.lock ≡ 0
         → Follows r s t (Acquire timed retries acquire.Check) None (Parked b)
     parks is true f out = let w = one (free_in limit s) s.parked (sym f) in record {
-      needed = (((((tt, λ room. absurd (omega (arith, w.0))), out), (ap (λ (d : Role). d.inside) is, w.1, ap (λ (d : Role). d.wakes) is, ap (λ (d : Role). d.covers) is)), tt));
-      role = put_same s.role t _ ∙ ap (λ (d : Role). record d { retries = None; empty = None }) is ∙ unparked retries;
+      needed = ((
+        (
+          ((tt, λ room. absurd (omega (arith, w.0))), out),
+          (
+            ap (λ (d : Role). d.inside) is,
+            w.1,
+            ap (λ (d : Role). d.wakes) is,
+            ap (λ (d : Role). d.covers) is,
+          ),
+        ),
+        tt,
+      ));
+      role = put_same s.role t _ ∙ ap (λ (d : Role). record d {
+        retries = None;
+        empty = None;
+      }) is ∙ unparked retries;
     }
       where
         unparked : (b : Bool) → inside ≡ semaphore_role (Acquire timed (b && false) (acquire.Leave true))
@@ -106,117 +178,215 @@ module _ (limit : ℕ) (s : Site) (t : ℕ) (h : IsSite (record { sort = Semapho
         unparked false = refl
     parks is false f out = record { needed = tt; role = is ∙ still retries }
       where
-        still : (b : Bool) → with_retry b inside ≡ semaphore_role (Acquire timed (b && true) (acquire.Leave false))
+        still : (b : Bool) → with_retry b inside ≡ semaphore_role (Acquire timed (b && true)
+            (acquire.Leave false))
         still true = refl
         still false = refl
 
-    late : s.role t ≡ inside → (b : Bool) → StandsAlone s t Main b → Does (Case GivesUp ∷ []) (in_acquire timed retries (if b then At acquire.Clear else At acquire.GiveUp))
+    late : s.role t ≡ inside → (b : Bool) → StandsAlone s t Main b → Does (Case GivesUp ∷ [])
+        (in_acquire timed retries (if b then At acquire.Clear else At acquire.GiveUp))
     late is b f = (
-      ((omega (arith, f.0), subst (λ n. StandsIn s.lock t n × ((s.role t).carries ≡ false)) (sym (ap (λ (d : Role). d.inside) is)) (beside, ap (λ (d : Role). d.carries) is)), tt),
+      (
+        (
+          omega (arith, f.0),
+          subst (λ n. StandsIn s.lock t n × ((s.role t).carries ≡ false))
+              (sym (ap (λ (d : Role). d.inside) is)) (beside, ap (λ (d : Role). d.carries) is),
+        ),
+        tt,
+      ),
       put_same s.role t _
-          ∙ (λ i. record (is i) { empty = late_found (record s.lock { queue = without t s.lock.queue; aside = aside_without t s.lock.aside }) (is i).inside })
+          ∙ (λ i. record (is i) {
+            empty = late_found (record s.lock {
+              queue = without t s.lock.queue;
+              aside = aside_without t s.lock.aside;
+            }) (is i).inside;
+          })
           ∙ ap (λ c. record inside { empty = found Main c }) (sym f.1) ∙ left b,
     )
       where
-        left : (c : Bool) → record inside { empty = found Main c } ≡ role_next (in_acquire timed retries (if c then At acquire.Clear else At acquire.GiveUp))
+        left : (c : Bool) → record inside { empty = found Main c } ≡ role_next
+            (in_acquire timed retries (if c then At acquire.Clear else At acquire.GiveUp))
         left true = refl
         left false = refl
 
         beside : s.lock.aside ≢ Some t
-        beside a = let p = h.state.aside_pending t a in absurd (nobody_pends s.lock.pending (h.state.unpending (λ x. x)).0 p)
+        beside a = let p = h.state.aside_pending t a
+            in absurd (nobody_pends s.lock.pending (h.state.unpending (λ x. x)).0 p)
           where
             nobody_pends : (o : Option Pending) → o ≡ None → IsSomePending o t → ⊥
             nobody_pends None e p = p
             nobody_pends (Some x) e p = cc
 
-    leaves_section : (parked : Bool) → s.role t ≡ with_retry (if parked then false else retries) inside → s.lock.taken t ≡ None
+    leaves_section : (parked : Bool) → s.role t ≡ with_retry (if parked then false else retries) inside
+        → s.lock.taken t ≡ None
         → Does (Out ∷ []) (in_acquire timed retries (if parked then At acquire.Asleep else At acquire.Load))
     leaves_section true is free = let d = goes_out inside is refl refl refl free in (d.0, d.1)
-    leaves_section false is free = let d = goes_out (with_retry retries inside) is refl refl refl free in (d.0, d.1)
+    leaves_section false is free = let d = goes_out (with_retry retries inside) is refl refl refl free
+        in (d.0, d.1)
 
-    acquires : (at : AcquireAt) (whom : Option ℕ) (told : Reply) → s.role t ≡ semaphore_role (Acquire timed retries at) → MayHearAcquiring r s t timed at told
+    acquires : (at : AcquireAt) (whom : Option ℕ) (told : Reply) → s.role t ≡ semaphore_role
+        (Acquire timed retries at) → MayHearAcquiring r s t timed at told
         → Follows r s t (Acquire timed retries at) whom told
     acquires acquire.Load whom (Value seen) is f = record { needed = tt; role = is }
     acquires (acquire.Decide expected) whom (Value seen) is f =
-        follows _ whom (Value seen) (decides is seen (seen == expected) (is_free seen) (λ z. some_free (free_in limit s) s.parked (ap is_free (sym f) ∙ z)))
-    acquires (acquire.Decide expected) whom Done is f = follows _ whom Done (goes_in (with_retry retries idle) is refl refl f)
-    acquires acquire.Check whom (Parked true) is f = let d = parks is true f.0 f.1 in record { needed = d.needed; role = d.role }
-    acquires acquire.Check whom (Parked false) is f = let d = parks is false f.0 f.1 in record { needed = d.needed; role = d.role }
-    acquires (acquire.Leave parked) whom Done is f = follows _ whom Done (leaves_section parked (is ∙ leaving parked) f)
+        follows _ whom (Value seen) (decides is seen (seen == expected) (is_free seen)
+        (λ z. some_free (free_in limit s) s.parked (ap is_free (sym f) ∙ z)))
+    acquires (acquire.Decide expected) whom Done is f = follows _ whom Done
+        (goes_in (with_retry retries idle) is refl refl f)
+    acquires acquire.Check whom (Parked true) is f = let d = parks is true f.0 f.1 in record {
+      needed = d.needed;
+      role = d.role;
+    }
+    acquires acquire.Check whom (Parked false) is f = let d = parks is false f.0 f.1 in record {
+      needed = d.needed;
+      role = d.role;
+    }
+    acquires (acquire.Leave parked) whom Done is f =
+        follows _ whom Done (leaves_section parked (is ∙ leaving parked) f)
       where
-        leaving : (b : Bool) → semaphore_role (Acquire timed retries (acquire.Leave b)) ≡ with_retry (if b then false else retries) inside
+        leaving : (b : Bool) → semaphore_role (Acquire timed retries (acquire.Leave b)) ≡ with_retry
+            (if b then false else retries) inside
         leaving true = refl
         leaving false = refl
     acquires acquire.Asleep whom Late is f = follows _ whom Late (goes_in idle is refl refl f.1)
-    acquires acquire.Remove whom (Removed none_left) is f = follows _ whom (Removed none_left) (late is none_left f.1)
-    acquires acquire.Clear whom (Value seen) is f = follows _ whom (Value seen) (clears (record inside { empty = Some Main }) is refl)
+    acquires acquire.Remove whom (Removed none_left) is f = follows _ whom (Removed none_left)
+        (late is none_left f.1)
+    acquires acquire.Clear whom (Value seen) is f = follows _ whom (Value seen)
+        (clears (record inside { empty = Some Main }) is refl)
     acquires acquire.GiveUp whom Done is f = follows _ whom Done (goes_out inside is refl refl refl f.1)
     acquires at whom told is f = absurd f
 
   -- ---------------------------------------------------------------- tries
 
-  looks : s.role t ≡ idle → (seen : ℕ) (free : Bool) → Does (if free then [] else End ∷ []) (in_try (if free then At (tries.Decide seen) else Over answer.No))
+  looks : s.role t ≡ idle → (seen : ℕ) (free : Bool) → Does (if free then [] else End ∷ [])
+      (in_try (if free then At (tries.Decide seen) else Over answer.No))
   looks is seen true = (tt, is)
   looks is seen false = (ends None is, put_same s.role t idle)
 
   attempts : s.role t ≡ idle → (seen : ℕ) (same free : Bool) → (free ≡ true → 1 ≤ free_in limit s)
-      → Does (if same && free then enter_deeds else if free then [] else End ∷ []) (in_try (if same && free then Over answer.Yes else if free then At (tries.Decide seen) else Over answer.No))
+      → Does (if same && free then enter_deeds else if free then [] else End ∷ [])
+      (in_try (if same && free then Over answer.Yes else if free then At (tries.Decide seen)
+      else Over answer.No))
   attempts is seen true true some = comes_in false answer.Yes is (some refl)
   attempts is seen true false some = looks is seen false
   attempts is seen false free some = looks is seen free
 
-  trying : (at : TryAt) (whom : Option ℕ) (told : Reply) → s.role t ≡ idle → MayHearTrying r s at told → Follows r s t (Try at) whom told
+  trying : (at : TryAt) (whom : Option ℕ) (told : Reply) → s.role t ≡ idle → MayHearTrying r s at told
+      → Follows r s t (Try at) whom told
   trying tries.Load whom (Value seen) is f = follows _ whom (Value seen) (looks is seen (is_free seen))
   trying (tries.Decide expected) whom (Value seen) is f =
-      follows _ whom (Value seen) (attempts is seen (seen == expected) (is_free seen) (λ z. some_free (free_in limit s) s.parked (ap is_free (sym f) ∙ z)))
+      follows _ whom (Value seen) (attempts is seen (seen == expected) (is_free seen)
+      (λ z. some_free (free_in limit s) s.parked (ap is_free (sym f) ∙ z)))
   trying at whom told is f = absurd f
 
   -- ---------------------------------------------------------------- releases
 
   -- its permit is given back, by the bit that it saw
-  given_back : s.role t ≡ permit_holder → (b : Bool) → s.parked ≡ b → (after_deed r (Case (Leave Shared)) s t).role t ≡ record idle { wakes = seen_main b }
-  given_back is b e = put_same s.role t _ ∙ ap (shares_less Semaphore s) is ∙ ap (λ (q : Bool). record idle { wakes = seen_main q }) e
+  given_back : s.role t ≡ permit_holder → (b : Bool) → s.parked ≡ b
+      → (after_deed r (Case (Leave Shared)) s t).role t ≡ record idle { wakes = seen_main b }
+  given_back is b e = put_same s.role t _ ∙ ap (shares_less Semaphore s) is
+      ∙ ap (λ (q : Bool). record idle { wakes = seen_main q }) e
 
   gives : s.role t ≡ permit_holder → (b : Bool) → s.parked ≡ b
-      → Does (Case (Leave Shared) ∷ (if b then [] else End ∷ [])) (in_release (if b then At release.Enter else Over answer.Ok))
+      → Does (Case (Leave Shared) ∷ (if b then [] else End ∷ []))
+      (in_release (if b then At release.Enter else Over answer.Ok))
   gives is true e = (((holds is, ap (λ (d : Role). d.wakes) is), tt), given_back is true e)
   gives is false e = let d = given_back is false e in (
-    ((holds is, ap (λ (d : Role). d.wakes) is), ((ap (λ (d : Role). d.inside) d, ap (λ (d : Role). d.wakes) d, ap (λ (d : Role). d.carries) d, λ some. absurd (let g : false ≡ true = sym (ap (λ (d : Role). counts_some Semaphore d.retries) d) ∙ some in cc)), tt)),
+    (
+      (holds is, ap (λ (d : Role). d.wakes) is),
+      (
+        (
+          ap (λ (d : Role). d.inside) d,
+          ap (λ (d : Role). d.wakes) d,
+          ap (λ (d : Role). d.carries) d,
+          λ some. absurd (let g : false ≡ true = sym (ap (λ (d : Role). counts_some Semaphore d.retries) d)
+              ∙ some in cc),
+        ),
+        tt,
+      ),
+    ),
     put_same (after_deed r (Case (Leave Shared)) s t).role t idle,
   )
 
   -- it takes the first waiter, if there is one
-  takes_first : (d : Role) → s.role t ≡ d → d.inside ≡ Some Main → d.carries ≡ false → d.wakes ≡ Some Main → (whom : Option ℕ) (any none_left : Bool) → TakesFirst s whom any none_left → HasTakenNobody s.lock t
-      → AllNeeded r (take_deeds whom) s t × ((after_all r (take_deeds whom) s t).role t ≡ record d { wakes = None; carries = true; covers = true; empty = found Main none_left })
+  takes_first : (d : Role) → s.role t ≡ d → d.inside ≡ Some Main → d.carries ≡ false → d.wakes ≡ Some Main
+      → (whom : Option ℕ) (any none_left : Bool) → TakesFirst s whom any none_left → HasTakenNobody s.lock t
+      → AllNeeded r (take_deeds whom) s t × ((after_all r (take_deeds whom) s t).role t ≡ record d {
+        wakes = None;
+        carries = true;
+        covers = true;
+        empty = found Main none_left;
+      })
   takes_first d is i c w None any none_left f nobody =
       let e : s.lock.queue ≡ [] = nobody_first s.lock.queue (sym f.first) in
       let left : none_left ≡ true = f.left ∙ ap (λ q. is_empty (drop 1 q)) e in (
-        ((ap (λ (d : Role). d.inside) is ∙ i, ap (λ (d : Role). d.carries) is ∙ c, e, inr (ap (λ (d : Role). d.wakes) is ∙ w)), tt),
-        put_same s.role t _ ∙ ap (λ (d : Role). record d { wakes = None; carries = true; covers = true; empty = Some Main }) is
-            ∙ ap (λ b. record d { wakes = None; carries = true; covers = true; empty = found Main b }) (sym left),
+        (
+          (
+            ap (λ (d : Role). d.inside) is ∙ i,
+            ap (λ (d : Role). d.carries) is ∙ c,
+            e,
+            inr (ap (λ (d : Role). d.wakes) is ∙ w),
+          ),
+          tt,
+        ),
+        put_same s.role t _ ∙ ap (λ (d : Role). record d {
+          wakes = None;
+          carries = true;
+          covers = true;
+          empty = Some Main;
+        }) is
+            ∙ ap (λ b. record d {
+              wakes = None;
+              carries = true;
+              covers = true;
+              empty = found Main b;
+            }) (sym left),
       )
   takes_first d is i c w (Some u) any none_left f nobody =
       let e = first_is s.lock.queue u h.state.known_queue (sym f.first) in (
-        ((((drop 1 s.lock.queue, e), nobody, tt), (ap (λ (d : Role). d.inside) is ∙ i, ap (λ (d : Role). d.carries) is ∙ c, λ second. let g : Some Main ≡ Some Second = sym (ap (λ (d : Role). d.wakes) is ∙ w) ∙ second in cc)), tt),
-        put_same s.role t _ ∙ (λ i. record (is i) { wakes = None; carries = true; covers = true; empty = found Main (sym f.left i) }),
+        (
+          (
+            ((drop 1 s.lock.queue, e), nobody, tt),
+            (
+              ap (λ (d : Role). d.inside) is ∙ i,
+              ap (λ (d : Role). d.carries) is ∙ c,
+              λ second. let g : Some Main ≡ Some Second =
+                  sym (ap (λ (d : Role). d.wakes) is ∙ w) ∙ second in cc,
+            ),
+          ),
+          tt,
+        ),
+        put_same s.role t _ ∙ (λ i. record (is i) {
+          wakes = None;
+          carries = true;
+          covers = true;
+          empty = found Main (sym f.left i);
+        }),
       )
 
-  releases : (at : ReleaseAt) (whom : Option ℕ) (told : Reply) → s.role t ≡ semaphore_role (Release at) → MayHearReleasing r s t at whom told → Follows r s t (Release at) whom told
-  releases release.Add whom (Value seen) is f = follows _ whom (Value seen) (gives is (has_parked seen) (sym (ap has_parked f ∙ parked_is (free_in limit s) s.parked)))
-  releases release.Enter whom Done is f = follows _ whom Done (goes_in (record idle { wakes = Some Main }) is refl refl f)
+  releases : (at : ReleaseAt) (whom : Option ℕ) (told : Reply) → s.role t ≡ semaphore_role (Release at)
+      → MayHearReleasing r s t at whom told → Follows r s t (Release at) whom told
+  releases release.Add whom (Value seen) is f = follows _ whom (Value seen)
+      (gives is (has_parked seen) (sym (ap has_parked f ∙ parked_is (free_in limit s) s.parked)))
+  releases release.Enter whom Done is f =
+      follows _ whom Done (goes_in (record idle { wakes = Some Main }) is refl refl f)
   releases release.Take whom (Took any none_left) is f =
-      let d = takes_first (record inside { wakes = Some Main }) is refl refl refl whom any none_left f.0 f.1 in follows _ whom (Took any none_left) (d.0, d.1 ∙ took none_left)
+      let d = takes_first (record inside { wakes = Some Main }) is refl refl refl whom any none_left f.0 f.1
+      in follows _ whom (Took any none_left) (d.0, d.1 ∙ took none_left)
     where
-      took : (b : Bool) → record carrying { empty = found Main b } ≡ role_next (in_release (if b then At (release.Clear any) else At (release.Leave any)))
+      took : (b : Bool) → record carrying { empty = found Main b } ≡ role_next
+          (in_release (if b then At (release.Clear any) else At (release.Leave any)))
       took true = refl
       took false = refl
-  releases (release.Clear any) whom (Value seen) is f = follows _ whom (Value seen) (clears (record carrying { empty = Some Main }) is refl)
+  releases (release.Clear any) whom (Value seen) is f = follows _ whom (Value seen)
+      (clears (record carrying { empty = Some Main }) is refl)
   releases (release.Leave any) whom Done is f = follows _ whom Done (goes_out carrying is refl refl refl f)
   releases at whom told is f = absurd f
 
   -- ---------------------------------------------------------------- each place
 
-  each_follows : (p : SemaphorePlace) (whom : Option ℕ) (told : Reply) → s.role t ≡ semaphore_role p → MayHear r s t p whom told → Follows r s t p whom told
+  each_follows : (p : SemaphorePlace) (whom : Option ℕ) (told : Reply) → s.role t ≡ semaphore_role p
+      → MayHear r s t p whom told → Follows r s t p whom told
   each_follows (Acquire timed retries at) whom told is f = acquires timed retries at whom told is f
   each_follows (Try at) whom told is f = trying at whom told is f
   each_follows (Release at) whom told is f = releases at whom told is f
@@ -224,4 +394,7 @@ module _ (limit : ℕ) (s : Site) (t : ℕ) (h : IsSite (record { sort = Semapho
 pub semaphore_steps_follow : SemaphoreStepsFollow
 semaphore_steps_follow r s t p whom told a f =
     subst (λ x. IsSite x s → MayHear x s t p whom told → Follows x s t p whom told)
-    (λ i. record { sort = sym a.sort i; limit = r.limit }) (λ h f. each_follows r.limit s t h p whom told a.role f) a.site f
+    (λ i. record {
+      sort = sym a.sort i;
+      limit = r.limit;
+    }) (λ h f. each_follows r.limit s t h p whom told a.role f) a.site f

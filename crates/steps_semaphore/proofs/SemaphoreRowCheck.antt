@@ -40,7 +40,8 @@ going (Try at) = Other
 going (Release at) = release_going at
 
 decided_goes : (l s : ℕ) (a b : Bool) → GoesAs l
-    (if a then act.Word l (op.Exchange s (s - 2)) else if b then act.Word l (op.Exchange 0 1) else act.Enter (One (2 * l))) (decided_going a b)
+    (if a then act.Word l (op.Exchange s (s - 2)) else if b then act.Word l (op.Exchange 0 1)
+    else act.Enter (One (2 * l))) (decided_going a b)
 decided_goes l s true b = record { acts = refl; awake = λ e. cc; elsewhere = λ m e. cc }
 decided_goes l s false true = record { acts = refl; awake = λ e. cc; elsewhere = λ m e. cc }
 decided_goes l s false false = refl
@@ -55,7 +56,8 @@ try_goes : (l : ℕ) (at : TryAt) → GoesAs l (try_act l at) Other
 try_goes l tries.Load = record { acts = refl; awake = λ e. cc; elsewhere = λ m e. cc }
 try_goes l (tries.Decide seen) = tried (is_free seen)
   where
-    tried : (a : Bool) → GoesAs l (if a then act.Word l (op.Exchange seen (seen - 2)) else act.Word l op.Load) Other
+    tried : (a : Bool) → GoesAs l (if a then act.Word l (op.Exchange seen (seen - 2)) else act.Word l op.Load)
+        Other
     tried true = record { acts = refl; awake = λ e. cc; elsewhere = λ m e. cc }
     tried false = record { acts = refl; awake = λ e. cc; elsewhere = λ m e. cc }
 
@@ -74,35 +76,48 @@ abbrev Passes : ℕ → SemaphorePlace → Going → Bool
 Passes l at g = keeps_row Semaphore (semaphore_profile at) ((semaphore_profile at).purpose l) g
 
 -- for every deadline, woken or not
-each : (f : Bool → Bool → Bool) → (f true true && (f true false && (f false true && f false false))) ≡ true → (timed r : Bool) → f timed r ≡ true
+each : (f : Bool → Bool → Bool) → (f true true && (f true false && (f false true && f false false))) ≡ true
+    → (timed r : Bool) → f timed r ≡ true
 each f h timed r =
     let a = both (f true true) _ h in
     let b = both (f true false) _ a.1 in
     let c = both (f false true) _ b.1 in
     picks a.0 b.0 c.0 c.1 timed r
   where
-    picks : f true true ≡ true → f true false ≡ true → f false true ≡ true → f false false ≡ true → (timed r : Bool) → f timed r ≡ true
+    picks : f true true ≡ true → f true false ≡ true → f false true ≡ true → f false false ≡ true
+        → (timed r : Bool) → f timed r ≡ true
     picks a b c d true true = a
     picks a b c d true false = b
     picks a b c d false true = c
     picks a b c d false false = d
 
-acquire_passes : (l : ℕ) (timed r : Bool) (at : AcquireAt) → Passes l (Acquire timed r at) (acquire_going at) ≡ true
-acquire_passes l timed r acquire.Load = each (λ timed r. Passes l (Acquire timed r acquire.Load) Other) refl timed r
+acquire_passes : (l : ℕ) (timed r : Bool) (at : AcquireAt) → Passes l (Acquire timed r at) (acquire_going at)
+    ≡ true
+acquire_passes l timed r acquire.Load = each (λ timed r. Passes l (Acquire timed r acquire.Load) Other) refl
+    timed r
 acquire_passes l timed r (acquire.Decide seen) = decide (is_free seen) (seen == 0)
   where
     decide : (a b : Bool) → Passes l (Acquire timed r (acquire.Decide seen)) (decided_going a b) ≡ true
     decide true b = each (λ timed r. Passes l (Acquire timed r (acquire.Decide seen)) Other) refl timed r
     decide false true = each (λ timed r. Passes l (Acquire timed r (acquire.Decide seen)) Other) refl timed r
-    decide false false = each (λ timed r. Passes l (Acquire timed r (acquire.Decide seen)) (Into Main)) refl timed r
-acquire_passes l timed r acquire.Check = each (λ timed r. Passes l (Acquire timed r acquire.Check) Other) refl timed r
-acquire_passes l timed r (acquire.Leave true) = each (λ timed r. Passes l (Acquire timed r (acquire.Leave true)) Other) refl timed r
-acquire_passes l timed r (acquire.Leave false) = each (λ timed r. Passes l (Acquire timed r (acquire.Leave false)) Other) refl timed r
-acquire_passes l timed r acquire.Asleep = each (λ timed r. Passes l (Acquire timed r acquire.Asleep) Asleep) refl timed r
-acquire_passes l timed r (acquire.Taken by) = each (λ timed r. Passes l (Acquire timed r (acquire.Taken by)) Asleep) refl timed r
-acquire_passes l timed r acquire.Remove = each (λ timed r. Passes l (Acquire timed r acquire.Remove) Other) refl timed r
-acquire_passes l timed r acquire.Clear = each (λ timed r. Passes l (Acquire timed r acquire.Clear) Other) refl timed r
-acquire_passes l timed r acquire.GiveUp = each (λ timed r. Passes l (Acquire timed r acquire.GiveUp) Other) refl timed r
+    decide false false = each (λ timed r. Passes l (Acquire timed r (acquire.Decide seen)) (Into Main)) refl
+        timed r
+acquire_passes l timed r acquire.Check = each (λ timed r. Passes l (Acquire timed r acquire.Check) Other) refl
+    timed r
+acquire_passes l timed r (acquire.Leave true) =
+    each (λ timed r. Passes l (Acquire timed r (acquire.Leave true)) Other) refl timed r
+acquire_passes l timed r (acquire.Leave false) =
+    each (λ timed r. Passes l (Acquire timed r (acquire.Leave false)) Other) refl timed r
+acquire_passes l timed r acquire.Asleep = each (λ timed r. Passes l (Acquire timed r acquire.Asleep) Asleep)
+    refl timed r
+acquire_passes l timed r (acquire.Taken by) =
+    each (λ timed r. Passes l (Acquire timed r (acquire.Taken by)) Asleep) refl timed r
+acquire_passes l timed r acquire.Remove = each (λ timed r. Passes l (Acquire timed r acquire.Remove) Other)
+    refl timed r
+acquire_passes l timed r acquire.Clear = each (λ timed r. Passes l (Acquire timed r acquire.Clear) Other) refl
+    timed r
+acquire_passes l timed r acquire.GiveUp = each (λ timed r. Passes l (Acquire timed r acquire.GiveUp) Other)
+    refl timed r
 
 release_passes : (l : ℕ) (at : ReleaseAt) → Passes l (Release at) (release_going at) ≡ true
 release_passes l (release.Clear true) = refl
@@ -122,4 +137,5 @@ own l (Try at) = refl
 own l (Release at) = refl
 
 pub semaphore_promises : SemaphoreRowsKeep
-semaphore_promises l at = by_test Semaphore l (semaphore_profile at) (semaphore_act l at) (going at) (own l at) (goes l at) (passes l at)
+semaphore_promises l at = by_test Semaphore l (semaphore_profile at) (semaphore_act l at) (going at)
+    (own l at) (goes l at) (passes l at)

@@ -1,6 +1,7 @@
 -- The word of a semaphore tells a thread the truth, and each operation leaves the word that its
 -- deeds say.
-use Rattle.std.proofs.Common.{ℕ, Bool, true, false, Some, None, ◌==◌, ◌≡◌, ◌<◌, ◌≤◌, ◌+◌, ◌-◌, ◌*◌, ◌^◌, List, [], ◌∷◌, refl, ap, ◌∙◌, arith, length, slice_index}
+use Rattle.std.proofs.Common.{ℕ, Bool, true, false, Some, None, ◌==◌, ◌≡◌, ◌<◌, ◌≤◌, ◌+◌, ◌-◌, ◌*◌, ◌^◌, List}
+use Rattle.std.proofs.Common.{[], ◌∷◌, refl, ap, ◌∙◌, arith, length, slice_index}
 use Rattle.std.proofs.lemmas.Bool.{eqb-true}
 use Rattle.std.proofs.lemmas.Bool.Decides.{nat_tests}
 use Rattle.std.proofs.lemmas.List.Sums.{get_or-le-sum_by, sum_by-set}
@@ -10,7 +11,8 @@ use Rattle.core_base.specs.declared.wants.Want.{Want}
 use Rattle.core_base.specs.declared.wants.Want.TheVariants.{Shared}
 use Rattle.core_base.specs.Words.{apply}
 use Rattle.spec_locks.specs.Codes.{bit, code, code_of, has_parked}
-use Rattle.spec_locks.specs.Locks.{Knows, KnowsAll, LockState, Queued, Rules, Semaphore, first_thread, putting, readers, with_owner, without_owner}
+use Rattle.spec_locks.specs.Locks.{Knows, KnowsAll, LockState, Queued, Rules, Semaphore, first_thread}
+use Rattle.spec_locks.specs.Locks.{putting, readers, with_owner, without_owner}
 use Rattle.spec_locks.specs.Sites.{Site}
 use Rattle.spec_locks.proofs.Seen.{clears_low}
 use Rattle.spec_locks.proofs.SiteFacts.{fewer_share}
@@ -62,9 +64,11 @@ cleared n p few = omega (arith, clears_low (word_of n p) (omega (arith, bit_few 
 
 -- one more shares, or one less
 pub one_more : (s : LockState) (t : ℕ) → t < length s.shared → readers (with_owner t Shared s) ≡ readers s + 1
-one_more s t here = let e = sum_by-set (λ (n : ℕ). n) s.shared t (slice_index s.shared t + 1) 0 here in omega arith
+one_more s t here = let e = sum_by-set (λ (n : ℕ). n) s.shared t (slice_index s.shared t + 1) 0 here
+    in omega arith
 
-pub one_less : (s : LockState) (t : ℕ) → 1 ≤ slice_index s.shared t → readers (without_owner t Shared s) + 1 ≡ readers s
+pub one_less : (s : LockState) (t : ℕ) → 1 ≤ slice_index s.shared t → readers (without_owner t Shared s) + 1
+    ≡ readers s
 one_less s t own = fewer_share s.shared t own
 
 -- a thread holds no more than are held
@@ -84,6 +88,8 @@ shared_wanted x k = λ i. record { thread = x.thread; want = wanted x.want k i }
     wanted Shared k = refl
     wanted w k = absurd k
 
-pub first_is : (q : List Queued) (u : ℕ) → KnowsAll Semaphore q → first_thread q ≡ Some u → q ≡ queued u ∷ drop 1 q
+pub first_is : (q : List Queued) (u : ℕ) → KnowsAll Semaphore q → first_thread q ≡ Some u → q ≡ queued u
+    ∷ drop 1 q
 first_is [] u k e = absurd cc
-first_is (x ∷ q) u k e = let same : x.thread ≡ u = cc in ap (λ y. y ∷ q) (shared_wanted x k.0 ∙ ap queued same)
+first_is (x ∷ q) u k e = let same : x.thread ≡ u = cc in ap (λ y. y ∷ q) (shared_wanted x k.0
+    ∙ ap queued same)

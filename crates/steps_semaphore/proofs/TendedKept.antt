@@ -1,14 +1,20 @@
 -- Each deed keeps what holds of a semaphore, and its word follows.
-use Rattle.std.proofs.Common.{ℕ, Bool, true, false, Option, Some, None, ◌≡◌, ◌≢◌, ◌<◌, ◌≤◌, ◌+◌, ◌-◌, ◌*◌, inl, inr, List, [], ◌∷◌, refl, ap, arith, length, length-set}
+use Rattle.std.proofs.Common.{ℕ, Bool, true, false, Option, Some, None, ◌≡◌, ◌≢◌, ◌<◌, ◌≤◌, ◌+◌, ◌-◌, ◌*◌}
+use Rattle.std.proofs.Common.{inl, inr, List, [], ◌∷◌, refl, ap, arith, length, length-set}
 use Rattle.std.proofs.lemmas.Bool.Decides.{nat_tests}
 use Rattle.std.specs.Prelude.{slice_index}
 use Rattle.std.proofs.lemmas.List.Sums.{sum_by-set}
 use Rattle.std.proofs.lemmas.List.Folds.{sum_by-replicate}
 use Rattle.core_base.specs.declared.wants.Want.{Want}
 use Rattle.core_base.specs.declared.wants.Want.TheVariants.{Shared}
-use Rattle.spec_locks.specs.Locks.{Taken, Sort, Semaphore, Rules, LockCase, OfOnce, Enter, Pend, Settle, Leave, Convert, Park, Aside, TakeFirst, TakeAside, TakePicked, Wake, HandOff, Late, Rollback, Knows, readers, standing, OfCondvar, SeeOwner, opening_lock}
+use Rattle.spec_locks.specs.Locks.{Taken, Sort, Semaphore, Rules, LockCase, OfOnce, Enter, Pend, Settle}
+use Rattle.spec_locks.specs.Locks.{Leave, Convert, Park, Aside, TakeFirst, TakeAside, TakePicked, Wake}
+use Rattle.spec_locks.specs.Locks.{HandOff, Late, Rollback, Knows, readers, standing, OfCondvar, SeeOwner}
+use Rattle.spec_locks.specs.Locks.{opening_lock}
 use Rattle.spec_locks.specs.Locks as locks
-use Rattle.spec_locks.specs.Sites.{Main, Second, Site, Begin, End, In, Out, Mark, Clear, FindNobody, MarkOwned, MarkBrought, Send, LeaveLine, Bring, Case, Deed, Needed, after_deed, counts_some}
+use Rattle.spec_locks.specs.Sites.{Main, Second, Site, Begin, End, In, Out, Mark, Clear, FindNobody}
+use Rattle.spec_locks.specs.Sites.{MarkOwned, MarkBrought, Send, LeaveLine, Bring, Case, Deed, Needed}
+use Rattle.spec_locks.specs.Sites.{after_deed, counts_some}
 use Rattle.spec_locks.specs.Codes.{bit, has_parked}
 use Rattle.spec_locks.proofs.LockKeeps.{opening_is_state}
 use Rattle.spec_locks.proofs.SiteFacts.{fewer_share}
@@ -17,7 +23,8 @@ use Rattle.spec_locks.proofs.PermitKeeps.{permits_kept, looked_after}
 use Rattle.spec_locks.specs.Deeds.{AllNeeded, after_all}
 use Rattle.steps_semaphore.specs.SemaphoreDeeds.{semaphore_deeds}
 use Rattle.steps_semaphore.specs.SemaphoreLaws.{IsAt}
-use Rattle.steps_semaphore.specs.Tended.{semaphore, IsTended, NewOnesAreTended, NobodyIsForgotten, StepsKeepTended, TellsPermitsTrue, SemaphoreWordsTellTrue}
+use Rattle.steps_semaphore.specs.Tended.{semaphore, IsTended, NewOnesAreTended, NobodyIsForgotten}
+use Rattle.steps_semaphore.specs.Tended.{StepsKeepTended, TellsPermitsTrue, SemaphoreWordsTellTrue}
 use Rattle.steps_semaphore.proofs.SemaphoreFit.{semaphore_steps_follow}
 
 module _ (permits : ℕ) (s : Site) (t : ℕ) (lt : t < length s.lock.shared) (h : IsTended permits s) where
@@ -31,9 +38,11 @@ module _ (permits : ℕ) (s : Site) (t : ℕ) (lt : t < length s.lock.shared) (h
       (a, b.0, b.1)
 
   one_more : readers (locks.with_owner t Shared s.lock) ≡ readers s.lock + 1
-  one_more = let e = sum_by-set (λ (n : ℕ). n) s.lock.shared t (slice_index s.lock.shared t + 1) 0 lt in omega arith
+  one_more = let e = sum_by-set (λ (n : ℕ). n) s.lock.shared t (slice_index s.lock.shared t + 1) 0 lt
+      in omega arith
 
-  one_less : Needed r (Case (Leave Shared)) s t → readers (locks.without_owner t Shared s.lock) + 1 ≡ readers s.lock
+  one_less : Needed r (Case (Leave Shared)) s t → readers (locks.without_owner t Shared s.lock) + 1
+      ≡ readers s.lock
   one_less n = fewer_share s.lock.shared t n.0
 
   case_few : (c : LockCase) → Needed r (Case c) s t → readers (after_deed r (Case c) s t).lock ≤ permits
@@ -82,7 +91,8 @@ module _ (permits : ℕ) (s : Site) (t : ℕ) (lt : t < length s.lock.shared) (h
   }
 
   -- A case leaves the number of threads that share.
-  case_sharers : (c : LockCase) → Needed r (Case c) s t → length (after_deed r (Case c) s t).lock.shared ≡ length s.lock.shared
+  case_sharers : (c : LockCase) → Needed r (Case c) s t → length (after_deed r (Case c) s t).lock.shared
+      ≡ length s.lock.shared
   case_sharers (Enter Shared) n = length-set s.lock.shared t _
   case_sharers (Leave Shared) n = length-set s.lock.shared t _
   case_sharers (Park x) n = refl
@@ -103,7 +113,8 @@ module _ (permits : ℕ) (s : Site) (t : ℕ) (lt : t < length s.lock.shared) (h
   case_sharers (OfCondvar case) n = absurd (let e = n.0.0 in cc)
   case_sharers (SeeOwner owned) n = refl
 
-  pub same_sharers : (d : Deed) → Needed r d s t → length (after_deed r d s t).lock.shared ≡ length s.lock.shared
+  pub same_sharers : (d : Deed) → Needed r d s t → length (after_deed r d s t).lock.shared ≡ length
+      s.lock.shared
   same_sharers (Case c) n = case_sharers c n
   same_sharers (Begin c) n = refl
   same_sharers End n = refl
@@ -121,16 +132,26 @@ module _ (permits : ℕ) (s : Site) (t : ℕ) (lt : t < length s.lock.shared) (h
   same_sharers LeaveLine n = refl
 
 -- deeds of one thread, one after another
-all_keep : (permits : ℕ) (ds : List Deed) (s : Site) (t : ℕ) → t < length s.lock.shared → IsTended permits s → AllNeeded (semaphore permits) ds s t → IsTended permits (after_all (semaphore permits) ds s t)
+all_keep : (permits : ℕ) (ds : List Deed) (s : Site) (t : ℕ) → t < length s.lock.shared → IsTended permits s
+    → AllNeeded (semaphore permits) ds s t → IsTended permits (after_all (semaphore permits) ds s t)
 all_keep permits [] s t lt h n = h
 all_keep permits (d ∷ ds) s t lt h n =
     let same = same_sharers permits s t lt h d n.0 in
-    all_keep permits ds (after_deed (semaphore permits) d s t) t (omega arith) (one_keeps permits s t lt h d n.0) n.1
+    all_keep permits ds (after_deed (semaphore permits) d s t) t (omega arith)
+    (one_keeps permits s t lt h d n.0) n.1
 
 pub steps_keep_tended : StepsKeepTended
 steps_keep_tended permits s t p whom told small h lt is hears =
-    let at : IsAt (semaphore permits) s t p = record { sort = refl; small = small; site = h.site; few = h.few; here = lt; role = is } in
-    all_keep permits (semaphore_deeds p whom told) s t lt h (semaphore_steps_follow (semaphore permits) s t p whom told at hears).needed
+    let at : IsAt (semaphore permits) s t p = record {
+      sort = refl;
+      small = small;
+      site = h.site;
+      few = h.few;
+      here = lt;
+      role = is;
+    } in
+    all_keep permits (semaphore_deeds p whom told) s t lt h (semaphore_steps_follow (semaphore permits) s t p
+    whom told at hears).needed
 
 pub words_tell : SemaphoreWordsTellTrue
 words_tell permits s h = by_bit s.parked refl
@@ -139,7 +160,9 @@ words_tell permits s h = by_bit s.parked refl
     by_bit p e = record {
       all = let f = h.few in let k = few p in let g = ap bit e in omega arith;
       parked = parity s.parked;
-      free = λ some. let f = h.few in let k = few p in let g = ap bit e in let u = h.site.state.unpending (λ k. k) in let v = ap locks.one_if_some u.1 in ((tt, omega arith), omega arith);
+      free = λ some. let f = h.few in let k = few p in let g = ap bit e in let u =
+          h.site.state.unpending (λ k. k) in let v = ap locks.one_if_some u.1
+          in ((tt, omega arith), omega arith);
       blocked = λ none. (tt, λ free. let f = h.few in let k = few p in let g = ap bit e in omega arith);
       small = λ small. let k = few p in let g = ap bit e in omega arith;
     }
@@ -153,16 +176,17 @@ words_tell permits s h = by_bit s.parked refl
         parity false = grind (arith, nat_tests)
 
 pub nobody_forgotten : NobodyIsForgotten
-nobody_forgotten permits s h left free = let one = looked_after (semaphore permits) s h.looked_after left free in (
-  one.0,
-  elim one.1 [
-    | inl wakes ↦ inl wakes
-    | inr more ↦ inr (elim more [
-      | inl covers ↦ inl covers
-      | inr tries ↦ inr (trying (s.role one.0).retries tries)
-    ])
-  ],
-)
+nobody_forgotten permits s h left free = let one = looked_after (semaphore permits) s h.looked_after left free
+    in (
+      one.0,
+      elim one.1 [
+        | inl wakes ↦ inl wakes
+        | inr more ↦ inr (elim more [
+          | inl covers ↦ inl covers
+          | inr tries ↦ inr (trying (s.role one.0).retries tries)
+        ])
+      ],
+    )
   where
     trying : (o : Option Want) → o ≢ None → counts_some Semaphore o ≡ true
     trying None ne = absurd (ne refl)
@@ -187,7 +211,11 @@ new_tended permits threads = (
       main = λ h. absurd (elim h [ inl g ↦ g refl | inr g ↦ let b : false ≡ true = g.1 in cc ]);
       second = λ h. absurd (h refl);
     };
-    looked_after = record { enough = λ left. absurd (left refl); unset = λ t. refl; known = λ u one. absurd (omega arith) };
+    looked_after = record {
+      enough = λ left. absurd (left refl);
+      unset = λ t. refl;
+      known = λ u one. absurd (omega arith);
+    };
     few = let e = sum_by-replicate (λ (n : ℕ). n) threads 0 in omega arith;
   },
   let e = sum_by-replicate (λ (n : ℕ). n) threads 0 in omega arith,

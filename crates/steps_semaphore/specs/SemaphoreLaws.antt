@@ -1,6 +1,7 @@
 -- The laws of each step of a semaphore, at one lock and in no machine: it may do what its deeds say,
 -- its next place says what the thread does then, and it leaves the word and the permits behind them.
-use Rattle.std.specs.Prelude.{ℕ, Bool, true, Option, None, ◌==◌, not, ◌≡◌, ◌≢◌, ◌<◌, ◌≤◌, ◌^◌, drop, is_none, length, slice_index}
+use Rattle.std.specs.Prelude.{ℕ, Bool, true, Option, None, ◌==◌, not, ◌≡◌, ◌≢◌, ◌<◌, ◌≤◌, ◌^◌, drop, is_none}
+use Rattle.std.specs.Prelude.{length, slice_index}
 use Rattle.core_base.specs.declared.ops.Op.{Op}
 use Rattle.core_base.specs.Words.{apply}
 use Rattle.steps_base.specs.declared.acts.Act.TheVariants as act

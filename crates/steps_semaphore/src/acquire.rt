@@ -14,7 +14,8 @@
 //! | `Clear` | clears `PARKED` | `GiveUp` |
 //! | `GiveUp` | leaves the section | ends with `No` |
 ghost use Rattle.std.specs.Prelude.{◌≡◌, ◌<◌, ◌^◌};
-ghost use Rattle.steps_semaphore.specs.SemaphoreSteps.{acquired, next_acquire, still_retries, acquire_act, decided, acquire_shares};
+ghost use Rattle.steps_semaphore.specs.SemaphoreSteps.{acquired, next_acquire, still_retries, acquire_act};
+ghost use Rattle.steps_semaphore.specs.SemaphoreSteps.{decided, acquire_shares};
 
 use crate::places::{NOT_PARKED, ONE_FREE, PARKED, is_free};
 use core_base::{Keys, Note, Op, Want, main_key};

@@ -6,8 +6,12 @@
 //! | from 2 on | how many permits are free |
 ghost use Rattle.std.specs.Prelude.{ℕ, ◌≡◌, ◌<◌, ◌^◌};
 ghost use Rattle.steps_base.specs.Acts.{outcome_of};
-ghost use Rattle.steps_semaphore.specs.SemaphoreProfiles.{semaphore_taker, semaphore_wants, semaphore_late_line, semaphore_owes, semaphore_retries};
-ghost use Rattle.steps_semaphore.specs.SemaphoreSteps.{free_permits, is_free, semaphore_first, semaphore_right, semaphore_act, semaphore_next, semaphore_looking, semaphore_shares};
+ghost use Rattle.steps_semaphore.specs.SemaphoreProfiles.{semaphore_taker, semaphore_wants};
+ghost use Rattle.steps_semaphore.specs.SemaphoreProfiles.{semaphore_late_line, semaphore_owes};
+ghost use Rattle.steps_semaphore.specs.SemaphoreProfiles.{semaphore_retries};
+ghost use Rattle.steps_semaphore.specs.SemaphoreSteps.{free_permits, is_free, semaphore_first};
+ghost use Rattle.steps_semaphore.specs.SemaphoreSteps.{semaphore_right, semaphore_act, semaphore_next};
+ghost use Rattle.steps_semaphore.specs.SemaphoreSteps.{semaphore_looking, semaphore_shares};
 
 use crate::acquire::{AcquireAt, acquire_act, acquire_shares, next_acquire, still_retries};
 use crate::release::{ReleaseAt, next_release, release_act, release_shares};

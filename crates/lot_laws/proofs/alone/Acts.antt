@@ -1,5 +1,7 @@
 -- A thread that steps alone: what each of its acts leads to, of the lock that it calls.
-use Rattle.std.proofs.Common.{subst, ℕ, true, false, Option, Some, None, if◌then◌else◌, ◌==◌, ◌≡◌, ◌+◌, ◌*◌, ◌<◌, List, [], ◌∷◌, ◌++◌, length, get_or, map, drop, is_none, refl, sym, ◌∙◌, ap, get_or-set_same, length-set}
+use Rattle.std.proofs.Common.{subst, ℕ, true, false, Option, Some, None, if◌then◌else◌, ◌==◌, ◌≡◌, ◌+◌, ◌*◌}
+use Rattle.std.proofs.Common.{◌<◌, List, [], ◌∷◌, ◌++◌, length, get_or, map, drop, is_none, refl, sym, ◌∙◌}
+use Rattle.std.proofs.Common.{ap, get_or-set_same, length-set}
 use Rattle.std.proofs.lemmas.Bool.{lt-ltb}
 use Rattle.std.proofs.lemmas.List.{length-map}
 use Rattle.std.proofs.Math.ListN.{get_or-map}
@@ -14,7 +16,8 @@ use Rattle.spec_locks.specs.declared.kinds.Kind as kind
 use Rattle.steps_base.specs.declared.acts.Act as act
 use Rattle.steps_base.specs.declared.acts.Check.TheVariants.{WordIs}
 use Rattle.steps_base.specs.declared.acts.Wakes as wakes
-use Rattle.steps_base.specs.declared.acts.Reply.TheVariants.{Done, Value, Parked, Took, Removed, TakenBy, Woken}
+use Rattle.steps_base.specs.declared.acts.Reply.TheVariants.{Done, Value, Parked, Took, Removed, TakenBy}
+use Rattle.steps_base.specs.declared.acts.Reply.TheVariants.{Woken}
 use Rattle.spec_locks.specs.declared.outcomes.Outcome.{Outcome}
 use Rattle.spec_locks.specs.declared.outcomes.Outcome as outcome
 use Rattle.lot_steps.specs.declared.places.Place.{Place}
@@ -23,7 +26,14 @@ use Rattle.steps_mutex.specs.declared.places.MutexPlace.{MutexPlace}
 use Rattle.steps_base.specs.declared.acts.Whom as whoms
 use Rattle.steps_base.specs.Acts.{takes_effect, outcome_of}
 use Rattle.lot_steps.specs.Steps.{act_of, next_place, next_act}
-use Rattle.lot_machine.specs.Machine.{state_after_hand_over_by, hand_over_told, State, unlocked, place_at, word_at, owners_at, section_at, queue_at, put, state_after_operation, state_with_sections, queues_with_last, queues_without, queues_without_first, state_after_taking, state_after_reply, state_after_act, reply_to, can_do, state_after_go, go_of, is_possible, after, step_outcome, go_outcome, place_after_telling, state_after_telling, state_after_hand_over, owners_handed_over, is_there, going_outcome, state_after_going}
+use Rattle.lot_machine.specs.Machine.{state_after_hand_over_by, hand_over_told, State, unlocked, place_at}
+use Rattle.lot_machine.specs.Machine.{word_at, owners_at, section_at, queue_at, put, state_after_operation}
+use Rattle.lot_machine.specs.Machine.{state_with_sections, queues_with_last, queues_without}
+use Rattle.lot_machine.specs.Machine.{queues_without_first, state_after_taking, state_after_reply}
+use Rattle.lot_machine.specs.Machine.{state_after_act, reply_to, can_do, state_after_go, go_of, is_possible}
+use Rattle.lot_machine.specs.Machine.{after, step_outcome, go_outcome, place_after_telling}
+use Rattle.lot_machine.specs.Machine.{state_after_telling, state_after_hand_over, owners_handed_over}
+use Rattle.lot_machine.specs.Machine.{is_there, going_outcome, state_after_going}
 use Rattle.lot_machine.specs.Fits.{IsWellFormed, SameSize}
 use Rattle.lot_laws.proofs.machine.Parts.{IsSingle, next_single, nothing_at}
 use Rattle.lot_laws.proofs.alone.Leads.{Leads, leads_barred, leads_step}
@@ -47,7 +57,8 @@ use Rattle.lot_steps.specs.Steps.{owners_after}
 
 -- where a thread stands in a call of a lock, the lock's word and owner, the thread inside its section, and
 -- its queue
-pub record Facing (w : State) (t l : ℕ) (p : Place) (v : ℕ) (o : Option ℕ) (s : Option ℕ) (q : List Waiter) : Type 0 where
+pub record Facing (w : State) (t l : ℕ) (p : Place) (v : ℕ) (o : Option ℕ) (s : Option ℕ)
+    (q : List Waiter) : Type 0 where
   pub shape : IsWellFormed w
   pub steady : IsInductive w
   pub counted : AreCounted w
@@ -65,15 +76,18 @@ pub record Facing (w : State) (t l : ℕ) (p : Place) (v : ℕ) (o : Option ℕ)
 abbrev pub Faces : State → ℕ → ℕ → Place → Outcome → ℕ → Option ℕ → Option ℕ → List Waiter → Type 0
 Faces w t l p told v o s q = (step_outcome w (go_of t) ≡ told) × Facing (after w (go_of t)) t l p v o s q
 
-module _ (w : State) (t l : ℕ) (p : Place) (v : ℕ) (o s : Option ℕ) (q : List Waiter) (f : Facing w t l p v o s q) where
+module _ (w : State) (t l : ℕ) (p : Place) (v : ℕ) (o s : Option ℕ) (q : List Waiter)
+    (f : Facing w t l p v o s q) where
   possible : can_do w (act_of p) ≡ true → is_possible w (go_of t) ≡ true
   possible can = rw (lt-ltb t (length w.places) f.thread, f.place) can
 
   goes : can_do w (act_of p) ≡ true → after w (go_of t) ≡ state_after_go w t
   goes can = ap (λ b. if b then state_after_go w t else w) (possible can)
 
-  told : can_do w (act_of p) ≡ true → step_outcome w (go_of t) ≡ outcome_of (next_act p (reply_to w t (act_of p)))
-  told can = ap (λ b. if b then go_outcome w t else outcome.TheVariants.NotNow) (possible can) ∙ ap (going_outcome w t) f.place ∙ told_from_there w t p f.place f.single
+  told : can_do w (act_of p) ≡ true → step_outcome w (go_of t) ≡ outcome_of
+      (next_act p (reply_to w t (act_of p)))
+  told can = ap (λ b. if b then go_outcome w t else outcome.TheVariants.NotNow) (possible can)
+      ∙ ap (going_outcome w t) f.place ∙ told_from_there w t p f.place f.single
 
   pub act_led : can_do w (act_of p) ≡ true
       → after w (go_of t) ≡ put (state_after_act w t p (act_of p)) t (next_place p (reply_to w t (act_of p)))
@@ -82,7 +96,8 @@ module _ (w : State) (t l : ℕ) (p : Place) (v : ℕ) (o s : Option ℕ) (q : L
   -- tells what it leads to, where the act leads to b
   faces : (b : State) (p2 : Place) (v2 : ℕ) (o2 s2 : Option ℕ) (q2 : List Waiter) → can_do w (act_of p) ≡ true
       → state_after_act w t p (act_of p) ≡ b → length b.places ≡ length w.places
-      → next_place p (reply_to w t (act_of p)) ≡ p2 → word_at b l ≡ v2 → owner_at b l ≡ o2 → section_at b (2 * l) ≡ s2
+      → next_place p (reply_to w t (act_of p)) ≡ p2 → word_at b l ≡ v2 → owner_at b l ≡ o2
+      → section_at b (2 * l) ≡ s2
       → queue_at b (2 * l) ≡ q2 → Facing (after w (go_of t)) t l p2 v2 o2 s2 q2
   faces b p2 v2 o2 s2 q2 can does places to word owner section queue = record {
     shape = after_shaped w (go_of t) f.shape;
@@ -102,14 +117,21 @@ module _ (w : State) (t l : ℕ) (p : Place) (v : ℕ) (o s : Option ℕ) (q : L
       led : after w (go_of t) ≡ put b t p2
       led = act_led can ∙ (λ i. put (does i) t (to i))
 
-  pub hand_faces : (x : Op) (u : ℕ) → takes_effect x (word_at w l) ≡ true → act_of p ≡ act.TheVariants.HandOver l x
+  pub hand_faces : (x : Op) (u : ℕ) → takes_effect x (word_at w l) ≡ true → act_of p
+      ≡ act.TheVariants.HandOver l x
       → ((o : Owners) → owners_handed_over w t l o ≡ with_exclusive o (Some u))
       → Faces w t l (next_place p (Value v)) (outcome_of (next_act p (Value v))) (apply x v) (Some u) s q
   hand_faces x u takes is heir = (
     told can ∙ ap (λ r. outcome_of (next_act p r)) heard,
-    faces (state_after_telling (state_after_hand_over w t p l x) t (hand_over_told w t l)) (next_place p (Value v)) (apply x v) (Some u) s q can (ap (state_after_act w t p) is ∙ ap (λ b. state_after_hand_over_by b w t p l x) takes) (length-map w.places (place_after_telling t (hand_over_told w t l))) (ap (next_place p) heard)
-        (ap (λ y. y.word) (get_or-set_same w.locks l _ (unlocked kind.TheVariants.Mutex) f.lock) ∙ ap (apply x) f.word)
-        (ap (λ y. y.owners.exclusive) (get_or-set_same w.locks l _ (unlocked kind.TheVariants.Mutex) f.lock) ∙ ap (λ (o : Owners). o.exclusive) (heir (owners_after p t (word_at w l) (owners_at w l)))) f.section f.queue,
+    faces (state_after_telling (state_after_hand_over w t p l x) t (hand_over_told w t l))
+        (next_place p (Value v)) (apply x v) (Some u) s q can (ap (state_after_act w t p) is
+        ∙ ap (λ b. state_after_hand_over_by b w t p l x) takes)
+        (length-map w.places (place_after_telling t (hand_over_told w t l))) (ap (next_place p) heard)
+        (ap (λ y. y.word) (get_or-set_same w.locks l _ (unlocked kind.TheVariants.Mutex) f.lock)
+        ∙ ap (apply x) f.word)
+        (ap (λ y. y.owners.exclusive) (get_or-set_same w.locks l _ (unlocked kind.TheVariants.Mutex) f.lock)
+        ∙ ap (λ (o : Owners). o.exclusive) (heir (owners_after p t (word_at w l) (owners_at w l))))
+        f.section f.queue,
   )
     where
       can : can_do w (act_of p) ≡ true
@@ -118,10 +140,12 @@ module _ (w : State) (t l : ℕ) (p : Place) (v : ℕ) (o s : Option ℕ) (q : L
       heard : reply_to w t (act_of p) ≡ Value v
       heard = ap (reply_to w t) is ∙ ap Value f.word
 
-  pub accept_faces : act_of p ≡ act.TheVariants.Accept → Faces w t l (next_place p Done) (outcome_of (next_act p Done)) v o s q
+  pub accept_faces : act_of p ≡ act.TheVariants.Accept → Faces w t l (next_place p Done)
+      (outcome_of (next_act p Done)) v o s q
   accept_faces is = (
     told can ∙ ap (λ r. outcome_of (next_act p r)) heard,
-    faces w (next_place p Done) v o s q can (ap (state_after_act w t p) is) refl (ap (next_place p) heard) f.word f.owner f.section f.queue,
+    faces w (next_place p Done) v o s q can (ap (state_after_act w t p) is) refl (ap (next_place p) heard)
+        f.word f.owner f.section f.queue,
   )
     where
       can : can_do w (act_of p) ≡ true
@@ -134,7 +158,9 @@ module _ (w : State) (t l : ℕ) (p : Place) (v : ℕ) (o s : Option ℕ) (q : L
       → Faces w t l (next_place p Done) (outcome_of (next_act p Done)) v o (Some t) q
   enter_faces is free = (
     told can ∙ ap (λ r. outcome_of (next_act p r)) heard,
-    faces (state_with_sections w (One (2 * l)) (Some t)) (next_place p Done) v o (Some t) q can (ap (state_after_act w t p) is) refl (ap (next_place p) heard) f.word f.owner (get_or-set_same w.sections (2 * l) (Some t) None (main_key_there w l f.shape f.lock)) f.queue,
+    faces (state_with_sections w (One (2 * l)) (Some t)) (next_place p Done) v o (Some t) q can
+        (ap (state_after_act w t p) is) refl (ap (next_place p) heard) f.word f.owner
+        (get_or-set_same w.sections (2 * l) (Some t) None (main_key_there w l f.shape f.lock)) f.queue,
   )
     where
       can : can_do w (act_of p) ≡ true
@@ -158,15 +184,20 @@ module _ (w : State) (t l : ℕ) (p : Place) (v : ℕ) (o s : Option ℕ) (q : L
         other = u;
         enters = subst (EntersSection (2 * l)) (sym (ap act_of f.place ∙ is)) refl;
         inside = e;
-        another = λ mine. let within : (location_at (place_at w t) l).inside ≡ Some Main = (f.steady.stands.sections t l Main).1 (e ∙ ap Some mine) in
-            let out : (location_at (place_at w t) l).inside ≡ None = nothing_at (place_at w t) l (subst IsSingle (sym f.place) f.single) (λ x. x.inside) refl (ap (λ x. (location x).inside) f.place ∙ outside) in cc;
+        another = λ mine. let within : (location_at (place_at w t) l).inside ≡ Some Main =
+            (f.steady.stands.sections t l Main).1 (e ∙ ap Some mine) in
+            let out : (location_at (place_at w t) l).inside ≡ None = nothing_at (place_at w t) l
+            (subst IsSingle (sym f.place) f.single) (λ x. x.inside) refl
+            (ap (λ x. (location x).inside) f.place ∙ outside) in cc;
       })
 
   pub leave_faces : act_of p ≡ act.TheVariants.Leave (One (2 * l)) wakes.TheVariants.Nobody
       → Faces w t l (next_place p Done) (outcome_of (next_act p Done)) v o None q
   leave_faces is = (
     told can ∙ ap (λ r. outcome_of (next_act p r)) heard,
-    faces (state_with_sections w (One (2 * l)) None) (next_place p Done) v o None q can (ap (state_after_act w t p) is) refl (ap (next_place p) heard) f.word f.owner (get_or-set_same w.sections (2 * l) None None (main_key_there w l f.shape f.lock)) f.queue,
+    faces (state_with_sections w (One (2 * l)) None) (next_place p Done) v o None q can
+        (ap (state_after_act w t p) is) refl (ap (next_place p) heard) f.word f.owner
+        (get_or-set_same w.sections (2 * l) None None (main_key_there w l f.shape f.lock)) f.queue,
   )
     where
       can : can_do w (act_of p) ≡ true
@@ -179,7 +210,10 @@ module _ (w : State) (t l : ℕ) (p : Place) (v : ℕ) (o s : Option ℕ) (q : L
       → Faces w t l (next_place p Done) (outcome_of (next_act p Done)) v o None q
   wake_faces note is = (
     told can ∙ ap (λ r. outcome_of (next_act p r)) heard,
-    faces (state_after_telling (state_with_sections w (One (2 * l)) None) t (Woken note)) (next_place p Done) v o None q can (ap (state_after_act w t p) is) (length-map w.places (place_after_telling t (Woken note))) (ap (next_place p) heard) f.word f.owner (get_or-set_same w.sections (2 * l) None None (main_key_there w l f.shape f.lock)) f.queue,
+    faces (state_after_telling (state_with_sections w (One (2 * l)) None) t (Woken note)) (next_place p Done)
+        v o None q can (ap (state_after_act w t p) is) (length-map w.places
+        (place_after_telling t (Woken note))) (ap (next_place p) heard) f.word f.owner
+        (get_or-set_same w.sections (2 * l) None None (main_key_there w l f.shape f.lock)) f.queue,
   )
     where
       can : can_do w (act_of p) ≡ true
@@ -188,13 +222,17 @@ module _ (w : State) (t l : ℕ) (p : Place) (v : ℕ) (o s : Option ℕ) (q : L
       heard : reply_to w t (act_of p) ≡ Done
       heard = ap (reply_to w t) is
 
-  pub park_faces : act_of p ≡ act.TheVariants.Park l (2 * l) (WordIs 3) Exclusive → v ≡ 3 → (location p).stands ≡ None
+  pub park_faces : act_of p ≡ act.TheVariants.Park l (2 * l) (WordIs 3) Exclusive → v ≡ 3
+      → (location p).stands ≡ None
       → Faces w t l (next_place p (Parked true)) (outcome_of (next_act p (Parked true))) v o s
       (q ++ waiter (2 * l) t Exclusive ∷ [])
   park_faces is full nowhere = (
     told can ∙ ap (λ r. outcome_of (next_act p r)) heard,
-    faces (record w { queues = queues_with_last w.queues (2 * l) t Exclusive }) (next_place p (Parked true)) v o s (q ++ waiter (2 * l) t Exclusive ∷ []) can
-        (ap (state_after_act w t p) is ∙ ap (λ b. if b then record w { queues = queues_with_last w.queues (2 * l) t Exclusive } else w) is_full) refl (ap (next_place p) heard) f.word f.owner f.section queue,
+    faces (record w { queues = queues_with_last w.queues (2 * l) t Exclusive }) (next_place p (Parked true)) v
+        o s (q ++ waiter (2 * l) t Exclusive ∷ []) can
+        (ap (state_after_act w t p) is
+        ∙ ap (λ b. if b then record w { queues = queues_with_last w.queues (2 * l) t Exclusive } else w)
+        is_full) refl (ap (next_place p) heard) f.word f.owner f.section queue,
   )
     where
       can : can_do w (act_of p) ≡ true
@@ -206,16 +244,22 @@ module _ (w : State) (t l : ℕ) (p : Place) (v : ℕ) (o s : Option ℕ) (q : L
       heard : reply_to w t (act_of p) ≡ Parked true
       heard = ap (reply_to w t) is ∙ ap Parked is_full
 
-      queue : get_or (queues_with_last w.queues (2 * l) t Exclusive) (2 * l) [] ≡ q ++ waiter (2 * l) t Exclusive ∷ []
-      queue = get_or-set_same (map (without t) w.queues) (2 * l) _ [] (rw (length-map w.queues (without t)) (main_line_there w l f.shape f.lock))
-          ∙ ap (λ x. x ++ waiter (2 * l) t Exclusive ∷ []) (same_without w f.steady t (subst IsSingle (sym f.place) f.single) (ap (λ x. (location x).stands) f.place ∙ nowhere) l ∙ f.queue)
+      queue : get_or (queues_with_last w.queues (2 * l) t Exclusive) (2 * l) [] ≡ q ++ waiter (2 * l) t
+          Exclusive ∷ []
+      queue = get_or-set_same (map (without t) w.queues) (2 * l) _ [] (rw (length-map w.queues (without t))
+          (main_line_there w l f.shape f.lock))
+          ∙ ap (λ x. x ++ waiter (2 * l) t Exclusive ∷ [])
+          (same_without w f.steady t (subst IsSingle (sym f.place) f.single)
+          (ap (λ x. (location x).stands) f.place ∙ nowhere) l ∙ f.queue)
 
   -- the word was another
   pub unparked_faces : act_of p ≡ act.TheVariants.Park l (2 * l) (WordIs 3) Exclusive → (v == 3) ≡ false
       → Faces w t l (next_place p (Parked false)) (outcome_of (next_act p (Parked false))) v o s q
   unparked_faces is other = (
     told can ∙ ap (λ r. outcome_of (next_act p r)) heard,
-    faces w (next_place p (Parked false)) v o s q can (ap (state_after_act w t p) is ∙ ap (λ b. if b then record w { queues = queues_with_last w.queues (2 * l) t Exclusive } else w) is_other) refl (ap (next_place p) heard) f.word f.owner f.section f.queue,
+    faces w (next_place p (Parked false)) v o s q can (ap (state_after_act w t p) is
+        ∙ ap (λ b. if b then record w { queues = queues_with_last w.queues (2 * l) t Exclusive } else w)
+        is_other) refl (ap (next_place p) heard) f.word f.owner f.section f.queue,
   )
     where
       can : can_do w (act_of p) ≡ true
@@ -232,7 +276,9 @@ module _ (w : State) (t l : ℕ) (p : Place) (v : ℕ) (o s : Option ℕ) (q : L
       (outcome_of (next_act p (Removed (length (without t q) == 0)))) v o s (without t q)
   remove_faces is = (
     told can ∙ ap (λ r. outcome_of (next_act p r)) heard,
-    faces (record w { queues = queues_without w.queues t }) (next_place p (Removed (length (without t q) == 0))) v o s (without t q) can (ap (state_after_act w t p) is) refl (ap (next_place p) heard) f.word f.owner f.section
+    faces (record w { queues = queues_without w.queues t })
+        (next_place p (Removed (length (without t q) == 0))) v o s (without t q) can
+        (ap (state_after_act w t p) is) refl (ap (next_place p) heard) f.word f.owner f.section
         (get_or-map (without t) w.queues (2 * l) [] ∙ ap (without t) f.queue),
   )
     where
@@ -256,37 +302,50 @@ module _ (w : State) (t l : ℕ) (p : Place) (v : ℕ) (o s : Option ℕ) (q : L
       queue : get_or (queues_without_first w.queues (2 * l)) (2 * l) [] ≡ drop 1 q
       queue = get_or-set_same w.queues (2 * l) _ [] (main_line_there w l f.shape f.lock) ∙ ap (drop 1) f.queue
 
-      does : (x : Option ℕ) → first_of q ≡ x → state_after_act w t p (act_of p) ≡ state_after_taking (record w { queues = queues_without_first w.queues (2 * l) }) t x
-      does x e = ap (state_after_act w t p) is ∙ ap (state_after_taking (record w { queues = queues_without_first w.queues (2 * l) }) t) (ap first_of f.queue ∙ e)
+      does : (x : Option ℕ) → first_of q ≡ x → state_after_act w t p (act_of p) ≡ state_after_taking
+          (record w { queues = queues_without_first w.queues (2 * l) }) t x
+      does x e = ap (state_after_act w t p) is
+          ∙ ap (state_after_taking (record w { queues = queues_without_first w.queues (2 * l) }) t)
+          (ap first_of f.queue ∙ e)
 
       by_first : (x : Option ℕ) → first_of q ≡ x
           → Faces w t l (next_place p (Took (is_there (first_of q)) (length (drop 1 q) == 0)))
           (outcome_of (next_act p (Took (is_there (first_of q)) (length (drop 1 q) == 0)))) v o s (drop 1 q)
       by_first None e = (
         told can ∙ ap (λ r. outcome_of (next_act p r)) heard,
-        faces (record w { queues = queues_without_first w.queues (2 * l) }) _ v o s (drop 1 q) can (does None e) refl (ap (next_place p) heard) f.word f.owner f.section queue,
+        faces (record w { queues = queues_without_first w.queues (2 * l) }) _ v o s (drop 1 q) can
+            (does None e) refl (ap (next_place p) heard) f.word f.owner f.section queue,
       )
       by_first (Some u) e = (
         told can ∙ ap (λ r. outcome_of (next_act p r)) heard,
-        faces (state_after_reply (record w { queues = queues_without_first w.queues (2 * l) }) u (TakenBy t)) _ v o s (drop 1 q) can (does (Some u) e) (length-set w.places u _) (ap (next_place p) heard) f.word f.owner f.section queue,
+        faces (state_after_reply (record w { queues = queues_without_first w.queues (2 * l) }) u (TakenBy t))
+            _ v o s (drop 1 q) can (does (Some u) e) (length-set w.places u _) (ap (next_place p) heard)
+            f.word f.owner f.section queue,
       )
 
 -- by a step on the word of a mutex
-module _ (w : State) (t l : ℕ) (at : MutexPlace) (v : ℕ) (o s : Option ℕ) (q : List Waiter) (f : Facing w t l (Mutex l at) v o s q) where
+module _ (w : State) (t l : ℕ) (at : MutexPlace) (v : ℕ) (o s : Option ℕ) (q : List Waiter)
+    (f : Facing w t l (Mutex l at) v o s q) where
   abbrev there : Place
   there = Mutex l at
 
   word_led : (x : Op) → word_at (state_after_operation w t there l x) l ≡ apply x v
-  word_led x = ap (λ y. y.word) (get_or-set_same w.locks l _ (unlocked kind.TheVariants.Mutex) f.lock) ∙ ap (apply x) f.word
+  word_led x = ap (λ y. y.word) (get_or-set_same w.locks l _ (unlocked kind.TheVariants.Mutex) f.lock)
+      ∙ ap (apply x) f.word
 
   owner_led : (x : Op) → owner_at (state_after_operation w t there l x) l ≡ mutex_owner_after at t v o
-  owner_led x = ap (λ y. y.owners.exclusive) (get_or-set_same w.locks l _ (unlocked kind.TheVariants.Mutex) f.lock) ∙ mutex_is at t (word_at w l) (owners_at w l) ∙ (λ i. mutex_owner_after at t (f.word i) (f.owner i))
+  owner_led x = ap (λ y. y.owners.exclusive) (get_or-set_same w.locks l _ (unlocked kind.TheVariants.Mutex)
+      f.lock) ∙ mutex_is at t (word_at w l) (owners_at w l)
+      ∙ (λ i. mutex_owner_after at t (f.word i) (f.owner i))
 
   pub word_faces : (x : Op) → act_of there ≡ act.TheVariants.Word l x
-      → Faces w t l (next_place there (Value v)) (outcome_of (next_act there (Value v))) (apply x v) (mutex_owner_after at t v o) s q
+      → Faces w t l (next_place there (Value v)) (outcome_of (next_act there (Value v))) (apply x v)
+      (mutex_owner_after at t v o) s q
   word_faces x is = (
     told w t l there v o s q f can ∙ ap (λ r. outcome_of (next_act there r)) heard,
-    faces w t l there v o s q f (state_after_operation w t there l x) (next_place there (Value v)) (apply x v) (mutex_owner_after at t v o) s q can (ap (state_after_act w t there) is) refl (ap (next_place there) heard) (word_led x) (owner_led x) f.section f.queue,
+    faces w t l there v o s q f (state_after_operation w t there l x) (next_place there (Value v)) (apply x v)
+        (mutex_owner_after at t v o) s q can (ap (state_after_act w t there) is) refl
+        (ap (next_place there) heard) (word_led x) (owner_led x) f.section f.queue,
   )
     where
       can : can_do w (act_of there) ≡ true

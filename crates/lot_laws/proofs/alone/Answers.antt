@@ -1,26 +1,32 @@
 -- The answer of a call that has stepped alone to its end is true.
-use Rattle.std.proofs.Common.{Some, None, ℕ, zero, suc, Bool, true, false, Option, if◌then◌else◌, ◌≡◌, ◌≢◌, inl, inr, List, [], ◌∷◌, length, replicate, refl, sym, ◌∙◌, ap, subst}
+use Rattle.std.proofs.Common.{Some, None, ℕ, zero, suc, Bool, true, false, Option, if◌then◌else◌, ◌≡◌, ◌≢◌}
+use Rattle.std.proofs.Common.{inl, inr, List, [], ◌∷◌, length, replicate, refl, sym, ◌∙◌, ap, subst}
 use Rattle.spec_locks.specs.declared.outcomes.Answer.{Answer}
 use Rattle.spec_locks.specs.declared.outcomes.Outcome.{Outcome}
 use Rattle.spec_locks.specs.declared.outcomes.Outcome.TheVariants as outcome
-use Rattle.spec_locks.specs.Locks.{Rights, Enter, Pend, Settle, Leave, Park, Aside, Wake, HandOff, Late, OfOnce}
+use Rattle.spec_locks.specs.Locks.{Rights, Enter, Pend, Settle, Leave, Park, Aside, Wake, HandOff, Late}
+use Rattle.spec_locks.specs.Locks.{OfOnce}
 use Rattle.spec_locks.specs.Onces.{OnceCase, Start, Finish, Fail, Rest, TakeAll}
 use Rattle.spec_locks.specs.Locks as locks
 use Rattle.spec_locks.specs.Purposes.{Purpose, Recall, WasMoved}
 use Rattle.spec_locks.specs.Condvars.{moved_of}
-use Rattle.spec_locks.specs.Runs.{LocksState, CallState, Event, Nothing, AtLock, IsStep, IsRun, GoesOn, AnswerHolds, behind_wake, going_on, is_among, is_taken_by, woken, Moves, gives_up}
+use Rattle.spec_locks.specs.Runs.{LocksState, CallState, Event, Nothing, AtLock, IsStep, IsRun, GoesOn}
+use Rattle.spec_locks.specs.Runs.{AnswerHolds, behind_wake, going_on, is_among, is_taken_by, woken, Moves}
+use Rattle.spec_locks.specs.Runs.{gives_up}
 use Rattle.lot_machine.specs.Machine.{go_of}
 use Rattle.lot_laws.specs.Solo.{GoesOnUntil, last_told}
 use Rattle.lot_laws.proofs.machine.Parts.{same}
 
-once_keeps_purpose : (case : OnceCase) (l : ℕ) (c : CallState) → (going_on (AtLock l (OfOnce case)) c).purpose ≡ c.purpose
+once_keeps_purpose : (case : OnceCase) (l : ℕ) (c : CallState) → (going_on (AtLock l (OfOnce case)) c).purpose
+    ≡ c.purpose
 once_keeps_purpose (Start forced) l c = refl
 once_keeps_purpose Finish l c = refl
 once_keeps_purpose Fail l c = refl
 once_keeps_purpose (Rest wanted forced) l c = refl
 once_keeps_purpose TakeAll l c = refl
 
-once_keeps_former : (case : OnceCase) (l : ℕ) (c : CallState) → (going_on (AtLock l (OfOnce case)) c).former ≡ c.former
+once_keeps_former : (case : OnceCase) (l : ℕ) (c : CallState) → (going_on (AtLock l (OfOnce case)) c).former
+    ≡ c.former
 once_keeps_former (Start forced) l c = refl
 once_keeps_former Finish l c = refl
 once_keeps_former Fail l c = refl
@@ -73,15 +79,22 @@ former_stays (AtLock l (OfOnce case)) c = once_keeps_former case l c
 former_stays (AtLock l case) c = refl
 
 -- A wake of its own leaves the purpose of a call.
-pub woken_purpose : (w : LocksState) (t : ℕ) (e : Event) (c : CallState) → (woken w t e t c).purpose ≡ c.purpose
+pub woken_purpose : (w : LocksState) (t : ℕ) (e : Event) (c : CallState) → (woken w t e t c).purpose
+    ≡ c.purpose
 woken_purpose w t (AtLock l Wake) c = either (is_taken_by t ((w.locks l).taken t))
   where
-    either : (b : Bool) → (if b then record c { retries = Some l; recalls = behind_wake c.recalls } else c).purpose ≡ c.purpose
+    either : (b : Bool) → (if b then record c {
+      retries = Some l;
+      recalls = behind_wake c.recalls;
+    } else c).purpose ≡ c.purpose
     either true = refl
     either false = refl
 woken_purpose w t (AtLock l (HandOff x h)) c = either (is_taken_by t ((w.locks l).taken t))
   where
-    either : (b : Bool) → (if b then record c { retries = None; recalls = behind_wake c.recalls } else c).purpose ≡ c.purpose
+    either : (b : Bool) → (if b then record c {
+      retries = None;
+      recalls = behind_wake c.recalls;
+    } else c).purpose ≡ c.purpose
     either true = refl
     either false = refl
 woken_purpose w t (Moves l m all owned number) c = either (is_among t (moved_of all (w.locks l).queue))
@@ -95,12 +108,18 @@ woken_purpose w t (AtLock l case) c = refl
 woken_former : (w : LocksState) (t : ℕ) (e : Event) (c : CallState) → (woken w t e t c).former ≡ c.former
 woken_former w t (AtLock l Wake) c = either (is_taken_by t ((w.locks l).taken t))
   where
-    either : (b : Bool) → (if b then record c { retries = Some l; recalls = behind_wake c.recalls } else c).former ≡ c.former
+    either : (b : Bool) → (if b then record c {
+      retries = Some l;
+      recalls = behind_wake c.recalls;
+    } else c).former ≡ c.former
     either true = refl
     either false = refl
 woken_former w t (AtLock l (HandOff x h)) c = either (is_taken_by t ((w.locks l).taken t))
   where
-    either : (b : Bool) → (if b then record c { retries = None; recalls = behind_wake c.recalls } else c).former ≡ c.former
+    either : (b : Bool) → (if b then record c {
+      retries = None;
+      recalls = behind_wake c.recalls;
+    } else c).former ≡ c.former
     either true = refl
     either false = refl
 woken_former w t (Moves l m all owned number) c = either (is_among t (moved_of all (w.locks l).queue))
@@ -112,14 +131,16 @@ woken_former w t Nothing c = refl
 woken_former w t (AtLock l case) c = refl
 
 -- a call for this has ended with this answer, of a thread that owned so much as it began
-pub record HasAnswered (t : ℕ) (purpose : Option Purpose) (former : ℕ → Rights) (a : Answer) (v : LocksState) : Type 0 where
+pub record HasAnswered (t : ℕ) (purpose : Option Purpose) (former : ℕ → Rights) (a : Answer)
+    (v : LocksState) : Type 0 where
   pub call : CallState
   pub purpose_is : call.purpose ≡ purpose
   pub former_is : call.former ≡ former
   pub holds : AnswerHolds purpose v t call a
 
 -- a step of the thread that was possible
-pub gone : (w v : LocksState) (t : ℕ) (o : Outcome) → o ≢ outcome.NotNow → IsStep w (go_of t) o v → GoesOn w t o v
+pub gone : (w v : LocksState) (t : ℕ) (o : Outcome) → o ≢ outcome.NotNow → IsStep w (go_of t) o v
+    → GoesOn w t o v
 gone w v t o possible step = elim step.1 [
   | inl does ↦ does.1
   | inr refused ↦ absurd (possible refused.1.0)
@@ -127,16 +148,22 @@ gone w v t o possible step = elim step.1 [
 
 call_then : (w v : LocksState) (t : ℕ) (g : GoesOn w t outcome.Step v)
     → v.calls t ≡ woken w t g.event t (going_on g.event (w.calls t))
-call_then w v t g = g.calls t ∙ ap (λ (b : Bool). if b then woken w t g.event t (going_on g.event (w.calls t)) else woken w t g.event t (w.calls t)) (same t)
+call_then w v t g = g.calls t ∙ ap (λ (b : Bool). if b then woken w t g.event t (going_on g.event (w.calls t))
+    else woken w t g.event t (w.calls t)) (same t)
 
-purpose_then : (w v : LocksState) (t : ℕ) → GoesOn w t outcome.Step v → (v.calls t).purpose ≡ (w.calls t).purpose
-purpose_then w v t g = ap (λ (x : CallState). x.purpose) (call_then w v t g) ∙ woken_purpose w t g.event (going_on g.event (w.calls t)) ∙ purpose_stays g.event (w.calls t)
+purpose_then : (w v : LocksState) (t : ℕ) → GoesOn w t outcome.Step v → (v.calls t).purpose
+    ≡ (w.calls t).purpose
+purpose_then w v t g = ap (λ (x : CallState). x.purpose) (call_then w v t g)
+    ∙ woken_purpose w t g.event (going_on g.event (w.calls t)) ∙ purpose_stays g.event (w.calls t)
 
 former_then : (w v : LocksState) (t : ℕ) → GoesOn w t outcome.Step v → (v.calls t).former ≡ (w.calls t).former
-former_then w v t g = ap (λ (x : CallState). x.former) (call_then w v t g) ∙ woken_former w t g.event (going_on g.event (w.calls t)) ∙ former_stays g.event (w.calls t)
+former_then w v t g = ap (λ (x : CallState). x.former) (call_then w v t g)
+    ∙ woken_former w t g.event (going_on g.event (w.calls t)) ∙ former_stays g.event (w.calls t)
 
-pub answered : (told : List Outcome) (w v : LocksState) (t : ℕ) (a : Answer) → IsRun w (replicate (length told) (go_of t)) told v
-    → GoesOnUntil told → last_told told ≡ outcome.End a → HasAnswered t (w.calls t).purpose (w.calls t).former a v
+pub answered : (told : List Outcome) (w v : LocksState) (t : ℕ) (a : Answer)
+    → IsRun w (replicate (length told) (go_of t)) told v
+    → GoesOnUntil told → last_told told ≡ outcome.End a → HasAnswered t (w.calls t).purpose (w.calls t).former
+    a v
 answered [] w v t a run goes is = absurd cc
 answered (o ∷ []) w v t a run goes is =
     let g : GoesOn w t o run.0 = gone w run.0 t o goes run.1 in
@@ -147,10 +174,13 @@ answered (o ∷ []) w v t a run goes is =
       call = going_on g.event (w.calls t);
       purpose_is = purpose_stays g.event (w.calls t);
       former_is = former_stays g.event (w.calls t);
-      holds = subst (λ (x : LocksState). AnswerHolds (w.calls t).purpose x t (going_on g.event (w.calls t)) a) (sym run.2) (subst (λ p. AnswerHolds p run.0 t (going_on g.event (w.calls t)) a) (purpose_stays g.event (w.calls t)) g.agrees.0);
+      holds = subst (λ (x : LocksState). AnswerHolds (w.calls t).purpose x t (going_on g.event (w.calls t)) a)
+          (sym run.2) (subst (λ p. AnswerHolds p run.0 t (going_on g.event (w.calls t)) a)
+          (purpose_stays g.event (w.calls t)) g.agrees.0);
     }
 answered (o ∷ o2 ∷ os) w v t a run goes is =
-    let g : GoesOn w t outcome.Step run.0 = subst (λ x. GoesOn w t x run.0) goes.0 (gone w run.0 t o (λ e. let f : outcome.NotNow ≡ outcome.Step = sym e ∙ goes.0 in cc) run.1) in
+    let g : GoesOn w t outcome.Step run.0 = subst (λ x. GoesOn w t x run.0) goes.0
+    (gone w run.0 t o (λ e. let f : outcome.NotNow ≡ outcome.Step = sym e ∙ goes.0 in cc) run.1) in
     let ih = answered (o2 ∷ os) run.0 v t a run.2 goes.1 is in
     let p : (run.0.calls t).purpose ≡ (w.calls t).purpose = purpose_then w run.0 t g in
     let f : (run.0.calls t).former ≡ (w.calls t).former = former_then w run.0 t g in
@@ -162,7 +192,8 @@ answered (o ∷ o2 ∷ os) w v t a run goes is =
     }
 
 -- as long as it goes on, its thread owned as it began what it owned then
-pub former_kept : (n : ℕ) (w v : LocksState) (t : ℕ) → IsRun w (replicate n (go_of t)) (replicate n outcome.Step) v
+pub former_kept : (n : ℕ) (w v : LocksState) (t : ℕ) → IsRun w (replicate n (go_of t))
+    (replicate n outcome.Step) v
     → (v.calls t).former ≡ (w.calls t).former
 former_kept zero w v t run = ap (λ (x : LocksState). (x.calls t).former) run
 former_kept (suc n) w v t run =

@@ -1,5 +1,7 @@
--- A call of a condition variable whose thread steps alone: from any place it ends or sleeps, and from its beginning it does what it is for.
-use Rattle.std.proofs.Common.{ℕ, Bool, Option, Some, None, ◌≡◌, ◌≢◌, ◌*◌, ◌<◌, length, refl, sym, ◌∙◌, ap, arith}
+-- A call of a condition variable whose thread steps alone: from any place it ends or sleeps, and from its
+-- beginning it does what it is for.
+use Rattle.std.proofs.Common.{ℕ, Bool, Option, Some, None, ◌≡◌, ◌≢◌, ◌*◌, ◌<◌, length, refl, sym, ◌∙◌, ap}
+use Rattle.std.proofs.Common.{arith}
 use Rattle.spec_locks.specs.declared.calls.CondvarCall.{CondvarCall}
 use Rattle.spec_locks.specs.declared.calls.CondvarCall.TheVariants as condvar_call
 use Rattle.spec_locks.specs.declared.outcomes.Outcome.{Outcome}
@@ -32,7 +34,8 @@ module _ (t : ℕ) (keeps : Keeps t) (w : State) (world : IsWorld w) (there : t 
   -- where it is to look: any mutex serves where none is shown
   module _ (all : Bool) (is : place_at w t ≡ Condvar l (Look all)) where
     looks_at : (P : State → Outcome → Type 0)
-        → ((m : ℕ) → GoesAlone w t l m (Look all) → (o : Option ℕ) → (lock_state w l).shown ≡ o → (o ≢ None → o ≡ Some m) → Leads 9 w t P)
+        → ((m : ℕ) → GoesAlone w t l m (Look all) → (o : Option ℕ) → (lock_state w l).shown ≡ o
+        → (o ≢ None → o ≡ Some m) → Leads 9 w t P)
         → Leads 9 w t P
     looks_at P on = by_shown (lock_state w l).shown refl
       where
@@ -43,24 +46,34 @@ module _ (t : ℕ) (keeps : Keeps t) (w : State) (world : IsWorld w) (there : t 
   -- from any place where it is awake
   pub condvar_rests : (p : CondvarPlace) → place_at w t ≡ Condvar l p → condvar_act l p ≢ act.Sleep
       → Leads 17 w t (λ v o. Rests o)
-  condvar_rests (Wait m timed at) is up = wait_rests t l m keeps timed w at (fits_here w t l (Wait m timed at) world.steady is).reached up (goes_alone m (Wait m timed at) is)
-  condvar_rests (Look all) is up = leads_more 9 17 w t (λ v o. Rests o) (omega arith) (looks_at all is (λ v o. Rests o) (λ m g. look_rests t l m keeps w all g))
-  condvar_rests (Notify all m at) is up = leads_more 8 17 w t (λ v o. Rests o) (omega arith) (notify_rests t l m keeps w all at (goes_alone m (Notify all m at) is))
+  condvar_rests (Wait m timed at) is up = wait_rests t l m keeps timed w at
+      (fits_here w t l (Wait m timed at) world.steady is).reached up (goes_alone m (Wait m timed at) is)
+  condvar_rests (Look all) is up = leads_more 9 17 w t (λ v o. Rests o) (omega arith)
+      (looks_at all is (λ v o. Rests o) (λ m g. look_rests t l m keeps w all g))
+  condvar_rests (Notify all m at) is up = leads_more 8 17 w t (λ v o. Rests o) (omega arith)
+      (notify_rests t l m keeps w all at (goes_alone m (Notify all m at) is))
 
   -- nobody is inside its section, where only this thread may be
-  free_to_look : (all : Bool) → place_at w t ≡ Condvar l (Look all) → IsOnly t (section_at w (2 * l)) → section_at w (2 * l) ≡ None
+  free_to_look : (all : Bool) → place_at w t ≡ Condvar l (Look all) → IsOnly t (section_at w (2 * l))
+      → section_at w (2 * l) ≡ None
   free_to_look all is only = by_who (section_at w (2 * l)) refl
     where
       by_who : (o : Option ℕ) → section_at w (2 * l) ≡ o → section_at w (2 * l) ≡ None
       by_who None e = e
-      by_who (Some u) e = absurd (let within : (location_at (place_at w t) l).inside ≡ Some Main = (world.steady.stands.sections t l Main).1 (e ∙ ap Some (only u e)) in
-          let outside : (location_at (place_at w t) l).inside ≡ None = ap (λ (y : Location). y.inside) (location_there w world.steady.stands t l (Look all) is) in
+      by_who (Some u) e = absurd (let within : (location_at (place_at w t) l).inside ≡ Some Main =
+          (world.steady.stands.sections t l Main).1 (e ∙ ap Some (only u e)) in
+          let outside : (location_at (place_at w t) l).inside ≡ None = ap (λ (y : Location). y.inside)
+          (location_there w world.steady.stands t l (Look all) is) in
           let both : ◌≡◌ {A = Option Line} None (Some Main) = sym outside ∙ within in cc)
 
   -- from its beginning
   pub condvar_alone : (c : CondvarCall) → place_at w t ≡ Condvar l (condvar_first c)
       → HasWhatItReads w t (Some (condvar_purpose l c))
       → Leads 17 w t (λ v o. EndsAlone w t (Some (condvar_purpose l c)) o v)
-  condvar_alone (condvar_call.Wait m timed) is reads = wait_alone t l m keeps timed w (goes_alone m (condvar_first (condvar_call.Wait m timed)) is)
-  condvar_alone (condvar_call.Notify all) is reads = leads_more 9 17 w t (λ v o. EndsAlone w t (Some (condvar_purpose l (condvar_call.Notify all))) o v) (omega arith)
-      (looks_at all is (λ v o. EndsAlone w t (Some (condvar_purpose l (condvar_call.Notify all))) o v) (λ m g. notifies_alone t l m keeps w all g (free_to_look all is reads)))
+  condvar_alone (condvar_call.Wait m timed) is reads = wait_alone t l m keeps timed w
+      (goes_alone m (condvar_first (condvar_call.Wait m timed)) is)
+  condvar_alone (condvar_call.Notify all) is reads =
+      leads_more 9 17 w t (λ v o. EndsAlone w t (Some (condvar_purpose l (condvar_call.Notify all))) o v)
+      (omega arith)
+      (looks_at all is (λ v o. EndsAlone w t (Some (condvar_purpose l (condvar_call.Notify all))) o v)
+      (λ m g. notifies_alone t l m keeps w all g (free_to_look all is reads)))

@@ -1,12 +1,15 @@
 -- Some steps of a thread alone, and to where they lead.
-use Rattle.std.proofs.Common.{ℕ, zero, suc, Bool, true, false, Some, None, if◌then◌else◌, ◌&&◌, ◌≡◌, ◌+◌, ◌≤◌, ◌⊎◌, nat_lt, length, is_none, inl, inr, refl, sym, ◌∙◌, ap, subst, arith, slice_index_or}
+use Rattle.std.proofs.Common.{ℕ, zero, suc, Bool, true, false, Some, None, if◌then◌else◌, ◌&&◌, ◌≡◌, ◌+◌, ◌≤◌}
+use Rattle.std.proofs.Common.{◌⊎◌, nat_lt, length, is_none, inl, inr, refl, sym, ◌∙◌, ap, subst, arith}
+use Rattle.std.proofs.Common.{slice_index_or}
 use Rattle.core_base.specs.declared.keys.Keys.TheVariants.{One, Two}
 use Rattle.steps_base.specs.declared.acts.Act.{Act}
 use Rattle.steps_base.specs.declared.acts.Act.TheVariants as act
 use Rattle.spec_locks.specs.declared.outcomes.Outcome.{Outcome}
 use Rattle.spec_locks.specs.declared.outcomes.Outcome as outcome
 use Rattle.lot_steps.specs.Steps.{act_of}
-use Rattle.lot_machine.specs.Machine.{State, after, can_do, go_of, go_outcome, place_at, section_at, solo, step_outcome}
+use Rattle.lot_machine.specs.Machine.{State, after, can_do, go_of, go_outcome, place_at, section_at, solo}
+use Rattle.lot_machine.specs.Machine.{step_outcome}
 use Rattle.lot_laws.specs.SitesOf.{key_of}
 use Rattle.lot_laws.specs.Solo.{EntersSection, IsBarred, Rests}
 use Rattle.lot_laws.proofs.alone.Steps.{rests_after}
@@ -34,19 +37,26 @@ neither : (a : Bool) {b : Bool} → b ≡ false → (a && b) ≡ false
 neither true e = e
 neither false e = refl
 
-full_cannot : (w : State) (key u : ℕ) → section_at w key ≡ Some u → (a : Act) → EntersSection key a → can_do w a ≡ false
+full_cannot : (w : State) (key u : ℕ) → section_at w key ≡ Some u → (a : Act) → EntersSection key a
+    → can_do w a ≡ false
 full_cannot w key u inside (act.Enter (One k)) e = ap (λ n. is_none (section_at w n)) e ∙ ap is_none inside
-full_cannot w key u inside (act.Enter (Two j k)) (inl e) = ap (λ b. b && is_none (section_at w k)) (ap (λ n. is_none (section_at w n)) e ∙ ap is_none inside)
-full_cannot w key u inside (act.Enter (Two j k)) (inr e) = neither (is_none (section_at w j)) (ap (λ n. is_none (section_at w n)) e ∙ ap is_none inside)
+full_cannot w key u inside (act.Enter (Two j k)) (inl e) = ap (λ b. b && is_none (section_at w k))
+    (ap (λ n. is_none (section_at w n)) e ∙ ap is_none inside)
+full_cannot w key u inside (act.Enter (Two j k)) (inr e) = neither (is_none (section_at w j))
+    (ap (λ n. is_none (section_at w n)) e ∙ ap is_none inside)
 full_cannot w key u inside a e = absurd e
 
 -- no step of it is possible
 pub barred_stays : (w : State) (t : ℕ) → IsBarred w t → step_outcome w (go_of t) ≡ outcome.TheVariants.NotNow
-barred_stays w t b = ap (λ c. if nat_lt t (length w.places) && c then go_outcome w t else outcome.TheVariants.NotNow) (full_cannot w (key_of b.lock b.line) b.other b.inside (act_of (place_at w t)) b.enters)
-    ∙ ap (λ (c : Bool). if c then go_outcome w t else outcome.TheVariants.NotNow) (neither (nat_lt t (length w.places)) refl)
+barred_stays w t b = ap (λ c. if nat_lt t (length w.places) && c then go_outcome w t
+    else outcome.TheVariants.NotNow) (full_cannot w (key_of b.lock b.line) b.other b.inside
+    (act_of (place_at w t)) b.enters)
+    ∙ ap (λ (c : Bool). if c then go_outcome w t else outcome.TheVariants.NotNow)
+    (neither (nat_lt t (length w.places)) refl)
 
 -- another state in which it does the same, with the same threads inside
-pub barred_as : (w v : State) (t : ℕ) → w.sections ≡ v.sections → act_of (place_at w t) ≡ act_of (place_at v t) → IsBarred w t → IsBarred v t
+pub barred_as : (w v : State) (t : ℕ) → w.sections ≡ v.sections → act_of (place_at w t) ≡ act_of
+    (place_at v t) → IsBarred w t → IsBarred v t
 barred_as w v t sections acts b = record {
   lock = b.lock;
   line = b.line;
@@ -59,22 +69,32 @@ barred_as w v t sections acts b = record {
 -- ---------------------------------------------------------------- step by step
 
 module _ (w : State) (t : ℕ) (P : State → Outcome → Type 0) where
-  pub surely_rest : (o : Outcome) → step_outcome w (go_of t) ≡ o → Rests o → P (after w (go_of t)) o → LeadsSurely 1 w t P
+  pub surely_rest : (o : Outcome) → step_outcome w (go_of t) ≡ o → Rests o → P (after w (go_of t)) o
+      → LeadsSurely 1 w t P
   unfolding solo
   surely_rest o told rest h zero last le = absurd (omega arith)
-  surely_rest o told rest h (suc n) last le = rw (told, rests_after o w (after w (go_of t)) last (solo n (after w (go_of t)) t outcome.TheVariants.Step) (λ e. subst Rests e rest) (λ e. subst Rests e rest)) h
+  surely_rest o told rest h (suc n) last le =
+      rw (
+        told,
+        rests_after o w (after w (go_of t)) last
+            (solo n (after w (go_of t)) t outcome.TheVariants.Step) (λ e. subst Rests e rest)
+            (λ e. subst Rests e rest),
+      ) h
 
-  pub surely_step : (k : ℕ) → step_outcome w (go_of t) ≡ outcome.TheVariants.Step → LeadsSurely k (after w (go_of t)) t P
+  pub surely_step : (k : ℕ) → step_outcome w (go_of t) ≡ outcome.TheVariants.Step
+      → LeadsSurely k (after w (go_of t)) t P
       → LeadsSurely (k + 1) w t P
   unfolding solo
   surely_step k told more zero last le = absurd (omega arith)
   surely_step k told more (suc n) last le = rw told (more n outcome.TheVariants.Step (omega arith))
 
 module _ (w : State) (t : ℕ) (P : State → Outcome → Type 0) where
-  pub leads_rest : (o : Outcome) → step_outcome w (go_of t) ≡ o → Rests o → P (after w (go_of t)) o → Leads 1 w t P
+  pub leads_rest : (o : Outcome) → step_outcome w (go_of t) ≡ o → Rests o → P (after w (go_of t)) o
+      → Leads 1 w t P
   leads_rest o told rest h = surely_rest w t (OrBarred t P) o told rest (inl h)
 
-  pub leads_step : (k : ℕ) → step_outcome w (go_of t) ≡ outcome.TheVariants.Step → Leads k (after w (go_of t)) t P
+  pub leads_step : (k : ℕ) → step_outcome w (go_of t) ≡ outcome.TheVariants.Step
+      → Leads k (after w (go_of t)) t P
       → Leads (k + 1) w t P
   leads_step k told more = surely_step w t (OrBarred t P) k told more
 
@@ -84,7 +104,8 @@ module _ (w : State) (t : ℕ) (P : State → Outcome → Type 0) where
   leads_barred k b zero last le = inr b
   leads_barred k b (suc n) last le = rw (barred_stays w t b) (inr b)
 
-pub leads_more : (k m : ℕ) (w : State) (t : ℕ) (P : State → Outcome → Type 0) → k ≤ m → Leads k w t P → Leads m w t P
+pub leads_more : (k m : ℕ) (w : State) (t : ℕ) (P : State → Outcome → Type 0) → k ≤ m → Leads k w t P
+    → Leads m w t P
 leads_more k m w t P le h n last bound = h n last (omega arith)
 
 pub leads_then : (k : ℕ) (w : State) (t : ℕ) (P Q : State → Outcome → Type 0)
@@ -94,6 +115,7 @@ leads_then k w t P Q so h n last bound = elim (h n last bound) [
   | inr b ↦ inr b
 ]
 
-pub leads_so : (k : ℕ) (w : State) (t : ℕ) (P Q : State → Outcome → Type 0) → ((v : State) (x : Outcome) → P v x → Q v x)
+pub leads_so : (k : ℕ) (w : State) (t : ℕ) (P Q : State → Outcome → Type 0)
+    → ((v : State) (x : Outcome) → P v x → Q v x)
     → Leads k w t P → Leads k w t Q
 leads_so k w t P Q so h = leads_then k w t P Q (λ v x e. inl (so v x e)) h

@@ -1,5 +1,8 @@
--- A notification from its beginning, whose thread steps alone: it moves the first, or all, where a mutex is shown.
-use Rattle.std.proofs.Common.{ℕ, Bool, true, false, Option, Some, None, if◌then◌else◌, ◌==◌, ◌≡◌, ◌*◌, ◌≢◌, ◌+◌, List, [], ◌∷◌, is_none, inr, refl, sym, ◌∙◌, ap, subst, arith, get_or-set_same}
+-- A notification from its beginning, whose thread steps alone: it moves the first, or all, where a mutex is
+-- shown.
+use Rattle.std.proofs.Common.{ℕ, Bool, true, false, Option, Some, None, if◌then◌else◌, ◌==◌, ◌≡◌, ◌*◌, ◌≢◌}
+use Rattle.std.proofs.Common.{◌+◌, List, [], ◌∷◌, is_none, inr, refl, sym, ◌∙◌, ap, subst, arith}
+use Rattle.std.proofs.Common.{get_or-set_same}
 use Rattle.std.proofs.lemmas.Bool.Decides.{nat_tests}
 use Rattle.spec_locks.specs.declared.kinds.Kind.TheVariants as kind
 use Rattle.spec_locks.specs.declared.outcomes.Outcome.{Outcome}
@@ -15,7 +18,8 @@ use Rattle.lot_machine.specs.Machine.{State, after, go_of, section_at, unlocked,
 use Rattle.lot_laws.specs.Refinement.{lock_state}
 use Rattle.lot_laws.specs.SitesOf.{condvar_of}
 use Rattle.lot_laws.specs.Solo.{NotifiesAlone, Rests}
-use Rattle.lot_laws.proofs.alone.Condvar.{Behind, GoesAlone, Keeps, leads_behind, lock_there, queue_then, so_then}
+use Rattle.lot_laws.proofs.alone.Condvar.{Behind, GoesAlone, Keeps, leads_behind, lock_there, queue_then}
+use Rattle.lot_laws.proofs.alone.Condvar.{so_then}
 use Rattle.lot_laws.proofs.condvar.Replies.{fits_here, free_inside, word_is}
 use Rattle.lot_laws.proofs.alone.Leads.{Leads, leads_more, leads_so}
 use Rattle.lot_laws.proofs.alone.Notify.{Ends, enters_seeing, left_then, moved_number}
@@ -30,41 +34,50 @@ shows_itself : (m : ℕ) → is_shown (shown_as m) m ≡ true
 shows_itself m = grind (arith, nat_tests)
 
 module _ (t l m : ℕ) (keeps : Keeps t) (w : State) (all : Bool) (g : GoesAlone w t l m (Look all)) where
-  looks : (P : State → Outcome → Type 0) (k : ℕ) → Behind t l m keeps w (Look all) g P k (look_next all (word_at w l))
+  looks : (P : State → Outcome → Type 0) (k : ℕ) → Behind t l m keeps w (Look all) g P k
+      (look_next all (word_at w l))
       → Leads (k + 1) w t P
   looks P k left = leads_behind t l m keeps w (Look all) g refl P k (Look all) g.place left
 
   -- nothing is shown
   pub finds_none : word_at w l ≡ 0 → Leads 1 w t (Ends t l m keeps all 0 (lock_state w l).queue)
-  finds_none e = looks (Ends t l m keeps all 0 (lock_state w l).queue) 0 (subst (λ v. Behind t l m keeps w (Look all) g (Ends t l m keeps all 0 (lock_state w l).queue) 0 (look_next all v)) (sym e)
+  finds_none e = looks (Ends t l m keeps all 0 (lock_state w l).queue) 0
+      (subst (λ v. Behind t l m keeps w (Look all) g (Ends t l m keeps all 0 (lock_state w l).queue) 0
+      (look_next all v)) (sym e)
       (refl, queue_then t l m keeps w (Look all) g refl))
 
   -- this mutex is
   module _ (shown : word_at w l ≡ shown_as m) where
     abbrev Moves : State → Outcome → Type 0
-    Moves = Ends t l m keeps all (moved_number all (lock_state w l).queue) (left_then all (lock_state w l).queue)
+    Moves = Ends t l m keeps all (moved_number all (lock_state w l).queue)
+        (left_then all (lock_state w l).queue)
 
     word_then : word_at (after w (go_of t)) l ≡ shown_as m
     word_then = so_then t l m keeps w (Look all) g refl (λ s. word_at s l) (λ q. refl)
-        ∙ ap (λ y. y.word) (get_or-set_same w.locks l _ (unlocked kind.Mutex) (lock_there t l m keeps w (Look all) g)) ∙ shown
+        ∙ ap (λ y. y.word) (get_or-set_same w.locks l _ (unlocked kind.Mutex)
+        (lock_there t l m keeps w (Look all) g)) ∙ shown
 
     seen : (b : Bool) (k : ℕ) → b ≡ false → k ≡ m
-        → Behind t l m keeps w (Look all) g Moves 8 (if b then next.End (notified all 0) else next.At (Notify all k notify.Enter))
+        → Behind t l m keeps w (Look all) g Moves 8 (if b then next.End (notified all 0) else next.At
+        (Notify all k notify.Enter))
     seen true k e f = absurd cc
     seen false k e f = λ h. inr (
       refl,
-      enters_seeing t l m keeps (after w (go_of t)) all (lock_state w l).queue (ap (λ v. is_shown v m) word_then ∙ shows_itself m) (queue_then t l m keeps w (Look all) g refl)
+      enters_seeing t l m keeps (after w (go_of t)) all (lock_state w l).queue
+          (ap (λ v. is_shown v m) word_then ∙ shows_itself m) (queue_then t l m keeps w (Look all) g refl)
           (subst (λ j. GoesAlone (after w (go_of t)) t l m (Notify all j notify.Enter)) f h),
     )
 
     pub finds_some : Leads 9 w t Moves
-    finds_some = looks Moves 8 (subst (λ v. Behind t l m keeps w (Look all) g Moves 8 (look_next all v)) (sym shown) (seen (shown_as m == 0) (mutex_shown (shown_as m)) (shown_one m) (shown_again m)))
+    finds_some = looks Moves 8 (subst (λ v. Behind t l m keeps w (Look all) g Moves 8 (look_next all v))
+        (sym shown) (seen (shown_as m == 0) (mutex_shown (shown_as m)) (shown_one m) (shown_again m)))
 
   -- ---------------------------------------------------------------- the law
 
   -- it is settled, where nobody is inside its section
   settled : section_at w (2 * l) ≡ None → IsSettledAt (lock_state w l).shown (condvar_of w l)
-  settled free = subst (IsAsInside (condvar_of w l)) (free_inside w t l (Look all) g.world.steady g.place (ap is_none free))
+  settled free = subst (IsAsInside (condvar_of w l)) (free_inside w t l (Look all) g.world.steady g.place
+      (ap is_none free))
       (g.world.condvars l (fits_here w t l (Look all) g.world.steady g.place).sort).inside
 
   -- the word that is shown
@@ -87,15 +100,27 @@ module _ (t l m : ℕ) (keeps : Keeps t) (w : State) (all : Bool) (g : GoesAlone
   some_moved v o false (x ∷ q) some h = h
 
   -- where no mutex is shown, or this one
-  pub notifies_alone : section_at w (2 * l) ≡ None → (o : Option ℕ) → (lock_state w l).shown ≡ o → (o ≢ None → o ≡ Some m)
+  pub notifies_alone : section_at w (2 * l) ≡ None → (o : Option ℕ) → (lock_state w l).shown ≡ o
+      → (o ≢ None → o ≡ Some m)
       → Leads 9 w t (λ v x. NotifiesAlone all (lock_state w l).queue x (lock_state v l).queue)
-  notifies_alone free None e of = leads_more 1 9 w t (λ v x. NotifiesAlone all (lock_state w l).queue x (lock_state v l).queue) (omega arith) (leads_so 1 w t (Ends t l m keeps all 0 (lock_state w l).queue) (λ v x. NotifiesAlone all (lock_state w l).queue x (lock_state v l).queue)
-      (λ v x h. none_moved v x (lock_state w l).queue (subst (λ s. IsSettledAt s (condvar_of w l)) e (settled free)) h) (finds_none (shows None e)))
-  notifies_alone free (Some k) e of = leads_so 9 w t (Ends t l m keeps all (moved_number all (lock_state w l).queue) (left_then all (lock_state w l).queue)) (λ v x. NotifiesAlone all (lock_state w l).queue x (lock_state v l).queue)
-      (λ v x h. some_moved v x all (lock_state w l).queue (subst (λ s. IsSettledAt s (condvar_of w l)) e (settled free)).0 h)
+  notifies_alone free None e of = leads_more 1 9 w t (λ v x. NotifiesAlone all (lock_state w l).queue x
+      (lock_state v l).queue) (omega arith) (leads_so 1 w t (Ends t l m keeps all 0 (lock_state w l).queue)
+      (λ v x. NotifiesAlone all (lock_state w l).queue x (lock_state v l).queue)
+      (λ v x h. none_moved v x (lock_state w l).queue (subst (λ s. IsSettledAt s (condvar_of w l)) e
+      (settled free)) h) (finds_none (shows None e)))
+  notifies_alone free (Some k) e of =
+      leads_so 9 w t (Ends t l m keeps all (moved_number all (lock_state w l).queue)
+      (left_then all (lock_state w l).queue)) (λ v x. NotifiesAlone all (lock_state w l).queue x
+      (lock_state v l).queue)
+      (λ v x h. some_moved v x all (lock_state w l).queue (subst (λ s. IsSettledAt s (condvar_of w l)) e
+      (settled free)).0 h)
       (finds_some (shows (Some k) e ∙ ap word_showing (of (λ f. cc))))
 
-  pub look_rests : (o : Option ℕ) → (lock_state w l).shown ≡ o → (o ≢ None → o ≡ Some m) → Leads 9 w t (λ v x. Rests x)
-  look_rests None e of = leads_more 1 9 w t (λ v x. Rests x) (omega arith) (leads_so 1 w t (Ends t l m keeps all 0 (lock_state w l).queue) (λ v x. Rests x) (λ v x h. subst Rests (sym h.0) tt) (finds_none (shows None e)))
-  look_rests (Some k) e of = leads_so 9 w t (Ends t l m keeps all (moved_number all (lock_state w l).queue) (left_then all (lock_state w l).queue)) (λ v x. Rests x) (λ v x h. subst Rests (sym h.0) tt)
+  pub look_rests : (o : Option ℕ) → (lock_state w l).shown ≡ o → (o ≢ None → o ≡ Some m)
+      → Leads 9 w t (λ v x. Rests x)
+  look_rests None e of = leads_more 1 9 w t (λ v x. Rests x) (omega arith)
+      (leads_so 1 w t (Ends t l m keeps all 0 (lock_state w l).queue) (λ v x. Rests x)
+      (λ v x h. subst Rests (sym h.0) tt) (finds_none (shows None e)))
+  look_rests (Some k) e of = leads_so 9 w t (Ends t l m keeps all (moved_number all (lock_state w l).queue)
+      (left_then all (lock_state w l).queue)) (λ v x. Rests x) (λ v x h. subst Rests (sym h.0) tt)
       (finds_some (shows (Some k) e ∙ ap word_showing (of (λ f. cc))))

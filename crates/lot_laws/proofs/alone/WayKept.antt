@@ -1,5 +1,7 @@
 -- A thread that steps alone and has its way keeps it, and is never barred.
-use Rattle.std.proofs.Common.{ℕ, zero, suc, Bool, true, false, Option, Some, None, if◌then◌else◌, ◌==◌, ◌≡◌, ◌⊎◌, ◌<◌, List, [], ◌∷◌, length, nat_lt, get_or, set, get_or-set_same, inl, inr, refl, sym, ◌∙◌, ap, subst}
+use Rattle.std.proofs.Common.{ℕ, zero, suc, Bool, true, false, Option, Some, None, if◌then◌else◌, ◌==◌, ◌≡◌}
+use Rattle.std.proofs.Common.{◌⊎◌, ◌<◌, List, [], ◌∷◌, length, nat_lt, get_or, set, get_or-set_same, inl, inr}
+use Rattle.std.proofs.Common.{refl, sym, ◌∙◌, ap, subst}
 use Rattle.std.proofs.lemmas.Bool.{ltb-true}
 use Rattle.core_base.specs.declared.keys.Keys.{Keys}
 use Rattle.core_base.specs.declared.keys.Keys.TheVariants.{One, Two}
@@ -26,9 +28,13 @@ use Rattle.steps_condvar.specs.CondvarDeeds.{word_showing}
 use Rattle.steps_condvar.specs.CondvarSteps.{in_notify, in_wait, look_next, mutex_shown, notified, shown_as}
 use Rattle.lot_steps.specs.declared.places.Place.{Place}
 use Rattle.lot_steps.specs.declared.places.Place.TheVariants.{Idle, Mutex, RwLock, Once, Condvar, Semaphore}
-use Rattle.lot_steps.specs.Steps.{act_of, beside_of, condvar_goes, called_lock, mutex_goes, next_place, once_goes, rwlock_goes, semaphore_goes}
+use Rattle.lot_steps.specs.Steps.{act_of, beside_of, condvar_goes, called_lock, mutex_goes, next_place}
+use Rattle.lot_steps.specs.Steps.{once_goes, rwlock_goes, semaphore_goes}
 use Rattle.spec_locks.specs.Purposes.{rules_of}
-use Rattle.lot_machine.specs.Machine.{State, after, alone_after, can_go, go_of, is_possible, place_at, put, queue_at, queues_with_last, queues_without_first, reply_to, section_at, solo, state_after_act, state_after_go, state_after_hand_over_by, state_after_taking, state_with_sections, step_outcome, word_at}
+use Rattle.lot_machine.specs.Machine.{State, after, alone_after, can_go, go_of, is_possible, place_at, put}
+use Rattle.lot_machine.specs.Machine.{queue_at, queues_with_last, queues_without_first, reply_to, section_at}
+use Rattle.lot_machine.specs.Machine.{solo, state_after_act, state_after_go, state_after_hand_over_by}
+use Rattle.lot_machine.specs.Machine.{state_after_taking, state_with_sections, step_outcome, word_at}
 use Rattle.lot_machine.proofs.Acted.{acted_keeps}
 use Rattle.lot_machine.proofs.Shape.{both, performed_counts}
 use Rattle.lot_laws.specs.Refinement.{lock_state}
@@ -42,7 +48,8 @@ use Rattle.lot_laws.proofs.alone.WorldRuns.{world_after}
 
 -- ---------------------------------------------------------------- sections
 
-set_only : (t : ℕ) (ss : List (Option ℕ)) (key k : ℕ) (who : Option ℕ) → IsOnly t who → IsOnly t (get_or ss k None)
+set_only : (t : ℕ) (ss : List (Option ℕ)) (key k : ℕ) (who : Option ℕ) → IsOnly t who
+    → IsOnly t (get_or ss k None)
     → IsOnly t (get_or (set ss key who) k None)
 set_only t [] key k who new old = old
 set_only t (x ∷ ss) zero zero who new old = new
@@ -57,7 +64,8 @@ module _ (w : State) (t k : ℕ) (only : IsOnly t (section_at w k)) where
 
   filled_only : (keys : Keys) (who : Option ℕ) → IsOnly t who → OnlyIn (state_with_sections w keys who)
   filled_only (One key) who mine = set_only t w.sections key k who mine only
-  filled_only (Two first second) who mine = set_only t (set w.sections first who) second k who mine (set_only t w.sections first k who mine only)
+  filled_only (Two first second) who mine = set_only t (set w.sections first who) second k who mine
+      (set_only t w.sections first k who mine only)
 
   itself : IsOnly t (Some t)
   itself u e = let f : t ≡ u = cc in sym f
@@ -75,13 +83,15 @@ module _ (w : State) (t k : ℕ) (only : IsOnly t (section_at w k)) where
   acted_only p (act.Enter keys) = filled_only keys (Some t) itself
   acted_only p (act.Park l key check x) = by_check (holds check (word_at w l))
     where
-      by_check : (b : Bool) → OnlyIn (if b then record w { queues = queues_with_last w.queues key t x } else w)
+      by_check : (b : Bool) → OnlyIn (if b then record w { queues = queues_with_last w.queues key t x }
+          else w)
       by_check true = only
       by_check false = only
   acted_only p (act.Stand key x) = only
   acted_only p (act.Take key whoms.First) = by_first (first_of (queue_at w key))
     where
-      by_first : (o : Option ℕ) → OnlyIn (state_after_taking (record w { queues = queues_without_first w.queues key }) t o)
+      by_first : (o : Option ℕ) → OnlyIn
+          (state_after_taking (record w { queues = queues_without_first w.queues key }) t o)
       by_first None = only
       by_first (Some u) = only
   acted_only p (act.Take key (whoms.Picked start recursive)) = only
@@ -172,7 +182,8 @@ module _ (w : State) (t : ℕ) (world : IsWorld w) (way : IsUnobstructed w t) wh
   look_names c all is = by_shown (lock_state w c).shown refl
     where
       by_word : (m : ℕ) (b : Bool) → (lock_state w c).shown ≡ Some m
-          → NamesOnly Named (condvar_goes c (if b then next.End (notified all 0) else next.At (Notify all (mutex_shown (shown_as m)) notifies.Enter)))
+          → NamesOnly Named (condvar_goes c (if b then next.End (notified all 0) else next.At
+          (Notify all (mutex_shown (shown_as m)) notifies.Enter)))
       by_word m true e = idle_names Named
       by_word m false e = (
         (λ k h. elim h [
@@ -182,13 +193,17 @@ module _ (w : State) (t : ℕ) (world : IsWorld w) (way : IsUnobstructed w t) wh
         λ h. h,
       )
 
-      by_shown : (o : Option ℕ) → (lock_state w c).shown ≡ o → NamesOnly Named (condvar_goes c (look_next all (word_at w c)))
-      by_shown None e = subst (λ v. NamesOnly Named (condvar_goes c (look_next all v))) (sym (word_is w t c (Look all) world.steady is ∙ ap word_showing e)) (idle_names Named)
-      by_shown (Some m) e = subst (λ v. NamesOnly Named (condvar_goes c (look_next all v))) (sym (word_is w t c (Look all) world.steady is ∙ ap word_showing e)) (by_word m (shown_as m == 0) e)
+      by_shown : (o : Option ℕ) → (lock_state w c).shown ≡ o
+          → NamesOnly Named (condvar_goes c (look_next all (word_at w c)))
+      by_shown None e = subst (λ v. NamesOnly Named (condvar_goes c (look_next all v)))
+          (sym (word_is w t c (Look all) world.steady is ∙ ap word_showing e)) (idle_names Named)
+      by_shown (Some m) e = subst (λ v. NamesOnly Named (condvar_goes c (look_next all v)))
+          (sym (word_is w t c (Look all) world.steady is ∙ ap word_showing e)) (by_word m (shown_as m == 0) e)
 
   -- from any other place
   acted_names : (IsLook (place_at w t) → ⊥) → NamesOnly Named (place_at acted t)
-  acted_names other = acted_keeps (NamesOnly Named) w t t (place_at w t) (act_of (place_at w t)) (λ loud r b q h. names_next Named q r h)
+  acted_names other = acted_keeps (NamesOnly Named) w t t (place_at w t) (act_of (place_at w t))
+      (λ loud r b q h. names_next Named q r h)
       ((λ k h. elim h [ inl own ↦ inl own | inr beside ↦ inr (inl beside) ]), other)
 
   gone_names : NamesOnly Named (next_place (place_at acted t) told)
@@ -197,11 +212,14 @@ module _ (w : State) (t : ℕ) (world : IsWorld w) (way : IsUnobstructed w t) wh
       another : (IsLook (place_at w t) → ⊥) → NamesOnly Named (next_place (place_at acted t) told)
       another other = names_next Named (place_at acted t) told (acted_names other)
 
-      otherwise : (p : Place) → place_at w t ≡ p → (IsLook p → ⊥) → NamesOnly Named (next_place (place_at acted t) told)
+      otherwise : (p : Place) → place_at w t ≡ p → (IsLook p → ⊥)
+          → NamesOnly Named (next_place (place_at acted t) told)
       otherwise p is other = another (λ h. other (subst IsLook is h))
 
       by_place : (p : Place) → place_at w t ≡ p → NamesOnly Named (next_place (place_at acted t) told)
-      by_place (Condvar c (Look all)) is = subst (NamesOnly Named) (sym (λ i. next_place (there i) (reply_to w t (act_of (is i))))) (look_names c all is)
+      by_place (Condvar c (Look all)) is =
+          subst (NamesOnly Named) (sym (λ i. next_place (there i) (reply_to w t (act_of (is i)))))
+          (look_names c all is)
         where
           there : place_at acted t ≡ Condvar c (Look all)
           there = ap (λ p. place_at (state_after_act w t p (act_of p)) t) is ∙ is
@@ -218,15 +236,20 @@ module _ (w : State) (t : ℕ) (world : IsWorld w) (way : IsUnobstructed w t) wh
   way_after = either (is_possible w (go_of t)) refl
     where
       either : (b : Bool) → is_possible w (go_of t) ≡ b → IsUnobstructed (after w (go_of t)) t
-      either false e = subst (λ v. IsUnobstructed v t) (sym (ap (λ b. if b then state_after_go w t else w) e)) way
-      either true e = λ k u m may line inside. acted_only w t (key_of k m) (λ x f. way k x m (before k may) (subst (λ kind. HasLine (rules_of kind).sort m) (after_kinds w (go_of t) k) line) f)
-          (place_at w t) (act_of (place_at w t)) u (sym (ap (λ (v : State). section_at v (key_of k m)) led) ∙ inside)
+      either false e = subst (λ v. IsUnobstructed v t) (sym (ap (λ b. if b then state_after_go w t else w) e))
+          way
+      either true e = λ k u m may line inside. acted_only w t (key_of k m)
+          (λ x f. way k x m (before k may) (subst (λ kind. HasLine (rules_of kind).sort m)
+          (after_kinds w (go_of t) k) line) f)
+          (place_at w t) (act_of (place_at w t)) u (sym (ap (λ (v : State). section_at v (key_of k m)) led)
+          ∙ inside)
         where
           led : after w (go_of t) ≡ put acted t (next_place (place_at acted t) told)
           led = ap (λ b. if b then state_after_go w t else w) e
 
           there : t < length acted.places
-          there = rw ((performed_counts w t (place_at w t) (act_of (place_at w t))).0) (ltb-true t (length w.places) (both (nat_lt t (length w.places)) (can_go w t) e).0)
+          there = rw ((performed_counts w t (place_at w t) (act_of (place_at w t))).0)
+              (ltb-true t (length w.places) (both (nat_lt t (length w.places)) (can_go w t) e).0)
 
           stands : place_at (after w (go_of t)) t ≡ next_place (place_at acted t) told
           stands = ap (λ (v : State). place_at v t) led ∙ get_or-set_same acted.places t _ Idle there
@@ -234,11 +257,14 @@ module _ (w : State) (t : ℕ) (world : IsWorld w) (way : IsUnobstructed w t) wh
           before : (k : ℕ) → MayEnterOf (after w (go_of t)) (place_at (after w (go_of t)) t) k → Named k
           before k (inl own) = gone_names.0 k (inl (sym (ap called_lock stands) ∙ own))
           before k (inr (inl beside)) = gone_names.0 k (inr (sym (ap beside_of stands) ∙ beside))
-          before k (inr (inr shown)) = absurd (gone_names.1 (subst IsLook stands (looks_to_come (after w (go_of t)) (place_at (after w (go_of t)) t) k shown)))
+          before k (inr (inr shown)) = absurd
+              (gone_names.1 (subst IsLook stands (looks_to_come (after w (go_of t))
+              (place_at (after w (go_of t)) t) k shown)))
 
   -- No other thread bars it.
   unbarred_now : IsBarred w t → ⊥
-  unbarred_now b = let own = enters_own w t world b in b.another (way b.lock b.other b.line (may own.0) own.1 b.inside)
+  unbarred_now b = let own = enters_own w t world b
+      in b.another (way b.lock b.other b.line (may own.0) own.1 b.inside)
     where
       may : Names (place_at w t) b.lock → Named b.lock
       may (inl own) = inl own
@@ -246,11 +272,13 @@ module _ (w : State) (t : ℕ) (world : IsWorld w) (way : IsUnobstructed w t) wh
 
 -- ---------------------------------------------------------------- a run
 
-pub unbarred : (n : ℕ) (w : State) (t : ℕ) (last : Outcome) → IsWorld w → IsUnobstructed w t → IsBarred (solo n w t last).state t → ⊥
+pub unbarred : (n : ℕ) (w : State) (t : ℕ) (last : Outcome) → IsWorld w → IsUnobstructed w t
+    → IsBarred (solo n w t last).state t → ⊥
 unfolding solo
 unbarred zero w t last world way b = unbarred_now w t world way b
 unbarred (suc n) w t last world way b = by_outcome (step_outcome w (go_of t))
-    (λ c. unbarred n (after w (go_of t)) t outcome.Step (world_after w (go_of t) world) (way_after w t world way) c) b
+    (λ c. unbarred n (after w (go_of t)) t outcome.Step (world_after w (go_of t) world)
+    (way_after w t world way) c) b
   where
     v : State
     v = after w (go_of t)

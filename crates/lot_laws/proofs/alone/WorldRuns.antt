@@ -1,11 +1,13 @@
 -- Steps one after another, and steps of a thread alone, are a run of the world.
-use Rattle.std.proofs.Common.{ℕ, zero, suc, ◌≡◌, ◌≤◌, List, [], ◌∷◌, ◌++◌, length, replicate, refl, sym, ap, ◌∙◌, subst, arith}
+use Rattle.std.proofs.Common.{ℕ, zero, suc, ◌≡◌, ◌≤◌, List, [], ◌∷◌, ◌++◌, length, replicate, refl, sym, ap}
+use Rattle.std.proofs.Common.{◌∙◌, subst, arith}
 use Rattle.spec_locks.specs.declared.calls.Step.{Step}
 use Rattle.spec_locks.specs.declared.outcomes.Outcome.{Outcome}
 use Rattle.spec_locks.specs.declared.outcomes.Outcome as outcome
 use Rattle.spec_locks.specs.Runs.{IsRun, IsStep, LocksState}
 use Rattle.spec_locks.specs.UserLaws.{OfEachStep}
-use Rattle.lot_machine.specs.Machine.{State, after, step_outcome, after_steps, step_outcomes, alone_after, go_of, solo}
+use Rattle.lot_machine.specs.Machine.{State, after, step_outcome, after_steps, step_outcomes, alone_after}
+use Rattle.lot_machine.specs.Machine.{go_of, solo}
 use Rattle.lot_laws.specs.Promises.{IsKept}
 use Rattle.lot_laws.specs.Refinement.{locks_of}
 use Rattle.lot_laws.specs.WorldRuns.{IsWorldStep, IsWorldRun, Tells}
@@ -40,7 +42,8 @@ pub world_kept : (w : State) → IsWorld w → IsKept w
 world_kept w h = kept w h.steady h.condvars h.settled
 
 -- each step is one of the abstract locks
-pub step_is : (w : State) (s : Step) → IsWorld w → IsStep (locks_of w) s (step_outcome w s) (locks_of (after w s))
+pub step_is : (w : State) (s : Step) → IsWorld w → IsStep (locks_of w) s (step_outcome w s)
+    (locks_of (after w s))
 step_is w s h = let turned = after_step w s h.shaped h.steady h.counted h.condvars in
     (turned.0, turned.1, leaves_others w s (world_kept w h) (world_kept (after w s) (world_after w s h)))
 
@@ -61,9 +64,11 @@ world_step w s h = record {
 -- a fact of each step of the abstract locks is one of each step of the world
 pub of_step : {law : LocksState → LocksState → Type 0} → OfEachStep law → (w : State) (s : Step) → IsWorld w
     → law (locks_of w) (locks_of (after w s))
-of_step each w s h = each (locks_of w) (locks_of (after w s)) s (step_outcome w s) (world_kept w h).state (step_is w s h)
+of_step each w s h = each (locks_of w) (locks_of (after w s)) s (step_outcome w s) (world_kept w h).state
+    (step_is w s h)
 
-pub world_run : (w : State) (ss : List Step) → IsWorld w → IsWorldRun w ss (step_outcomes w ss) (after_steps w ss)
+pub world_run : (w : State) (ss : List Step) → IsWorld w → IsWorldRun w ss (step_outcomes w ss)
+    (after_steps w ss)
 world_run w [] h = refl
 world_run w (s ∷ ss) h = (after w s, world_step w s h, world_run (after w s) ss (world_after w s h))
 
@@ -77,13 +82,24 @@ run_refines w v (s ∷ ss) (o ∷ os) h = (locks_of h.0, h.1.refines, run_refine
 
 -- ---------------------------------------------------------------- new text stands behind the old
 
-module _ (w v : State) (ss : List Step) (before now : List Outcome) (h : IsWorld w) (led : v ≡ after_steps w ss)
+module _ (w v : State) (ss : List Step) (before now : List Outcome) (h : IsWorld w) (led : v
+    ≡ after_steps w ss)
     (answers : now ≡ before ++ step_outcomes w ss) where
   pub tells_run : Tells before now (λ told. IsWorldRun w ss told v)
-  tells_run = (step_outcomes w ss, answers, subst (IsWorldRun w ss (step_outcomes w ss)) (sym led) (world_run w ss h))
+  tells_run = (
+    step_outcomes w ss,
+    answers,
+    subst (IsWorldRun w ss (step_outcomes w ss)) (sym led)
+        (world_run w ss h),
+  )
 
   pub tells_refines : Tells before now (λ told. IsRun (locks_of w) ss told (locks_of v))
-  tells_refines = (step_outcomes w ss, answers, run_refines w v ss (step_outcomes w ss) (subst (IsWorldRun w ss (step_outcomes w ss)) (sym led) (world_run w ss h)))
+  tells_refines = (
+    step_outcomes w ss,
+    answers,
+    run_refines w v ss (step_outcomes w ss)
+        (subst (IsWorldRun w ss (step_outcomes w ss)) (sym led) (world_run w ss h)),
+  )
 
 -- ---------------------------------------------------------------- a thread alone
 
@@ -95,7 +111,8 @@ record GoesFor (n : ℕ) (w : State) (t : ℕ) (last result : Outcome) (v : Stat
   pub goes_on : GoesOnUntil told
   pub result_is : result ≡ last_told (last ∷ told)
 
-goes_more : (o : Outcome) (told : List Outcome) → o ≡ outcome.TheVariants.Step → GoesOnUntil told → GoesOnUntil (o ∷ told)
+goes_more : (o : Outcome) (told : List Outcome) → o ≡ outcome.TheVariants.Step → GoesOnUntil told
+    → GoesOnUntil (o ∷ told)
 goes_more o [] e h = λ f. let g : outcome.TheVariants.Step ≡ outcome.TheVariants.NotNow = sym e ∙ f in cc
 goes_more o (x ∷ told) e h = (e, h)
 
@@ -103,26 +120,46 @@ goes_for : (n : ℕ) (w : State) (t : ℕ) (last : Outcome) → IsWorld w
     → GoesFor n w t last (solo n w t last).outcome (solo n w t last).state
 unfolding solo
 goes_for zero w t last h = record { told = []; few = omega arith; run = refl; goes_on = tt; result_is = refl }
-goes_for (suc n) w t last h = by_outcome (step_outcome w (go_of t)) refl (goes_for n (after w (go_of t)) t outcome.TheVariants.Step (world_after w (go_of t) h))
+goes_for (suc n) w t last h = by_outcome (step_outcome w (go_of t)) refl (goes_for n (after w (go_of t)) t
+    outcome.TheVariants.Step (world_after w (go_of t) h))
   where
     by_outcome : (o : Outcome) → step_outcome w (go_of t) ≡ o
-        → GoesFor n (after w (go_of t)) t outcome.TheVariants.Step (solo n (after w (go_of t)) t outcome.TheVariants.Step).outcome
+        → GoesFor n (after w (go_of t)) t outcome.TheVariants.Step (solo n (after w (go_of t)) t
+        outcome.TheVariants.Step).outcome
         (solo n (after w (go_of t)) t outcome.TheVariants.Step).state
         → GoesFor (suc n) w t last
-        (alone_after o w (after w (go_of t)) last (solo n (after w (go_of t)) t outcome.TheVariants.Step)).outcome
-        (alone_after o w (after w (go_of t)) last (solo n (after w (go_of t)) t outcome.TheVariants.Step)).state
-    by_outcome outcome.TheVariants.NotNow e more = record { told = []; few = omega arith; run = refl; goes_on = tt; result_is = refl }
+        (alone_after o w (after w (go_of t)) last (solo n (after w (go_of t)) t
+        outcome.TheVariants.Step)).outcome
+        (alone_after o w (after w (go_of t)) last (solo n (after w (go_of t)) t
+        outcome.TheVariants.Step)).state
+    by_outcome outcome.TheVariants.NotNow e more = record {
+      told = [];
+      few = omega arith;
+      run = refl;
+      goes_on = tt;
+      result_is = refl;
+    }
     by_outcome outcome.TheVariants.Step e more = record {
       told = outcome.TheVariants.Step ∷ more.told;
       few = let le : length more.told ≤ n = more.few in omega arith;
-      run = (after w (go_of t), subst (λ o. IsWorldStep w (go_of t) o (after w (go_of t))) e (world_step w (go_of t) h), more.run);
+      run = (
+        after w (go_of t),
+        subst (λ o. IsWorldStep w (go_of t) o (after w (go_of t))) e
+            (world_step w (go_of t) h),
+        more.run,
+      );
       goes_on = goes_more outcome.TheVariants.Step more.told refl more.goes_on;
       result_is = more.result_is;
     }
     by_outcome o e more = record {
       told = o ∷ [];
       few = omega arith;
-      run = (after w (go_of t), subst (λ x. IsWorldStep w (go_of t) x (after w (go_of t))) e (world_step w (go_of t) h), refl);
+      run = (
+        after w (go_of t),
+        subst (λ x. IsWorldStep w (go_of t) x (after w (go_of t))) e
+            (world_step w (go_of t) h),
+        refl,
+      );
       goes_on = λ f. cc;
       result_is = refl;
     }
@@ -140,11 +177,24 @@ last_is result [] e = e
 last_is result (o ∷ told) e = e
 
 pub runs_alone : (n : ℕ) (w : State) (t : ℕ) → IsWorld w
-    → RunsAlone w t (solo n w t outcome.TheVariants.NotNow).outcome (solo n w t outcome.TheVariants.NotNow).state
+    → RunsAlone w t (solo n w t outcome.TheVariants.NotNow).outcome
+    (solo n w t outcome.TheVariants.NotNow).state
 runs_alone n w t h = let g = goes_for n w t outcome.TheVariants.NotNow h in
-    record { told = g.told; run = g.run; goes_on = g.goes_on; last = last_is (solo n w t outcome.TheVariants.NotNow).outcome g.told g.result_is }
+    record {
+      told = g.told;
+      run = g.run;
+      goes_on = g.goes_on;
+      last = last_is (solo n w t outcome.TheVariants.NotNow).outcome g.told g.result_is;
+    }
 
 pub solo_runs : (w : State) (t : ℕ) → IsWorld w
-    → IsSoloRun w t (solo 64 w t outcome.TheVariants.NotNow).outcome (solo 64 w t outcome.TheVariants.NotNow).state
+    → IsSoloRun w t (solo 64 w t outcome.TheVariants.NotNow).outcome
+    (solo 64 w t outcome.TheVariants.NotNow).state
 solo_runs w t h = let g = goes_for 64 w t outcome.TheVariants.NotNow h in
-    record { told = g.told; few = g.few; run = g.run; goes_on = g.goes_on; last = last_is (solo 64 w t outcome.TheVariants.NotNow).outcome g.told g.result_is }
+    record {
+      told = g.told;
+      few = g.few;
+      run = g.run;
+      goes_on = g.goes_on;
+      last = last_is (solo 64 w t outcome.TheVariants.NotNow).outcome g.told g.result_is;
+    }

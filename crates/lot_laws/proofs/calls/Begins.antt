@@ -1,5 +1,6 @@
 -- How calls begin: a thread that may begin one can, and its call is then the one that it has begun.
-use Rattle.std.proofs.Common.{ℕ, Bool, true, false, Some, None, ◌&&◌, ◌==◌, not, ◌≡◌, ◌<◌, ◌≤◌, length, refl, sym, ◌∙◌, subst, nat_lt, arith}
+use Rattle.std.proofs.Common.{ℕ, Bool, true, false, Some, None, ◌&&◌, ◌==◌, not, ◌≡◌, ◌<◌, ◌≤◌, length, refl}
+use Rattle.std.proofs.Common.{sym, ◌∙◌, subst, nat_lt, arith}
 use Rattle.spec_locks.specs.Purposes.{rules_of}
 use Rattle.spec_locks.specs.Locks as locks
 use Rattle.spec_locks.specs.declared.calls.OnceCall.TheVariants as once_call
@@ -21,23 +22,27 @@ use Rattle.spec_locks.specs.declared.calls.MutexCall.{MutexCall}
 use Rattle.spec_locks.specs.declared.calls.MutexCall as mutex_call
 use Rattle.spec_locks.specs.Kinds.{has_call, is_fair}
 use Rattle.spec_locks.specs.declared.outcomes.Outcome as outcome
-use Rattle.steps_mutex.specs.declared.places.MutexPlace.TheVariants.{Lock, TryLock, Unlock, UnlockFair, Bump, HandOff}
+use Rattle.steps_mutex.specs.declared.places.MutexPlace.TheVariants.{Lock, TryLock, Unlock, UnlockFair, Bump}
+use Rattle.steps_mutex.specs.declared.places.MutexPlace.TheVariants.{HandOff}
 use Rattle.lot_steps.specs.declared.places.Place.{Place}
 use Rattle.lot_steps.specs.declared.places.Place.TheVariants.{Idle, Mutex, RwLock, Once, Condvar, Semaphore}
 use Rattle.steps_mutex.specs.MutexSteps.{mutex_first, mutex_right}
 use Rattle.lot_steps.specs.Steps.{is_idle, has_right}
-use Rattle.lot_machine.specs.Machine.{State, place_at, owners_at, kind_at, state_after_begin, can_begin, is_open_to, share_at}
+use Rattle.lot_machine.specs.Machine.{State, place_at, owners_at, kind_at, state_after_begin, can_begin}
+use Rattle.lot_machine.specs.Machine.{is_open_to, share_at}
 use Rattle.lot_machine.specs.Fits.{IsWellFormed}
 use Rattle.lot_machine.proofs.Shape.{both}
 use Rattle.lot_laws.specs.SitesOf.{IsInductive, is_mutex, rules_in}
 use Rattle.spec_locks.specs.Locks.{Rights}
 use Rattle.spec_locks.specs.Runs.{LocksState, Stays, MayBegin, HasRight, purpose_at, new_call}
-use Rattle.spec_locks.specs.Purposes.{purpose_of, mutex_purpose, rwlock_purpose, once_purpose, semaphore_purpose}
+use Rattle.spec_locks.specs.Purposes.{purpose_of, mutex_purpose, rwlock_purpose, once_purpose}
+use Rattle.spec_locks.specs.Purposes.{semaphore_purpose}
 use Rattle.lot_laws.specs.Refinement.{owner_at, taken_at, call_state, locks_of}
 use Rattle.lot_laws.proofs.machine.KindsStay.{calls_mutex, calls_readers, calls_once, calls_semaphore}
 use Rattle.lot_laws.proofs.condvar.Begins.{condvar_begun, condvar_may}
 use Rattle.lot_laws.proofs.machine.PlacesAlone.{placed}
-use Rattle.lot_laws.proofs.rwlock.Events.{rwlock_begins_with, rwlock_purpose_is, rwlock_right_held, rwlock_right_needed, rwlock_untaken_first}
+use Rattle.lot_laws.proofs.rwlock.Events.{rwlock_begins_with, rwlock_purpose_is, rwlock_right_held}
+use Rattle.lot_laws.proofs.rwlock.Events.{rwlock_right_needed, rwlock_untaken_first}
 use Rattle.steps_rwlock.specs.RwLockBegins.{admission_of_kind}
 use Rattle.steps_rwlock_fair.specs.FairBegins.{call_first, call_right}
 use Rattle.steps_condvar.specs.declared.places.CondvarPlace.TheVariants as condvars
@@ -73,7 +78,8 @@ semaphore_begins_with l (semaphore_call.Acquire Timed) r = refl
 semaphore_begins_with l (semaphore_call.Acquire Try) r = refl
 semaphore_begins_with l semaphore_call.Release r = refl
 
-no_purpose : (w : LocksState) (t : ℕ) (k : Kind) (c : Call) → has_call k c ≡ false → HasRight w t (purpose_of k c) → ⊥
+no_purpose : (w : LocksState) (t : ℕ) (k : Kind) (c : Call) → has_call k c ≡ false
+    → HasRight w t (purpose_of k c) → ⊥
 no_purpose w t kind.TheVariants.Mutex (call.TheVariants.Mutex l c) h r = absurd cc
 no_purpose w t kind.TheVariants.Fair (call.TheVariants.Mutex l c) h r = absurd cc
 no_purpose w t (kind.TheVariants.RwLock limit) (call.TheVariants.RwLock l c) h r = absurd cc
@@ -150,67 +156,102 @@ permit_held : (w : State) (t l : ℕ) (c : SemaphoreCall) → semaphore_right c 
 permit_held w t l (semaphore_call.Acquire how) h = tt
 permit_held w t l semaphore_call.Release h = some_held (share_at w l t) h
 
-permit_needed : (w : State) (t l : ℕ) (c : SemaphoreCall) → HasRight (locks_of w) t (Some (semaphore_purpose l c))
+permit_needed : (w : State) (t l : ℕ) (c : SemaphoreCall)
+    → HasRight (locks_of w) t (Some (semaphore_purpose l c))
     → semaphore_right c (share_at w l t) ≡ true
 permit_needed w t l (semaphore_call.Acquire how) h = refl
 permit_needed w t l semaphore_call.Release h = held_some (share_at w l t) h
 
-pub begin_goes : (w : State) (t : ℕ) (c : Call) → IsWellFormed w → IsInductive w → t < length w.places → can_begin w t c ≡ true
+pub begin_goes : (w : State) (t : ℕ) (c : Call) → IsWellFormed w → IsInductive w → t < length w.places
+    → can_begin w t c ≡ true
     → MayBegin (locks_of w) t c
     × Stays (locks_of w) t (new_call (purpose_at (locks_of w) c) (rights w t)) outcome.TheVariants.Step
     (locks_of (state_after_begin w t c))
 begin_goes w t (call.TheVariants.RwLock l c) shape steady there can = (
-  record { thread = there; idle = rw idle refl; lock = ltb-true l (length w.locks) open_to.0; right = rw (rwlock_purpose_is (kind_at w l) l c is_kind) (rwlock_right_held w t l c held.1) },
-  placed w t there w.sections Idle (RwLock l (admission_of_kind (kind_at w l)) (call_first c)) idle (rwlock_untaken_first l (admission_of_kind (kind_at w l)) c) _
-      (λ r e. rwlock_begins_with l (admission_of_kind (kind_at w l)) c r ∙ (λ i. new_call (sym (rwlock_purpose_is (kind_at w l) l c is_kind) i) (e i))),
+  record {
+    thread = there;
+    idle = rw idle refl;
+    lock = ltb-true l (length w.locks) open_to.0;
+    right = rw (rwlock_purpose_is (kind_at w l) l c is_kind) (rwlock_right_held w t l c held.1);
+  },
+  placed w t there w.sections Idle (RwLock l (admission_of_kind (kind_at w l)) (call_first c)) idle
+      (rwlock_untaken_first l (admission_of_kind (kind_at w l)) c) _
+      (λ r e. rwlock_begins_with l (admission_of_kind (kind_at w l)) c r
+      ∙ (λ i. new_call (sym (rwlock_purpose_is (kind_at w l) l c is_kind) i) (e i))),
 )
   where
     idle : place_at w t ≡ Idle
-    idle = idle_is (place_at w t) (both (is_idle (place_at w t)) (is_open_to w t (call.TheVariants.RwLock l c)) can).0
+    idle = idle_is (place_at w t) (both (is_idle (place_at w t))
+        (is_open_to w t (call.TheVariants.RwLock l c)) can).0
 
     open_to : (nat_lt l (length w.locks) ≡ true)
-        × ((has_call (kind_at w l) (call.TheVariants.RwLock l c) && has_right (call.TheVariants.RwLock l c) t (owners_at w l) (share_at w l t)) ≡ true)
-    open_to = both (nat_lt l (length w.locks)) _ (both (is_idle (place_at w t)) (is_open_to w t (call.TheVariants.RwLock l c)) can).1
+        × ((has_call (kind_at w l) (call.TheVariants.RwLock l c) && has_right (call.TheVariants.RwLock l c) t
+        (owners_at w l) (share_at w l t)) ≡ true)
+    open_to = both (nat_lt l (length w.locks)) _ (both (is_idle (place_at w t))
+        (is_open_to w t (call.TheVariants.RwLock l c)) can).1
 
     held : (has_call (kind_at w l) (call.TheVariants.RwLock l c) ≡ true)
         × (call_right c t (owners_at w l) (share_at w l t) ≡ true)
-    held = both (has_call (kind_at w l) (call.TheVariants.RwLock l c)) (call_right c t (owners_at w l) (share_at w l t)) open_to.1
+    held = both (has_call (kind_at w l) (call.TheVariants.RwLock l c)) (call_right c t (owners_at w l)
+        (share_at w l t)) open_to.1
 
     is_kind : has_readers (rules_in w l).sort ≡ true
     is_kind = calls_readers (kind_at w l) l c held.0
 begin_goes w t (call.TheVariants.Once l c) shape steady there can = (
-  record { thread = there; idle = rw idle refl; lock = ltb-true l (length w.locks) open_to.0; right = rw (once_purpose_is (kind_at w l) l c is_kind) (once_right l c) },
-  placed w t there w.sections Idle (Once l (once_first c)) idle (λ k. refl) _ (λ r e. once_begins_with l c r ∙ (λ i. new_call (sym (once_purpose_is (kind_at w l) l c is_kind) i) (e i))),
+  record {
+    thread = there;
+    idle = rw idle refl;
+    lock = ltb-true l (length w.locks) open_to.0;
+    right = rw (once_purpose_is (kind_at w l) l c is_kind) (once_right l c);
+  },
+  placed w t there w.sections Idle (Once l (once_first c)) idle (λ k. refl) _ (λ r e. once_begins_with l c r
+      ∙ (λ i. new_call (sym (once_purpose_is (kind_at w l) l c is_kind) i) (e i))),
 )
   where
     idle : place_at w t ≡ Idle
-    idle = idle_is (place_at w t) (both (is_idle (place_at w t)) (is_open_to w t (call.TheVariants.Once l c)) can).0
+    idle = idle_is (place_at w t) (both (is_idle (place_at w t)) (is_open_to w t (call.TheVariants.Once l c))
+        can).0
 
     open_to : (nat_lt l (length w.locks) ≡ true)
-        × ((has_call (kind_at w l) (call.TheVariants.Once l c) && has_right (call.TheVariants.Once l c) t (owners_at w l) (share_at w l t)) ≡ true)
-    open_to = both (nat_lt l (length w.locks)) _ (both (is_idle (place_at w t)) (is_open_to w t (call.TheVariants.Once l c)) can).1
+        × ((has_call (kind_at w l) (call.TheVariants.Once l c) && has_right (call.TheVariants.Once l c) t
+        (owners_at w l) (share_at w l t)) ≡ true)
+    open_to = both (nat_lt l (length w.locks)) _ (both (is_idle (place_at w t))
+        (is_open_to w t (call.TheVariants.Once l c)) can).1
 
     is_kind : (rules_in w l).sort ≡ locks.Once
-    is_kind = calls_once (kind_at w l) l c (both (has_call (kind_at w l) (call.TheVariants.Once l c)) _ open_to.1).0
+    is_kind = calls_once (kind_at w l) l c (both (has_call (kind_at w l) (call.TheVariants.Once l c)) _
+        open_to.1).0
 
     once_right : (l : ℕ) (c : OnceCall) → HasRight (locks_of w) t (Some (once_purpose l c))
     once_right l (once_call.CallOnce forced) = tt
     once_right l (once_call.Wait forced) = tt
     once_right l once_call.WaitTimed = tt
 begin_goes w t (call.TheVariants.Semaphore l c) shape steady there can = (
-  record { thread = there; idle = rw idle refl; lock = ltb-true l (length w.locks) open_to.0; right = rw (semaphore_purpose_is (kind_at w l) l c is_kind) (permit_held w t l c held.1) },
-  placed w t there w.sections Idle (Semaphore l (semaphore_first c)) idle (untaken c) _ (λ r e. semaphore_begins_with l c r ∙ (λ i. new_call (sym (semaphore_purpose_is (kind_at w l) l c is_kind) i) (e i))),
+  record {
+    thread = there;
+    idle = rw idle refl;
+    lock = ltb-true l (length w.locks) open_to.0;
+    right = rw (semaphore_purpose_is (kind_at w l) l c is_kind) (permit_held w t l c held.1);
+  },
+  placed w t there w.sections Idle (Semaphore l (semaphore_first c)) idle (untaken c) _
+      (λ r e. semaphore_begins_with l c r
+      ∙ (λ i. new_call (sym (semaphore_purpose_is (kind_at w l) l c is_kind) i) (e i))),
 )
   where
     idle : place_at w t ≡ Idle
-    idle = idle_is (place_at w t) (both (is_idle (place_at w t)) (is_open_to w t (call.TheVariants.Semaphore l c)) can).0
+    idle = idle_is (place_at w t) (both (is_idle (place_at w t))
+        (is_open_to w t (call.TheVariants.Semaphore l c)) can).0
 
     open_to : (nat_lt l (length w.locks) ≡ true)
-        × ((has_call (kind_at w l) (call.TheVariants.Semaphore l c) && has_right (call.TheVariants.Semaphore l c) t (owners_at w l) (share_at w l t)) ≡ true)
-    open_to = both (nat_lt l (length w.locks)) _ (both (is_idle (place_at w t)) (is_open_to w t (call.TheVariants.Semaphore l c)) can).1
+        × ((has_call (kind_at w l) (call.TheVariants.Semaphore l c) && has_right
+        (call.TheVariants.Semaphore l c) t (owners_at w l) (share_at w l t)) ≡ true)
+    open_to = both (nat_lt l (length w.locks)) _ (both (is_idle (place_at w t))
+        (is_open_to w t (call.TheVariants.Semaphore l c)) can).1
 
-    held : (has_call (kind_at w l) (call.TheVariants.Semaphore l c) ≡ true) × (semaphore_right c (share_at w l t) ≡ true)
-    held = both (has_call (kind_at w l) (call.TheVariants.Semaphore l c)) (semaphore_right c (share_at w l t)) open_to.1
+    held : (has_call (kind_at w l) (call.TheVariants.Semaphore l c) ≡ true)
+        × (semaphore_right c (share_at w l t) ≡ true)
+    held = both (has_call (kind_at w l) (call.TheVariants.Semaphore l c)) (semaphore_right c (share_at w l t))
+        open_to.1
 
     is_kind : (rules_in w l).sort ≡ locks.Semaphore
     is_kind = calls_semaphore (kind_at w l) l c held.0
@@ -221,62 +262,102 @@ begin_goes w t (call.TheVariants.Semaphore l c) shape steady there can = (
     untaken (semaphore_call.Acquire Try) k = refl
     untaken semaphore_call.Release k = refl
 begin_goes w t (call.TheVariants.Condvar l c) shape steady there can =
-    condvar_begun w t l c (idle_is (place_at w t) (both (is_idle (place_at w t)) (is_open_to w t (call.TheVariants.Condvar l c)) can).0) there can
+    condvar_begun w t l c (idle_is (place_at w t) (both (is_idle (place_at w t))
+    (is_open_to w t (call.TheVariants.Condvar l c)) can).0) there can
 begin_goes w t (call.TheVariants.Mutex l c) shape steady there can = (
-  record { thread = there; idle = rw idle refl; lock = ltb-true l (length w.locks) open_to.0; right = rw (purpose_is (kind_at w l) l c is_kind) (right_held w t l (is_fair (kind_at w l)) c held.1) },
-  placed w t there w.sections Idle (Mutex l (mutex_first (is_fair (kind_at w l)) c)) idle (untaken_first w t l (is_fair (kind_at w l)) c) _
-      (λ r e. begins_with w t l (is_fair (kind_at w l)) c r ∙ (λ i. new_call (sym (purpose_is (kind_at w l) l c is_kind) i) (e i))),
+  record {
+    thread = there;
+    idle = rw idle refl;
+    lock = ltb-true l (length w.locks) open_to.0;
+    right = rw (purpose_is (kind_at w l) l c is_kind) (right_held w t l (is_fair (kind_at w l)) c held.1);
+  },
+  placed w t there w.sections Idle (Mutex l (mutex_first (is_fair (kind_at w l)) c)) idle
+      (untaken_first w t l (is_fair (kind_at w l)) c) _
+      (λ r e. begins_with w t l (is_fair (kind_at w l)) c r
+      ∙ (λ i. new_call (sym (purpose_is (kind_at w l) l c is_kind) i) (e i))),
 )
   where
     idle : place_at w t ≡ Idle
-    idle = idle_is (place_at w t) (both (is_idle (place_at w t)) (is_open_to w t (call.TheVariants.Mutex l c)) can).0
+    idle = idle_is (place_at w t) (both (is_idle (place_at w t)) (is_open_to w t (call.TheVariants.Mutex l c))
+        can).0
 
     open_to : (nat_lt l (length w.locks) ≡ true)
-        × ((has_call (kind_at w l) (call.TheVariants.Mutex l c) && has_right (call.TheVariants.Mutex l c) t (owners_at w l) (share_at w l t)) ≡ true)
-    open_to = both (nat_lt l (length w.locks)) _ (both (is_idle (place_at w t)) (is_open_to w t (call.TheVariants.Mutex l c)) can).1
+        × ((has_call (kind_at w l) (call.TheVariants.Mutex l c) && has_right (call.TheVariants.Mutex l c) t
+        (owners_at w l) (share_at w l t)) ≡ true)
+    open_to = both (nat_lt l (length w.locks)) _ (both (is_idle (place_at w t))
+        (is_open_to w t (call.TheVariants.Mutex l c)) can).1
 
-    held : (has_call (kind_at w l) (call.TheVariants.Mutex l c) ≡ true) × (mutex_right c t (owners_at w l) ≡ true)
-    held = both (has_call (kind_at w l) (call.TheVariants.Mutex l c)) (mutex_right c t (owners_at w l)) open_to.1
+    held : (has_call (kind_at w l) (call.TheVariants.Mutex l c) ≡ true)
+        × (mutex_right c t (owners_at w l) ≡ true)
+    held = both (has_call (kind_at w l) (call.TheVariants.Mutex l c)) (mutex_right c t (owners_at w l))
+        open_to.1
 
     is_kind : is_mutex (kind_at w l) ≡ true
     is_kind = calls_mutex (kind_at w l) l c held.0
 
 -- a call that may begin can
 begin_refused : (w : State) (t : ℕ) (c : Call) → can_begin w t c ≡ false → MayBegin (locks_of w) t c → ⊥
-begin_refused w t (call.TheVariants.RwLock l c) cannot may = let idle : is_idle (place_at w t) ≡ true = no_call_idle (place_at w t) (rights w t) may.idle in
-    let there : nat_lt l (length w.locks) ≡ true = lt-ltb l (length w.locks) may.lock in either (has_call (kind_at w l) (call.TheVariants.RwLock l c)) refl idle there
+begin_refused w t (call.TheVariants.RwLock l c) cannot may = let idle : is_idle (place_at w t) ≡ true =
+    no_call_idle (place_at w t) (rights w t) may.idle in
+    let there : nat_lt l (length w.locks) ≡ true = lt-ltb l (length w.locks) may.lock
+    in either (has_call (kind_at w l) (call.TheVariants.RwLock l c)) refl idle there
   where
-    either : (b : Bool) → has_call (kind_at w l) (call.TheVariants.RwLock l c) ≡ b → is_idle (place_at w t) ≡ true
+    either : (b : Bool) → has_call (kind_at w l) (call.TheVariants.RwLock l c) ≡ b → is_idle (place_at w t)
+        ≡ true
         → nat_lt l (length w.locks) ≡ true → ⊥
-    either false e idle there = no_purpose (locks_of w) t (kind_at w l) (call.TheVariants.RwLock l c) e may.right
-    either true e idle there = let right : HasRight (locks_of w) t (Some (rwlock_purpose l c)) = subst (HasRight (locks_of w) t) (rwlock_purpose_is (kind_at w l) l c (calls_readers (kind_at w l) l c e)) may.right in
-        let held : call_right c t (owners_at w l) (share_at w l t) ≡ true = rwlock_right_needed w t l c right in cc
-begin_refused w t (call.TheVariants.Once l c) cannot may = let idle : is_idle (place_at w t) ≡ true = no_call_idle (place_at w t) (rights w t) may.idle in
-    let there : nat_lt l (length w.locks) ≡ true = lt-ltb l (length w.locks) may.lock in either (has_call (kind_at w l) (call.TheVariants.Once l c)) refl idle there
+    either false e idle there = no_purpose (locks_of w) t (kind_at w l) (call.TheVariants.RwLock l c) e
+        may.right
+    either true e idle there = let right : HasRight (locks_of w) t (Some (rwlock_purpose l c)) =
+        subst (HasRight (locks_of w) t) (rwlock_purpose_is (kind_at w l) l c
+        (calls_readers (kind_at w l) l c e)) may.right in
+        let held : call_right c t (owners_at w l) (share_at w l t) ≡ true = rwlock_right_needed w t l c right
+        in cc
+begin_refused w t (call.TheVariants.Once l c) cannot may = let idle : is_idle (place_at w t) ≡ true =
+    no_call_idle (place_at w t) (rights w t) may.idle in
+    let there : nat_lt l (length w.locks) ≡ true = lt-ltb l (length w.locks) may.lock
+    in either (has_call (kind_at w l) (call.TheVariants.Once l c)) refl idle there
   where
-    either : (b : Bool) → has_call (kind_at w l) (call.TheVariants.Once l c) ≡ b → is_idle (place_at w t) ≡ true
+    either : (b : Bool) → has_call (kind_at w l) (call.TheVariants.Once l c) ≡ b → is_idle (place_at w t)
+        ≡ true
         → nat_lt l (length w.locks) ≡ true → ⊥
-    either false e idle there = no_purpose (locks_of w) t (kind_at w l) (call.TheVariants.Once l c) e may.right
-    either true e idle there = let open_now : can_begin w t (call.TheVariants.Once l c) ≡ true = rw (idle, there, e) refl in let f : true ≡ false = sym open_now ∙ cannot in cc
-begin_refused w t (call.TheVariants.Semaphore l c) cannot may = let idle : is_idle (place_at w t) ≡ true = no_call_idle (place_at w t) (rights w t) may.idle in
-    let there : nat_lt l (length w.locks) ≡ true = lt-ltb l (length w.locks) may.lock in either (has_call (kind_at w l) (call.TheVariants.Semaphore l c)) refl idle there
+    either false e idle there = no_purpose (locks_of w) t (kind_at w l) (call.TheVariants.Once l c) e
+        may.right
+    either true e idle there = let open_now : can_begin w t (call.TheVariants.Once l c) ≡ true =
+        rw (idle, there, e) refl in let f : true ≡ false = sym open_now ∙ cannot in cc
+begin_refused w t (call.TheVariants.Semaphore l c) cannot may = let idle : is_idle (place_at w t) ≡ true =
+    no_call_idle (place_at w t) (rights w t) may.idle in
+    let there : nat_lt l (length w.locks) ≡ true = lt-ltb l (length w.locks) may.lock
+    in either (has_call (kind_at w l) (call.TheVariants.Semaphore l c)) refl idle there
   where
-    either : (b : Bool) → has_call (kind_at w l) (call.TheVariants.Semaphore l c) ≡ b → is_idle (place_at w t) ≡ true
+    either : (b : Bool) → has_call (kind_at w l) (call.TheVariants.Semaphore l c) ≡ b → is_idle (place_at w t)
+        ≡ true
         → nat_lt l (length w.locks) ≡ true → ⊥
-    either false e idle there = no_purpose (locks_of w) t (kind_at w l) (call.TheVariants.Semaphore l c) e may.right
-    either true e idle there = let right : HasRight (locks_of w) t (Some (semaphore_purpose l c)) = subst (HasRight (locks_of w) t) (semaphore_purpose_is (kind_at w l) l c (calls_semaphore (kind_at w l) l c e)) may.right in
+    either false e idle there = no_purpose (locks_of w) t (kind_at w l) (call.TheVariants.Semaphore l c) e
+        may.right
+    either true e idle there = let right : HasRight (locks_of w) t (Some (semaphore_purpose l c)) =
+        subst (HasRight (locks_of w) t) (semaphore_purpose_is (kind_at w l) l c
+        (calls_semaphore (kind_at w l) l c e)) may.right in
         let held : semaphore_right c (share_at w l t) ≡ true = permit_needed w t l c right in cc
 begin_refused w t (call.TheVariants.Condvar l c) cannot may =
-    let can : can_begin w t (call.TheVariants.Condvar l c) ≡ true = condvar_may w t l c (no_call_idle (place_at w t) (rights w t) may.idle) may in let f : true ≡ false = sym can ∙ cannot in cc
-begin_refused w t (call.TheVariants.Mutex l c) cannot may = let idle : is_idle (place_at w t) ≡ true = no_call_idle (place_at w t) (rights w t) may.idle in
-    let there : nat_lt l (length w.locks) ≡ true = lt-ltb l (length w.locks) may.lock in either (has_call (kind_at w l) (call.TheVariants.Mutex l c)) refl idle there
+    let can : can_begin w t (call.TheVariants.Condvar l c) ≡ true =
+    condvar_may w t l c (no_call_idle (place_at w t) (rights w t) may.idle) may in let f : true ≡ false =
+    sym can ∙ cannot in cc
+begin_refused w t (call.TheVariants.Mutex l c) cannot may = let idle : is_idle (place_at w t) ≡ true =
+    no_call_idle (place_at w t) (rights w t) may.idle in
+    let there : nat_lt l (length w.locks) ≡ true = lt-ltb l (length w.locks) may.lock
+    in either (has_call (kind_at w l) (call.TheVariants.Mutex l c)) refl idle there
   where
-    either : (b : Bool) → has_call (kind_at w l) (call.TheVariants.Mutex l c) ≡ b → is_idle (place_at w t) ≡ true
+    either : (b : Bool) → has_call (kind_at w l) (call.TheVariants.Mutex l c) ≡ b → is_idle (place_at w t)
+        ≡ true
         → nat_lt l (length w.locks) ≡ true → ⊥
-    either false e idle there = no_purpose (locks_of w) t (kind_at w l) (call.TheVariants.Mutex l c) e may.right
-    either true e idle there = let is_kind : is_mutex (kind_at w l) ≡ true = calls_mutex (kind_at w l) l c e in
-        let right : HasRight (locks_of w) t (Some (mutex_purpose (is_fair (kind_at w l)) l c)) = subst (HasRight (locks_of w) t) (purpose_is (kind_at w l) l c is_kind) may.right in
-        let held : mutex_right c t (owners_at w l) ≡ true = right_needed w t l (is_fair (kind_at w l)) c right in cc
+    either false e idle there = no_purpose (locks_of w) t (kind_at w l) (call.TheVariants.Mutex l c) e
+        may.right
+    either true e idle there = let is_kind : is_mutex (kind_at w l) ≡ true = calls_mutex (kind_at w l) l c e
+        in
+        let right : HasRight (locks_of w) t (Some (mutex_purpose (is_fair (kind_at w l)) l c)) =
+        subst (HasRight (locks_of w) t) (purpose_is (kind_at w l) l c is_kind) may.right in
+        let held : mutex_right c t (owners_at w l) ≡ true = right_needed w t l (is_fair (kind_at w l)) c right
+        in cc
 
 pub begin_possible : (w : State) (t : ℕ) (c : Call) → MayBegin (locks_of w) t c → can_begin w t c ≡ true
 begin_possible w t c may = either (can_begin w t c) refl

@@ -8,7 +8,8 @@ use Rattle.steps_once.specs.declared.run.RunAt.TheVariants as run
 use Rattle.lot_steps.specs.declared.places.Place.{Place}
 use Rattle.lot_steps.specs.declared.places.Place.TheVariants.{Once}
 use Rattle.lot_steps.specs.Steps.{next_place, or_else}
-use Rattle.lot_machine.specs.Machine.{State, can_go, close_outcome, closed_place, going_outcome, place_at, put, state_after_close, state_after_going}
+use Rattle.lot_machine.specs.Machine.{State, can_go, close_outcome, closed_place, going_outcome, place_at}
+use Rattle.lot_machine.specs.Machine.{put, state_after_close, state_after_going}
 use Rattle.lot_machine.specs.Fits.{IsWellFormed}
 use Rattle.lot_machine.proofs.Shape.{closed_fits, put_shaped}
 use Rattle.lot_laws.specs.SitesOf.{AreCounted}
@@ -17,34 +18,37 @@ use Rattle.lot_laws.proofs.hands.CountsPut.{put_counted}
 use Rattle.lot_laws.proofs.hands.Counting.{counted_on}
 use Rattle.lot_laws.proofs.calls.Looking.{closing_here, like}
 
-module _ (w : State) (t : ℕ) (there : t < length w.places) (succeeded : Bool) (one : RunsOne (place_at w t)) where
-  abbrev pub closing : State
-  closing = put w t (closed_place w t succeeded)
+module _ (w : State) (t : ℕ) (there : t < length w.places) (succeeded : Bool) (one : RunsOne (place_at w t))
+  where
+    abbrev pub closing : State
+    closing = put w t (closed_place w t succeeded)
 
-  abbrev pub behind : Place
-  behind = Once one.lock (Run one.forced (run.Close succeeded))
+    abbrev pub behind : Place
+    behind = Once one.lock (Run one.forced (run.Close succeeded))
 
-  pub is_behind : closed_place w t succeeded ≡ behind
-  is_behind = ap (λ p. next_place p (Closed succeeded)) one.is
+    pub is_behind : closed_place w t succeeded ≡ behind
+    is_behind = ap (λ p. next_place p (Closed succeeded)) one.is
 
-  pub closing_there : t < length closing.places
-  closing_there = rw (length-set w.places t (closed_place w t succeeded)) there
+    pub closing_there : t < length closing.places
+    closing_there = rw (length-set w.places t (closed_place w t succeeded)) there
 
-  pub closing_shaped : IsWellFormed w → IsWellFormed closing
-  closing_shaped shape = put_shaped w t (closed_place w t succeeded) shape (closed_fits w t succeeded shape)
+    pub closing_shaped : IsWellFormed w → IsWellFormed closing
+    closing_shaped shape = put_shaped w t (closed_place w t succeeded) shape (closed_fits w t succeeded shape)
 
-  pub closing_counted : AreCounted w → AreCounted closing
-  closing_counted = put_counted w t (closed_place w t succeeded) there
-      (let it = like w t there succeeded one in λ i. held_by (hand_owner (or_else (it.row_beside i).hand (it.row i).hand)) (or_else (it.row_beside i).wants (it.row i).wants))
-      (λ l. ap (λ p. counted_on p l) is_behind)
+    pub closing_counted : AreCounted w → AreCounted closing
+    closing_counted = put_counted w t (closed_place w t succeeded) there
+        (let it = like w t there succeeded one
+        in λ i. held_by (hand_owner (or_else (it.row_beside i).hand (it.row i).hand))
+        (or_else (it.row_beside i).wants (it.row i).wants))
+        (λ l. ap (λ p. counted_on p l) is_behind)
 
-  -- the word is swapped next, whatever thread is inside
-  pub closing_may : can_go closing t ≡ true
-  closing_may = rw (closing_here w t there succeeded one, is_behind) refl
+    -- the word is swapped next, whatever thread is inside
+    pub closing_may : can_go closing t ≡ true
+    closing_may = rw (closing_here w t there succeeded one, is_behind) refl
 
-  -- the step of the turn is the step from there
-  pub goes_there : state_after_close w t succeeded ≡ state_after_going closing t behind
-  goes_there = ap (state_after_going closing t) (closing_here w t there succeeded one ∙ is_behind)
+    -- the step of the turn is the step from there
+    pub goes_there : state_after_close w t succeeded ≡ state_after_going closing t behind
+    goes_there = ap (state_after_going closing t) (closing_here w t there succeeded one ∙ is_behind)
 
-  pub told_there : close_outcome w t succeeded ≡ going_outcome closing t behind
-  told_there = ap (going_outcome closing t) (closing_here w t there succeeded one ∙ is_behind)
+    pub told_there : close_outcome w t succeeded ≡ going_outcome closing t behind
+    told_there = ap (going_outcome closing t) (closing_here w t there succeeded one ∙ is_behind)

@@ -1,11 +1,13 @@
 -- A step of a thread is one event of the abstract locks, whatever lock it calls and wherever it stands: the
 -- one case of its deeds. Its call comes to what its rows say.
-use Rattle.std.proofs.Common.{ℕ, Bool, true, false, Option, Some, None, if◌then◌else◌, ◌==◌, ◌≡◌, ◌≢◌, ◌⊎◌, ◌≤◌, List, [], ◌∷◌, ◌++◌, inl, inr, refl, sym, ◌∙◌, ap, subst, arith}
+use Rattle.std.proofs.Common.{ℕ, Bool, true, false, Option, Some, None, if◌then◌else◌, ◌==◌, ◌≡◌, ◌≢◌, ◌⊎◌}
+use Rattle.std.proofs.Common.{◌≤◌, List, [], ◌∷◌, ◌++◌, inl, inr, refl, sym, ◌∙◌, ap, subst, arith}
 use Rattle.spec_locks.specs.Condvars.{line_of, moved_of, taken_of}
 use Rattle.spec_locks.specs.Runs.{Nothing, Moves, gives_up, joined_by}
 use Rattle.steps_base.specs.Rows.{KnowsRights}
 use Rattle.spec_locks.specs.Locks.{Once, OfOnce, Sort, CondvarCase, Look, Show, Hide}
-use Rattle.spec_locks.specs.Purposes.{Enters, Releases, Converts, Bumps, CallsOnce, Awaits, lock_for, Recall, Blank, Saw, SawOwner, HasMoved, WasMoved, WasNotified, Waits, Notifies}
+use Rattle.spec_locks.specs.Purposes.{Enters, Releases, Converts, Bumps, CallsOnce, Awaits, lock_for, Recall}
+use Rattle.spec_locks.specs.Purposes.{Blank, Saw, SawOwner, HasMoved, WasMoved, WasNotified, Waits, Notifies}
 use Rattle.spec_locks.specs.Runs.{is_closure}
 use Rattle.spec_locks.specs.Runs.{Begins}
 use Rattle.std.proofs.lemmas.Bool.{cases_eq, eqb-true}
@@ -25,8 +27,11 @@ use Rattle.spec_locks.specs.Purposes.{Purpose, IsMadeOf, rules_of}
 use Rattle.spec_locks.specs.Onces.{InProgress, OnceCase, Start, Finish, Fail, Rest, TakeAll}
 use Rattle.spec_locks.specs.declared.outcomes.OnceState.{OnceState}
 use Rattle.spec_locks.specs.Locks as locks
-use Rattle.spec_locks.specs.Locks.{LockState, Rules, Rights, LockCase, HandOff, HasTakenNobody, Queued, Needs, left_behind, putting, rights_of, standing}
-use Rattle.spec_locks.specs.Runs.{LocksState, IsTimely, rules_at as locks_rules, CallState, Event, AtLock, MayHappen, Agrees, AnswerHolds, GoesOn, locks_after, going_on, woken, unless_ended}
+use Rattle.spec_locks.specs.Locks.{LockState, Rules, Rights, LockCase, HandOff, HasTakenNobody, Queued, Needs}
+use Rattle.spec_locks.specs.Locks.{left_behind, putting, rights_of, standing}
+use Rattle.spec_locks.specs.Runs.{LocksState, IsTimely, rules_at as locks_rules, CallState, Event, AtLock}
+use Rattle.spec_locks.specs.Runs.{MayHappen, Agrees, AnswerHolds, GoesOn, locks_after, going_on, woken}
+use Rattle.spec_locks.specs.Runs.{unless_ended}
 use Rattle.spec_locks.specs.Sites.{Site, Deed, Begin, Bring, Send, after_deed}
 use Rattle.spec_locks.specs.Deeds.{AreOneCase, case_of, event_by, event_of, EventNeeds, after_event}
 use Rattle.spec_locks.specs.Deeds as deeds
@@ -44,7 +49,8 @@ use Rattle.lot_laws.proofs.hands.OwnHand.{own_hand}
 
 -- ---------------------------------------------------------------- functions with one value set
 
-pub put_is : {A : Type 0} (f : ℕ → A) (t : ℕ) (x : A) (u : ℕ) (y : A) → (u ≡ t → y ≡ x) → (u ≢ t → y ≡ f u) → y ≡ putting f t x u
+pub put_is : {A : Type 0} (f : ℕ → A) (t : ℕ) (x : A) (u : ℕ) (y : A) → (u ≡ t → y ≡ x) → (u ≢ t → y ≡ f u)
+    → y ≡ putting f t x u
 put_is f t x u y here other = either (u == t) refl
   where
     either : (b : Bool) → (u == t) ≡ b → y ≡ (if b then x else f u)
@@ -54,7 +60,8 @@ put_is f t x u y here other = either (u == t) refl
 unequal : (u t : ℕ) → (u == t) ≡ false → u ≢ t
 unequal u t h e = grind (arith, nat_tests)
 
-either_is : {A : Type 0} (b : Bool) (y x z : A) → (b ≡ true → y ≡ x) → (b ≡ false → y ≡ z) → y ≡ (if b then x else z)
+either_is : {A : Type 0} (b : Bool) (y x z : A) → (b ≡ true → y ≡ x) → (b ≡ false → y ≡ z) → y
+    ≡ (if b then x else z)
 either_is true y x z h k = h refl
 either_is false y x z h k = k refl
 
@@ -79,14 +86,27 @@ pub record Happens (w v : State) (t : ℕ) (e : Event) : Type 0 where
   pub after : IsInductive v
 
 -- one lock alone goes through it
-pub happens_at : (w v : State) (t l : ℕ) (c : Option LockCase) → IsInductive w → IsInductive v → ((k : ℕ) → kind_at v k ≡ kind_at w k)
+pub happens_at : (w v : State) (t l : ℕ) (c : Option LockCase) → IsInductive w → IsInductive v
+    → ((k : ℕ) → kind_at v k ≡ kind_at w k)
     → lock_state v l ≡ after_event (rules_in w l) (event_by l c) (lock_state w l) t
     → ((k : ℕ) → k ≢ l → lock_state v k ≡ lock_state w k)
     → EventNeeds (rules_in w l) (event_by l c) (lock_state w l) t → Happens w v t (event_by l c)
 happens_at w v t l None before after kinds here other needs =
-    record { led = λ k. elim (cases_eq k l) [ inl e ↦ rw e here | inr ne ↦ other k ne ]; needs = tt; kinds = kinds; before = before; after = after }
+    record {
+      led = λ k. elim (cases_eq k l) [ inl e ↦ rw e here | inr ne ↦ other k ne ];
+      needs = tt;
+      kinds = kinds;
+      before = before;
+      after = after;
+    }
 happens_at w v t l (Some case) before after kinds here other needs =
-    record { led = λ k. put_is (lock_state w) l _ k (lock_state v k) (λ e. rw e here) (λ ne. other k ne); needs = needs; kinds = kinds; before = before; after = after }
+    record {
+      led = λ k. put_is (lock_state w) l _ k (lock_state v k) (λ e. rw e here) (λ ne. other k ne);
+      needs = needs;
+      kinds = kinds;
+      before = before;
+      after = after;
+    }
 
 -- An event moves waiters from one lock to another.
 pub happens_moving : (w v : State) (t c m : ℕ) (all owned : Bool) (number : ℕ) → IsInductive w → IsInductive v
@@ -95,7 +115,9 @@ pub happens_moving : (w v : State) (t c m : ℕ) (all owned : Bool) (number : �
     → lock_state v m ≡ joined_by owned t (moved_of all (lock_state w c).queue) (lock_state w m)
     → ((k : ℕ) → k ≢ c → k ≢ m → lock_state v k ≡ lock_state w k) → Happens w v t (Moves c m all owned number)
 happens_moving w v t c m all owned number before after kinds apart left joined other = record {
-  led = λ k. put_is (putting (lock_state w) c (left_behind all (lock_state w c))) m _ k (lock_state v k) (λ e. rw e joined) (λ nm. put_is (lock_state w) c _ k (lock_state v k) (λ e. rw e left) (λ nc. other k nc nm));
+  led = λ k. put_is (putting (lock_state w) c (left_behind all (lock_state w c))) m _ k (lock_state v k)
+      (λ e. rw e joined) (λ nm. put_is (lock_state w) c _ k (lock_state v k) (λ e. rw e left)
+      (λ nc. other k nc nm));
   needs = tt;
   kinds = kinds;
   before = before;
@@ -125,48 +147,60 @@ module _ (r : Rules) where
   deeds_then t [] claims s h = claims_keep claims s h
   deeds_then t (d ∷ ds) claims s h = deeds_then t ds claims (after_deed r d s t) h
 
-  pub deeds_by : (t : ℕ) (ds : List Deed) (s : Site) → (after_acts r (acts t ds) s).lock ≡ (deeds.after_all r ds s t).lock
+  pub deeds_by : (t : ℕ) (ds : List Deed) (s : Site) → (after_acts r (acts t ds) s).lock
+      ≡ (deeds.after_all r ds s t).lock
   deeds_by t [] s = refl
   deeds_by t (d ∷ ds) s = deeds_by t ds (after_deed r d s t)
 
-  pub needed_then : (t : ℕ) (ds : List Deed) (claims : List Act) (s : Site) → ActsNeeded r (acts t ds ++ claims) s
+  pub needed_then : (t : ℕ) (ds : List Deed) (claims : List Act) (s : Site)
+      → ActsNeeded r (acts t ds ++ claims) s
       → deeds.AllNeeded r ds s t
   needed_then t [] claims s n = tt
   needed_then t (d ∷ ds) claims s n = (n.0, needed_then t ds claims (after_deed r d s t) n.1)
 
 -- the event of deeds that a lock has been through
-pub happens : (w v : State) (t l : ℕ) (hand : Option Bool) (ds : List Deed) (claims : List Act) → IsInductive w
+pub happens : (w v : State) (t l : ℕ) (hand : Option Bool) (ds : List Deed) (claims : List Act)
+    → IsInductive w
     → Goes w v l (acts t ds ++ claims) → AreClaims claims → AreOneCase ds
     → (hand ≢ Some false → HasTakenNobody (lock_state w l) t) → Happens w v t (event_of l hand ds)
-happens w v t l hand ds claims steady goes begin one free = happens_at w v t l (case_of hand ds) steady (goes_steady w v l (acts t ds ++ claims) steady goes) goes.follows.kinds
-    (ap (λ (s : Site). s.lock) goes.follows.site ∙ deeds_then (rules_in w l) t ds claims (site_of w l) begin ∙ deeds_lead (rules_in w l) t l hand ds (site_of w l) free one)
+happens w v t l hand ds claims steady goes begin one free = happens_at w v t l (case_of hand ds) steady
+    (goes_steady w v l (acts t ds ++ claims) steady goes) goes.follows.kinds
+    (ap (λ (s : Site). s.lock) goes.follows.site ∙ deeds_then (rules_in w l) t ds claims (site_of w l) begin
+    ∙ deeds_lead (rules_in w l) t l hand ds (site_of w l) free one)
     (λ k ne. ap (λ (s : Site). s.lock) (goes.follows.others k ne).0)
-    (deeds_need (rules_in w l) t l hand ds (site_of w l) (needed_then (rules_in w l) t ds claims (site_of w l) goes.follows.needed) one)
+    (deeds_need (rules_in w l) t l hand ds (site_of w l) (needed_then (rules_in w l) t ds claims (site_of w l)
+    goes.follows.needed) one)
 
 -- An event says which waiters of one lock go to the other.
-pub happens_sending : (w v : State) (t c m : ℕ) (all owned : Bool) (number : ℕ) (ds : ℕ → List Act) → IsInductive w → IsInductive v
+pub happens_sending : (w v : State) (t c m : ℕ) (all owned : Bool) (number : ℕ) (ds : ℕ → List Act)
+    → IsInductive w → IsInductive v
     → FollowAll w v ds → c ≢ m
     → ds c ≡ acts t (Send all ∷ [])
     → ds m
     ≡ acts t
-    (Bring (taken_of owned (moved_of all (lock_state w c).queue)) (line_of owned (moved_of all (lock_state w c).queue)) ∷ [])
+    (Bring (taken_of owned (moved_of all (lock_state w c).queue))
+    (line_of owned (moved_of all (lock_state w c).queue)) ∷ [])
     → ((k : ℕ) → k ≢ c → k ≢ m → ds k ≡ []) → Happens w v t (Moves c m all owned number)
-happens_sending w v t c m all owned number ds before after f apart sent brought others = happens_moving w v t c m all owned number before after f.kinds apart
+happens_sending w v t c m all owned number ds before after f apart sent brought others =
+    happens_moving w v t c m all owned number before after f.kinds apart
     (locks_led c ∙ ap (λ done. (after_acts (rules_in w c) done (site_of w c)).lock) sent)
     (locks_led m ∙ ap (λ done. (after_acts (rules_in w m) done (site_of w m)).lock) brought)
-    (λ k nc nm. locks_led k ∙ ap (λ done. (after_acts (rules_in w k) done (site_of w k)).lock) (others k nc nm))
+    (λ k nc nm. locks_led k ∙ ap (λ done. (after_acts (rules_in w k) done (site_of w k)).lock)
+    (others k nc nm))
   where
     locks_led : (k : ℕ) → lock_state v k ≡ (after_acts (rules_in w k) (ds k) (site_of w k)).lock
     locks_led k = ap (λ (s : Site). s.lock) (f.site k)
 
 -- ---------------------------------------------------------------- the calls
 
--- it is told of a step; that it sleeps, where it stands about the lock; or of its closure, where its run is on
+-- it is told of a step; that it sleeps, where it stands about the lock; or of its closure, where its run is
+-- on
 abbrev pub GoesAs : State → ℕ → ℕ → Outcome → Type 0
 GoesAs v t l o =
     (o ≡ outcome.TheVariants.Step)
     ⊎ (((o ≡ outcome.TheVariants.Sleep) × (1 ≤ standing t (lock_state v l)))
-    ⊎ ((state : OnceState) × (o ≡ outcome.TheVariants.Closure state) × ((lock_state v l).phase ≡ InProgress t)))
+    ⊎ ((state : OnceState) × (o ≡ outcome.TheVariants.Closure state)
+    × ((lock_state v l).phase ≡ InProgress t)))
 
 -- the call of a thread goes on by an event as its rows say, or it has ended
 abbrev pub LeadsTo : State → ℕ → ℕ → Next Profile → Outcome → Type 0
@@ -176,11 +210,13 @@ LeadsTo v t l (next.End a) o = (place_at v t ≡ Idle) × (o ≡ outcome.TheVari
 
 -- the calls of the other threads become what an event makes of them
 abbrev pub OthersFollow : State → State → ℕ → Event → Type 0
-OthersFollow w v t e = (u : ℕ) → u ≢ t → call_state (place_at v u) (rights v u) ≡ woken (locks_of w) t e u (call_state (place_at w u) (rights w u))
+OthersFollow w v t e = (u : ℕ) → u ≢ t → call_state (place_at v u) (rights v u) ≡ woken (locks_of w) t e u
+    (call_state (place_at w u) (rights w u))
 
 -- All other locks keep their owners and queues.
 abbrev pub Others : State → State → ℕ → Event → Type 0
-Others w v t e = (u : ℕ) → u ≢ t → (r : ℕ → Rights) → call_state (place_at v u) r ≡ woken (locks_of w) t e u (call_state (place_at w u) r)
+Others w v t e = (u : ℕ) → u ≢ t → (r : ℕ → Rights) → call_state (place_at v u) r ≡ woken (locks_of w) t e u
+    (call_state (place_at w u) r)
 
 -- an event leaves what a call is for
 same_purpose : (e : Event) (x : CallState) → (going_on e x).purpose ≡ x.purpose
@@ -235,13 +271,15 @@ RunsNothing (CallsOnce l forced) = ⊥
 RunsNothing (Awaits l forced timed) = ⊥
 RunsNothing purpose = Unit {0}
 
-pub runs_nothing : (sorts : ℕ → Sort) (l : ℕ) (p : Purpose) → lock_for p ≡ l → KnowsRights sorts (Some p) → (sorts l ≡ Once → ⊥)
+pub runs_nothing : (sorts : ℕ → Sort) (l : ℕ) (p : Purpose) → lock_for p ≡ l → KnowsRights sorts (Some p)
+    → (sorts l ≡ Once → ⊥)
     → RunsNothing p
 runs_nothing sorts l (CallsOnce k forced) own knows other = other (subst (λ j. sorts j ≡ Once) own knows)
 runs_nothing sorts l (Awaits k forced timed) own knows other = other (subst (λ j. sorts j ≡ Once) own knows)
 runs_nothing sorts l p own knows other = tt
 
-pub never_starts : (p : Purpose) (g : Option ℕ) (r : Bool) (q : Recall) (l : ℕ) (forced : Bool) → RunsNothing p
+pub never_starts : (p : Purpose) (g : Option ℕ) (r : Bool) (q : Recall) (l : ℕ) (forced : Bool)
+    → RunsNothing p
     → IsMadeOf p g r q l (OfOnce (Start forced)) → ⊥
 never_starts (Enters k x how) g r q l forced h m = m.1
 never_starts (Releases k x fair) g r q l forced h m = m.1
@@ -249,11 +287,16 @@ never_starts (Converts k x y how) g r q l forced h m = m.1
 never_starts (Bumps k x) g r q l forced h m = elim m.1 [ inl a ↦ a | inr b ↦ b.1 ]
 never_starts (CallsOnce k f) g r q l forced h m = h
 never_starts (Awaits k f timed) g r q l forced h m = h
-never_starts (Waits k n timed) g r q l forced h m = elim m [ inl there ↦ there.1 | inr beside ↦ elim beside.1 [ inl a ↦ a | inr b ↦ b.1 ] ]
+never_starts (Waits k n timed) g r q l forced h m = elim m [
+  | inl there ↦ there.1
+  | inr beside ↦
+      elim beside.1 [ inl a ↦ a | inr b ↦ b.1 ]
+]
 never_starts (Notifies k all) g r q l forced h m = elim m [ inl there ↦ there.1 | inr beside ↦ beside ]
 
 -- A call that begins is told of no closure.
-pub begins_nothing : (w : LocksState) (l : ℕ) (row : Profile) (c : Option LockCase) (o : Outcome) → RunsNothing (row.purpose l)
+pub begins_nothing : (w : LocksState) (l : ℕ) (row : Profile) (c : Option LockCase) (o : Outcome)
+    → RunsNothing (row.purpose l)
     → MayCome l row (event_by l c) → is_closure o ≡ false → Begins w (event_by l c) o
 begins_nothing w l row None o runs may told = by_outcome o told
   where
@@ -262,8 +305,10 @@ begins_nothing w l row None o runs may told = by_outcome o told
     by_outcome o h = tt
 begins_nothing w l row (Some case) o runs may told = by_case case o may told
   where
-    by_case : (case : LockCase) (o : Outcome) → MayCome l row (AtLock l case) → is_closure o ≡ false → Begins w (AtLock l case) o
-    by_case (OfOnce (Start forced)) o m h = absurd (never_starts (row.purpose l) _ row.released row.recalls l forced runs m.0)
+    by_case : (case : LockCase) (o : Outcome) → MayCome l row (AtLock l case) → is_closure o ≡ false
+        → Begins w (AtLock l case) o
+    by_case (OfOnce (Start forced)) o m h =
+        absurd (never_starts (row.purpose l) _ row.released row.recalls l forced runs m.0)
     by_case case (outcome.TheVariants.Closure state) m h = absurd cc
     by_case case o m h = tt
 
@@ -272,16 +317,20 @@ begins_nothing w l row (Some case) o runs may told = by_case case o may told
 -- its call has come to what the event made of it, and it is told so; or it has ended, with a true answer
 abbrev pub CallLed : State → State → ℕ → Event → CallState → Outcome → Type 0
 CallLed w v t e call o =
-    ((call_state (place_at v t) (rights v t) ≡ woken (locks_of w) t e t (going_on e call)) × ((l : ℕ) × GoesAs v t l o))
-    ⊎ ((a : Answer) × (o ≡ outcome.TheVariants.End a) × (place_at v t ≡ Idle) × AnswerHolds call.purpose (locks_of v) t (going_on e call) a)
+    ((call_state (place_at v t) (rights v t) ≡ woken (locks_of w) t e t (going_on e call))
+    × ((l : ℕ) × GoesAs v t l o))
+    ⊎ ((a : Answer) × (o ≡ outcome.TheVariants.End a) × (place_at v t ≡ Idle)
+    × AnswerHolds call.purpose (locks_of v) t (going_on e call) a)
 
-module _ (w v : State) (t : ℕ) (e : Event) (h : Happens w v t e) (call : CallState) (is : call_at w t ≡ call) (o : Outcome) where
+module _ (w v : State) (t : ℕ) (e : Event) (h : Happens w v t e) (call : CallState) (is : call_at w t ≡ call)
+    (o : Outcome) where
   own_call : CallLed w v t e call o
       → call_state (place_at v t) (rights v t) ≡ unless_ended o (woken (locks_of w) t e t (going_on e call))
   own_call (inl on) = on.0 ∙ goes_on on.1.1
     where
       goes_on : GoesAs v t on.1.0 o
-          → woken (locks_of w) t e t (going_on e call) ≡ unless_ended o (woken (locks_of w) t e t (going_on e call))
+          → woken (locks_of w) t e t (going_on e call) ≡ unless_ended o (woken (locks_of w) t e t
+          (going_on e call))
       goes_on (inl k) = rw k refl
       goes_on (inr (inl k)) = rw k.0 refl
       goes_on (inr (inr k)) = rw k.1 refl
@@ -300,19 +349,22 @@ module _ (w v : State) (t : ℕ) (e : Event) (h : Happens w v t e) (call : CallS
     λ k. taken_nobody v h.after t k (rw over.2 refl),
   )
 
-  pub goes_with : MayHappen (locks_of w) t e → call.purpose ≢ None → CallLed w v t e call o → OthersFollow w v t e
+  pub goes_with : MayHappen (locks_of w) t e → call.purpose ≢ None → CallLed w v t e call o
+      → OthersFollow w v t e
       → Begins (locks_of w) e o → GoesOn (locks_of w) t o (locks_of v)
   goes_with may called led others begins = record {
     called = rw is called;
     event = e;
     may = may;
     locks = h.led;
-    calls = λ u. either_is (u == t) (call_state (place_at v u) (rights v u)) _ _ (λ k. let same : u ≡ t = eqb-true u t k in rw (same, is) (own_call led)) (λ k. others u (unequal u t k));
+    calls = λ u. either_is (u == t) (call_state (place_at v u) (rights v u)) _ _ (λ k. let same : u ≡ t =
+        eqb-true u t k in rw (same, is) (own_call led)) (λ k. others u (unequal u t k));
     agrees = rw is (told_so led);
     begins = begins;
   }
 
-  pub goes_with_event : (may : MayHappen (locks_of w) t e) (called : call.purpose ≢ None) (led : CallLed w v t e call o)
+  pub goes_with_event : (may : MayHappen (locks_of w) t e) (called : call.purpose ≢ None)
+      (led : CallLed w v t e call o)
       (others : OthersFollow w v t e) (begins : Begins (locks_of w) e o)
       → (goes_with may called led others begins).event ≡ e
   unfolding goes_with
@@ -327,26 +379,31 @@ module _ (w v : State) (t l : ℕ) (c : Option LockCase) (h : Happens w v t (eve
       by_case : (c : Option LockCase) → Happens w v t (event_by l c)
           → lock_state v l ≡ after_event (rules_in w l) (event_by l c) (lock_state w l) t
       by_case None h = h.led l
-      by_case (Some case) h = h.led l ∙ put_here (lock_state w) l (after_event (rules_in w l) (AtLock l case) (lock_state w l) t)
+      by_case (Some case) h = h.led l ∙ put_here (lock_state w) l (after_event (rules_in w l) (AtLock l case)
+          (lock_state w l) t)
 
   pub led_elsewhere : (k : ℕ) → k ≢ l → lock_state v k ≡ lock_state w k
   led_elsewhere k ne = by_case c h
     where
       by_case : (c : Option LockCase) → Happens w v t (event_by l c) → lock_state v k ≡ lock_state w k
       by_case None h = h.led k
-      by_case (Some case) h = h.led k ∙ put_other (lock_state w) l (after_event (rules_in w l) (AtLock l case) (lock_state w l) t) k ne
+      by_case (Some case) h = h.led k ∙ put_other (lock_state w) l (after_event (rules_in w l) (AtLock l case)
+          (lock_state w l) t) k ne
 
   needs_here : EventNeeds (rules_in w l) (event_by l c) (lock_state w l) t
   needs_here = by_case c h
     where
-      by_case : (c : Option LockCase) → Happens w v t (event_by l c) → EventNeeds (rules_in w l) (event_by l c) (lock_state w l) t
+      by_case : (c : Option LockCase) → Happens w v t (event_by l c) → EventNeeds (rules_in w l)
+          (event_by l c) (lock_state w l) t
       by_case None h = tt
       by_case (Some case) h = h.needs
 
   -- tells what a thread owns then
   pub rights_led : (u k : ℕ)
-      → rights v u k ≡ rights_where l (after_event (rules_in w l) (event_by l c) (lock_state w l) t) u (rights w u) k
-  rights_led u k = put_is (rights w u) l _ k (rights v u k) (λ e. rw e (ap (λ s. rights_of s u) led_here)) (λ ne. ap (λ s. rights_of s u) (led_elsewhere k ne))
+      → rights v u k ≡ rights_where l (after_event (rules_in w l) (event_by l c) (lock_state w l) t) u
+      (rights w u) k
+  rights_led u k = put_is (rights w u) l _ k (rights v u k) (λ e. rw e (ap (λ s. rights_of s u) led_here))
+      (λ ne. ap (λ s. rights_of s u) (led_elsewhere k ne))
 
   abbrev pub IsNoHandOff : Option LockCase → Type 0
   IsNoHandOff None = Unit {0}
@@ -359,13 +416,16 @@ module _ (w v : State) (t l : ℕ) (c : Option LockCase) (h : Happens w v t (eve
     | inr nk ↦ ap (λ s. rights_of s u) (led_elsewhere k nk)
   ]
     where
-      stays : (c : Option LockCase) → IsNoHandOff c → EventNeeds (rules_in w l) (event_by l c) (lock_state w l) t
+      stays : (c : Option LockCase) → IsNoHandOff c → EventNeeds (rules_in w l) (event_by l c)
+          (lock_state w l) t
           → rights_of (after_event (rules_in w l) (event_by l c) (lock_state w l) t) u ≡ rights w u l
       stays None plain needs = refl
-      stays (Some case) plain needs = others_keep (rules_in w l) (lock_state w l) t u (h.before.sites.site l).state ne case plain needs
+      stays (Some case) plain needs = others_keep (rules_in w l) (lock_state w l) t u
+          (h.before.sites.site l).state ne case plain needs
 
   pub others_follow : IsNoHandOff c → Others w v t (event_by l c) → OthersFollow w v t (event_by l c)
-  others_follow plain others u ne = ap (call_state (place_at v u)) (λ i k. rights_stay plain u ne k i) ∙ others u ne (rights w u)
+  others_follow plain others u ne = ap (call_state (place_at v u)) (λ i k. rights_stay plain u ne k i)
+      ∙ others u ne (rights w u)
 
   -- a thread at a place of a call of this lock alone
   module _ (p : Place) (is : place_at w t ≡ p) (of : called_lock p ≡ Some l) (single : IsSingle p) where
@@ -382,9 +442,11 @@ module _ (w v : State) (t l : ℕ) (c : Option LockCase) (h : Happens w v t (eve
     may_happen may = by_case c may needs_here
       where
         by_case : (c : Option LockCase) → MayCome l (profile p) (event_by l c)
-            → EventNeeds (rules_in w l) (event_by l c) (lock_state w l) t → MayHappen (locks_of w) t (event_by l c)
+            → EventNeeds (rules_in w l) (event_by l c) (lock_state w l) t → MayHappen (locks_of w) t
+            (event_by l c)
         by_case None may needs = tt
-        by_case (Some case) may needs = may_do (locks_of w) t l case ((profile p).purpose l) call_then (called_by (rights w t)) refl may.0 needs may.1
+        by_case (Some case) may needs = may_do (locks_of w) t l case ((profile p).purpose l) call_then
+            (called_by (rights w t)) refl may.0 needs may.1
 
     -- the event of the step is that of its deeds
     pub goes_by : MayCome l (profile p) (event_by l c) → (n : Next Profile) (o : Outcome)
@@ -392,7 +454,8 @@ module _ (w v : State) (t l : ℕ) (c : Option LockCase) (h : Happens w v t (eve
         (after_event (rules_in w l) (event_by l c) (lock_state w l) t) t n
         → LeadsTo v t l n o → OthersFollow w v t (event_by l c) → Begins (locks_of w) (event_by l c) o
         → GoesOn (locks_of w) t o (locks_of v)
-    goes_by may n o comes leads others begins = goes_with w v t (event_by l c) h call_then (called_by (rights w t)) o (may_happen may) (λ e. cc) (led n comes leads) others begins
+    goes_by may n o comes leads others begins = goes_with w v t (event_by l c) h call_then
+        (called_by (rights w t)) o (may_happen may) (λ e. cc) (led n comes leads) others begins
       where
         -- it is in no hand of its own
         unwoken : (c : Option LockCase) (x : CallState) → woken (locks_of w) t (event_by l c) t x ≡ x
@@ -401,17 +464,30 @@ module _ (w v : State) (t l : ℕ) (c : Option LockCase) (h : Happens w v t (eve
         unwoken None x = refl
         unwoken (Some case) x = refl
 
-        led : (n : Next Profile) → ComesTo (rules_in w l) l (profile p) (event_by l c) (lock_state w l) behind t n
+        led : (n : Next Profile) → ComesTo (rules_in w l) l (profile p) (event_by l c) (lock_state w l) behind
+            t n
             → LeadsTo v t l n o → CallLed w v t (event_by l c) call_then o
         led (next.At row) comes leads = inl (
           call_here (place_at v t) l leads.3 leads.0 (rights v t) ∙ ap (λ x. call_by l x (rights v t)) leads.1
-              ∙ ap (call_by l row) (λ i k. rights_led t k i) ∙ comes (rights w t) refl ∙ sym (unwoken c (going_on (event_by l c) call_then)),
+              ∙ ap (call_by l row) (λ i k. rights_led t k i) ∙ comes (rights w t) refl
+              ∙ sym (unwoken c (going_on (event_by l c) call_then)),
           (l, leads.2),
         )
-        led (next.End a) comes leads = inr (a, leads.1, leads.0, comes (locks_of v) (rights w t) (ap rules_of (h.kinds l)) led_here refl (rights_led t))
+        led (next.End a) comes leads =
+            inr (
+              a,
+              leads.1,
+              leads.0,
+              comes (locks_of v) (rights w t) (ap rules_of (h.kinds l)) led_here refl
+                  (rights_led t),
+            )
 
     pub goes_event : (may : MayCome l (profile p) (event_by l c)) (n : Next Profile) (o : Outcome)
-        (comes : ComesTo (rules_in w l) l (profile p) (event_by l c) (lock_state w l) (after_event (rules_in w l) (event_by l c) (lock_state w l) t) t n)
-        (leads : LeadsTo v t l n o) (others : OthersFollow w v t (event_by l c)) (begins : Begins (locks_of w) (event_by l c) o) → (goes_by may n o comes leads others begins).event ≡ event_by l c
+        (comes : ComesTo (rules_in w l) l (profile p) (event_by l c) (lock_state w l)
+        (after_event (rules_in w l) (event_by l c) (lock_state w l) t) t n)
+        (leads : LeadsTo v t l n o) (others : OthersFollow w v t (event_by l c))
+        (begins : Begins (locks_of w) (event_by l c) o)
+        → (goes_by may n o comes leads others begins).event ≡ event_by l c
     unfolding goes_by
-    goes_event may n o comes leads others begins = goes_with_event w v t (event_by l c) h call_then (called_by (rights w t)) o (may_happen may) _ _ others begins
+    goes_event may n o comes leads others begins = goes_with_event w v t (event_by l c) h call_then
+        (called_by (rights w t)) o (may_happen may) _ _ others begins

@@ -1,5 +1,7 @@
 -- Each turn of a thread is a step of the abstract locks.
-use Rattle.std.proofs.Common.{ℕ, Bool, true, false, Option, Some, None, if◌then◌else◌, ◌&&◌, ◌≡◌, ◌≢◌, ◌*◌, ◌<◌, ◌↔◌, inl, inr, length, refl, sym, ◌∙◌, ap, subst, get_or-set_same, length-set, nat_lt, is_some}
+use Rattle.std.proofs.Common.{ℕ, Bool, true, false, Option, Some, None, if◌then◌else◌, ◌&&◌, ◌≡◌, ◌≢◌, ◌*◌}
+use Rattle.std.proofs.Common.{◌<◌, ◌↔◌, inl, inr, length, refl, sym, ◌∙◌, ap, subst, get_or-set_same}
+use Rattle.std.proofs.Common.{length-set, nat_lt, is_some}
 use Rattle.lot_laws.proofs.calls.Begins.{begin_goes, begin_possible}
 use Rattle.lot_laws.proofs.rwlock.Late.{call_late, late_row}
 use Rattle.lot_laws.proofs.machine.Possible.{begins_outside, closure_gone, late_outside}
@@ -12,7 +14,8 @@ use Rattle.lot_laws.proofs.calls.OwnPlace.{gone, gone_told, goes_from_there, tol
 use Rattle.spec_locks.specs.Locks.{OfOnce}
 use Rattle.lot_laws.proofs.calls.Closures.{RunsOne}
 use Rattle.lot_laws.proofs.calls.Closings.{closing}
-use Rattle.lot_machine.specs.Machine.{can_close, close_outcome, closed_place, runs_closure, state_after_close, state_after_going, can_go}
+use Rattle.lot_machine.specs.Machine.{can_close, close_outcome, closed_place, runs_closure, state_after_close}
+use Rattle.lot_machine.specs.Machine.{state_after_going, can_go}
 use Rattle.steps_once.specs.declared.run.RunAt.TheVariants as run
 use Rattle.steps_once.specs.OnceDeeds.{run_ending}
 use Rattle.spec_locks.specs.Runs.{Closes}
@@ -51,24 +54,34 @@ use Rattle.spec_locks.specs.Calls.{lock_in}
 use Rattle.spec_locks.specs.declared.outcomes.Outcome.{Outcome}
 use Rattle.spec_locks.specs.declared.outcomes.Outcome as outcome
 use Rattle.steps_mutex.specs.declared.lock.Entry.TheVariants as entries
-use Rattle.steps_mutex.specs.declared.places.MutexPlace.TheVariants.{Lock, TryLock, Unlock, UnlockFair, Bump, HandOff}
+use Rattle.steps_mutex.specs.declared.places.MutexPlace.TheVariants.{Lock, TryLock, Unlock, UnlockFair, Bump}
+use Rattle.steps_mutex.specs.declared.places.MutexPlace.TheVariants.{HandOff}
 use Rattle.steps_mutex.specs.declared.lock.LockAt.TheVariants.{First, Load, Asleep}
 use Rattle.lot_steps.specs.declared.places.Place.{Place}
 use Rattle.lot_steps.specs.declared.places.Place.TheVariants.{Idle, Mutex, RwLock, Once, Condvar, Semaphore}
 use Rattle.steps_base.specs.Acts.{outcome_of}
-use Rattle.lot_steps.specs.Steps.{act_of, next_place, next_act, looking, late_key, first_place, rwlock_goes, key_in, calls}
-use Rattle.lot_machine.specs.Machine.{State, place_at, word_at, kind_at, section_at, put, state_after_act, go_reply, state_with_sections, reply_to, can_do, state_after_look, look_outcome, state_after_go, state_after_going, go_outcome, going_outcome, state_after_late_on, is_free_under, can_turn, state_after_turn, turn_outcome, is_possible, after, step_outcome}
+use Rattle.lot_steps.specs.Steps.{act_of, next_place, next_act, looking, late_key, first_place, rwlock_goes}
+use Rattle.lot_steps.specs.Steps.{key_in, calls}
+use Rattle.lot_machine.specs.Machine.{State, place_at, word_at, kind_at, section_at, put, state_after_act}
+use Rattle.lot_machine.specs.Machine.{go_reply, state_with_sections, reply_to, can_do, state_after_look}
+use Rattle.lot_machine.specs.Machine.{look_outcome, state_after_go, state_after_going, go_outcome}
+use Rattle.lot_machine.specs.Machine.{going_outcome, state_after_late_on, is_free_under, can_turn}
+use Rattle.lot_machine.specs.Machine.{state_after_turn, turn_outcome, is_possible, after, step_outcome}
 use Rattle.lot_machine.specs.Fits.{IsWellFormed, SameSize, PlaceFits}
 use Rattle.lot_machine.proofs.Shape.{looking_shaped, after_size, both, performed_counts}
-use Rattle.lot_laws.proofs.machine.Possible.{may_go, go_possible, may_be_late, late_possible, told_gone, told_step, begins_awake, turner_there, gone_sections, late_sections, late_awake}
+use Rattle.lot_laws.proofs.machine.Possible.{may_go, go_possible, may_be_late, late_possible, told_gone}
+use Rattle.lot_laws.proofs.machine.Possible.{told_step, begins_awake, turner_there, gone_sections}
+use Rattle.lot_laws.proofs.machine.Possible.{late_sections, late_awake}
 use Rattle.lot_machine.proofs.Looks.{mutex_looks}
 use Rattle.lot_laws.proofs.hands.CountsPut.{looking_counted}
 use Rattle.lot_laws.proofs.calls.Looking.{here, looks_now, looking_steady, goes_as_before, stays_as_before}
 use Rattle.lot_laws.proofs.calls.Closures.{closes_one, runs_one}
 use Rattle.lot_laws.specs.SitesOf.{AreCondvars, AreCounted, FitsCondvar, IsInductive, FitsItsLock, rules_in}
 use Rattle.spec_locks.specs.Sites.{Main}
-use Rattle.spec_locks.specs.Locks.{LockCase, Wake, Leave as GivesBack, HandOff as HandsOff, Rights, rights_of, standing}
-use Rattle.spec_locks.specs.Runs.{GoesOn, KeepsOrder, LocksState, Stays, Looks, IsOfMutex, Does, SectionChanges, MayTurn, Turned}
+use Rattle.spec_locks.specs.Locks.{LockCase, Wake, Leave as GivesBack, HandOff as HandsOff, Rights, rights_of}
+use Rattle.spec_locks.specs.Locks.{standing}
+use Rattle.spec_locks.specs.Runs.{GoesOn, KeepsOrder, LocksState, Stays, Looks, IsOfMutex, Does}
+use Rattle.spec_locks.specs.Runs.{SectionChanges, MayTurn, Turned}
 use Rattle.lot_laws.specs.Refinement.{taken_at, call_state, locks_of, sleeps}
 use Rattle.lot_laws.proofs.machine.KindsStay.{after_kinds}
 use Rattle.lot_laws.proofs.condvar.Begins.{condvar_is_late}
@@ -90,117 +103,172 @@ use Rattle.lot_laws.proofs.calls.Events.{rights}
 
 -- ---------------------------------------------------------------- a thread goes on
 
-module _ (w : State) (t : ℕ) (shape : IsWellFormed w) (steady : IsInductive w) (there : t < length w.places) where
-  go_goes : AreCounted w → (p : Place) → place_at w t ≡ p → IsSingle p → PlaceFits (length w.locks) p → FitsItsLock w p
-      → can_do w (act_of p) ≡ true
-      → GoesOn (locks_of w) t (outcome_of (next_act p (reply_to w t (act_of p)))) (locks_of (go_by w t p (act_of p)))
-  go_goes counted Idle is single fits of can = absurd cc
-  go_goes counted (Condvar l at) is single fits of can = absurd single
-  go_goes counted (Once l at) is single fits of can = once_step w t l at steady shape there fits is can
-  go_goes counted (Semaphore l at) is single fits of can = semaphore_step w t l at steady shape there fits is can
-  go_goes counted (RwLock l a c) is single fits of can = rwlock_step w t l a c steady shape there fits is counted can
-  go_goes counted (Mutex l at) is single fits of can = mutex_step w t l at steady shape there fits.0 is can
+module _ (w : State) (t : ℕ) (shape : IsWellFormed w) (steady : IsInductive w) (there : t < length w.places)
+  where
+    go_goes : AreCounted w → (p : Place) → place_at w t ≡ p → IsSingle p → PlaceFits (length w.locks) p
+        → FitsItsLock w p
+        → can_do w (act_of p) ≡ true
+        → GoesOn (locks_of w) t (outcome_of (next_act p (reply_to w t (act_of p))))
+        (locks_of (go_by w t p (act_of p)))
+    go_goes counted Idle is single fits of can = absurd cc
+    go_goes counted (Condvar l at) is single fits of can = absurd single
+    go_goes counted (Once l at) is single fits of can = once_step w t l at steady shape there fits is can
+    go_goes counted (Semaphore l at) is single fits of can = semaphore_step w t l at steady shape there fits
+        is
+        can
+    go_goes counted (RwLock l a c) is single fits of can = rwlock_step w t l a c steady shape there fits is
+        counted can
+    go_goes counted (Mutex l at) is single fits of can = mutex_step w t l at steady shape there fits.0 is can
 
-  going_goes : AreCounted w → AreCondvars w → can_go w t ≡ true
-      → GoesOn (locks_of w) t (go_outcome w t) (locks_of (state_after_go w t))
-  going_goes counted condvars can = elim (single_or_two (place_at w t)) [
-    | inl single ↦ subst (λ o. GoesOn (locks_of w) t o (locks_of (state_after_go w t))) (sym (gone_told w t single))
-        (subst (λ v. GoesOn (locks_of w) t (outcome_of (next_act (place_at w t) (go_reply w t))) (locks_of v)) (sym (gone w t single))
-        (go_goes counted (place_at w t) refl single (shape.places t) (steady.stands.calls t) can))
-    | inr two ↦ subst (λ p. GoesOn (locks_of w) t (going_outcome w t p) (locks_of (state_after_going w t p))) (sym two.is)
-        (condvar_on w t two.lock shape steady condvars there two.at two.is (ap (λ p. can_do w (act_of p)) (sym two.is) ∙ can))
-  ]
+    going_goes : AreCounted w → AreCondvars w → can_go w t ≡ true
+        → GoesOn (locks_of w) t (go_outcome w t) (locks_of (state_after_go w t))
+    going_goes counted condvars can = elim (single_or_two (place_at w t)) [
+      | inl single ↦ subst (λ o. GoesOn (locks_of w) t o (locks_of (state_after_go w t)))
+          (sym (gone_told w t single))
+          (subst (λ v. GoesOn (locks_of w) t (outcome_of (next_act (place_at w t) (go_reply w t)))
+          (locks_of v))
+          (sym (gone w t single))
+          (go_goes counted (place_at w t) refl single (shape.places t) (steady.stands.calls t) can))
+      | inr two ↦ subst (λ p. GoesOn (locks_of w) t (going_outcome w t p)
+          (locks_of (state_after_going w t p)))
+          (sym two.is)
+          (condvar_on w t two.lock shape steady condvars there two.at two.is
+          (ap (λ p. can_do w (act_of p)) (sym two.is) ∙ can))
+    ]
 
-  -- ---------------------------------------------------------------- turns by which the place alone changes
+    -- ---------------------------------------------------------------- turns by which the place alone changes
 
-  late_goes : (p : Place) → place_at w t ≡ p → is_free_under w (late_key p) ≡ true
-      → Stays (locks_of w) t (record (call_state p (rights w t)) { late = true }) outcome.TheVariants.Step
-      (locks_of (state_after_late_on w t (late_key p)))
-  late_goes Idle is can = absurd cc
-  late_goes (Condvar l at) is can = condvar_is_late w t l at there is can
-  late_goes (Once l at) is can = by_line (once_profile at).late_line refl can
-    where
-      asleep : (again : Bool) (p : OncePlace) → p ≡ Look once_call.WaitTimed again look_at.Asleep → place_at w t ≡ Once l p → (m : Line) → Main ≡ m
-          → Stays (locks_of w) t (record (call_state (Once l p) (rights w t)) { late = true }) outcome.TheVariants.Step
-          (locks_of (state_after_late_on w t (Some (key_of l m))))
-      asleep again p e here m first =
-          subst (λ n. Stays (locks_of w) t (record (call_state (Once l p) (rights w t)) { late = true }) outcome.TheVariants.Step (locks_of (state_after_late_on w t (Some (key_of l n))))) first
-          (subst (λ x. Stays (locks_of w) t (record (call_state (Once l x) (rights w t)) { late = true }) outcome.TheVariants.Step (locks_of (state_after_late_on w t (Some (2 * l))))) (sym e)
-          (timed again (here ∙ ap (Once l) e)))
-        where
-          timed : (again : Bool) → place_at w t ≡ Once l (Look once_call.WaitTimed again look_at.Asleep)
-              → Stays (locks_of w) t (record (call_state (Once l (Look once_call.WaitTimed again look_at.Asleep)) (rights w t)) { late = true }) outcome.TheVariants.Step
-              (locks_of (state_after_late_on w t (Some (2 * l))))
-          timed again at_it = placed w t there (state_with_sections w (One (2 * l)) (Some t)).sections (Once l (Look once_call.WaitTimed again look_at.Asleep)) (next_place (place_at w t) reply.Late) at_it (rw at_it (λ k. refl)) _ (rw at_it (λ r e. rw e refl))
+    late_goes : (p : Place) → place_at w t ≡ p → is_free_under w (late_key p) ≡ true
+        → Stays (locks_of w) t (record (call_state p (rights w t)) { late = true }) outcome.TheVariants.Step
+        (locks_of (state_after_late_on w t (late_key p)))
+    late_goes Idle is can = absurd cc
+    late_goes (Condvar l at) is can = condvar_is_late w t l at there is can
+    late_goes (Once l at) is can = by_line (once_profile at).late_line refl can
+      where
+        asleep : (again : Bool) (p : OncePlace) → p ≡ Look once_call.WaitTimed again look_at.Asleep
+            → place_at w t ≡ Once l p → (m : Line) → Main ≡ m
+            → Stays (locks_of w) t (record (call_state (Once l p) (rights w t)) { late = true })
+            outcome.TheVariants.Step
+            (locks_of (state_after_late_on w t (Some (key_of l m))))
+        asleep again p e here m first =
+            subst (λ n. Stays (locks_of w) t (record (call_state (Once l p) (rights w t)) { late = true })
+            outcome.TheVariants.Step (locks_of (state_after_late_on w t (Some (key_of l n))))) first
+            (subst (λ x. Stays (locks_of w) t (record (call_state (Once l x) (rights w t)) { late = true })
+            outcome.TheVariants.Step (locks_of (state_after_late_on w t (Some (2 * l))))) (sym e)
+            (timed again (here ∙ ap (Once l) e)))
+          where
+            timed : (again : Bool) → place_at w t ≡ Once l (Look once_call.WaitTimed again look_at.Asleep)
+                → Stays (locks_of w) t (record
+                (call_state (Once l (Look once_call.WaitTimed again look_at.Asleep)) (rights w t)) {
+                  late =
+                      true;
+                }) outcome.TheVariants.Step
+                (locks_of (state_after_late_on w t (Some (2 * l))))
+            timed again at_it = placed w t there (state_with_sections w (One (2 * l)) (Some t)).sections
+                (Once l (Look once_call.WaitTimed again look_at.Asleep)) (next_place (place_at w t)
+                reply.Late)
+                at_it (rw at_it (λ k. refl)) _ (rw at_it (λ r e. rw e refl))
 
-      by_line : (m : Option Line) → (once_profile at).late_line ≡ m → is_free_under w (key_in (Some l) m) ≡ true
-          → Stays (locks_of w) t (record (call_state (Once l at) (rights w t)) { late = true }) outcome.TheVariants.Step
-          (locks_of (state_after_late_on w t (key_in (Some l) m)))
-      by_line None e can = absurd cc
-      by_line (Some m) e can = let z = late_place at m e in asleep z.0 at z.1 is m z.2
-  late_goes (Semaphore l at) is can = by_line (semaphore_profile at).late_line refl can
-    where
-      asleep : (again : Bool) (p : SemaphorePlace) → p ≡ Acquire true again acquire.Asleep → place_at w t ≡ Semaphore l p → (m : Line) → Main ≡ m
-          → Stays (locks_of w) t (record (call_state (Semaphore l p) (rights w t)) { late = true }) outcome.TheVariants.Step
-          (locks_of (state_after_late_on w t (Some (key_of l m))))
-      asleep again p e here m first =
-          subst (λ n. Stays (locks_of w) t (record (call_state (Semaphore l p) (rights w t)) { late = true }) outcome.TheVariants.Step (locks_of (state_after_late_on w t (Some (key_of l n))))) first
-          (subst (λ x. Stays (locks_of w) t (record (call_state (Semaphore l x) (rights w t)) { late = true }) outcome.TheVariants.Step (locks_of (state_after_late_on w t (Some (2 * l))))) (sym e)
-          (timed again (here ∙ ap (Semaphore l) e)))
-        where
-          timed : (again : Bool) → place_at w t ≡ Semaphore l (Acquire true again acquire.Asleep)
-              → Stays (locks_of w) t (record (call_state (Semaphore l (Acquire true again acquire.Asleep)) (rights w t)) { late = true }) outcome.TheVariants.Step
-              (locks_of (state_after_late_on w t (Some (2 * l))))
-          timed again at_it = placed w t there (state_with_sections w (One (2 * l)) (Some t)).sections (Semaphore l (Acquire true again acquire.Asleep)) (next_place (place_at w t) reply.Late) at_it (rw at_it (λ k. refl)) _ (rw at_it (λ r e. rw e refl))
+        by_line : (m : Option Line) → (once_profile at).late_line ≡ m → is_free_under w (key_in (Some l) m)
+            ≡ true
+            → Stays (locks_of w) t (record (call_state (Once l at) (rights w t)) { late = true })
+            outcome.TheVariants.Step
+            (locks_of (state_after_late_on w t (key_in (Some l) m)))
+        by_line None e can = absurd cc
+        by_line (Some m) e can = let z = late_place at m e in asleep z.0 at z.1 is m z.2
+    late_goes (Semaphore l at) is can = by_line (semaphore_profile at).late_line refl can
+      where
+        asleep : (again : Bool) (p : SemaphorePlace) → p ≡ Acquire true again acquire.Asleep → place_at w t
+            ≡ Semaphore l p → (m : Line) → Main ≡ m
+            → Stays (locks_of w) t (record (call_state (Semaphore l p) (rights w t)) { late = true })
+            outcome.TheVariants.Step
+            (locks_of (state_after_late_on w t (Some (key_of l m))))
+        asleep again p e here m first =
+            subst (λ n. Stays (locks_of w) t (record (call_state (Semaphore l p) (rights w t)) {
+              late =
+                  true;
+            })
+            outcome.TheVariants.Step (locks_of (state_after_late_on w t (Some (key_of l n))))) first
+            (subst (λ x. Stays (locks_of w) t (record (call_state (Semaphore l x) (rights w t)) {
+              late =
+                  true;
+            })
+            outcome.TheVariants.Step (locks_of (state_after_late_on w t (Some (2 * l))))) (sym e)
+            (timed again (here ∙ ap (Semaphore l) e)))
+          where
+            timed : (again : Bool) → place_at w t ≡ Semaphore l (Acquire true again acquire.Asleep)
+                → Stays (locks_of w) t (record (call_state (Semaphore l (Acquire true again acquire.Asleep))
+                (rights w t)) { late = true }) outcome.TheVariants.Step
+                (locks_of (state_after_late_on w t (Some (2 * l))))
+            timed again at_it = placed w t there (state_with_sections w (One (2 * l)) (Some t)).sections
+                (Semaphore l (Acquire true again acquire.Asleep)) (next_place (place_at w t) reply.Late) at_it
+                (rw at_it (λ k. refl)) _ (rw at_it (λ r e. rw e refl))
 
-      by_line : (m : Option Line) → (semaphore_profile at).late_line ≡ m → is_free_under w (key_in (Some l) m) ≡ true
-          → Stays (locks_of w) t (record (call_state (Semaphore l at) (rights w t)) { late = true }) outcome.TheVariants.Step
-          (locks_of (state_after_late_on w t (key_in (Some l) m)))
-      by_line None e can = absurd cc
-      by_line (Some m) e can = let z = semaphore_late_place at m e in asleep z.0 at z.1 is m z.2
-  late_goes (RwLock l a c) is can = by_line (call_profile a c).late_line refl can
-    where
-      stands : CallStands a c
-      stands = let calls : FitsItsLock w (RwLock l a c) = subst (FitsItsLock w) is (steady.stands.calls t) in calls.1
+        by_line : (m : Option Line) → (semaphore_profile at).late_line ≡ m
+            → is_free_under w (key_in (Some l) m)
+            ≡ true
+            → Stays (locks_of w) t (record (call_state (Semaphore l at) (rights w t)) { late = true })
+            outcome.TheVariants.Step
+            (locks_of (state_after_late_on w t (key_in (Some l) m)))
+        by_line None e can = absurd cc
+        by_line (Some m) e can = let z = semaphore_late_place at m e in asleep z.0 at z.1 is m z.2
+    late_goes (RwLock l a c) is can = by_line (call_profile a c).late_line refl can
+      where
+        stands : CallStands a c
+        stands = let calls : FitsItsLock w (RwLock l a c) = subst (FitsItsLock w) is (steady.stands.calls t)
+            in calls.1
 
-      in_no_hand_at : (d : RwLockCallPlace) → (call_profile a d).hand ≡ None → (k : ℕ) → taken_at (RwLock l a d) k ≡ None
-      in_no_hand_at d e k = ap (λ h. taken_from h (call_profile a d).wants (calls (RwLock l a d) k)) e
+        in_no_hand_at : (d : RwLockCallPlace) → (call_profile a d).hand ≡ None → (k : ℕ)
+            → taken_at (RwLock l a d) k ≡ None
+        in_no_hand_at d e k = ap (λ h. taken_from h (call_profile a d).wants (calls (RwLock l a d) k)) e
 
-      by_line : (m : Option Line) → (call_profile a c).late_line ≡ m → is_free_under w (key_in (Some l) m) ≡ true
-          → Stays (locks_of w) t (record (call_state (RwLock l a c) (rights w t)) { late = true }) outcome.TheVariants.Step
-          (locks_of (state_after_late_on w t (key_in (Some l) m)))
-      by_line None e can = absurd cc
-      by_line (Some m) e can = let z = call_late a c m (sym (late_row a c) ∙ e) in
-          placed w t there (state_with_sections w (One (key_of l m)) (Some t)).sections (RwLock l a c) (next_place (place_at w t) reply.Late) is
-          (λ k. ap (λ y. taken_at (next_place y reply.Late) k) is ∙ ap (λ n. taken_at (rwlock_goes l a n) k) z.1 ∙ in_no_hand_at z.0 z.3 k ∙ sym (in_no_hand_at c z.2 k)) _
-          (λ r same_rights. ap (λ y. call_state (next_place y reply.Late) r) is ∙ ap (λ n. call_state (rwlock_goes l a n) r) z.1
-          ∙ (fair_sleepers_hear a l c stands).late (λ none. let f : ◌≡◌ {A = Option Line} None (Some m) = sym none ∙ e in cc) z.0 r z.1
-          ∙ ap (λ x. record (call_state (RwLock l a c) x) { late = true }) same_rights)
-  late_goes (Mutex l (Lock entries.LockTimed retries Asleep)) is can = placed w t there (state_with_sections w (One (2 * l)) (Some t)).sections (Mutex l (Lock entries.LockTimed retries Asleep)) (next_place (place_at w t) reply.Late) is (rw is (λ k. refl)) _ (rw is (λ r e. rw e refl))
-  late_goes (Mutex l (Lock entries.Lock retries Asleep)) is can = absurd cc
-  late_goes (Mutex l (Lock entries.Bump retries Asleep)) is can = absurd cc
-  late_goes (Mutex l (Lock entry retries First)) is can = absurd cc
-  late_goes (Mutex l (Lock entry retries a)) is can = absurd cc
-  late_goes (Mutex l TryLock) is can = absurd cc
-  late_goes (Mutex l (Unlock a)) is can = absurd cc
-  late_goes (Mutex l UnlockFair) is can = absurd cc
-  late_goes (Mutex l Bump) is can = absurd cc
-  late_goes (Mutex l (HandOff bumps a)) is can = absurd cc
+        by_line : (m : Option Line) → (call_profile a c).late_line ≡ m → is_free_under w (key_in (Some l) m)
+            ≡ true
+            → Stays (locks_of w) t (record (call_state (RwLock l a c) (rights w t)) { late = true })
+            outcome.TheVariants.Step
+            (locks_of (state_after_late_on w t (key_in (Some l) m)))
+        by_line None e can = absurd cc
+        by_line (Some m) e can = let z = call_late a c m (sym (late_row a c) ∙ e) in
+            placed w t there (state_with_sections w (One (key_of l m)) (Some t)).sections (RwLock l a c)
+            (next_place (place_at w t) reply.Late) is
+            (λ k. ap (λ y. taken_at (next_place y reply.Late) k) is ∙ ap (λ n. taken_at (rwlock_goes l a n) k)
+            z.1 ∙ in_no_hand_at z.0 z.3 k ∙ sym (in_no_hand_at c z.2 k)) _
+            (λ r same_rights. ap (λ y. call_state (next_place y reply.Late) r) is
+            ∙ ap (λ n. call_state (rwlock_goes l a n) r) z.1
+            ∙ (fair_sleepers_hear a l c stands).late (λ none. let f : ◌≡◌ {A = Option Line} None (Some m) =
+            sym none ∙ e in cc) z.0 r z.1
+            ∙ ap (λ x. record (call_state (RwLock l a c) x) { late = true }) same_rights)
+    late_goes (Mutex l (Lock entries.LockTimed retries Asleep)) is can =
+        placed w t there (state_with_sections w (One (2 * l)) (Some t)).sections
+        (Mutex l (Lock entries.LockTimed retries Asleep)) (next_place (place_at w t) reply.Late) is
+        (rw is (λ k. refl)) _ (rw is (λ r e. rw e refl))
+    late_goes (Mutex l (Lock entries.Lock retries Asleep)) is can = absurd cc
+    late_goes (Mutex l (Lock entries.Bump retries Asleep)) is can = absurd cc
+    late_goes (Mutex l (Lock entry retries First)) is can = absurd cc
+    late_goes (Mutex l (Lock entry retries a)) is can = absurd cc
+    late_goes (Mutex l TryLock) is can = absurd cc
+    late_goes (Mutex l (Unlock a)) is can = absurd cc
+    late_goes (Mutex l UnlockFair) is can = absurd cc
+    late_goes (Mutex l Bump) is can = absurd cc
+    late_goes (Mutex l (HandOff bumps a)) is can = absurd cc
 
 -- ---------------------------------------------------------------- a look at the word once more
 
 -- a call of another lock is of no mutex
-own_sort : (w : State) (l : ℕ) (q : Purpose) → lock_for q ≡ l → (rules_in w l).sort ≢ locks.Mutex → IsOfMutex (locks_of w) (Some q) → ⊥
+own_sort : (w : State) (l : ℕ) (q : Purpose) → lock_for q ≡ l → (rules_in w l).sort ≢ locks.Mutex
+    → IsOfMutex (locks_of w) (Some q) → ⊥
 own_sort w l q own other of = other (ap (λ k. (rules_in w k).sort) (sym own) ∙ of)
 
-condvar_no_mutex : (w : State) (l : ℕ) (at : CondvarPlace) → (rules_in w l).sort ≢ locks.Mutex → (r : ℕ → Rights)
+condvar_no_mutex : (w : State) (l : ℕ) (at : CondvarPlace) → (rules_in w l).sort ≢ locks.Mutex
+    → (r : ℕ → Rights)
     → IsOfMutex (locks_of w) (call_state (Condvar l at) r).purpose → ⊥
 condvar_no_mutex w l (condvars.Wait m timed at) other r of = other of
 condvar_no_mutex w l (condvars.Look all) other r of = other of
 condvar_no_mutex w l (condvars.Notify all m at) other r of = other of
 
 -- its call goes on by what it sees there
-module _ (w : State) (t : ℕ) (shape : IsWellFormed w) (steady : IsInductive w) (there : t < length w.places) (q : Place)
+module _ (w : State) (t : ℕ) (shape : IsWellFormed w) (steady : IsInductive w) (there : t < length w.places)
+    (q : Place)
     (is : looking (place_at w t) ≡ Some q) where
   abbrev moved : State
   moved = put w t q
@@ -217,86 +285,117 @@ module _ (w : State) (t : ℕ) (shape : IsWellFormed w) (steady : IsInductive w)
   look_stays : (p : Place) → place_at w t ≡ p → IsOfMutex (locks_of w) (call_state p (rights w t)).purpose
       → Stays (locks_of w) t ((locks_of w).calls t) (go_outcome moved t) (locks_of (state_after_go moved t))
   look_stays Idle e of = absurd of
-  look_stays (Condvar l at) e of = absurd (let calls : FitsCondvar w l at = subst (FitsItsLock w) e (steady.stands.calls t) in condvar_no_mutex w l at (λ f. let both : locks.Condvar ≡ locks.Mutex = sym calls.sort ∙ f in cc) (rights w t) of)
-  look_stays (Once l at) e of = absurd (let calls : FitsItsLock w (Once l at) = subst (FitsItsLock w) e (steady.stands.calls t) in own_sort w l ((once_profile at).purpose l) (once_promises l at).own (λ f. let both : locks.Once ≡ locks.Mutex = sym calls ∙ f in cc) of)
-  look_stays (Semaphore l at) e of = absurd (let calls : FitsItsLock w (Semaphore l at) = subst (FitsItsLock w) e (steady.stands.calls t) in own_sort w l ((semaphore_profile at).purpose l) (semaphore_promises l at).own (λ f. let both : locks.Semaphore ≡ locks.Mutex = sym calls.0 ∙ f in cc) of)
-  look_stays (RwLock l a c) e of = absurd (let calls : FitsItsLock w (RwLock l a c) = subst (FitsItsLock w) e (steady.stands.calls t) in own_sort w l ((call_profile a c).purpose l) (call_promises (rules_in w l) a l c calls.0 calls.1).own (λ f. let both : false ≡ true = sym (ap has_readers f) ∙ calls.0.0 in cc) of)
+  look_stays (Condvar l at) e of = absurd (let calls : FitsCondvar w l at =
+      subst (FitsItsLock w) e (steady.stands.calls t) in condvar_no_mutex w l at
+      (λ f. let both : locks.Condvar ≡ locks.Mutex = sym calls.sort ∙ f in cc) (rights w t) of)
+  look_stays (Once l at) e of = absurd (let calls : FitsItsLock w (Once l at) =
+      subst (FitsItsLock w) e (steady.stands.calls t) in own_sort w l ((once_profile at).purpose l)
+      (once_promises l at).own (λ f. let both : locks.Once ≡ locks.Mutex = sym calls ∙ f in cc) of)
+  look_stays (Semaphore l at) e of = absurd (let calls : FitsItsLock w (Semaphore l at) =
+      subst (FitsItsLock w) e (steady.stands.calls t) in own_sort w l ((semaphore_profile at).purpose l)
+      (semaphore_promises l at).own (λ f. let both : locks.Semaphore ≡ locks.Mutex = sym calls.0 ∙ f in cc)
+      of)
+  look_stays (RwLock l a c) e of = absurd (let calls : FitsItsLock w (RwLock l a c) =
+      subst (FitsItsLock w) e (steady.stands.calls t) in own_sort w l ((call_profile a c).purpose l)
+      (call_promises (rules_in w l) a l c calls.0 calls.1).own (λ f. let both : false ≡ true =
+      sym (ap has_readers f) ∙ calls.0.0 in cc) of)
   look_stays (Mutex l at) e of = let loads = mutex_looks l at q (ap looking (sym e) ∙ is) in
       let now : place_at moved t ≡ Mutex l (Lock loads.0 loads.1 Load) = here w t there q is ∙ loads.2 in
-      stays_as_before w t there q is _ (locks_of (state_after_go moved t)) (subst (λ p. Stays (locks_of moved) t ((locks_of moved).calls t) (going_outcome moved t p) (locks_of (state_after_going moved t p))) (sym now)
+      stays_as_before w t there q is _ (locks_of (state_after_go moved t))
+      (subst (λ p. Stays (locks_of moved) t ((locks_of moved).calls t) (going_outcome moved t p)
+      (locks_of (state_after_going moved t p))) (sym now)
       (load_stays moved t l loads.0 loads.1 steady_moved shaped_moved there_moved (fits_moved now).0 now))
     where
-      fits_moved : {x : MutexPlace} → place_at moved t ≡ Mutex l x → PlaceFits (length moved.locks) (Mutex l x)
+      fits_moved : {x : MutexPlace} → place_at moved t ≡ Mutex l x → PlaceFits (length moved.locks)
+          (Mutex l x)
       fits_moved now = subst (PlaceFits (length moved.locks)) now (shaped_moved.places t)
 
-  looks : AreCounted w → AreCondvars w → Looks (locks_of w) t (go_outcome moved t) (locks_of (state_after_go moved t))
+  looks : AreCounted w → AreCondvars w → Looks (locks_of w) t (go_outcome moved t)
+      (locks_of (state_after_go moved t))
   looks counted condvars = record {
     goes = goes_as_before w t there q is _ (locks_of (state_after_go moved t))
-        (going_goes moved t shaped_moved steady_moved there_moved (looking_counted w t there q is counted) (looking_condvars w t q there is condvars) (looks_now w t there q is));
+        (going_goes moved t shaped_moved steady_moved there_moved (looking_counted w t there q is counted)
+        (looking_condvars w t q there is condvars) (looks_now w t there q is));
     stays = λ of. look_stays (place_at w t) refl of;
   }
 
 -- ---------------------------------------------------------------- steps
 
-module _ (w : State) (t : ℕ) (shape : IsWellFormed w) (steady : IsInductive w) (there : t < length w.places) where
-  -- its closure has answered, and its run ends by the next act
-  closed_does : (succeeded : Bool) → can_close w t succeeded ≡ true
-      → (((locks_of w).stances t).in_closure ≡ true)
-      × Closes (locks_of w) t (run_ending succeeded) (close_outcome w t succeeded) (locks_of (state_after_close w t succeeded))
-  closed_does succeeded can = (
-    (both (runs_closure (act_of (place_at w t))) (can_do w (act_of (closed_place w t succeeded))) can).0,
-    record { goes = ended.0; lock = one.lock; ends = ended.1 },
-  )
-    where
-      one : RunsOne (place_at w t)
-      one = closes_one w t succeeded can
+module _ (w : State) (t : ℕ) (shape : IsWellFormed w) (steady : IsInductive w) (there : t < length w.places)
+  where
+    -- its closure has answered, and its run ends by the next act
+    closed_does : (succeeded : Bool) → can_close w t succeeded ≡ true
+        → (((locks_of w).stances t).in_closure ≡ true)
+        × Closes (locks_of w) t (run_ending succeeded) (close_outcome w t succeeded)
+        (locks_of (state_after_close w t succeeded))
+    closed_does succeeded can = (
+      (both (runs_closure (act_of (place_at w t))) (can_do w (act_of (closed_place w t succeeded))) can).0,
+      record { goes = ended.0; lock = one.lock; ends = ended.1 },
+    )
+      where
+        one : RunsOne (place_at w t)
+        one = closes_one w t succeeded can
 
-      at : OncePlace
-      at = Run one.forced (run.Close succeeded)
+        at : OncePlace
+        at = Run one.forced (run.Close succeeded)
 
-      v : State
-      v = closing w t there succeeded one
+        v : State
+        v = closing w t there succeeded one
 
-      ended : (g : GoesOn (locks_of w) t (close_outcome w t succeeded) (locks_of (state_after_close w t succeeded)))
-          × (g.event ≡ AtLock one.lock (OfOnce (run_ending succeeded)))
-      ended = subst (λ x. (g : GoesOn (locks_of w) t (close_outcome w t succeeded) (locks_of x)) × (g.event ≡ AtLock one.lock (OfOnce (run_ending succeeded)))) (sym (goes_there w t there succeeded one ∙ goes_from_there v t (Once one.lock at) is_v tt))
-          (subst (λ o. (g : GoesOn (locks_of w) t o (locks_of (go_by v t (Once one.lock at) (act_of (Once one.lock at))))) × (g.event ≡ AtLock one.lock (OfOnce (run_ending succeeded)))) (sym (told_there w t there succeeded one ∙ told_from_there v t (Once one.lock at) is_v tt))
-          (alike_event w t there (closed_place w t succeeded) (like w t there succeeded one) _ _ (AtLock one.lock (OfOnce (run_ending succeeded)))
-          (once_step v t one.lock at steady_v shape_v there_v lt is_v refl, step_event v t one.lock at steady_v shape_v there_v lt is_v refl ∙ closes_event one.lock succeeded (is_marked (word_at v one.lock)))))
-        where
-          steady_v : IsInductive v
-          steady_v = closing_steady w t there succeeded one steady
+        ended : (g : GoesOn (locks_of w) t (close_outcome w t succeeded)
+            (locks_of (state_after_close w t succeeded)))
+            × (g.event ≡ AtLock one.lock (OfOnce (run_ending succeeded)))
+        ended = subst (λ x. (g : GoesOn (locks_of w) t (close_outcome w t succeeded) (locks_of x))
+            × (g.event ≡ AtLock one.lock (OfOnce (run_ending succeeded))))
+            (sym (goes_there w t there succeeded one ∙ goes_from_there v t (Once one.lock at) is_v tt))
+            (subst (λ o. (g : GoesOn (locks_of w) t o
+            (locks_of (go_by v t (Once one.lock at) (act_of (Once one.lock at)))))
+            × (g.event ≡ AtLock one.lock (OfOnce (run_ending succeeded))))
+            (sym (told_there w t there succeeded one ∙ told_from_there v t (Once one.lock at) is_v tt))
+            (alike_event w t there (closed_place w t succeeded) (like w t there succeeded one) _ _
+            (AtLock one.lock (OfOnce (run_ending succeeded))) (
+              once_step v t one.lock at steady_v shape_v there_v lt is_v refl,
+              step_event v t one.lock at steady_v shape_v there_v lt is_v refl
+                  ∙ closes_event one.lock succeeded (is_marked (word_at v one.lock)),
+            )))
+          where
+            steady_v : IsInductive v
+            steady_v = closing_steady w t there succeeded one steady
 
-          shape_v : IsWellFormed v
-          shape_v = closing_shaped w t there succeeded one shape
+            shape_v : IsWellFormed v
+            shape_v = closing_shaped w t there succeeded one shape
 
-          there_v : t < length v.places
-          there_v = closing_there w t there succeeded one
+            there_v : t < length v.places
+            there_v = closing_there w t there succeeded one
 
-          is_v : place_at v t ≡ Once one.lock at
-          is_v = closing_here w t there succeeded one ∙ is_behind w t there succeeded one
+            is_v : place_at v t ≡ Once one.lock at
+            is_v = closing_here w t there succeeded one ∙ is_behind w t there succeeded one
 
-          lt : one.lock < length v.locks
-          lt = subst (PlaceFits (length v.locks)) is_v (shape_v.places t)
+            lt : one.lock < length v.locks
+            lt = subst (PlaceFits (length v.locks)) is_v (shape_v.places t)
 
-  turned_does : AreCounted w → AreCondvars w → (x : Turn) → can_turn w t x ≡ true
-      → MayTurn (locks_of w) t x × Does (locks_of w) t x (turn_outcome w t x) (locks_of (state_after_turn w t x))
-  turned_does counted condvars (turn.TheVariants.Begin c) can = begin_goes w t c shape steady there can
-  turned_does counted condvars turn.TheVariants.Go can = (may_go w t can, going_goes w t shape steady there counted condvars can)
-  turned_does counted condvars turn.TheVariants.Spin can = (can, by_look (looking (place_at w t)) refl can)
-    where
-      by_look : (o : Option Place) → looking (place_at w t) ≡ o → is_some o ≡ true
-          → Looks (locks_of w) t (look_outcome w t o) (locks_of (state_after_look w t o))
-      by_look None is can = absurd cc
-      by_look (Some q) is can = looks w t shape steady there q is counted condvars
-  turned_does counted condvars turn.TheVariants.Late can = (may_be_late w t steady can, late_goes w t shape steady there (place_at w t) refl can)
-  turned_does counted condvars turn.TheVariants.Ok can = closed_does true can
-  turned_does counted condvars turn.TheVariants.Err can = closed_does false can
+    turned_does : AreCounted w → AreCondvars w → (x : Turn) → can_turn w t x ≡ true
+        → MayTurn (locks_of w) t x × Does (locks_of w) t x (turn_outcome w t x)
+        (locks_of (state_after_turn w t x))
+    turned_does counted condvars (turn.TheVariants.Begin c) can = begin_goes w t c shape steady there can
+    turned_does counted condvars turn.TheVariants.Go can =
+        (may_go w t can, going_goes w t shape steady there counted condvars can)
+    turned_does counted condvars turn.TheVariants.Spin can = (can, by_look (looking (place_at w t)) refl can)
+      where
+        by_look : (o : Option Place) → looking (place_at w t) ≡ o → is_some o ≡ true
+            → Looks (locks_of w) t (look_outcome w t o) (locks_of (state_after_look w t o))
+        by_look None is can = absurd cc
+        by_look (Some q) is can = looks w t shape steady there q is counted condvars
+    turned_does counted condvars turn.TheVariants.Late can =
+        (may_be_late w t steady can, late_goes w t shape steady there (place_at w t) refl can)
+    turned_does counted condvars turn.TheVariants.Ok can = closed_does true can
+    turned_does counted condvars turn.TheVariants.Err can = closed_does false can
 
 -- a turn that may be taken is possible
 module _ (w : State) (t : ℕ) (steady : IsInductive w) where
   -- after its closure it may swap the word
-  closes_possible : (succeeded : Bool) → runs_closure (act_of (place_at w t)) ≡ true → can_close w t succeeded ≡ true
+  closes_possible : (succeeded : Bool) → runs_closure (act_of (place_at w t)) ≡ true → can_close w t succeeded
+      ≡ true
   closes_possible succeeded may = let one = runs_one (place_at w t) may in rw one.is refl
 
   possible : (x : Turn) → MayTurn (locks_of w) t x → can_turn w t x ≡ true
@@ -308,8 +407,10 @@ module _ (w : State) (t : ℕ) (steady : IsInductive w) where
   possible turn.TheVariants.Err may = closes_possible false may
 
   stuck : (x : Turn) → (nat_lt t (length w.places) && can_turn w t x) ≡ false → MayTurn (locks_of w) t x → ⊥
-  stuck x cannot may = let there : nat_lt t (length w.places) ≡ true = lt-ltb t (length w.places) (turner_there w t x may) in
-      let can : can_turn w t x ≡ true = possible x may in let e : true ≡ false = rw (there, can) at cannot in cc
+  stuck x cannot may = let there : nat_lt t (length w.places) ≡ true = lt-ltb t (length w.places)
+      (turner_there w t x may) in
+      let can : can_turn w t x ≡ true = possible x may in let e : true ≡ false = rw (there, can) at cannot
+      in cc
 
 -- sections, and what the thread is told
 module _ (w : State) (t : ℕ) (there : t < length w.places) where
@@ -317,75 +418,98 @@ module _ (w : State) (t : ℕ) (there : t < length w.places) where
       → sleeps (act_of (place_at (put b t p) t)) ≡ sleeps (act_of p)
   put_sleeps b p size = ap (λ q. sleeps (act_of q)) (get_or-set_same b.places t p Idle (rw size there))
 
-  told_going : (go_outcome w t ≡ outcome.TheVariants.Sleep) ↔ (sleeps (act_of (place_at (state_after_go w t) t)) ≡ true)
+  told_going : (go_outcome w t ≡ outcome.TheVariants.Sleep)
+      ↔ (sleeps (act_of (place_at (state_after_go w t) t)) ≡ true)
   told_going = let acted = state_after_act w t (place_at w t) (act_of (place_at w t)) in
-      rw (put_sleeps acted (next_place (place_at acted t) (go_reply w t)) (performed_counts w t (place_at w t) (act_of (place_at w t))).0) (told_gone (place_at acted t) (go_reply w t))
+      rw (put_sleeps acted (next_place (place_at acted t) (go_reply w t)) (performed_counts w t (place_at w t)
+      (act_of (place_at w t))).0) (told_gone (place_at acted t) (go_reply w t))
 
-module _ (w : State) (t : ℕ) (shape : IsWellFormed w) (steady : IsInductive w) (there : t < length w.places) where
-  closed_sections : (succeeded : Bool) → can_close w t succeeded ≡ true → (key : ℕ)
-      → SectionChanges (section_at w key) t (section_at (state_after_close w t succeeded) key)
-  closed_sections succeeded can key = let one = closes_one w t succeeded can in inl (ap (λ (v : State). section_at v key) (goes_there w t there succeeded one))
+module _ (w : State) (t : ℕ) (shape : IsWellFormed w) (steady : IsInductive w) (there : t < length w.places)
+  where
+    closed_sections : (succeeded : Bool) → can_close w t succeeded ≡ true → (key : ℕ)
+        → SectionChanges (section_at w key) t (section_at (state_after_close w t succeeded) key)
+    closed_sections succeeded can key = let one = closes_one w t succeeded can
+        in inl (ap (λ (v : State). section_at v key) (goes_there w t there succeeded one))
 
-  turned_sections : (x : Turn) → can_turn w t x ≡ true → (key : ℕ)
-      → SectionChanges (section_at w key) t (section_at (state_after_turn w t x) key)
-  turned_sections (turn.TheVariants.Begin c) can key = inl refl
-  turned_sections turn.TheVariants.Go can key = gone_sections w t shape steady can key
-  turned_sections turn.TheVariants.Spin can key = by_look (looking (place_at w t)) refl
-    where
-      by_look : (o : Option Place) → looking (place_at w t) ≡ o
-          → SectionChanges (section_at w key) t (section_at (state_after_look w t o) key)
-      by_look None is = inl refl
-      by_look (Some q) is = gone_sections (put w t q) t (shaped_moved w t shape steady there q is) (steady_moved w t shape steady there q is) (looks_now w t there q is) key
-  turned_sections turn.TheVariants.Late can key = late_sections w t shape steady (place_at w t) refl (shape.places t) can key
-  turned_sections turn.TheVariants.Ok can key = closed_sections true can key
-  turned_sections turn.TheVariants.Err can key = closed_sections false can key
+    turned_sections : (x : Turn) → can_turn w t x ≡ true → (key : ℕ)
+        → SectionChanges (section_at w key) t (section_at (state_after_turn w t x) key)
+    turned_sections (turn.TheVariants.Begin c) can key = inl refl
+    turned_sections turn.TheVariants.Go can key = gone_sections w t shape steady can key
+    turned_sections turn.TheVariants.Spin can key = by_look (looking (place_at w t)) refl
+      where
+        by_look : (o : Option Place) → looking (place_at w t) ≡ o
+            → SectionChanges (section_at w key) t (section_at (state_after_look w t o) key)
+        by_look None is = inl refl
+        by_look (Some q) is = gone_sections (put w t q) t (shaped_moved w t shape steady there q is)
+            (steady_moved w t shape steady there q is) (looks_now w t there q is) key
+    turned_sections turn.TheVariants.Late can key = late_sections w t shape steady (place_at w t) refl
+        (shape.places t) can key
+    turned_sections turn.TheVariants.Ok can key = closed_sections true can key
+    turned_sections turn.TheVariants.Err can key = closed_sections false can key
 
-  closed_told : (succeeded : Bool) → can_close w t succeeded ≡ true
-      → (close_outcome w t succeeded ≡ outcome.TheVariants.Sleep)
-      ↔ (sleeps (act_of (place_at (state_after_close w t succeeded) t)) ≡ true)
-  closed_told succeeded can = let one = closes_one w t succeeded can in told_going (closing w t there succeeded one) t (closing_there w t there succeeded one)
+    closed_told : (succeeded : Bool) → can_close w t succeeded ≡ true
+        → (close_outcome w t succeeded ≡ outcome.TheVariants.Sleep)
+        ↔ (sleeps (act_of (place_at (state_after_close w t succeeded) t)) ≡ true)
+    closed_told succeeded can = let one = closes_one w t succeeded can
+        in told_going (closing w t there succeeded one) t (closing_there w t there succeeded one)
 
-  turned_told : (x : Turn) → can_turn w t x ≡ true
-      → (turn_outcome w t x ≡ outcome.TheVariants.Sleep) ↔ (sleeps (act_of (place_at (state_after_turn w t x) t)) ≡ true)
-  turned_told (turn.TheVariants.Begin c) can = told_step _ (put_sleeps w t there w (first_place (kind_at w (lock_in c)) c) refl ∙ begins_awake (kind_at w (lock_in c)) c)
-  turned_told turn.TheVariants.Go can = told_going w t there
-  turned_told turn.TheVariants.Spin can = by_look (looking (place_at w t)) refl can
-    where
-      by_look : (o : Option Place) → looking (place_at w t) ≡ o → is_some o ≡ true
-          → (look_outcome w t o ≡ outcome.TheVariants.Sleep) ↔ (sleeps (act_of (place_at (state_after_look w t o) t)) ≡ true)
-      by_look None is can = absurd cc
-      by_look (Some q) is can = told_going (put w t q) t (there_moved w t shape steady there q is)
-  turned_told turn.TheVariants.Late can = told_step _ (late_awake w t there steady (late_key (place_at w t)) refl can)
-  turned_told turn.TheVariants.Ok can = closed_told true can
-  turned_told turn.TheVariants.Err can = closed_told false can
+    turned_told : (x : Turn) → can_turn w t x ≡ true
+        → (turn_outcome w t x ≡ outcome.TheVariants.Sleep)
+        ↔ (sleeps (act_of (place_at (state_after_turn w t x) t)) ≡ true)
+    turned_told (turn.TheVariants.Begin c) can =
+        told_step _ (put_sleeps w t there w (first_place (kind_at w (lock_in c)) c) refl
+        ∙ begins_awake (kind_at w (lock_in c)) c)
+    turned_told turn.TheVariants.Go can = told_going w t there
+    turned_told turn.TheVariants.Spin can = by_look (looking (place_at w t)) refl can
+      where
+        by_look : (o : Option Place) → looking (place_at w t) ≡ o → is_some o ≡ true
+            → (look_outcome w t o ≡ outcome.TheVariants.Sleep)
+            ↔ (sleeps (act_of (place_at (state_after_look w t o) t)) ≡ true)
+        by_look None is can = absurd cc
+        by_look (Some q) is can = told_going (put w t q) t (there_moved w t shape steady there q is)
+    turned_told turn.TheVariants.Late can =
+        told_step _ (late_awake w t there steady (late_key (place_at w t)) refl can)
+    turned_told turn.TheVariants.Ok can = closed_told true can
+    turned_told turn.TheVariants.Err can = closed_told false can
 
-  going_runs : (v : State) → t < length v.places
-      → is_closure (go_outcome v t) ≡ runs_closure (act_of (place_at (state_after_go v t) t))
-  going_runs v there_v = let acted = state_after_act v t (place_at v t) (act_of (place_at v t)) in closure_gone (place_at acted t) (go_reply v t)
-      ∙ sym (ap (λ p. runs_closure (act_of p)) (get_or-set_same acted.places t (next_place (place_at acted t) (go_reply v t)) Idle (rw (performed_counts v t (place_at v t) (act_of (place_at v t))).0 there_v)))
+    going_runs : (v : State) → t < length v.places
+        → is_closure (go_outcome v t) ≡ runs_closure (act_of (place_at (state_after_go v t) t))
+    going_runs v there_v = let acted = state_after_act v t (place_at v t) (act_of (place_at v t))
+        in closure_gone (place_at acted t) (go_reply v t)
+        ∙ sym (ap (λ p. runs_closure (act_of p)) (get_or-set_same acted.places t
+        (next_place (place_at acted t) (go_reply v t)) Idle
+        (rw (performed_counts v t (place_at v t) (act_of (place_at v t))).0 there_v)))
 
-  closing_runs : (succeeded : Bool) → can_close w t succeeded ≡ true
-      → is_closure (close_outcome w t succeeded) ≡ runs_closure (act_of (place_at (state_after_close w t succeeded) t))
-  closing_runs succeeded can = let one = closes_one w t succeeded can in going_runs (closing w t there succeeded one) (closing_there w t there succeeded one)
+    closing_runs : (succeeded : Bool) → can_close w t succeeded ≡ true
+        → is_closure (close_outcome w t succeeded) ≡ runs_closure
+        (act_of (place_at (state_after_close w t succeeded) t))
+    closing_runs succeeded can = let one = closes_one w t succeeded can
+        in going_runs (closing w t there succeeded one) (closing_there w t there succeeded one)
 
-  late_runs : (o : Option ℕ) → late_key (place_at w t) ≡ o → is_free_under w o ≡ true
-      → false ≡ runs_closure (act_of (place_at (state_after_late_on w t o) t))
-  late_runs None e can = absurd cc
-  late_runs (Some key) e can = sym (ap (λ p. runs_closure (act_of p)) (get_or-set_same w.places t (next_place (place_at w t) reply.Late) Idle there) ∙ late_outside (place_at w t) (λ none. let f : ◌≡◌ {A = Option ℕ} None (Some key) = sym none ∙ e in cc))
+    late_runs : (o : Option ℕ) → late_key (place_at w t) ≡ o → is_free_under w o ≡ true
+        → false ≡ runs_closure (act_of (place_at (state_after_late_on w t o) t))
+    late_runs None e can = absurd cc
+    late_runs (Some key) e can = sym (ap (λ p. runs_closure (act_of p)) (get_or-set_same w.places t
+        (next_place (place_at w t) reply.Late) Idle there)
+        ∙ late_outside (place_at w t) (λ none. let f : ◌≡◌ {A = Option ℕ} None (Some key) = sym none ∙ e
+        in cc))
 
-  turned_runs : (x : Turn) → can_turn w t x ≡ true
-      → is_closure (turn_outcome w t x) ≡ runs_closure (act_of (place_at (state_after_turn w t x) t))
-  turned_runs (turn.TheVariants.Begin c) can = sym (ap (λ p. runs_closure (act_of p)) (get_or-set_same w.places t (first_place (kind_at w (lock_in c)) c) Idle there) ∙ begins_outside (kind_at w (lock_in c)) c)
-  turned_runs turn.TheVariants.Go can = going_runs w there
-  turned_runs turn.TheVariants.Spin can = by_look (looking (place_at w t)) refl can
-    where
-      by_look : (o : Option Place) → looking (place_at w t) ≡ o → is_some o ≡ true
-          → is_closure (look_outcome w t o) ≡ runs_closure (act_of (place_at (state_after_look w t o) t))
-      by_look None is can = absurd cc
-      by_look (Some q) is can = going_runs (put w t q) (there_moved w t shape steady there q is)
-  turned_runs turn.TheVariants.Late can = late_runs (late_key (place_at w t)) refl can
-  turned_runs turn.TheVariants.Ok can = closing_runs true can
-  turned_runs turn.TheVariants.Err can = closing_runs false can
+    turned_runs : (x : Turn) → can_turn w t x ≡ true
+        → is_closure (turn_outcome w t x) ≡ runs_closure (act_of (place_at (state_after_turn w t x) t))
+    turned_runs (turn.TheVariants.Begin c) can =
+        sym (ap (λ p. runs_closure (act_of p))
+        (get_or-set_same w.places t (first_place (kind_at w (lock_in c)) c) Idle there)
+        ∙ begins_outside (kind_at w (lock_in c)) c)
+    turned_runs turn.TheVariants.Go can = going_runs w there
+    turned_runs turn.TheVariants.Spin can = by_look (looking (place_at w t)) refl can
+      where
+        by_look : (o : Option Place) → looking (place_at w t) ≡ o → is_some o ≡ true
+            → is_closure (look_outcome w t o) ≡ runs_closure (act_of (place_at (state_after_look w t o) t))
+        by_look None is can = absurd cc
+        by_look (Some q) is can = going_runs (put w t q) (there_moved w t shape steady there q is)
+    turned_runs turn.TheVariants.Late can = late_runs (late_key (place_at w t)) refl can
+    turned_runs turn.TheVariants.Ok can = closing_runs true can
+    turned_runs turn.TheVariants.Err can = closing_runs false can
 
 -- a step, but for what it leaves of the other threads
 abbrev pub IsTurn : LocksState → Step → Outcome → LocksState → Type 0
@@ -393,35 +517,52 @@ IsTurn w s o v = KeepsOrder w s.thread o v × Turned w s.thread s.turn o v
 
 pub after_step : (w : State) (s : Step) → IsWellFormed w → IsInductive w → AreCounted w → AreCondvars w
     → IsTurn (locks_of w) s (step_outcome w s) (locks_of (after w s))
-after_step w s shape steady counted condvars = (record { threads = size.threads; size = size.locks; kinds = after_kinds w s; sections = sections (is_possible w s) refl; told = told (is_possible w s) refl; runs = runs (is_possible w s) refl }, either (is_possible w s) refl)
+after_step w s shape steady counted condvars = (
+  record {
+    threads = size.threads;
+    size = size.locks;
+    kinds = after_kinds w s;
+    sections = sections (is_possible w s) refl;
+    told = told (is_possible w s) refl;
+    runs = runs (is_possible w s) refl;
+  },
+  either (is_possible w s) refl,
+)
   where
     size : SameSize w (after w s)
     size = after_size w s
 
     parts : is_possible w s ≡ true → (s.thread < length w.places) × (can_turn w s.thread s.turn ≡ true)
-    parts can = let h = both (nat_lt s.thread (length w.places)) (can_turn w s.thread s.turn) can in (ltb-true s.thread (length w.places) h.0, h.1)
+    parts can = let h = both (nat_lt s.thread (length w.places)) (can_turn w s.thread s.turn) can
+        in (ltb-true s.thread (length w.places) h.0, h.1)
 
     sections : (b : Bool) → is_possible w s ≡ b → (key : ℕ)
-        → SectionChanges (section_at w key) s.thread (section_at (if b then state_after_turn w s.thread s.turn else w) key)
+        → SectionChanges (section_at w key) s.thread (section_at (if b then state_after_turn w s.thread s.turn
+        else w) key)
     sections true can key = turned_sections w s.thread shape steady (parts can).0 s.turn (parts can).1 key
     sections false cannot key = inl refl
 
     told : (b : Bool) → is_possible w s ≡ b
-        → (if b then turn_outcome w s.thread s.turn else outcome.TheVariants.NotNow) ≢ outcome.TheVariants.NotNow
-        → ((if b then turn_outcome w s.thread s.turn else outcome.TheVariants.NotNow) ≡ outcome.TheVariants.Sleep)
+        → (if b then turn_outcome w s.thread s.turn else outcome.TheVariants.NotNow)
+        ≢ outcome.TheVariants.NotNow
+        → ((if b then turn_outcome w s.thread s.turn else outcome.TheVariants.NotNow)
+        ≡ outcome.TheVariants.Sleep)
         ↔ (sleeps (act_of (place_at (if b then state_after_turn w s.thread s.turn else w) s.thread)) ≡ true)
     told true can ne = turned_told w s.thread shape steady (parts can).0 s.turn (parts can).1
     told false cannot ne = absurd (ne refl)
 
     runs : (b : Bool) → is_possible w s ≡ b
-        → (if b then turn_outcome w s.thread s.turn else outcome.TheVariants.NotNow) ≢ outcome.TheVariants.NotNow
+        → (if b then turn_outcome w s.thread s.turn else outcome.TheVariants.NotNow)
+        ≢ outcome.TheVariants.NotNow
         → is_closure (if b then turn_outcome w s.thread s.turn else outcome.TheVariants.NotNow)
         ≡ runs_closure (act_of (place_at (if b then state_after_turn w s.thread s.turn else w) s.thread))
     runs true can ne = turned_runs w s.thread shape steady (parts can).0 s.turn (parts can).1
     runs false cannot ne = absurd (ne refl)
 
     either : (b : Bool) → is_possible w s ≡ b
-        → Turned (locks_of w) s.thread s.turn (if b then turn_outcome w s.thread s.turn else outcome.TheVariants.NotNow)
+        → Turned (locks_of w) s.thread s.turn (if b then turn_outcome w s.thread s.turn
+        else outcome.TheVariants.NotNow)
         (locks_of (if b then state_after_turn w s.thread s.turn else w))
-    either true can = inl (turned_does w s.thread shape steady (parts can).0 counted condvars s.turn (parts can).1)
+    either true can = inl (turned_does w s.thread shape steady (parts can).0 counted condvars s.turn
+        (parts can).1)
     either false cannot = inr (stuck w s.thread steady s.turn cannot, (refl, refl))

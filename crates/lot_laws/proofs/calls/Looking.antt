@@ -1,5 +1,8 @@
--- A thread that looks at the word once more goes on from another place of its call. Standing there changes nothing that locks and calls see.
-use Rattle.std.proofs.Common.{false, ◌==◌, ◌&&◌, not, ℕ, zero, suc, List, set, true, Option, Some, None, if◌then◌else◌, ◌≡◌, ◌<◌, inl, inr, [], ◌∷◌, length, replicate, refl, sym, ◌∙◌, ap, subst, get_or-set_other, get_or-set_same, length-set, get_or}
+-- A thread that looks at the word once more goes on from another place of its call. Standing there changes
+-- nothing that locks and calls see.
+use Rattle.std.proofs.Common.{false, ◌==◌, ◌&&◌, not, ℕ, zero, suc, List, set, true, Option, Some, None}
+use Rattle.std.proofs.Common.{if◌then◌else◌, ◌≡◌, ◌<◌, inl, inr, [], ◌∷◌, length, replicate, refl, sym, ◌∙◌}
+use Rattle.std.proofs.Common.{ap, subst, get_or-set_other, get_or-set_same, length-set, get_or}
 use Rattle.spec_locks.specs.Runs.{Event, Status, MayHappen, Nothing, AtLock, Moves}
 use Rattle.std.proofs.Common.{Bool}
 use Rattle.steps_condvar.specs.declared.places.CondvarPlace.{CondvarPlace}
@@ -64,24 +67,31 @@ set_keeps f (x ∷ xs) (suc i) zero y d e = refl
 set_keeps f (x ∷ xs) (suc i) (suc k) y d e = set_keeps f xs i k y d e
 
 -- a load changes no word
-load_untouched : (w : State) (t l : ℕ) (p : Place) (a : Act) → a ≡ Word l Load → KeepsWordsAndQueues w (state_after_act w t p a)
+load_untouched : (w : State) (t l : ℕ) (p : Place) (a : Act) → a ≡ Word l Load
+    → KeepsWordsAndQueues w (state_after_act w t p a)
 load_untouched w t l p a loads = subst (λ x. KeepsWordsAndQueues w (state_after_act w t p x)) (sym loads)
     ((λ k. set_keeps (λ x. x.word) w.locks l k _ (unlocked kind.TheVariants.Mutex) refl), λ key. refl)
 
 -- it has come on in the same call, beside the same mutex
 pub fits_on : (w : State) (l : ℕ) (at at2 : CondvarPlace) → FitsCondvar w l at → IsReached at2
     → mutex_beside at2 ≡ mutex_beside at → FitsCondvar w l at2
-fits_on w l at at2 f reached beside = record { sort = f.sort; reached = reached; mutex = λ m is. f.mutex m (sym beside ∙ is) }
+fits_on w l at at2 f reached beside = record {
+  sort = f.sort;
+  reached = reached;
+  mutex = λ m is. f.mutex m (sym beside ∙ is);
+}
 
 -- as a wait does that looks at its mutex once more
 looks_on : (at at2 : CondvarPlace) → condvar_looking at ≡ Some at2 → IsReached at
     → IsReached at2 × (mutex_beside at2 ≡ mutex_beside at)
-looks_on (Wait m timed (wait.Lock late (mutex.Lock e again (lock.Decide seen)))) at2 is reached = by_mark e (seen == 1) reached.1 is
+looks_on (Wait m timed (wait.Lock late (mutex.Lock e again (lock.Decide seen)))) at2 is reached =
+    by_mark e (seen == 1) reached.1 is
   where
     by_mark : (e : Entry) (b : Bool) → IsRelock (mutex.Lock e again (lock.Decide seen))
         → in_lock m timed late (if b then Some (mutex.Lock e again lock.Load) else None) ≡ Some at2
         → IsReached at2 × (mutex_beside at2 ≡ Some m)
-    by_mark entry.Lock true relocks is = let there : Wait m timed (wait.Lock late (mutex.Lock entry.Lock again lock.Load)) ≡ at2 = cc in
+    by_mark entry.Lock true relocks is =
+        let there : Wait m timed (wait.Lock late (mutex.Lock entry.Lock again lock.Load)) ≡ at2 = cc in
         subst (λ p. IsReached p × (mutex_beside p ≡ Some m)) there ((reached.0, tt), refl)
     by_mark entry.Lock false relocks is = absurd cc
     by_mark e b relocks is = absurd relocks
@@ -96,7 +106,8 @@ calls_on w (Condvar l at) q is calls = by_place (condvar_looking at) refl is
   where
     by_place : (o : Option CondvarPlace) → condvar_looking at ≡ o → in_condvar l o ≡ Some q → FitsItsLock w q
     by_place None e is = absurd cc
-    by_place (Some at2) e is = let there : Condvar l at2 ≡ q = cc in let on = looks_on at at2 e calls.reached in
+    by_place (Some at2) e is = let there : Condvar l at2 ≡ q = cc in let on = looks_on at at2 e calls.reached
+        in
         subst (FitsItsLock w) there (fits_on w l at at2 calls on.0 on.1)
 calls_on w (Once l at) q is calls = by_place (once_looking at) is
   where
@@ -108,12 +119,20 @@ calls_on w (Semaphore l at) q is calls = by_place (semaphore_looking at) is
     by_place : (o : Option SemaphorePlace) → in_semaphore l o ≡ Some q → FitsItsLock w q
     by_place None is = absurd cc
     by_place (Some at2) e = let there : Semaphore l at2 ≡ q = cc in
-        subst (FitsItsLock w) there (calls.0, subst (λ (row : Profile). row.late ≡ true → row.timed ≡ true) (sym (ap profile there ∙ (look (Semaphore l at) q is).row)) calls.1)
+        subst (FitsItsLock w) there (
+          calls.0,
+          subst (λ (row : Profile). row.late ≡ true → row.timed ≡ true)
+              (sym (ap profile there ∙ (look (Semaphore l at) q is).row)) calls.1,
+        )
 calls_on w (RwLock l a c) q is calls = by_place (call_looking a c) refl is
   where
-    by_place : (o : Option RwLockCallPlace) → call_looking a c ≡ o → in_rwlock l a o ≡ Some q → FitsItsLock w q
+    by_place : (o : Option RwLockCallPlace) → call_looking a c ≡ o → in_rwlock l a o ≡ Some q
+        → FitsItsLock w q
     by_place None e is = absurd cc
-    by_place (Some d) e is = let there : RwLock l a d ≡ q = cc in subst (FitsItsLock w) there (calls.0, (fair_looks_stand a c d e).1 calls.1)
+    by_place (Some d) e is = let there : RwLock l a d ≡ q = cc in subst (FitsItsLock w) there (
+      calls.0,
+      (fair_looks_stand a c d e).1 calls.1,
+    )
 calls_on w (Mutex l at) q is calls = by_place (mutex_looking at) is
   where
     by_place : (o : Option MutexPlace) → in_mutex l o ≡ Some q → FitsItsLock w q
@@ -149,7 +168,10 @@ module _ (w : State) (t : ℕ) (there : t < length w.places) (q : Place) (it : I
       × (profile_beside (place_at moved u) ≡ profile_beside (place_at w u))
   beside_same u = elim (cases_eq u t) [
     | inl e ↦ rw (e, stands_here) (it.beside, it.row_beside)
-    | inr ne ↦ let same_place = get_or-set_other w.places t u q Idle ne in (ap beside_of same_place, ap profile_beside same_place)
+    | inr ne ↦ let same_place = get_or-set_other w.places t u q Idle ne in (
+      ap beside_of same_place,
+      ap profile_beside same_place,
+    )
   ]
 
   lock_same : (u : ℕ) → called_lock (place_at moved u) ≡ called_lock (place_at w u)
@@ -162,7 +184,8 @@ module _ (w : State) (t : ℕ) (there : t < length w.places) (q : Place) (it : I
   alike_locks k = λ i. record (lock_state w k) {
     shared = get_or w.shares k (replicate (length-set w.places t q i) 0);
     taken = λ u. let b = beside_same u in
-        if is_lock k (b.0 i) && not (is_lock k (lock_same u i)) then taken_from (b.1 i).hand (b.1 i).wants true
+        if is_lock k (b.0 i) && not (is_lock k (lock_same u i)) then taken_from (b.1 i).hand (b.1 i).wants
+        true
         else taken_from (row_same u i).hand (row_same u i).wants (is_lock k (lock_same u i));
   }
 
@@ -173,10 +196,12 @@ module _ (w : State) (t : ℕ) (there : t < length w.places) (q : Place) (it : I
   rights_same u = λ i k. rights_of (alike_locks k i) u
 
   pub alike_calls : (u : ℕ) → (locks_of moved).calls u ≡ (locks_of w).calls u
-  alike_calls u = let b = beside_same u in λ i. call_on_both (b.0 i) (lock_same u i) (row_same u i) (b.1 i) (rights_same u i)
+  alike_calls u = let b = beside_same u in λ i. call_on_both (b.0 i) (lock_same u i) (row_same u i) (b.1 i)
+      (rights_same u i)
 
   -- the abstract locks see nothing of it, but for how the thread stands
-  sees : ◌≡◌ {A = LocksState} (record (locks_of w) { stances = λ u. stance_of (place_at moved u) }) (locks_of moved)
+  sees : ◌≡◌ {A = LocksState} (record (locks_of w) { stances = λ u. stance_of (place_at moved u) })
+      (locks_of moved)
   sees = λ i. record {
     threads = sym (length-set w.places t q) i;
     size = length w.locks;
@@ -188,20 +213,48 @@ module _ (w : State) (t : ℕ) (there : t < length w.places) (q : Place) (it : I
   }
 
   -- the possible turns hang on locks and calls alone
-  may_alike : (s : ℕ → Status) (e : Event) → MayHappen (record (locks_of w) { stances = s }) t e → MayHappen (locks_of w) t e
+  may_alike : (s : ℕ → Status) (e : Event) → MayHappen (record (locks_of w) { stances = s }) t e
+      → MayHappen (locks_of w) t e
   may_alike s Nothing h = h
   may_alike s (AtLock l case) h = h
-  may_alike s (Moves c m all owned number) h = record { notifies = h.notifies; sorts = h.sorts; saw = h.saw; some = h.some; number = h.number; wait = h.wait; free = h.free }
+  may_alike s (Moves c m all owned number) h = record {
+    notifies = h.notifies;
+    sorts = h.sorts;
+    saw = h.saw;
+    some = h.some;
+    number = h.number;
+    wait = h.wait;
+    free = h.free;
+  }
 
   pub alike_goes : (o : Outcome) (v : LocksState) → GoesOn (locks_of moved) t o v → GoesOn (locks_of w) t o v
   alike_goes o v g = let h = subst (λ x. GoesOn x t o v) (sym sees) g in
-      record { called = h.called; event = h.event; may = may_alike (λ u. stance_of (place_at moved u)) h.event h.may; locks = h.locks; calls = h.calls; agrees = h.agrees; begins = h.begins }
+      record {
+        called = h.called;
+        event = h.event;
+        may = may_alike (λ u. stance_of (place_at moved u)) h.event h.may;
+        locks = h.locks;
+        calls = h.calls;
+        agrees = h.agrees;
+        begins = h.begins;
+      }
 
   -- by the same event
-  pub alike_event : (o : Outcome) (v : LocksState) (e : Event) → ((g : GoesOn (locks_of moved) t o v) × (g.event ≡ e))
+  pub alike_event : (o : Outcome) (v : LocksState) (e : Event) → ((g : GoesOn (locks_of moved) t o v)
+      × (g.event ≡ e))
       → (g : GoesOn (locks_of w) t o v) × (g.event ≡ e)
-  alike_event o v e g = let h = subst (λ x. (g : GoesOn x t o v) × (g.event ≡ e)) (sym sees) g in
-      (record { called = h.0.called; event = h.0.event; may = may_alike (λ u. stance_of (place_at moved u)) h.0.event h.0.may; locks = h.0.locks; calls = h.0.calls; agrees = h.0.agrees; begins = h.0.begins }, h.1)
+  alike_event o v e g = let h = subst (λ x. (g : GoesOn x t o v) × (g.event ≡ e)) (sym sees) g in (
+    record {
+      called = h.0.called;
+      event = h.0.event;
+      may = may_alike (λ u. stance_of (place_at moved u)) h.0.event h.0.may;
+      locks = h.0.locks;
+      calls = h.0.calls;
+      agrees = h.0.agrees;
+      begins = h.0.begins;
+    },
+    h.1,
+  )
 
   pub alike_stays : (o : Outcome) (v : LocksState) → Stays (locks_of moved) t ((locks_of moved).calls t) o v
       → Stays (locks_of w) t ((locks_of w).calls t) o v
@@ -214,15 +267,20 @@ module _ (w : State) (t : ℕ) (there : t < length w.places) (q : Place) (it : I
   -- each lock sees of it what it saw
   alike_at : (k : ℕ) → Alike k (place_at w t) q
   alike_at k = record {
-    location = λ i. if is_lock k (lock_stays i) then location_by (it.row i) else if is_lock k (it.beside i) then location_by (it.row_beside i) else nowhere;
-    role = λ i. if is_lock k (lock_stays i) then (it.row i).role else if is_lock k (it.beside i) then (it.row_beside i).role else idle;
-    taken = λ i. if is_lock k (it.beside i) && not (is_lock k (lock_stays i)) then taken_from (it.row_beside i).hand (it.row_beside i).wants true
+    location = λ i. if is_lock k (lock_stays i) then location_by (it.row i) else if is_lock k (it.beside i)
+        then location_by (it.row_beside i) else nowhere;
+    role = λ i. if is_lock k (lock_stays i) then (it.row i).role else if is_lock k (it.beside i)
+        then (it.row_beside i).role else idle;
+    taken = λ i. if is_lock k (it.beside i) && not (is_lock k (lock_stays i)) then taken_from
+        (it.row_beside i).hand (it.row_beside i).wants true
         else taken_from (it.row i).hand (it.row i).wants (is_lock k (lock_stays i));
   }
 
   pub alike_keeps : FitsItsLock w q → IsInductive w → Goes w moved it.lock []
-  alike_keeps fits steady = place_goes w t it.lock steady there (rules_in w it.lock) refl q (λ k ne. alike_at k) fits [] (λ h. tt)
-      (steps_by (rules_in w it.lock) it.lock (parts_at w it.lock) (parts_at w it.lock) (place_at w) t q [] tt tt (sym (alike_at it.lock).taken) refl refl refl refl (alike_at it.lock).role)
+  alike_keeps fits steady = place_goes w t it.lock steady there (rules_in w it.lock) refl q
+      (λ k ne. alike_at k) fits [] (λ h. tt)
+      (steps_by (rules_in w it.lock) it.lock (parts_at w it.lock) (parts_at w it.lock) (place_at w) t q [] tt
+      tt (sym (alike_at it.lock).taken) refl refl refl refl (alike_at it.lock).role)
       (alike_at it.lock).location
 
   pub alike_steady : FitsItsLock w q → IsInductive w → IsInductive moved
@@ -230,41 +288,54 @@ module _ (w : State) (t : ℕ) (there : t < length w.places) (q : Place) (it : I
 
 -- ---------------------------------------------------------------- a look
 
-module _ (w : State) (t : ℕ) (there : t < length w.places) (q : Place) (is : looking (place_at w t) ≡ Some q) where
-  abbrev looked : State
-  looked = put w t q
+module _ (w : State) (t : ℕ) (there : t < length w.places) (q : Place) (is : looking (place_at w t) ≡ Some q)
+  where
+    abbrev looked : State
+    looked = put w t q
 
-  looks : IsLook (place_at w t) q
-  looks = look (place_at w t) q is
+    looks : IsLook (place_at w t) q
+    looks = look (place_at w t) q is
 
-  alike : IsAlike (place_at w t) q
-  alike = let b = looks_beside (place_at w t) q is in record { lock = looks.lock; before = looks.before; now = looks.now; row = looks.row; beside = b.0; row_beside = b.1 }
+    alike : IsAlike (place_at w t) q
+    alike = let b = looks_beside (place_at w t) q is in record {
+      lock = looks.lock;
+      before = looks.before;
+      now = looks.now;
+      row = looks.row;
+      beside = b.0;
+      row_beside = b.1;
+    }
 
-  pub here : place_at looked t ≡ q
-  here = get_or-set_same w.places t q Idle there
+    pub here : place_at looked t ≡ q
+    here = get_or-set_same w.places t q Idle there
 
-  -- it may look now
-  pub looks_now : can_go looked t ≡ true
-  looks_now = rw (here, looks.loads) refl
+    -- it may look now
+    pub looks_now : can_go looked t ≡ true
+    looks_now = rw (here, looks.loads) refl
 
-  pub looks_untouched : KeepsWordsAndQueues w (state_after_go looked t)
-  looks_untouched = load_untouched looked t looks.loaded (place_at looked t) (act_of (place_at looked t)) (ap act_of here ∙ looks.loads)
+    pub looks_untouched : KeepsWordsAndQueues w (state_after_go looked t)
+    looks_untouched = load_untouched looked t looks.loaded (place_at looked t) (act_of (place_at looked t))
+        (ap act_of here ∙ looks.loads)
 
-  pub locks_same : (k : ℕ) → lock_state looked k ≡ lock_state w k
-  locks_same k = alike_locks w t there q alike k
+    pub locks_same : (k : ℕ) → lock_state looked k ≡ lock_state w k
+    locks_same k = alike_locks w t there q alike k
 
-  pub calls_same : (u : ℕ) → (locks_of looked).calls u ≡ (locks_of w).calls u
-  calls_same u = alike_calls w t there q alike u
+    pub calls_same : (u : ℕ) → (locks_of looked).calls u ≡ (locks_of w).calls u
+    calls_same u = alike_calls w t there q alike u
 
-  pub goes_as_before : (o : Outcome) (v : LocksState) → GoesOn (locks_of looked) t o v → GoesOn (locks_of w) t o v
-  goes_as_before o v g = alike_goes w t there q alike o v g
+    pub goes_as_before : (o : Outcome) (v : LocksState) → GoesOn (locks_of looked) t o v
+        → GoesOn (locks_of w) t o v
+    goes_as_before o v g = alike_goes w t there q alike o v g
 
-  pub stays_as_before : (o : Outcome) (v : LocksState) → Stays (locks_of looked) t ((locks_of looked).calls t) o v
-      → Stays (locks_of w) t ((locks_of w).calls t) o v
-  stays_as_before o v s = alike_stays w t there q alike o v s
+    pub stays_as_before : (o : Outcome) (v : LocksState)
+        → Stays (locks_of looked) t ((locks_of looked).calls t)
+        o v
+        → Stays (locks_of w) t ((locks_of w).calls t) o v
+    stays_as_before o v s = alike_stays w t there q alike o v s
 
-  pub looking_steady : IsInductive w → IsInductive looked
-  looking_steady steady = alike_steady w t there q alike (calls_on w (place_at w t) q is (steady.stands.calls t)) steady
+    pub looking_steady : IsInductive w → IsInductive looked
+    looking_steady steady = alike_steady w t there q alike
+        (calls_on w (place_at w t) q is (steady.stands.calls t)) steady
 
 -- ---------------------------------------------------------------- a closure's end
 
@@ -274,21 +345,31 @@ behind_closure succeeded p = next_place p (Closed succeeded)
 
 -- a thread that runs a closure stands behind it in the same call
 pub closes_alike : (p : Place) (succeeded : Bool) → RunsOne p → IsAlike p (behind_closure succeeded p)
-closes_alike p succeeded one = rw one.is (record { lock = one.lock; before = refl; now = refl; row = refl; beside = refl; row_beside = refl })
+closes_alike p succeeded one = rw one.is (record {
+  lock = one.lock;
+  before = refl;
+  now = refl;
+  row = refl;
+  beside = refl;
+  row_beside = refl;
+})
 
 pub closes_fit : (w : State) (p : Place) (succeeded : Bool) → RunsOne p → FitsItsLock w p
     → FitsItsLock w (behind_closure succeeded p)
-closes_fit w p succeeded one fits = subst (λ q. FitsItsLock w (behind_closure succeeded q)) (sym one.is) (subst (FitsItsLock w) one.is fits)
+closes_fit w p succeeded one fits = subst (λ q. FitsItsLock w (behind_closure succeeded q)) (sym one.is)
+    (subst (FitsItsLock w) one.is fits)
 
-module _ (w : State) (t : ℕ) (there : t < length w.places) (succeeded : Bool) (one : RunsOne (place_at w t)) where
-  abbrev pub closing : State
-  closing = put w t (closed_place w t succeeded)
+module _ (w : State) (t : ℕ) (there : t < length w.places) (succeeded : Bool) (one : RunsOne (place_at w t))
+  where
+    abbrev pub closing : State
+    closing = put w t (closed_place w t succeeded)
 
-  abbrev pub like : IsAlike (place_at w t) (closed_place w t succeeded)
-  like = closes_alike (place_at w t) succeeded one
+    abbrev pub like : IsAlike (place_at w t) (closed_place w t succeeded)
+    like = closes_alike (place_at w t) succeeded one
 
-  pub closing_steady : IsInductive w → IsInductive closing
-  closing_steady steady = alike_steady w t there (closed_place w t succeeded) like (closes_fit w (place_at w t) succeeded one (steady.stands.calls t)) steady
+    pub closing_steady : IsInductive w → IsInductive closing
+    closing_steady steady = alike_steady w t there (closed_place w t succeeded) like
+        (closes_fit w (place_at w t) succeeded one (steady.stands.calls t)) steady
 
-  pub closing_here : place_at closing t ≡ closed_place w t succeeded
-  closing_here = get_or-set_same w.places t (closed_place w t succeeded) Idle there
+    pub closing_here : place_at closing t ≡ closed_place w t succeeded
+    closing_here = get_or-set_same w.places t (closed_place w t succeeded) Idle there

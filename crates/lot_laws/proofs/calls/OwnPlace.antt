@@ -1,11 +1,13 @@
--- In a call of one lock a thread that tells others something hears nothing of it: its act leaves it where it stands.
+-- In a call of one lock a thread that tells others something hears nothing of it: its act leaves it where it
+-- stands.
 use Rattle.std.proofs.Common.{ℕ, true, ◌≡◌, ◌<◌, length, get_or-set_same, refl, ap, ◌∙◌}
 use Rattle.steps_base.specs.Acts.{outcome_of}
 use Rattle.steps_base.specs.declared.acts.Reply.{Reply}
 use Rattle.lot_steps.specs.declared.places.Place.{Place}
 use Rattle.lot_steps.specs.declared.places.Place.TheVariants.{Idle, Mutex, RwLock, Once, Condvar, Semaphore}
 use Rattle.lot_steps.specs.Steps.{act_of, next_act, next_place}
-use Rattle.lot_machine.specs.Machine.{State, go_outcome, go_reply, going_outcome, place_at, put, reply_to, state_after_act, state_after_go, state_after_going}
+use Rattle.lot_machine.specs.Machine.{State, go_outcome, go_reply, going_outcome, place_at, put, reply_to}
+use Rattle.lot_machine.specs.Machine.{state_after_act, state_after_go, state_after_going}
 use Rattle.lot_machine.proofs.Acted.{Befalls, acted_keeps, tells}
 use Rattle.lot_laws.proofs.machine.Hearing.{call_hears, mutex_hears, once_hears, semaphore_hears}
 use Rattle.lot_laws.proofs.machine.Parts.{IsSingle}
@@ -22,25 +24,30 @@ deaf (Condvar l at) single loud r h = absurd single
 module _ (w : State) (t : ℕ) (p : Place) (is : place_at w t ≡ p) (single : IsSingle p) where
   -- a thread that acts stands where it stood
   pub stays_there : place_at (state_after_act w t p (act_of p)) t ≡ p
-  stays_there = acted_keeps (λ q. q ≡ p) w t t p (act_of p) (λ loud r b q e. ap (λ x. next_place x r) e ∙ deaf p single loud r b) is
+  stays_there = acted_keeps (λ q. q ≡ p) w t t p (act_of p) (λ loud r b q e. ap (λ x. next_place x r) e
+      ∙ deaf p single loud r b) is
 
   -- A thread goes on from the place that its reply leads to.
   pub goes_from_there : state_after_going w t p
       ≡ put (state_after_act w t p (act_of p)) t (next_place p (reply_to w t (act_of p)))
-  goes_from_there = ap (λ q. put (state_after_act w t p (act_of p)) t (next_place q (reply_to w t (act_of p)))) stays_there
+  goes_from_there = ap (λ q. put (state_after_act w t p (act_of p)) t
+      (next_place q (reply_to w t (act_of p)))) stays_there
 
   pub told_from_there : going_outcome w t p ≡ outcome_of (next_act p (reply_to w t (act_of p)))
   told_from_there = ap (λ q. outcome_of (next_act q (reply_to w t (act_of p)))) stays_there
 
 module _ (w : State) (t : ℕ) (single : IsSingle (place_at w t)) where
   pub gone : state_after_go w t
-      ≡ put (state_after_act w t (place_at w t) (act_of (place_at w t))) t (next_place (place_at w t) (go_reply w t))
+      ≡ put (state_after_act w t (place_at w t) (act_of (place_at w t))) t
+      (next_place (place_at w t) (go_reply w t))
   gone = goes_from_there w t (place_at w t) refl single
 
   pub gone_told : go_outcome w t ≡ outcome_of (next_act (place_at w t) (go_reply w t))
   gone_told = told_from_there w t (place_at w t) refl single
 
   -- where it goes
-  pub gone_place : t < length w.places → place_at (state_after_go w t) t ≡ next_place (place_at w t) (go_reply w t)
+  pub gone_place : t < length w.places → place_at (state_after_go w t) t ≡ next_place (place_at w t)
+      (go_reply w t)
   gone_place there = ap (λ (v : State). place_at v t) gone
-      ∙ get_or-set_same (state_after_act w t (place_at w t) (act_of (place_at w t))).places t _ Idle (rw ((performed_counts w t (place_at w t) (act_of (place_at w t))).0) there)
+      ∙ get_or-set_same (state_after_act w t (place_at w t) (act_of (place_at w t))).places t _ Idle
+      (rw ((performed_counts w t (place_at w t) (act_of (place_at w t))).0) there)

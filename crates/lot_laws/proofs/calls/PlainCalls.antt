@@ -1,4 +1,5 @@
--- A thread in a call of a reader-writer lock that hands nothing over, and is handed nothing, goes where its call does.
+-- A thread in a call of a reader-writer lock that hands nothing over, and is handed nothing, goes where its
+-- call does.
 use Rattle.std.proofs.Common.{ℕ, Bool, false, Option, None, ◌≡◌, refl, ap}
 use Rattle.steps_base.specs.declared.acts.Act.{Act}
 use Rattle.steps_base.specs.declared.acts.Act.TheVariants as act
@@ -24,14 +25,18 @@ plain_does l a n = rwlock_does l a (plain_next n)
 
 pub plain_leads : (l : ℕ) (a : Admission) (p : RwLockPlace) (told : Reply) → given false p told ≡ None
     → next_place (RwLock l a (Plain p)) told ≡ plain_goes l a (rwlock_next a p told)
-plain_leads l a p told none = ap (λ (o : Option RwLockCallPlace). rwlock_goes l a (unless_given o (plain_next (rwlock_next a p told)))) none
+plain_leads l a p told none =
+    ap (λ (o : Option RwLockCallPlace). rwlock_goes l a (unless_given o (plain_next (rwlock_next a p told))))
+    none
 
 pub plain_acts : (l : ℕ) (a : Admission) (p : RwLockPlace) (told : Reply) → given false p told ≡ None
     → next_act (RwLock l a (Plain p)) told ≡ plain_does l a (rwlock_next a p told)
-plain_acts l a p told none = ap (λ (o : Option RwLockCallPlace). rwlock_does l a (unless_given o (plain_next (rwlock_next a p told)))) none
+plain_acts l a p told none = ap (λ (o : Option RwLockCallPlace). rwlock_does l a
+    (unless_given o (plain_next (rwlock_next a p told)))) none
 
 -- no act of its own is told that the thread was handed the lock
-pub never_given : (w : State) (t : ℕ) (b : Bool) (p : RwLockPlace) (y : Act) → given b p (reply_to w t y) ≡ None
+pub never_given : (w : State) (t : ℕ) (b : Bool) (p : RwLockPlace) (y : Act) → given b p (reply_to w t y)
+    ≡ None
 never_given w t b p act.Rest = refl
 never_given w t b p (act.Word l op) = refl
 never_given w t b p (act.HandOver l op) = refl

@@ -7,8 +7,10 @@ use Rattle.lot_steps.specs.Steps.{called_lock, profile, profile_beside}
 use Rattle.lot_laws.specs.Refinement.{call_by, call_on, call_on_both, call_state}
 use Rattle.lot_laws.proofs.machine.Parts.{IsSingle, calls_none, none_beside}
 
-pub single_call : (p : Place) → IsSingle p → (r : ℕ → Rights) → call_state p r ≡ call_on (called_lock p) (profile p) r
-single_call p single r = ap (λ m. call_on_both m (called_lock p) (profile p) (profile_beside p) r) (none_beside p single)
+pub single_call : (p : Place) → IsSingle p → (r : ℕ → Rights) → call_state p r ≡ call_on (called_lock p)
+    (profile p) r
+single_call p single r = ap (λ m. call_on_both m (called_lock p) (profile p) (profile_beside p) r)
+    (none_beside p single)
 
 pub call_none : (p : Place) → called_lock p ≡ None → (r : ℕ → Rights) → call_state p r ≡ no_call
 call_none p none r = ap (λ q. call_state q r) (calls_none p none)

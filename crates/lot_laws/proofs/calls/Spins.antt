@@ -1,5 +1,7 @@
 -- In place of each exchange by which a waiting call sets a bit its thread may look at the word once more.
-use Rattle.std.proofs.Common.{ℕ, Bool, true, false, Option, Some, None, if◌then◌else◌, ◌==◌, ◌&&◌, not, ◌≡◌, ◌≢◌, ◌+◌, ◌-◌, ◌*◌, ◌%◌, ◌^◌, ◌⊎◌, is_some, inl, inr, refl, sym, ◌∙◌, ap, subst, arith}
+use Rattle.std.proofs.Common.{ℕ, Bool, true, false, Option, Some, None, if◌then◌else◌, ◌==◌, ◌&&◌, not, ◌≡◌}
+use Rattle.std.proofs.Common.{◌≢◌, ◌+◌, ◌-◌, ◌*◌, ◌%◌, ◌^◌, ◌⊎◌, is_some, inl, inr, refl, sym, ◌∙◌, ap, subst}
+use Rattle.std.proofs.Common.{arith}
 use Rattle.core_base.specs.declared.keys.Keys.TheVariants.{One}
 use Rattle.core_base.specs.declared.ops.Op.TheVariants as op
 use Rattle.spec_locks.specs.declared.calls.Access.{Access}
@@ -48,7 +50,8 @@ use Rattle.steps_rwlock.specs.declared.purposes.RwLockPurpose.{RwLockPurpose}
 use Rattle.steps_rwlock.specs.declared.purposes.RwLockPurpose.TheVariants as purpose
 use Rattle.steps_rwlock.specs.declared.enter.Decision.{Decision}
 use Rattle.steps_rwlock.specs.declared.enter.Decision.TheVariants as decisions
-use Rattle.steps_rwlock.specs.RwLockSteps.{act_at, decided as decides, decided_act, give_op, park_act, plus, rollback_op, wake_act, want_at, word_taken}
+use Rattle.steps_rwlock.specs.RwLockSteps.{act_at, decided as decides, decided_act, give_op, park_act, plus}
+use Rattle.steps_rwlock.specs.RwLockSteps.{rollback_op, wake_act, want_at, word_taken}
 use Rattle.steps_rwlock.specs.RwLockProfiles.{gone_to, is_mark, looking_at}
 use Rattle.steps_rwlock_fair.specs.declared.places.RwLockCallPlace.{RwLockCallPlace}
 use Rattle.steps_rwlock_fair.specs.declared.places.RwLockCallPlace.TheVariants as fair
@@ -76,17 +79,24 @@ use Rattle.lot_laws.proofs.sites.StandsMoved.{mutex_rules}
 
 -- ---------------------------------------------------------------- a mutex
 
-decided_looks : (k s l seen now : ℕ) (e : Entry) (again locked one : Bool) → is_locked s ≡ locked → (s == 1) ≡ one
-    → (if not locked then act.Word k (op.Exchange s (s + 1)) else if one then act.Word k (op.Exchange 1 3) else act.Enter (One (2 * k))) ≡ act.Word l (op.Exchange seen now)
+decided_looks : (k s l seen now : ℕ) (e : Entry) (again locked one : Bool) → is_locked s ≡ locked
+    → (s == 1) ≡ one
+    → (if not locked then act.Word k (op.Exchange s (s + 1)) else if one then act.Word k (op.Exchange 1 3)
+    else act.Enter (One (2 * k))) ≡ act.Word l (op.Exchange seen now)
     → (seen ≡ 1) × (now ≡ 3) → is_some (if one then Some (mutex.Lock e again lock.Load) else None) ≡ true
-decided_looks k s l seen now e again false one f g is bit = absurd (let a : s ≡ seen = cc in let b : s + 1 ≡ now = cc in let c = bit.0 in let d = bit.1 in omega arith)
+decided_looks k s l seen now e again false one f g is bit =
+    absurd (let a : s ≡ seen = cc in let b : s + 1 ≡ now = cc in let c = bit.0 in let d = bit.1
+    in omega arith)
 decided_looks k s l seen now e again true true f g is bit = refl
 decided_looks k s l seen now e again true false f g is bit = absurd cc
 
-mutex_spins : (k : ℕ) (p : MutexPlace) (l seen now : ℕ) → mutex_act k p ≡ act.Word l (op.Exchange seen now) → (seen ≡ 1) × (now ≡ 3)
+mutex_spins : (k : ℕ) (p : MutexPlace) (l seen now : ℕ) → mutex_act k p ≡ act.Word l (op.Exchange seen now)
+    → (seen ≡ 1) × (now ≡ 3)
     → is_some (mutex_looking p) ≡ true
-mutex_spins k (mutex.Lock e again (lock.Decide s)) l seen now is bit = decided_looks k s l seen now e again (is_locked s) (s == 1) refl refl is bit
-mutex_spins k (mutex.Lock e again lock.First) l seen now is bit = absurd (let a : 1 ≡ now = cc in let b = bit.1 in omega arith)
+mutex_spins k (mutex.Lock e again (lock.Decide s)) l seen now is bit = decided_looks k s l seen now e again
+    (is_locked s) (s == 1) refl refl is bit
+mutex_spins k (mutex.Lock e again lock.First) l seen now is bit = absurd (let a : 1 ≡ now = cc in let b =
+    bit.1 in omega arith)
 mutex_spins k (mutex.Lock e again lock.Load) l seen now is bit = absurd cc
 mutex_spins k (mutex.Lock e again lock.Check) l seen now is bit = absurd cc
 mutex_spins k (mutex.Lock e again (lock.Leave parked)) l seen now is bit = absurd cc
@@ -103,7 +113,8 @@ mutex_spins k (mutex.Unlock unlock.Enter) l seen now is bit = absurd cc
 mutex_spins k (mutex.Unlock unlock.Take) l seen now is bit = absurd cc
 mutex_spins k (mutex.Unlock (unlock.Clear any)) l seen now is bit = absurd cc
 mutex_spins k (mutex.Unlock (unlock.Leave any)) l seen now is bit = absurd cc
-mutex_spins k mutex.UnlockFair l seen now is bit = absurd (let a : 0 ≡ now = cc in let b = bit.1 in omega arith)
+mutex_spins k mutex.UnlockFair l seen now is bit = absurd (let a : 0 ≡ now = cc in let b = bit.1
+    in omega arith)
 mutex_spins k mutex.Bump l seen now is bit = absurd cc
 mutex_spins k (mutex.HandOff b hand_off.Enter) l seen now is bit = absurd cc
 mutex_spins k (mutex.HandOff b hand_off.Take) l seen now is bit = absurd cc
@@ -111,10 +122,12 @@ mutex_spins k (mutex.HandOff b (hand_off.Store true none_left)) l seen now is bi
 mutex_spins k (mutex.HandOff b (hand_off.Store false none_left)) l seen now is bit = absurd cc
 mutex_spins k (mutex.HandOff b (hand_off.Leave any)) l seen now is bit = absurd cc
 
-mutex_word : (k : ℕ) (p : MutexPlace) (l seen now : ℕ) → mutex_act k p ≡ act.Word l (op.Exchange seen now) → k ≡ l
+mutex_word : (k : ℕ) (p : MutexPlace) (l seen now : ℕ) → mutex_act k p ≡ act.Word l (op.Exchange seen now)
+    → k ≡ l
 mutex_word k (mutex.Lock e again (lock.Decide s)) l seen now is = by_word (is_locked s) (s == 1) is
   where
-    by_word : (a b : Bool) → (if not a then act.Word k (op.Exchange s (s + 1)) else if b then act.Word k (op.Exchange 1 3) else act.Enter (One (2 * k))) ≡ act.Word l (op.Exchange seen now) → k ≡ l
+    by_word : (a b : Bool) → (if not a then act.Word k (op.Exchange s (s + 1)) else if b then act.Word k
+        (op.Exchange 1 3) else act.Enter (One (2 * k))) ≡ act.Word l (op.Exchange seen now) → k ≡ l
     by_word false b e = cc
     by_word true true e = cc
     by_word true false e = absurd cc
@@ -148,7 +161,8 @@ mutex_word k (mutex.HandOff b (hand_off.Leave any)) l seen now is = absurd cc
 abbrev SetsShared : ℕ → ℕ → Type 0
 SetsShared seen now = (has_aside seen ≡ false) × ((now ≡ plus seen 1) ⊎ (now ≡ plus seen 2))
 
-shared_bit : (sort : Sort) (seen now : ℕ) → has_readers sort ≡ true → SetsBit sort seen now → SetsShared seen now
+shared_bit : (sort : Sort) (seen now : ℕ) → has_readers sort ≡ true → SetsBit sort seen now
+    → SetsShared seen now
 shared_bit locks.Normal seen now h bit = bit
 shared_bit locks.Recursive seen now h bit = bit
 shared_bit sort seen now h bit = absurd cc
@@ -164,13 +178,17 @@ adds_two seen k (inl e) f = let g : (seen + k) % 2 ^ 64 ≡ (seen + 2) % 2 ^ 64 
 adds_two seen k (inr (inl e)) f = let g : (seen + k) % 2 ^ 64 ≡ (seen + 2) % 2 ^ 64 = f in omega arith
 adds_two seen k (inr (inr e)) f = let g : (seen + k) % 2 ^ 64 ≡ (seen + 2) % 2 ^ 64 = f in omega arith
 
-takes : (seen k : ℕ) → ((k ≡ 16) ⊎ ((k ≡ 20) ⊎ (k ≡ 8))) → ((plus seen k ≡ plus seen 1) ⊎ (plus seen k ≡ plus seen 2)) → ⊥
+takes : (seen k : ℕ) → ((k ≡ 16) ⊎ ((k ≡ 20) ⊎ (k ≡ 8)))
+    → ((plus seen k ≡ plus seen 1) ⊎ (plus seen k ≡ plus seen 2)) → ⊥
 takes seen k h (inl e) = adds seen k h e
 takes seen k h (inr e) = adds_two seen k h e
 
-sets_none : (q : RwLockPurpose) (seen : ℕ) → ((word_taken q seen ≡ plus seen 1) ⊎ (word_taken q seen ≡ plus seen 2)) → ⊥
-sets_none (purpose.Upgrade how) seen (inl e) = let g : (seen + (2 ^ 64 - 12)) % 2 ^ 64 ≡ (seen + 1) % 2 ^ 64 = e in omega arith
-sets_none (purpose.Upgrade how) seen (inr e) = let g : (seen + (2 ^ 64 - 12)) % 2 ^ 64 ≡ (seen + 2) % 2 ^ 64 = e in omega arith
+sets_none : (q : RwLockPurpose) (seen : ℕ) → ((word_taken q seen ≡ plus seen 1)
+    ⊎ (word_taken q seen ≡ plus seen 2)) → ⊥
+sets_none (purpose.Upgrade how) seen (inl e) = let g : (seen + (2 ^ 64 - 12)) % 2 ^ 64 ≡ (seen + 1) % 2 ^ 64 =
+    e in omega arith
+sets_none (purpose.Upgrade how) seen (inr e) = let g : (seen + (2 ^ 64 - 12)) % 2 ^ 64 ≡ (seen + 2) % 2 ^ 64 =
+    e in omega arith
 sets_none (purpose.Enter access.Shared how) seen h = takes seen 16 (inl refl) h
 sets_none (purpose.Enter access.Upgradable how) seen h = takes seen 20 (inr (inl refl)) h
 sets_none (purpose.Enter access.Exclusive how) seen h = takes seen 8 (inr (inr refl)) h
@@ -182,12 +200,18 @@ sets_none (purpose.Downgrade downgrade.ToUpgradable) seen h = takes seen 8 (inr 
 sets_none (purpose.Downgrade downgrade.UpgradableToShared) seen h = takes seen 20 (inr (inl refl)) h
 
 module _ (k : ℕ) (a : Admission) (p : RwLockPlace) (l seen now : ℕ) (bit : SetsShared seen now) where
-  decision_spins : (s : ℕ) (d : Decision) (aside : Bool) → has_aside s ≡ aside → decided_act k p.purpose s d ≡ act.Word l (op.Exchange seen now)
+  decision_spins : (s : ℕ) (d : Decision) (aside : Bool) → has_aside s ≡ aside → decided_act k p.purpose s d
+      ≡ act.Word l (op.Exchange seen now)
       → is_some (if is_mark d && not aside then Some at.Load else None) ≡ true
-  decision_spins s decisions.Take aside e is = absurd (let f : s ≡ seen = cc in let g : word_taken p.purpose s ≡ now = cc in
-      sets_none p.purpose seen (elim bit.1 [ inl one ↦ inl (ap (word_taken p.purpose) (sym f) ∙ g ∙ one) | inr two ↦ inr (ap (word_taken p.purpose) (sym f) ∙ g ∙ two) ]))
+  decision_spins s decisions.Take aside e is = absurd (let f : s ≡ seen = cc in let g : word_taken p.purpose s
+      ≡ now = cc in
+      sets_none p.purpose seen (elim bit.1 [
+        | inl one ↦ inl (ap (word_taken p.purpose) (sym f) ∙ g ∙ one)
+        | inr two ↦ inr (ap (word_taken p.purpose) (sym f) ∙ g ∙ two)
+      ]))
   decision_spins s decisions.Mark false e is = refl
-  decision_spins s decisions.Mark true e is = absurd (let f : s ≡ seen = cc in let g : true ≡ false = sym e ∙ ap has_aside f ∙ bit.0 in cc)
+  decision_spins s decisions.Mark true e is = absurd (let f : s ≡ seen = cc in let g : true ≡ false = sym e
+      ∙ ap has_aside f ∙ bit.0 in cc)
   decision_spins s decisions.Park aside e is = absurd cc
   decision_spins s (decisions.Refuse x) aside e is = absurd cc
 
@@ -222,10 +246,15 @@ module _ (k : ℕ) (a : Admission) (p : RwLockPlace) (l seen now : ℕ) (bit : S
   rolls (purpose.Downgrade d) e = cc
   rolls (purpose.Upgrade how) e = cc
 
-  rwlock_spins : (to : RwLockAt) → act_at k a p to ≡ act.Word l (op.Exchange seen now) → is_some (looking_at a p to) ≡ true
+  rwlock_spins : (to : RwLockAt) → act_at k a p to ≡ act.Word l (op.Exchange seen now)
+      → is_some (looking_at a p to) ≡ true
   rwlock_spins (at.Decide s) is = decision_spins s (decides a p s) (has_aside s) refl is
   rwlock_spins (at.Count s) is = refl
-  rwlock_spins at.First is = absurd (let f : 0 ≡ seen = cc in let g : 8 ≡ now = cc in takes 0 8 (inr (inr refl)) (elim bit.1 [ inl one ↦ inl (g ∙ one ∙ ap (λ s. plus s 1) (sym f)) | inr two ↦ inr (g ∙ two ∙ ap (λ s. plus s 2) (sym f)) ]))
+  rwlock_spins at.First is = absurd (let f : 0 ≡ seen = cc in let g : 8 ≡ now = cc
+      in takes 0 8 (inr (inr refl)) (elim bit.1 [
+        | inl one ↦ inl (g ∙ one ∙ ap (λ s. plus s 1) (sym f))
+        | inr two ↦ inr (g ∙ two ∙ ap (λ s. plus s 2) (sym f))
+      ]))
   rwlock_spins at.Load is = absurd cc
   rwlock_spins (at.Park to) is = absurd (parks Main to is)
   rwlock_spins at.Look is = absurd cc
@@ -239,9 +268,12 @@ module _ (k : ℕ) (a : Admission) (p : RwLockPlace) (l seen now : ℕ) (bit : S
 
 -- a run begins only while nobody runs
 runs_alone : (c : OnceCall) (v : ℕ) → course_of c v ≡ course.Runs → is_running v ≡ false
-runs_alone c v e = by_tests (is_done v) (is_poisoned v && not (steps.is_forced c)) (steps.runs c) (is_running v) (is_marked v) e
+runs_alone c v e = by_tests (is_done v) (is_poisoned v && not (steps.is_forced c)) (steps.runs c)
+    (is_running v) (is_marked v) e
   where
-    by_tests : (a b n r m : Bool) → (if a then course.Ends (steps.when_done c) else if b then course.Ends answer.Poisoned else if n && not r then course.Runs else if m then course.Parks else course.Marks) ≡ course.Runs
+    by_tests : (a b n r m : Bool) → (if a then course.Ends (steps.when_done c) else if b then course.Ends
+        answer.Poisoned else if n && not r then course.Runs else if m then course.Parks else course.Marks)
+        ≡ course.Runs
         → r ≡ false
     by_tests true b n r m e = absurd cc
     by_tests false true n r m e = absurd cc
@@ -251,11 +283,15 @@ runs_alone c v e = by_tests (is_done v) (is_poisoned v && not (steps.is_forced c
     by_tests false false false r true e = absurd cc
     by_tests false false false r false e = absurd cc
 
-course_spins : (k l s seen now : ℕ) (c : Course) (running : Bool) → is_running s ≡ running → (c ≡ course.Runs → running ≡ false) → course_act k s c ≡ act.Word l (op.Exchange seen now)
-    → (is_running seen ≡ true) × (now ≡ steps.marked seen) → is_some (if running && steps.is_mark c then Some look.Load else None) ≡ true
+course_spins : (k l s seen now : ℕ) (c : Course) (running : Bool) → is_running s ≡ running
+    → (c ≡ course.Runs → running ≡ false) → course_act k s c ≡ act.Word l (op.Exchange seen now)
+    → (is_running seen ≡ true) × (now ≡ steps.marked seen)
+    → is_some (if running && steps.is_mark c then Some look.Load else None) ≡ true
 course_spins k l s seen now course.Marks true e alone is bit = refl
-course_spins k l s seen now course.Marks false e alone is bit = absurd (let f : s ≡ seen = cc in let g : false ≡ true = sym e ∙ ap is_running f ∙ bit.0 in cc)
-course_spins k l s seen now course.Runs running e alone is bit = absurd (let f : s ≡ seen = cc in let g : false ≡ true = sym (alone refl) ∙ sym e ∙ ap is_running f ∙ bit.0 in cc)
+course_spins k l s seen now course.Marks false e alone is bit = absurd (let f : s ≡ seen = cc
+    in let g : false ≡ true = sym e ∙ ap is_running f ∙ bit.0 in cc)
+course_spins k l s seen now course.Runs running e alone is bit = absurd (let f : s ≡ seen = cc
+    in let g : false ≡ true = sym (alone refl) ∙ sym e ∙ ap is_running f ∙ bit.0 in cc)
 course_spins k l s seen now (course.Ends x) running e alone is bit = absurd cc
 course_spins k l s seen now course.Parks running e alone is bit = absurd cc
 
@@ -264,9 +300,12 @@ once_there : (k : ℕ) (c : OnceCall) (again b : Bool) → is_some (if b then So
 once_there k c again true h = refl
 once_there k c again false h = absurd cc
 
-once_spins : (k : ℕ) (p : OncePlace) (l seen now : ℕ) → once_act k p ≡ act.Word l (op.Exchange seen now) → (is_running seen ≡ true) × (now ≡ steps.marked seen)
+once_spins : (k : ℕ) (p : OncePlace) (l seen now : ℕ) → once_act k p ≡ act.Word l (op.Exchange seen now)
+    → (is_running seen ≡ true) × (now ≡ steps.marked seen)
     → is_some (in_once k (once_looking p)) ≡ true
-once_spins k (once.Look c again (look.Decide s)) l seen now is bit = once_there k c again (is_running s && steps.is_mark (course_of c s)) (course_spins k l s seen now (course_of c s) (is_running s) refl (runs_alone c s) is bit)
+once_spins k (once.Look c again (look.Decide s)) l seen now is bit =
+    once_there k c again (is_running s && steps.is_mark (course_of c s)) (course_spins k l s seen now
+    (course_of c s) (is_running s) refl (runs_alone c s) is bit)
 once_spins k (once.Look c again look.Load) l seen now is bit = absurd cc
 once_spins k (once.Look c again look.Check) l seen now is bit = absurd cc
 once_spins k (once.Look c again (look.Leave b)) l seen now is bit = absurd cc
@@ -282,20 +321,27 @@ once_spins k (once.GiveUp again give_up.Clear) l seen now is bit = absurd cc
 once_spins k (once.GiveUp again give_up.Leave) l seen now is bit = absurd cc
 
 takes_permit : (k s l seen now : ℕ) (timed again free none : Bool) → is_free s ≡ free → (s == 0) ≡ none
-    → (if free then act.Word k (op.Exchange s (s - 2)) else if none then act.Word k (op.Exchange 0 1) else act.Enter (One (2 * k))) ≡ act.Word l (op.Exchange seen now)
-    → (seen ≡ 0) × (now ≡ 1) → is_some (in_semaphore k (if none then Some (semaphore.Acquire timed again acquire.Load) else None)) ≡ true
-takes_permit k s l seen now timed again true none f g is bit = absurd (let a : s - 2 ≡ now = cc in let b : s ≡ seen = cc in let c = bit.0 in let d = bit.1 in omega arith)
+    → (if free then act.Word k (op.Exchange s (s - 2)) else if none then act.Word k (op.Exchange 0 1)
+    else act.Enter (One (2 * k))) ≡ act.Word l (op.Exchange seen now)
+    → (seen ≡ 0) × (now ≡ 1) → is_some
+    (in_semaphore k (if none then Some (semaphore.Acquire timed again acquire.Load) else None)) ≡ true
+takes_permit k s l seen now timed again true none f g is bit = absurd (let a : s - 2 ≡ now = cc
+    in let b : s ≡ seen = cc in let c = bit.0 in let d = bit.1 in omega arith)
 takes_permit k s l seen now timed again false true f g is bit = refl
 takes_permit k s l seen now timed again false false f g is bit = absurd cc
 
-tries_permit : (k s l seen now : ℕ) (free : Bool) → (if free then act.Word k (op.Exchange s (s - 2)) else act.Word k op.Load) ≡ act.Word l (op.Exchange seen now)
+tries_permit : (k s l seen now : ℕ) (free : Bool) → (if free then act.Word k (op.Exchange s (s - 2))
+    else act.Word k op.Load) ≡ act.Word l (op.Exchange seen now)
     → (seen ≡ 0) × (now ≡ 1) → ⊥
-tries_permit k s l seen now true is bit = let a : s - 2 ≡ now = cc in let b : s ≡ seen = cc in let c = bit.0 in let d = bit.1 in omega arith
+tries_permit k s l seen now true is bit = let a : s - 2 ≡ now = cc in let b : s ≡ seen = cc in let c = bit.0
+    in let d = bit.1 in omega arith
 tries_permit k s l seen now false is bit = cc
 
-semaphore_spins : (k : ℕ) (p : SemaphorePlace) (l seen now : ℕ) → semaphore_act k p ≡ act.Word l (op.Exchange seen now) → (seen ≡ 0) × (now ≡ 1)
+semaphore_spins : (k : ℕ) (p : SemaphorePlace) (l seen now : ℕ) → semaphore_act k p ≡ act.Word l
+    (op.Exchange seen now) → (seen ≡ 0) × (now ≡ 1)
     → is_some (in_semaphore k (semaphore_looking p)) ≡ true
-semaphore_spins k (semaphore.Acquire timed again (acquire.Decide s)) l seen now is bit = takes_permit k s l seen now timed again (is_free s) (s == 0) refl refl is bit
+semaphore_spins k (semaphore.Acquire timed again (acquire.Decide s)) l seen now is bit =
+    takes_permit k s l seen now timed again (is_free s) (s == 0) refl refl is bit
 semaphore_spins k (semaphore.Acquire timed again acquire.Load) l seen now is bit = absurd cc
 semaphore_spins k (semaphore.Acquire timed again acquire.Check) l seen now is bit = absurd cc
 semaphore_spins k (semaphore.Acquire timed again (acquire.Leave parked)) l seen now is bit = absurd cc
@@ -304,7 +350,8 @@ semaphore_spins k (semaphore.Acquire timed again (acquire.Taken by)) l seen now 
 semaphore_spins k (semaphore.Acquire timed again acquire.Remove) l seen now is bit = absurd cc
 semaphore_spins k (semaphore.Acquire timed again acquire.Clear) l seen now is bit = absurd cc
 semaphore_spins k (semaphore.Acquire timed again acquire.GiveUp) l seen now is bit = absurd cc
-semaphore_spins k (semaphore.Try (tries.Decide s)) l seen now is bit = absurd (tries_permit k s l seen now (is_free s) is bit)
+semaphore_spins k (semaphore.Try (tries.Decide s)) l seen now is bit =
+    absurd (tries_permit k s l seen now (is_free s) is bit)
 semaphore_spins k (semaphore.Try tries.Load) l seen now is bit = absurd cc
 semaphore_spins k (semaphore.Release release.Add) l seen now is bit = absurd cc
 semaphore_spins k (semaphore.Release release.Enter) l seen now is bit = absurd cc
@@ -331,8 +378,10 @@ on_own k act.Accept own l seen now e = absurd cc
 on_own k (act.Closure x) own l seen now e = absurd cc
 on_own k (act.End x) own l seen now e = absurd cc
 
-once_word : (k : ℕ) (p : OncePlace) (l seen now : ℕ) → once_act k p ≡ act.Word l (op.Exchange seen now) → k ≡ l
-once_word k (once.Look c again (look.Decide s)) l seen now e = on_own k (course_act k s (course_of c s)) (course_own k s (course_of c s)) l seen now e
+once_word : (k : ℕ) (p : OncePlace) (l seen now : ℕ) → once_act k p ≡ act.Word l (op.Exchange seen now)
+    → k ≡ l
+once_word k (once.Look c again (look.Decide s)) l seen now e = on_own k (course_act k s (course_of c s))
+    (course_own k s (course_of c s)) l seen now e
 once_word k (once.Look c again look.Load) l seen now e = cc
 once_word k (once.Look c again look.Check) l seen now e = absurd cc
 once_word k (once.Look c again (look.Leave b)) l seen now e = absurd cc
@@ -353,11 +402,13 @@ mutex_there : (k : ℕ) (o : Option MutexPlace) → is_some o ≡ true → is_so
 mutex_there k (Some x) h = refl
 mutex_there k None h = absurd cc
 
-rwlock_there : (k : ℕ) (a : Admission) (p : RwLockPlace) (o : Option RwLockAt) (b : Bool) → is_some o ≡ true → is_some (in_rwlock k a (in_call b (gone_to p o))) ≡ true
+rwlock_there : (k : ℕ) (a : Admission) (p : RwLockPlace) (o : Option RwLockAt) (b : Bool) → is_some o ≡ true
+    → is_some (in_rwlock k a (in_call b (gone_to p o))) ≡ true
 rwlock_there k a p (Some x) b h = refl
 rwlock_there k a p None b h = absurd cc
 
-condvar_there : (k m : ℕ) (timed late : Bool) (o : Option MutexPlace) → is_some o ≡ true → is_some (in_condvar k (in_lock m timed late o)) ≡ true
+condvar_there : (k m : ℕ) (timed late : Bool) (o : Option MutexPlace) → is_some o ≡ true
+    → is_some (in_condvar k (in_lock m timed late o)) ≡ true
 condvar_there k m timed late (Some x) h = refl
 condvar_there k m timed late None h = absurd cc
 
@@ -366,7 +417,8 @@ module _ (w : State) (r : ℕ → Rights) (l seen now : ℕ) (bit : SetsBit (sor
   bit_at k sort own e = subst (λ x. SetsBit x seen now) (ap (sort_at w) (sym own) ∙ e) bit
 
   -- a fair release gives its right up by an exchange, and waits for nothing then
-  hands_over : (k : ℕ) (a : Admission) (x : Access) (bumps : Bool) (to : HandOverAt) → IsWaitingCall (call_state (RwLock k a (fair.HandOver x bumps to)) r) l
+  hands_over : (k : ℕ) (a : Admission) (x : Access) (bumps : Bool) (to : HandOverAt)
+      → IsWaitingCall (call_state (RwLock k a (fair.HandOver x bumps to)) r) l
       → hand_over_act k a x to ≡ act.Word l (op.Exchange seen now) → ⊥
   hands_over k a x false to waits e = waits.0
   hands_over k a x true (handing.Free s) waits e = waits.1 (waits.0, refl)
@@ -383,19 +435,29 @@ module _ (w : State) (r : ℕ → Rights) (l seen now : ℕ) (bit : SetsBit (sor
   accepts k access.Upgradable e = cc
   accepts k access.Exclusive e = cc
 
-  of_rwlock : (k : ℕ) (a : Admission) (c : RwLockCallPlace) → k ≡ l → has_readers (sort_at w k) ≡ true → IsWaitingCall (call_state (RwLock k a c) r) l
+  of_rwlock : (k : ℕ) (a : Admission) (c : RwLockCallPlace) → k ≡ l → has_readers (sort_at w k) ≡ true
+      → IsWaitingCall (call_state (RwLock k a c) r) l
       → call_act k a c ≡ act.Word l (op.Exchange seen now) → is_some (in_rwlock k a (call_looking a c)) ≡ true
-  of_rwlock k a (fair.Plain p) own readers waits is = rwlock_there k a p (looking_at a p p.at) false (rwlock_spins k a p l seen now (shared_bit (sort_at w k) seen now readers (bit_at k (sort_at w k) own refl)) p.at is)
-  of_rwlock k a (fair.Bump p) own readers waits is = rwlock_there k a p (looking_at a p p.at) true (rwlock_spins k a p l seen now (shared_bit (sort_at w k) seen now readers (bit_at k (sort_at w k) own refl)) p.at is)
+  of_rwlock k a (fair.Plain p) own readers waits is = rwlock_there k a p (looking_at a p p.at) false
+      (rwlock_spins k a p l seen now (shared_bit (sort_at w k) seen now readers
+      (bit_at k (sort_at w k) own refl)) p.at is)
+  of_rwlock k a (fair.Bump p) own readers waits is = rwlock_there k a p (looking_at a p p.at) true
+      (rwlock_spins k a p l seen now (shared_bit (sort_at w k) seen now readers
+      (bit_at k (sort_at w k) own refl)) p.at is)
   of_rwlock k a (fair.Glance x) own readers waits is = absurd cc
   of_rwlock k a (fair.HandOver x bumps to) own readers waits is = absurd (hands_over k a x bumps to waits is)
   of_rwlock k a (fair.Handed x how b (handed.Asleep by alone)) own readers waits is = absurd cc
   of_rwlock k a (fair.Handed x how b handed.Accept) own readers waits is = absurd (accepts k x is)
 
-  of_wait : (k m : ℕ) (timed : Bool) (at : WaitAt) → IsReached (condvar.Wait m timed at) → is_plain_mutex (kind_at w m) ≡ true → sort_at w k ≡ locks.Condvar
-      → condvar_act k (condvar.Wait m timed at) ≡ act.Word l (op.Exchange seen now) → is_some (looking (Condvar k (condvar.Wait m timed at))) ≡ true
-  of_wait k m timed (wait.Lock late at) reached plain sort is = condvar_there k m timed late (mutex_looking at) (mutex_spins m at l seen now is (bit_at m locks.Mutex (mutex_word m at l seen now is) (ap (λ (x : Rules). x.sort) (plain_rules (kind_at w m) plain))))
-  of_wait k m timed wait.Show reached plain sort is = absurd (let own : k ≡ l = cc in bit_at k locks.Condvar own sort)
+  of_wait : (k m : ℕ) (timed : Bool) (at : WaitAt) → IsReached (condvar.Wait m timed at)
+      → is_plain_mutex (kind_at w m) ≡ true → sort_at w k ≡ locks.Condvar
+      → condvar_act k (condvar.Wait m timed at) ≡ act.Word l (op.Exchange seen now)
+      → is_some (looking (Condvar k (condvar.Wait m timed at))) ≡ true
+  of_wait k m timed (wait.Lock late at) reached plain sort is = condvar_there k m timed late
+      (mutex_looking at) (mutex_spins m at l seen now is (bit_at m locks.Mutex (mutex_word m at l seen now is)
+      (ap (λ (x : Rules). x.sort) (plain_rules (kind_at w m) plain))))
+  of_wait k m timed wait.Show reached plain sort is = absurd (let own : k ≡ l = cc
+      in bit_at k locks.Condvar own sort)
   of_wait k m timed wait.Hide reached plain sort is = absurd cc
   of_wait k m timed (wait.Release st (mutex.Unlock unlock.Subtract)) reached plain sort is = absurd cc
   of_wait k m timed (wait.Release st (mutex.Unlock unlock.Enter)) reached plain sort is = absurd cc
@@ -413,16 +475,25 @@ module _ (w : State) (r : ℕ → Rights) (l seen now : ℕ) (bit : SetsBit (sor
   of_wait k m timed wait.RemoveMoved reached plain sort is = absurd cc
   of_wait k m timed (wait.GiveUpMoved none_left) reached plain sort is = absurd cc
 
-  place_spins : (p : Place) → FitsItsLock w p → IsWaitingCall (call_state p r) l → act_of p ≡ act.Word l (op.Exchange seen now) → is_some (looking p) ≡ true
+  place_spins : (p : Place) → FitsItsLock w p → IsWaitingCall (call_state p r) l
+      → act_of p ≡ act.Word l (op.Exchange seen now) → is_some (looking p) ≡ true
   place_spins Idle fits waits is = absurd cc
-  place_spins (Mutex k at) fits waits is = mutex_there k (mutex_looking at) (mutex_spins k at l seen now is (bit_at k locks.Mutex (mutex_word k at l seen now is) (ap (λ (x : Rules). x.sort) (mutex_rules (kind_at w k) fits))))
-  place_spins (RwLock k a c) fits waits is = of_rwlock k a c (on_own k (call_act k a c) (call_own k a c) l seen now is) fits.0.0 waits is
-  place_spins (Once k at) fits waits is = once_spins k at l seen now is (bit_at k locks.Once (once_word k at l seen now is) fits)
-  place_spins (Semaphore k at) fits waits is = semaphore_spins k at l seen now is (bit_at k locks.Semaphore (on_own k (semaphore_act k at) (semaphore_own k at) l seen now is) fits.0)
-  place_spins (Condvar k (condvar.Wait m timed at)) fits waits is = of_wait k m timed at fits.reached (fits.mutex m refl) fits.sort is
+  place_spins (Mutex k at) fits waits is = mutex_there k (mutex_looking at)
+      (mutex_spins k at l seen now is (bit_at k locks.Mutex (mutex_word k at l seen now is)
+      (ap (λ (x : Rules). x.sort) (mutex_rules (kind_at w k) fits))))
+  place_spins (RwLock k a c) fits waits is =
+      of_rwlock k a c (on_own k (call_act k a c) (call_own k a c) l seen now is) fits.0.0 waits is
+  place_spins (Once k at) fits waits is =
+      once_spins k at l seen now is (bit_at k locks.Once (once_word k at l seen now is) fits)
+  place_spins (Semaphore k at) fits waits is = semaphore_spins k at l seen now is
+      (bit_at k locks.Semaphore (on_own k (semaphore_act k at) (semaphore_own k at) l seen now is) fits.0)
+  place_spins (Condvar k (condvar.Wait m timed at)) fits waits is = of_wait k m timed at fits.reached
+      (fits.mutex m refl) fits.sort is
   place_spins (Condvar k (condvar.Look all)) fits waits is = absurd cc
   place_spins (Condvar k (condvar.Notify all m at)) fits waits is = absurd waits.0
 
-pub spins : (w : State) → IsInductive w → (t l seen now : ℕ) → IsWaitingCall (call_at w t) l → act_of (place_at w t) ≡ act.Word l (op.Exchange seen now) → SetsBit (sort_at w l) seen now
+pub spins : (w : State) → IsInductive w → (t l seen now : ℕ) → IsWaitingCall (call_at w t) l
+    → act_of (place_at w t) ≡ act.Word l (op.Exchange seen now) → SetsBit (sort_at w l) seen now
     → is_some (looking (place_at w t)) ≡ true
-spins w steady t l seen now waits is bit = place_spins w (λ k. rights_of (lock_state w k) t) l seen now bit (place_at w t) (steady.stands.calls t) waits is
+spins w steady t l seen now waits is bit = place_spins w (λ k. rights_of (lock_state w k) t) l seen now bit
+    (place_at w t) (steady.stands.calls t) waits is

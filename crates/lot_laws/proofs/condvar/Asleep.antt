@@ -1,6 +1,7 @@
 -- A sleeper in a call of a condition variable stands in the queue of one of its locks, is in a hand, or was
 -- handed its mutex. Such a call hands over no lock itself.
-use Rattle.std.proofs.Common.{ℕ, Bool, true, false, Option, Some, None, if◌then◌else◌, ◌==◌, ◌≡◌, ◌≢◌, ◌⊎◌, inl, inr, refl, sym, ◌∙◌}
+use Rattle.std.proofs.Common.{ℕ, Bool, true, false, Option, Some, None, if◌then◌else◌, ◌==◌, ◌≡◌, ◌≢◌, ◌⊎◌}
+use Rattle.std.proofs.Common.{inl, inr, refl, sym, ◌∙◌}
 use Rattle.core_base.specs.declared.wants.Want.TheVariants.{Exclusive}
 use Rattle.steps_base.specs.declared.acts.Act.TheVariants.{Sleep}
 use Rattle.steps_base.specs.Profiles.{hand, in_hand}
@@ -38,7 +39,8 @@ pub record WasHandedBeside (k : ℕ) (at : CondvarPlace) : Type 0 where
   pub beside : mutex_beside at ≡ Some mutex
   pub in_hand : (mutex_side at).hand ≡ hand by true
   pub claims : (mutex_side at).role.claims ≡ Some (Has Exclusive)
-  pub waited : MayWait (Some (condvar_place_purpose at k)) mutex × (want_of (Some (condvar_place_purpose at k)) ≡ Some Exclusive)
+  pub waited : MayWait (Some (condvar_place_purpose at k)) mutex
+      × (want_of (Some (condvar_place_purpose at k)) ≡ Some Exclusive)
 
 abbrev pub IsAsleep : ℕ → CondvarPlace → Type 0
 IsAsleep k at = ((l : ℕ) × StandsAt (Condvar k at) l) ⊎ WasHandedBeside k at
@@ -50,17 +52,61 @@ in_a_hand : (o : Option Taken) (x : Taken) → o ≡ Some x → o ≢ None
 in_a_hand o x e none = let g : ◌≡◌ {A = Option Taken} None (Some x) = sym none ∙ e in cc
 
 module _ (k m : ℕ) (apart : k ≢ m) where
-  wait_asleep : (timed : Bool) (at : WaitAt) → IsReached (Wait m timed at) → condvar_act k (Wait m timed at) ≡ Sleep
+  wait_asleep : (timed : Bool) (at : WaitAt) → IsReached (Wait m timed at) → condvar_act k (Wait m timed at)
+      ≡ Sleep
       → IsAsleep k (Wait m timed at)
-  wait_asleep timed (wait.Asleep stands.Listed) reached h = inl (k, inl (in_a_line (location_at (Condvar k (Wait m timed (wait.Asleep stands.Listed))) k).stands Main (stands_at k (Wait m timed (wait.Asleep stands.Listed)) k ∙ rw (same k) refl)))
-  wait_asleep timed (wait.Asleep stands.Moved) reached h = inl (m, inl (in_a_line (location_at (Condvar k (Wait m timed (wait.Asleep stands.Moved))) m).stands Main (stands_at k (Wait m timed (wait.Asleep stands.Moved)) m ∙ rw (differ k m apart, same m) refl)))
-  wait_asleep timed (wait.Asleep (stands.InHand by)) reached h = inl (m, inr (in_a_hand (taken_at (Condvar k (Wait m timed (wait.Asleep (stands.InHand by)))) m) (record { by = by; want = Exclusive }) (rw (differ k m apart, same m) refl)))
-  wait_asleep timed (wait.Asleep (stands.Handed by)) reached h = inr (record { mutex = m; by = by; beside = refl; in_hand = refl; claims = refl; waited = (inr refl, refl) })
+  wait_asleep timed (wait.Asleep stands.Listed) reached h =
+      inl (
+        k,
+        inl (in_a_line (location_at (Condvar k (Wait m timed (wait.Asleep stands.Listed))) k).stands
+            Main (stands_at k (Wait m timed (wait.Asleep stands.Listed)) k ∙ rw (same k) refl)),
+      )
+  wait_asleep timed (wait.Asleep stands.Moved) reached h =
+      inl (
+        m,
+        inl (in_a_line (location_at (Condvar k (Wait m timed (wait.Asleep stands.Moved))) m).stands Main
+            (stands_at k (Wait m timed (wait.Asleep stands.Moved)) m ∙ rw (differ k m apart, same m) refl)),
+      )
+  wait_asleep timed (wait.Asleep (stands.InHand by)) reached h =
+      inl (
+        m,
+        inr (in_a_hand (taken_at (Condvar k (Wait m timed (wait.Asleep (stands.InHand by)))) m)
+            (record { by = by; want = Exclusive }) (rw (differ k m apart, same m) refl)),
+      )
+  wait_asleep timed (wait.Asleep (stands.Handed by)) reached h = inr (record {
+    mutex = m;
+    by = by;
+    beside = refl;
+    in_hand = refl;
+    claims = refl;
+    waited = (inr refl, refl);
+  })
   wait_asleep timed (wait.Asleep (stands.Noted note)) reached h = absurd reached
-  wait_asleep timed (wait.Lock late (mutex.Lock entry.Lock r lock.Asleep)) reached h = inl (m, inl (in_a_line (location_at (Condvar k (Wait m timed (wait.Lock late (mutex.Lock entry.Lock r lock.Asleep)))) m).stands Main (stands_at k (Wait m timed (wait.Lock late (mutex.Lock entry.Lock r lock.Asleep))) m ∙ rw (differ k m apart, same m) refl)))
-  wait_asleep timed (wait.Lock late (mutex.Lock entry.Lock r (lock.Taken by))) reached h = inl (m, inr (in_a_hand (taken_at (Condvar k (Wait m timed (wait.Lock late (mutex.Lock entry.Lock r (lock.Taken by))))) m) (record { by = by; want = Exclusive }) (rw (differ k m apart, same m) refl)))
-  wait_asleep timed (wait.Lock late (mutex.Lock entry.Lock r (lock.Handed by))) reached h = inr (record { mutex = m; by = by; beside = refl; in_hand = refl; claims = refl; waited = (inr refl, refl) })
-  wait_asleep timed (wait.Lock late (mutex.Lock entry.Lock r (lock.Decide x))) reached h = absurd (decided_awake m x (is_locked x) (x == 1) h)
+  wait_asleep timed (wait.Lock late (mutex.Lock entry.Lock r lock.Asleep)) reached h =
+      inl (
+        m,
+        inl (in_a_line (location_at
+            (Condvar k (Wait m timed (wait.Lock late (mutex.Lock entry.Lock r lock.Asleep)))) m).stands Main
+            (stands_at k (Wait m timed (wait.Lock late (mutex.Lock entry.Lock r lock.Asleep))) m
+            ∙ rw (differ k m apart, same m) refl)),
+      )
+  wait_asleep timed (wait.Lock late (mutex.Lock entry.Lock r (lock.Taken by))) reached h =
+      inl (
+        m,
+        inr (in_a_hand (taken_at
+            (Condvar k (Wait m timed (wait.Lock late (mutex.Lock entry.Lock r (lock.Taken by))))) m)
+            (record { by = by; want = Exclusive }) (rw (differ k m apart, same m) refl)),
+      )
+  wait_asleep timed (wait.Lock late (mutex.Lock entry.Lock r (lock.Handed by))) reached h = inr (record {
+    mutex = m;
+    by = by;
+    beside = refl;
+    in_hand = refl;
+    claims = refl;
+    waited = (inr refl, refl);
+  })
+  wait_asleep timed (wait.Lock late (mutex.Lock entry.Lock r (lock.Decide x))) reached h =
+      absurd (decided_awake m x (is_locked x) (x == 1) h)
   wait_asleep timed (wait.Lock late (mutex.Lock entry.Lock r at)) reached h = absurd cc
   wait_asleep timed (wait.Lock late at) reached h = absurd reached.1
   wait_asleep timed (wait.Release s (mutex.Unlock at)) reached h = absurd (unlock_awake m at h)
@@ -104,11 +150,13 @@ hands_none (Notify all m (notify.Leave any number)) reached h = to_wake any h
 hands_none (Notify all m at) reached h = cc
 hands_none (Look all) reached h = cc
 
-pub two_hand_none : (k : ℕ) (at : CondvarPlace) → IsReached at → (l : ℕ) → (location_at (Condvar k at) l).carries ≡ Some true → ⊥
+pub two_hand_none : (k : ℕ) (at : CondvarPlace) → IsReached at → (l : ℕ)
+    → (location_at (Condvar k at) l).carries ≡ Some true → ⊥
 two_hand_none k at reached l h = by_lock (k == l) (is_lock l (mutex_beside at)) h
   where
     by_lock : (c d : Bool)
-        → (if c then location (Condvar k at) else if d then location_by (mutex_side at) else nowhere).carries ≡ Some true → ⊥
+        → (if c then location (Condvar k at) else if d then location_by (mutex_side at) else nowhere).carries
+        ≡ Some true → ⊥
     by_lock true d g = cc
     by_lock false true g = hands_none at reached g
     by_lock false false g = cc

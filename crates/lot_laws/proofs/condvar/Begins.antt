@@ -1,5 +1,7 @@
--- A call of a condition variable begins where it may, and is late where it sleeps with a deadline: its place alone changes, and its call.
-use Rattle.std.proofs.Common.{ℕ, Bool, true, false, Option, Some, None, if◌then◌else◌, ◌&&◌, ◌≡◌, ◌<◌, length, nat_lt, ltb-true, lt-ltb, inl, inr, refl, sym, ◌∙◌, ap, subst}
+-- A call of a condition variable begins where it may, and is late where it sleeps with a deadline: its place
+-- alone changes, and its call.
+use Rattle.std.proofs.Common.{ℕ, Bool, true, false, Option, Some, None, if◌then◌else◌, ◌&&◌, ◌≡◌, ◌<◌, length}
+use Rattle.std.proofs.Common.{nat_lt, ltb-true, lt-ltb, inl, inr, refl, sym, ◌∙◌, ap, subst}
 use Rattle.std.proofs.lemmas.Bool.{cases_lt}
 use Rattle.std.proofs.lemmas.List.{get_or_past}
 use Rattle.core_base.specs.declared.keys.Keys.TheVariants.{One}
@@ -25,7 +27,9 @@ use Rattle.spec_locks.specs.Locks.{Rights, Taken}
 use Rattle.spec_locks.specs.Purposes.{condvar_purpose, purpose_of, rules_of}
 use Rattle.spec_locks.specs.Runs.{HasRight, MayBegin, Stays, new_call, purpose_at}
 use Rattle.spec_locks.specs.Sites.{Main}
-use Rattle.lot_machine.specs.Machine.{State, can_begin, names_mutex_there, holds_right, is_free_under, is_open_to, kind_at, owners_at, place_at, state_after_begin, state_after_late_on, state_with_sections, unlocked}
+use Rattle.lot_machine.specs.Machine.{State, can_begin, names_mutex_there, holds_right, is_free_under}
+use Rattle.lot_machine.specs.Machine.{is_open_to, kind_at, owners_at, place_at, state_after_begin}
+use Rattle.lot_machine.specs.Machine.{state_after_late_on, state_with_sections, unlocked}
 use Rattle.lot_machine.proofs.Shape.{both}
 use Rattle.lot_laws.specs.Refinement.{call_state, locks_of, taken_at}
 use Rattle.lot_laws.specs.SitesOf.{key_of}
@@ -56,44 +60,64 @@ untaken_first l (condvar_call.Notify all) k = refl
 
 module _ (w : State) (t l : ℕ) where
   -- its thread has the right that it needs
-  right_held : (c : CondvarCall) → (names_mutex_there w (mutex_named c) && holds_right w t (call.Condvar l c)) ≡ true
+  right_held : (c : CondvarCall) → (names_mutex_there w (mutex_named c) && holds_right w t (call.Condvar l c))
+      ≡ true
       → HasRight (locks_of w) t (Some (condvar_purpose l c))
   right_held (condvar_call.Notify all) h = tt
   right_held (condvar_call.Wait m timed) h =
-      let parts = both (names_mutex_there w (Some m)) (holds_right w t (call.Condvar l (condvar_call.Wait m timed))) h in
-      ((both (nat_lt m (length w.locks)) (is_plain_mutex (kind_at w m)) parts.0).1, thread_is t (owners_at w m).exclusive parts.1)
+      let parts = both (names_mutex_there w (Some m))
+      (holds_right w t (call.Condvar l (condvar_call.Wait m timed))) h in (
+        (both (nat_lt m (length w.locks)) (is_plain_mutex (kind_at w m)) parts.0).1,
+        thread_is t (owners_at w m).exclusive parts.1,
+      )
 
   -- each thread that owns a lock owns one that is there
   owned_there : (m : ℕ) → (owners_at w m).exclusive ≡ Some t → m < length w.locks
   owned_there m owns = elim (cases_lt m (length w.locks)) [
     | inl there ↦ there
-    | inr past ↦ absurd (let none : ◌≡◌ {A = Option ℕ} (owners_at w m).exclusive None = ap (λ x. x.owners.exclusive) (get_or_past w.locks m (unlocked kind.Mutex) past) in let e : ◌≡◌ {A = Option ℕ} None (Some t) = sym none ∙ owns in cc)
+    | inr past ↦ absurd (let none : ◌≡◌ {A = Option ℕ} (owners_at w m).exclusive None =
+        ap (λ x. x.owners.exclusive) (get_or_past w.locks m (unlocked kind.Mutex) past)
+        in let e : ◌≡◌ {A = Option ℕ} None (Some t) = sym none ∙ owns in cc)
   ]
 
   right_needed : (c : CondvarCall) → HasRight (locks_of w) t (Some (condvar_purpose l c))
       → (names_mutex_there w (mutex_named c) && holds_right w t (call.Condvar l c)) ≡ true
   right_needed (condvar_call.Notify all) h = refl
-  right_needed (condvar_call.Wait m timed) h = rw (lt-ltb m (length w.locks) (owned_there m h.1), h.0, is_owner t (owners_at w m).exclusive h.1) refl
+  right_needed (condvar_call.Wait m timed) h = rw (
+    lt-ltb m (length w.locks) (owned_there m h.1),
+    h.0,
+    is_owner t (owners_at w m).exclusive h.1,
+  ) refl
 
   abbrev begun : CondvarCall → Call
   begun c = call.Condvar l c
 
   abbrev parts_of : (c : CondvarCall) → can_begin w t (begun c) ≡ true
       → (nat_lt l (length w.locks) ≡ true)
-      × ((has_call (kind_at w l) (begun c) && (names_mutex_there w (mutex_named c) && holds_right w t (begun c))) ≡ true)
-  parts_of c can = both (nat_lt l (length w.locks)) _ (both (is_idle (place_at w t)) (is_open_to w t (begun c)) can).1
+      × ((has_call (kind_at w l) (begun c) && (names_mutex_there w (mutex_named c) && holds_right w t
+      (begun c))) ≡ true)
+  parts_of c can = both (nat_lt l (length w.locks)) _ (both (is_idle (place_at w t))
+      (is_open_to w t (begun c)) can).1
 
   -- where it can it may, and no lock changes
-  pub condvar_begun : (c : CondvarCall) → place_at w t ≡ Idle → t < length w.places → can_begin w t (begun c) ≡ true
+  pub condvar_begun : (c : CondvarCall) → place_at w t ≡ Idle → t < length w.places → can_begin w t (begun c)
+      ≡ true
       → MayBegin (locks_of w) t (begun c)
       × Stays (locks_of w) t (new_call (purpose_at (locks_of w) (begun c)) (rights w t)) outcome.Step
       (locks_of (state_after_begin w t (begun c)))
   condvar_begun c idle there can = (
-    record { thread = there; idle = rw idle refl; lock = ltb-true l (length w.locks) (parts_of c can).0; right = subst (HasRight (locks_of w) t) (sym purpose) (right_held c rest.1) },
-    placed w t there w.sections Idle (Condvar l (condvar_first c)) idle (untaken_first l c) _ (λ r e. begins_with l c r ∙ (λ i. new_call (sym purpose i) (e i))),
+    record {
+      thread = there;
+      idle = rw idle refl;
+      lock = ltb-true l (length w.locks) (parts_of c can).0;
+      right = subst (HasRight (locks_of w) t) (sym purpose) (right_held c rest.1);
+    },
+    placed w t there w.sections Idle (Condvar l (condvar_first c)) idle (untaken_first l c) _
+        (λ r e. begins_with l c r ∙ (λ i. new_call (sym purpose i) (e i))),
   )
     where
-      rest : (has_call (kind_at w l) (begun c) ≡ true) × ((names_mutex_there w (mutex_named c) && holds_right w t (begun c)) ≡ true)
+      rest : (has_call (kind_at w l) (begun c) ≡ true)
+          × ((names_mutex_there w (mutex_named c) && holds_right w t (begun c)) ≡ true)
       rest = both (has_call (kind_at w l) (begun c)) _ (parts_of c can).1
 
       purpose : purpose_of (kind_at w l) (begun c) ≡ Some (condvar_purpose l c)
@@ -107,7 +131,8 @@ module _ (w : State) (t l : ℕ) where
       there : nat_lt l (length w.locks) ≡ true
       there = lt-ltb l (length w.locks) may.lock
 
-      by_kind : (k : Kind) → kind_at w l ≡ k → HasRight (locks_of w) t (purpose_of k (begun c)) → can_begin w t (begun c) ≡ true
+      by_kind : (k : Kind) → kind_at w l ≡ k → HasRight (locks_of w) t (purpose_of k (begun c))
+          → can_begin w t (begun c) ≡ true
       by_kind kind.Condvar e right = rw (idle, there, e, right_needed c right) refl
       by_kind kind.Mutex e right = absurd right
       by_kind kind.Fair e right = absurd right
@@ -122,8 +147,14 @@ module _ (w : State) (t l : ℕ) where
       → is_free_under w (late_key (Condvar l at)) ≡ true
       → Stays (locks_of w) t (record (call_state (Condvar l at) (rights w t)) { late = true }) outcome.Step
       (locks_of (state_after_late_on w t (late_key (Condvar l at))))
-  condvar_is_late (Wait m true (wait.Asleep stands.Listed)) there is can = placed w t there (state_with_sections w (One (key_of l Main)) (Some t)).sections (Condvar l (Wait m true (wait.Asleep stands.Listed))) (next_place (place_at w t) Late) is (rw is (λ k. refl)) _ (rw is (λ r e. rw e refl))
-  condvar_is_late (Wait m true (wait.Asleep stands.Moved)) there is can = placed w t there (state_with_sections w (One (key_of m Main)) (Some t)).sections (Condvar l (Wait m true (wait.Asleep stands.Moved))) (next_place (place_at w t) Late) is (rw is (λ k. refl)) _ (rw is (λ r e. rw e refl))
+  condvar_is_late (Wait m true (wait.Asleep stands.Listed)) there is can =
+      placed w t there (state_with_sections w (One (key_of l Main)) (Some t)).sections
+      (Condvar l (Wait m true (wait.Asleep stands.Listed))) (next_place (place_at w t) Late) is
+      (rw is (λ k. refl)) _ (rw is (λ r e. rw e refl))
+  condvar_is_late (Wait m true (wait.Asleep stands.Moved)) there is can =
+      placed w t there (state_with_sections w (One (key_of m Main)) (Some t)).sections
+      (Condvar l (Wait m true (wait.Asleep stands.Moved))) (next_place (place_at w t) Late) is
+      (rw is (λ k. refl)) _ (rw is (λ r e. rw e refl))
   condvar_is_late (Wait m true (wait.Asleep s)) there is can = absurd cc
   condvar_is_late (Wait m false (wait.Asleep s)) there is can = absurd cc
   condvar_is_late (Wait m timed p) there is can = absurd cc

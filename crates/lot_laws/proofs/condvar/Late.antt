@@ -1,6 +1,8 @@
--- When a call of a condition variable has something to do, and when its time may be up: where it sleeps in a queue, of the condition
+-- When a call of a condition variable has something to do, and when its time may be up: where it sleeps in a
+-- queue, of the condition
 -- variable or, moved, of its mutex.
-use Rattle.std.proofs.Common.{ℕ, Bool, true, false, Some, None, if◌then◌else◌, ◌==◌, ◌*◌, ◌<◌, ◌≡◌, ◌≢◌, inl, inr, refl, sym, ◌∙◌, ap}
+use Rattle.std.proofs.Common.{ℕ, Bool, true, false, Some, None, if◌then◌else◌, ◌==◌, ◌*◌, ◌<◌, ◌≡◌, ◌≢◌, inl}
+use Rattle.std.proofs.Common.{inr, refl, sym, ◌∙◌, ap}
 use Rattle.steps_base.specs.declared.acts.Act.TheVariants.{Sleep}
 use Rattle.steps_base.specs.declared.acts.Reply.TheVariants.{Late}
 use Rattle.steps_base.specs.Profiles.{in_line}
@@ -58,14 +60,16 @@ condvar_acts k (Notify all m at) = notify_acts all k m at
 pub record IsLate (k : ℕ) (at : CondvarPlace) (key : ℕ) : Type 0 where
   pub lock : ℕ
   pub there : (n : ℕ) → PlaceFits n (Condvar k at) → lock < n
-  pub timed : (r : ℕ → Rights) → IsTimed (call_state (Condvar k at) r).purpose (call_state (Condvar k at) r).recalls lock
+  pub timed : (r : ℕ → Rights) → IsTimed (call_state (Condvar k at) r).purpose
+      (call_state (Condvar k at) r).recalls lock
   pub asleep : condvar_act k at ≡ Sleep
   pub stands : (location_at (Condvar k at) lock).stands ≡ Some Main
   pub under : key ≡ 2 * lock
   pub awake : act_of (next_place (Condvar k at) Late) ≢ Sleep
 
 module _ (k : ℕ) where
-  late_wait : (m : ℕ) (s : Stands) → k ≢ m → (key : ℕ) → late_key (Condvar k (Wait m true (wait.Asleep s))) ≡ Some key
+  late_wait : (m : ℕ) (s : Stands) → k ≢ m → (key : ℕ) → late_key (Condvar k (Wait m true (wait.Asleep s)))
+      ≡ Some key
       → IsLate k (Wait m true (wait.Asleep s)) key
   late_wait m stands.Listed apart key h = record {
     lock = k;
@@ -105,18 +109,21 @@ module _ (k : ℕ) where
         by_line Main e = refl
         by_line Second e = absurd (two_stand_main k (Wait m timed at) l e)
 
-    in_one : (if k == l then in_line (wait_row m at).listed Main else if m == l then in_line (wait_row m at).moved Main else None)
+    in_one : (if k == l then in_line (wait_row m at).listed Main else if m == l then in_line
+        (wait_row m at).moved Main else None)
         ≡ Some n
     in_one = sym (stands_at k (Wait m timed at) l) ∙ stands
 
   -- at the condition variable, or moved
   there_listed : (m : ℕ) (row_listed row_moved : Bool) (l : ℕ) (n : Line)
-      → (if k == l then in_line row_listed Main else if m == l then in_line row_moved Main else None) ≡ Some n → k ≡ l
+      → (if k == l then in_line row_listed Main else if m == l then in_line row_moved Main else None) ≡ Some n
+      → k ≡ l
       → row_listed ≡ true
   there_listed m true moved l n h e = refl
   there_listed m false moved l n h e = absurd (by_lock (k == l) (rw e (same l)) h)
     where
-      by_lock : (c : Bool) → c ≡ true → (if c then in_line false Main else if m == l then in_line moved Main else None) ≡ Some n
+      by_lock : (c : Bool) → c ≡ true → (if c then in_line false Main else if m == l then in_line moved Main
+          else None) ≡ Some n
           → ⊥
       by_lock true f g = cc
       by_lock false f g = cc
@@ -125,7 +132,8 @@ module _ (k : ℕ) where
       → (if k == l then in_line false Main else if m == l then in_line false Main else None) ≡ Some n → ⊥
   nowhere_here m l n h = by_lock (k == l) (m == l) h
     where
-      by_lock : (c d : Bool) → (if c then in_line false Main else if d then in_line false Main else None) ≡ Some n → ⊥
+      by_lock : (c d : Bool) → (if c then in_line false Main else if d then in_line false Main else None)
+          ≡ Some n → ⊥
       by_lock true d h = cc
       by_lock false true h = cc
       by_lock false false h = cc
@@ -141,26 +149,33 @@ module _ (k : ℕ) where
     | inr e ↦ absurd (let f = e.1 in cc)
   ]
   asleep_late m true stands.Moved l r time n h = elim time.1 [
-    | inl e ↦ absurd (let f : false ≡ true = there_listed m false true l n (in_one m true (wait.Asleep stands.Moved) l n h) e in cc)
+    | inl e ↦ absurd (let f : false ≡ true = there_listed m false true l n
+        (in_one m true (wait.Asleep stands.Moved) l n h) e in cc)
     | inr e ↦ rw (main m true (wait.Asleep stands.Moved) l n h) (ap (λ j. Some (2 * j)) e.0)
   ]
-  asleep_late m true (stands.InHand by) l r time n h = absurd (nowhere_here m l n (in_one m true (wait.Asleep (stands.InHand by)) l n h))
-  asleep_late m true (stands.Handed by) l r time n h = absurd (nowhere_here m l n (in_one m true (wait.Asleep (stands.Handed by)) l n h))
-  asleep_late m true (stands.Noted note) l r time n h = absurd (nowhere_here m l n (in_one m true (wait.Asleep (stands.Noted note)) l n h))
+  asleep_late m true (stands.InHand by) l r time n h =
+      absurd (nowhere_here m l n (in_one m true (wait.Asleep (stands.InHand by)) l n h))
+  asleep_late m true (stands.Handed by) l r time n h =
+      absurd (nowhere_here m l n (in_one m true (wait.Asleep (stands.Handed by)) l n h))
+  asleep_late m true (stands.Noted note) l r time n h =
+      absurd (nowhere_here m l n (in_one m true (wait.Asleep (stands.Noted note)) l n h))
 
   pub two_may_late : (at : CondvarPlace) → IsReached at → condvar_act k at ≡ Sleep → (l : ℕ) (r : ℕ → Rights)
       → IsTimed (call_state (Condvar k at) r).purpose (call_state (Condvar k at) r).recalls l → (n : Line)
       → (location_at (Condvar k at) l).stands ≡ Some n → late_key (Condvar k at) ≡ Some (key_of l n)
   two_may_late (Wait m timed (wait.Asleep s)) reached asleep l r time n h = asleep_late m timed s l r time n h
   two_may_late (Wait m timed (wait.Lock true at)) reached asleep l r time n h = absurd (elim time.1 [
-    | inl e ↦ let f : false ≡ true = there_listed m false (wait_row m (wait.Lock true at)).moved l n (in_one m timed (wait.Lock true at) l n h) e in cc
+    | inl e ↦ let f : false ≡ true = there_listed m false (wait_row m (wait.Lock true at)).moved l n
+        (in_one m timed (wait.Lock true at) l n h) e in cc
     | inr e ↦ let f = e.1 in cc
   ])
   two_may_late (Wait m timed (wait.Lock false at)) reached asleep l r time n h = absurd (elim time.1 [
-    | inl e ↦ let f : false ≡ true = there_listed m false (wait_row m (wait.Lock false at)).moved l n (in_one m timed (wait.Lock false at) l n h) e in cc
+    | inl e ↦ let f : false ≡ true = there_listed m false (wait_row m (wait.Lock false at)).moved l n
+        (in_one m timed (wait.Lock false at) l n h) e in cc
     | inr e ↦ let f = e.1 in cc
   ])
-  two_may_late (Wait m timed (wait.Release s (mutex.Unlock unlock.Subtract))) reached asleep l r time n h = absurd cc
+  two_may_late (Wait m timed (wait.Release s (mutex.Unlock unlock.Subtract))) reached asleep l r time n h =
+      absurd cc
   two_may_late (Wait m timed (wait.Release s (mutex.Unlock at))) reached asleep l r time n h = absurd cc
   two_may_late (Wait m timed (wait.Release s at)) reached asleep l r time n h = absurd reached.0
   two_may_late (Wait m timed at) reached asleep l r time n h = absurd cc

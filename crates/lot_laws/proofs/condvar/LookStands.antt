@@ -1,5 +1,6 @@
 -- A notification's first look at its condition variable: it stands nowhere, and no lock sees anything of it.
-use Rattle.std.proofs.Common.{ℕ, Bool, true, false, None, ◌==◌, ◌||◌, ◌≡◌, ◌<◌, [], length, refl, sym, ◌∙◌, ap, subst, inl, inr}
+use Rattle.std.proofs.Common.{ℕ, Bool, true, false, None, ◌==◌, ◌||◌, ◌≡◌, ◌<◌, [], length, refl, sym, ◌∙◌}
+use Rattle.std.proofs.Common.{ap, subst, inl, inr}
 use Rattle.std.proofs.lemmas.Bool.{cases_eq}
 use Rattle.std.proofs.Math.Bool.{or-false}
 use Rattle.std.specs.Prelude.{nat_le, ◌&&◌}
@@ -55,24 +56,35 @@ module _ (l : ℕ) (all : Bool) where
   next_out seen k true e = rw e (refl, refl, refl)
   next_out seen k false e = rw e (enters_out (mutex_shown seen) k)
 
-module _ (w : State) (t l : ℕ) (all : Bool) (steady : IsInductive w) (is_there : t < length w.places) (lock : l < length w.locks)
+module _ (w : State) (t l : ℕ) (all : Bool) (steady : IsInductive w) (is_there : t < length w.places)
+    (lock : l < length w.locks)
     (sort : (rules_in w l).sort ≡ locks.Condvar) (is : place_at w t ≡ Condvar l (Look all)) where
   abbrev p2 : Place
   p2 = condvar_goes l (condvar_next (Look all) (Value (word_at w l)))
 
   alike : (k : ℕ) → Alike k (place_at w t) p2
-  alike k = subst (λ q. Alike k q p2) (sym is) (let a = looks_out l all k in let b = next_out l all (word_at w l) k (word_at w l == 0) refl in record { location = b.0 ∙ sym a.0; role = b.1 ∙ sym a.1; taken = b.2 ∙ sym a.2 })
+  alike k = subst (λ q. Alike k q p2) (sym is) (let a = looks_out l all k in let b =
+      next_out l all (word_at w l) k (word_at w l == 0) refl in record {
+        location = b.0 ∙ sym a.0;
+        role = b.1 ∙ sym a.1;
+        taken = b.2 ∙ sym a.2;
+      })
 
   -- it sees what is shown, and goes on
-  pub looks : FitsItsLock w p2 → Goes w (put (state_after_act w t (Condvar l (Look all)) (act.Word l op.Load)) t p2) l (acts t [])
-  looks fits = acting.word_goes w t l steady is_there (rules_in w l) refl p2 (λ k ne. alike k) fits (Condvar l (Look all)) lock (rw steady.numbers.locks lock) op.Load [] (λ h. tt)
-      (steps_by (rules_in w l) l (parts_at w l) (operated w t (Condvar l (Look all)) l op.Load) (place_at w) t p2 [] tt tt (sym (alike l).taken) refl refl refl filled_then (alike l).role)
+  pub looks : FitsItsLock w p2 → Goes w (put (state_after_act w t (Condvar l (Look all)) (act.Word l op.Load))
+      t p2) l (acts t [])
+  looks fits = acting.word_goes w t l steady is_there (rules_in w l) refl p2 (λ k ne. alike k) fits
+      (Condvar l (Look all)) lock (rw steady.numbers.locks lock) op.Load [] (λ h. tt)
+      (steps_by (rules_in w l) l (parts_at w l) (operated w t (Condvar l (Look all)) l op.Load) (place_at w) t
+      p2 [] tt tt (sym (alike l).taken) refl refl refl filled_then (alike l).role)
       (steady.sites.word l ∙ sym (code_same)) (alike l).location
     where
       filled_then : (operated w t (Condvar l (Look all)) l op.Load).base.filled ≡ filled_at w l
-      filled_then = ap (λ b. filled_at w l || (b && nat_le (rules_in w l).limit (count_in (word_at w l)))) (ap has_readers sort) ∙ or-false (filled_at w l)
+      filled_then = ap (λ b. filled_at w l || (b && nat_le (rules_in w l).limit (count_in (word_at w l))))
+          (ap has_readers sort) ∙ or-false (filled_at w l)
 
       code_same : code (rules_in w l)
-          (seen_in (rules_in w l) l (operated w t (Condvar l (Look all)) l op.Load) (putting (place_at w) t p2))
+          (seen_in (rules_in w l) l (operated w t (Condvar l (Look all)) l op.Load)
+          (putting (place_at w) t p2))
           ≡ code (rules_in w l) (lock_by w l (rules_in w l))
       code_same = same_word (rules_in w l).sort (rules_in w l).limit _ _ _ _ refl refl refl refl refl refl

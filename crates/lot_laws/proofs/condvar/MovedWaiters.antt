@@ -1,6 +1,7 @@
 -- A waiter of a condition variable is taken by a notification, or moved to its mutex: where it goes, at
 -- both locks.
-use Rattle.std.proofs.Common.{ℕ, Bool, true, false, Option, Some, None, ◌≡◌, ◌≢◌, ◌*◌, ◌≤◌, refl, sym, ◌∙◌, ap, subst, arith}
+use Rattle.std.proofs.Common.{ℕ, Bool, true, false, Option, Some, None, ◌≡◌, ◌≢◌, ◌*◌, ◌≤◌, refl, sym, ◌∙◌}
+use Rattle.std.proofs.Common.{ap, subst, arith}
 use Rattle.core_base.specs.declared.wants.Want.TheVariants.{Exclusive}
 use Rattle.core_base.specs.Lines.{times}
 use Rattle.steps_base.specs.declared.acts.Next.TheVariants.{At}
@@ -31,7 +32,8 @@ use Rattle.lot_laws.specs.SitesOf.{FitsCondvar, FitsItsLock, IsInductive, condva
 use Rattle.lot_laws.proofs.machine.Parts.{same}
 use Rattle.lot_laws.proofs.sites.OneStep.{queued_times}
 use Rattle.lot_laws.proofs.condvar.Moving.{GoesAcross, WaitsAcross}
-use Rattle.lot_laws.proofs.condvar.TwoParts.{role_beside, role_there, nothing_else, location_beside, location_there, taken_beside, taken_there}
+use Rattle.lot_laws.proofs.condvar.TwoParts.{role_beside, role_there, nothing_else, location_beside}
+use Rattle.lot_laws.proofs.condvar.TwoParts.{location_there, taken_beside, taken_there}
 use Rattle.lot_laws.proofs.condvar.Promises.{unlisted}
 use Rattle.lot_laws.proofs.condvar.Sites.{at_place}
 use Rattle.lot_laws.proofs.condvar.WaitersAside.{waits_there}
@@ -55,14 +57,25 @@ module _ (w : State) (l m : ℕ) (apart : m ≢ l) (timed : Bool) where
   taken_of at = taken_from (row_beside (At (waits at))).hand (row_beside (At (waits at))).wants true
 
   -- by its rows
-  goes_across : (p p2 : WaitAt) (at_m : Location → Location) (held : Option Taken) → there_of p2 ≡ record (there_of p) { stands = None; waits = None } → beside_of p2 ≡ at_m (beside_of p) → (row_there (At (waits p2))).role ≡ (row_there (At (waits p))).role → (row_beside (At (waits p2))).role ≡ (row_beside (At (waits p))).role
+  goes_across : (p p2 : WaitAt) (at_m : Location → Location) (held : Option Taken) → there_of p2
+      ≡ record (there_of p) {
+        stands = None;
+        waits = None;
+      } → beside_of p2 ≡ at_m (beside_of p) → (row_there (At (waits p2))).role
+      ≡ (row_there (At (waits p))).role
+      → (row_beside (At (waits p2))).role ≡ (row_beside (At (waits p))).role
       → taken_of p2 ≡ held → FitsItsLock w (Condvar l (waits p2))
       → GoesAcross w l m (Condvar l (waits p)) (Condvar l (waits p2)) at_m held
   goes_across p p2 at_m held left came did_c did_m held_m fits = record {
-    left = location_there l m apart (At (waits p2)) refl ∙ left ∙ sym (ap (λ (y : Location). record y { stands = None; waits = None }) (location_there l m apart (At (waits p)) refl));
-    came = location_beside l m apart (At (waits p2)) refl ∙ came ∙ sym (ap at_m (location_beside l m apart (At (waits p)) refl));
-    did_c = role_there l m apart (At (waits p2)) refl ∙ did_c ∙ sym (role_there l m apart (At (waits p)) refl);
-    did_m = role_beside l m apart (At (waits p2)) refl ∙ did_m ∙ sym (role_beside l m apart (At (waits p)) refl);
+    left = location_there l m apart (At (waits p2)) refl ∙ left
+        ∙ sym (ap (λ (y : Location). record y { stands = None; waits = None })
+        (location_there l m apart (At (waits p)) refl));
+    came = location_beside l m apart (At (waits p2)) refl ∙ came
+        ∙ sym (ap at_m (location_beside l m apart (At (waits p)) refl));
+    did_c = role_there l m apart (At (waits p2)) refl ∙ did_c
+        ∙ sym (role_there l m apart (At (waits p)) refl);
+    did_m = role_beside l m apart (At (waits p2)) refl ∙ did_m
+        ∙ sym (role_beside l m apart (At (waits p)) refl);
     free_c = taken_there l m apart (At (waits p2)) refl ∙ sym (taken_there l m apart (At (waits p)) refl);
     held_m = taken_beside l m apart (At (waits p2)) refl ∙ held_m;
     alike = nothing_else l m apart (At (waits p)) (At (waits p2)) refl refl;
@@ -83,8 +96,13 @@ module _ (w : State) (l m : ℕ) (apart : m ≢ l) (timed : Bool) where
       out = ap (λ (y : Location). y.stands) (location_beside l m apart (At (waits p)) refl);
       free = ap (λ (y : Location). y.hand) (location_beside l m apart (At (waits p)) refl);
       untaken = taken_beside l m apart (At (waits p)) refl;
-      taken = goes_across p (wait.Asleep (stands.InHand t)) (λ y. record y { hand = hand t false }) (Some (record { by = t; want = Exclusive })) refl refl refl refl refl (comes p (wait.Asleep (stands.InHand t)) fits (λ h. tt));
-      moved = goes_across p (wait.Asleep stands.Moved) (λ y. record y { stands = Some Main; waits = Some Exclusive }) None refl refl refl refl refl (comes p (wait.Asleep stands.Moved) fits (λ h. tt));
+      taken = goes_across p (wait.Asleep (stands.InHand t)) (λ y. record y { hand = hand t false })
+          (Some (record { by = t; want = Exclusive })) refl refl refl refl refl
+          (comes p (wait.Asleep (stands.InHand t)) fits (λ h. tt));
+      moved = goes_across p (wait.Asleep stands.Moved) (λ y. record y {
+        stands = Some Main;
+        waits = Some Exclusive;
+      }) None refl refl refl refl refl (comes p (wait.Asleep stands.Moved) fits (λ h. tt));
     }
       where
         p : WaitAt
@@ -98,8 +116,15 @@ module _ (w : State) (l m : ℕ) (apart : m ≢ l) (timed : Bool) where
       out = ap (λ (y : Location). y.stands) (location_beside l m apart (At (waits p)) refl);
       free = ap (λ (y : Location). y.hand) (location_beside l m apart (At (waits p)) refl);
       untaken = taken_beside l m apart (At (waits p)) refl;
-      taken = goes_across p (wait.Release (stands.InHand t) (mutex.Unlock at)) (λ y. record y { hand = hand t false }) (Some (record { by = t; want = Exclusive })) refl refl refl refl refl (comes p (wait.Release (stands.InHand t) (mutex.Unlock at)) fits (λ h. (h.0, λ f. absurd cc)));
-      moved = goes_across p (wait.Release stands.Moved (mutex.Unlock at)) (λ y. record y { stands = Some Main; waits = Some Exclusive }) None refl refl refl refl refl (comes p (wait.Release stands.Moved (mutex.Unlock at)) fits (λ h. (h.0, λ f. absurd cc)));
+      taken = goes_across p (wait.Release (stands.InHand t) (mutex.Unlock at))
+          (λ y. record y { hand = hand t false }) (Some (record { by = t; want = Exclusive })) refl refl refl
+          refl refl (comes p (wait.Release (stands.InHand t) (mutex.Unlock at)) fits
+          (λ h. (h.0, λ f. absurd cc)));
+      moved = goes_across p (wait.Release stands.Moved (mutex.Unlock at)) (λ y. record y {
+        stands = Some Main;
+        waits = Some Exclusive;
+      }) None refl refl refl refl refl (comes p (wait.Release stands.Moved (mutex.Unlock at)) fits
+          (λ h. (h.0, λ f. absurd cc)));
     }
       where
         p : WaitAt
@@ -107,7 +132,8 @@ module _ (w : State) (l m : ℕ) (apart : m ≢ l) (timed : Bool) where
 
 -- ---------------------------------------------------------------- all of them, where a notification moves
 
-module _ (w : State) (t l m : ℕ) (steady : IsInductive w) (apart : m ≢ l) (sort_l : (rules_in w l).sort ≡ locks.Condvar)
+module _ (w : State) (t l m : ℕ) (steady : IsInductive w) (apart : m ≢ l) (sort_l : (rules_in w l).sort
+    ≡ locks.Condvar)
     (all locked : Bool) (is : place_at w t ≡ Condvar l (Notify all m (notify.Move locked)))
     (kept : IsCondvar (condvar_of w l)) where
   abbrev this : CondvarPlace
@@ -115,30 +141,40 @@ module _ (w : State) (t l m : ℕ) (steady : IsInductive w) (apart : m ≢ l) (s
 
   -- each waits with this mutex
   all_of : AllOf (condvar_of w l) m
-  all_of = by_stage all (subst (λ i. condvars.IsAsInside (condvar_of w l) i) (at_place w steady.stands t l this is).stage kept.inside)
+  all_of = by_stage all (subst (λ i. condvars.IsAsInside (condvar_of w l) i)
+      (at_place w steady.stands t l this is).stage kept.inside)
     where
       by_stage : (b : Bool) → condvars.StageHolds (condvar_of w l) t (moving b m) → AllOf (condvar_of w l) m
       by_stage true h = h.2
       by_stage false h = h.2
 
   held : section_at w (key_of l Main) ≡ Some t
-  held = (steady.stands.sections t l Main).0 (ap (λ q. (location_at q l).inside) is ∙ ap (λ (y : Location). y.inside) (location_there l m apart (At this) refl))
+  held = (steady.stands.sections t l Main).0 (ap (λ q. (location_at q l).inside) is
+      ∙ ap (λ (y : Location). y.inside) (location_there l m apart (At this) refl))
 
   module _ (u : ℕ) (some : 1 ≤ times u (queue_at w (key_of l Main))) where
     listed : 1 ≤ locks.times u (lock_state w l).queue
-    listed = let a : locks.times u (lock_state w l).queue ≡ times u (queue_at w (2 * l)) = queued_times u (queue_at w (2 * l)) in omega arith
+    listed = let a : locks.times u (lock_state w l).queue ≡ times u (queue_at w (2 * l)) =
+        queued_times u (queue_at w (2 * l)) in omega arith
 
     -- nobody else is inside the section
     not_inside : (timed : Bool) (p : WaitAt) → place_at w u ≡ Condvar l (Wait m timed p)
         → (location_by (row_there (At (Wait m timed p)))).inside ≡ Some Main → ⊥
-    not_inside timed p at within = let a : section_at w (key_of l Main) ≡ Some u = (steady.stands.sections u l Main).0 (ap (λ q. (location_at q l).inside) at ∙ ap (λ (y : Location). y.inside) (location_there l m apart (At (Wait m timed p)) refl) ∙ within) in
-        let b : Some u ≡ Some t = sym a ∙ held in let c : u ≡ t = cc in let d : Condvar l (Wait m timed p) ≡ Condvar l this = sym at ∙ ap (place_at w) c ∙ is in cc
+    not_inside timed p at within = let a : section_at w (key_of l Main) ≡ Some u =
+        (steady.stands.sections u l Main).0 (ap (λ q. (location_at q l).inside) at
+        ∙ ap (λ (y : Location). y.inside) (location_there l m apart (At (Wait m timed p)) refl) ∙ within) in
+        let b : Some u ≡ Some t = sym a ∙ held in let c : u ≡ t = cc in let d : Condvar l (Wait m timed p)
+        ≡ Condvar l this = sym at ∙ ap (place_at w) c ∙ is in cc
 
     -- it sleeps, or releases its mutex still
     module _ (P : Place → Type 0)
-        (sleeps : (timed : Bool) → FitsCondvar w l (Wait m timed (wait.Asleep stands.Listed)) → P (Condvar l (Wait m timed (wait.Asleep stands.Listed))))
-        (releases : (timed : Bool) (at : UnlockAt) → FitsCondvar w l (Wait m timed (wait.Release stands.Listed (mutex.Unlock at))) → P (Condvar l (Wait m timed (wait.Release stands.Listed (mutex.Unlock at))))) where
-      by_wait : (timed : Bool) (p : WaitAt) → place_at w u ≡ Condvar l (Wait m timed p) → (wait_row m p).listed ≡ true
+        (sleeps : (timed : Bool) → FitsCondvar w l (Wait m timed (wait.Asleep stands.Listed))
+        → P (Condvar l (Wait m timed (wait.Asleep stands.Listed))))
+        (releases : (timed : Bool) (at : UnlockAt)
+        → FitsCondvar w l (Wait m timed (wait.Release stands.Listed (mutex.Unlock at)))
+        → P (Condvar l (Wait m timed (wait.Release stands.Listed (mutex.Unlock at))))) where
+      by_wait : (timed : Bool) (p : WaitAt) → place_at w u ≡ Condvar l (Wait m timed p)
+          → (wait_row m p).listed ≡ true
           → FitsCondvar w l (Wait m timed p) → P (Condvar l (Wait m timed p))
       by_wait timed wait.Leave at h fits = absurd (not_inside timed wait.Leave at refl)
       by_wait timed wait.Remove at h fits = absurd (not_inside timed wait.Remove at refl)
@@ -149,10 +185,13 @@ module _ (w : State) (t l m : ℕ) (steady : IsInductive w) (apart : m ≢ l) (s
       by_wait timed (wait.Release s p) at h fits = absurd cc
       by_wait timed p at h fits = absurd cc
 
-      by_at : (at : CondvarPlace) → place_at w u ≡ Condvar l at → (condvar_row at).listed ≡ true → P (place_at w u)
+      by_at : (at : CondvarPlace) → place_at w u ≡ Condvar l at → (condvar_row at).listed ≡ true
+          → P (place_at w u)
       by_at (Look all) at h = absurd cc
       by_at (Notify every k p) at h = absurd (let none : false ≡ true = sym (unlisted every k p) ∙ h in cc)
-      by_at (Wait k timed p) at h = subst P (sym here) (by_wait timed p here (subst (λ j. (wait_row j p).listed ≡ true) named h) (subst (FitsItsLock w) here (steady.stands.calls u)))
+      by_at (Wait k timed p) at h =
+          subst P (sym here) (by_wait timed p here (subst (λ j. (wait_row j p).listed ≡ true) named h)
+          (subst (FitsItsLock w) here (steady.stands.calls u)))
         where
           row : profile_at (place_at w u) l ≡ condvar_profile (Wait k timed p)
           row = rw (at, same l) refl
@@ -167,14 +206,20 @@ module _ (w : State) (t l m : ℕ) (steady : IsInductive w) (apart : m ≢ l) (s
       each_waiter = let x = waits_there w steady l sort_l u listed in by_at x.at x.is x.listed
 
     pub waits_across : WaitsAcross w t l m (place_at w u)
-    waits_across = each_waiter (WaitsAcross w t l m) (λ timed fits. sleeper w l m apart timed t fits) (λ timed at fits. releaser w l m apart timed t at fits)
+    waits_across = each_waiter (WaitsAcross w t l m) (λ timed fits. sleeper w l m apart timed t fits)
+        (λ timed at fits. releaser w l m apart timed t at fits)
 
     -- its call knows then that it was moved
     abbrev KnowsIt : Reply → Place → Type 0
-    KnowsIt reply p = (r : ℕ → Rights) → call_state (next_place p reply) r ≡ record (call_state p r) { recalls = WasMoved }
+    KnowsIt reply p = (r : ℕ → Rights) → call_state (next_place p reply) r ≡ record (call_state p r)
+        { recalls = WasMoved }
 
     pub knows_taken : KnowsIt (TakenBy t) (place_at w u)
-    knows_taken = each_waiter (KnowsIt (TakenBy t)) (λ timed fits. waiters_are_told l m timed (wait.Asleep stands.Listed) (TakenBy t) tt tt) (λ timed at fits. waiters_are_told l m timed (wait.Release stands.Listed (mutex.Unlock at)) (TakenBy t) tt tt)
+    knows_taken = each_waiter (KnowsIt (TakenBy t)) (λ timed fits. waiters_are_told l m timed
+        (wait.Asleep stands.Listed) (TakenBy t) tt tt) (λ timed at fits. waiters_are_told l m timed
+        (wait.Release stands.Listed (mutex.Unlock at)) (TakenBy t) tt tt)
 
     pub knows_moved : KnowsIt (MovedTo (key_of m Main)) (place_at w u)
-    knows_moved = each_waiter (KnowsIt (MovedTo (key_of m Main))) (λ timed fits. waiters_are_told l m timed (wait.Asleep stands.Listed) (MovedTo (key_of m Main)) tt tt) (λ timed at fits. waiters_are_told l m timed (wait.Release stands.Listed (mutex.Unlock at)) (MovedTo (key_of m Main)) tt tt)
+    knows_moved = each_waiter (KnowsIt (MovedTo (key_of m Main))) (λ timed fits. waiters_are_told l m timed
+        (wait.Asleep stands.Listed) (MovedTo (key_of m Main)) tt tt) (λ timed at fits. waiters_are_told l m
+        timed (wait.Release stands.Listed (mutex.Unlock at)) (MovedTo (key_of m Main)) tt tt)

@@ -1,5 +1,8 @@
--- A notification goes into both its sections, or out of them where it has nobody in hand: both locks are sites again.
-use Rattle.std.proofs.Common.{ℕ, Bool, true, false, Option, Some, None, if◌then◌else◌, ◌==◌, ◌≡◌, ◌≢◌, ◌*◌, ◌<◌, [], ◌∷◌, length, set, refl, sym, ◌∙◌, ap, subst, is_none, inl, inr, length-set, get_or-set_same, get_or-set_other}
+-- A notification goes into both its sections, or out of them where it has nobody in hand: both locks are
+-- sites again.
+use Rattle.std.proofs.Common.{ℕ, Bool, true, false, Option, Some, None, if◌then◌else◌, ◌==◌, ◌≡◌, ◌≢◌, ◌*◌}
+use Rattle.std.proofs.Common.{◌<◌, [], ◌∷◌, length, set, refl, sym, ◌∙◌, ap, subst, is_none, inl, inr}
+use Rattle.std.proofs.Common.{length-set, get_or-set_same, get_or-set_other}
 use Rattle.std.proofs.lemmas.Bool.{cases_eq}
 use Rattle.core_base.specs.declared.keys.Keys.TheVariants.{Two}
 use Rattle.steps_base.specs.declared.acts.Next.{Next}
@@ -25,7 +28,8 @@ use Rattle.lot_machine.specs.Machine.{State, can_do, place_at, put, queue_at, se
 use Rattle.lot_laws.specs.MutexDeeds.{acts}
 use Rattle.lot_laws.specs.Refinement.{taken_at}
 use Rattle.lot_laws.specs.Locations.{role_on, location_at}
-use Rattle.lot_laws.specs.SitesOf.{FitsItsLock, GoesAll, IsInductive, condvar_of, key_of, rules_in, site_of, locations_of, carried_at, hand_at}
+use Rattle.lot_laws.specs.SitesOf.{FitsItsLock, GoesAll, IsInductive, condvar_of, key_of, rules_in, site_of}
+use Rattle.lot_laws.specs.SitesOf.{locations_of, carried_at, hand_at}
 use Rattle.lot_laws.proofs.machine.Parts.{parts_at, put_here, put_other, LetGo, stays, untaken}
 use Rattle.lot_laws.proofs.sites.OneStep.{Steps, steps_by}
 use Rattle.lot_laws.proofs.sites.StandsKept.{Alike, other_key, both}
@@ -41,7 +45,8 @@ use Rattle.lot_laws.proofs.sites.LawsKept.{after_same, needed_same}
 use Rattle.lot_laws.proofs.sites.WakesAt.{leaving_by}
 use Rattle.steps_base.specs.Profiles.{hand}
 
-module _ (w : State) (t l m : ℕ) (all : Bool) (steady : IsInductive w) (is_there : t < length w.places) (apart : m ≢ l)
+module _ (w : State) (t l m : ℕ) (all : Bool) (steady : IsInductive w) (is_there : t < length w.places)
+    (apart : m ≢ l)
     (sort_l : (rules_in w l).sort ≡ locks.Condvar) (sort_m : (rules_in w m).sort ≡ locks.Mutex)
     (kept : IsCondvar (condvar_of w l)) (aside : WaitsAside (condvar_of w l) (site_of w m) m)
     (section_l : key_of l Main < length w.sections) (section_m : key_of m Main < length w.sections) where
@@ -62,21 +67,27 @@ module _ (w : State) (t l m : ℕ) (all : Bool) (steady : IsInductive w) (is_the
     with_both = state_with_sections w (Two (2 * l) (2 * m)) who
 
     pub held_l : section_at with_both (key_of l Main) ≡ who
-    held_l = get_or-set_other (set w.sections (2 * l) who) (2 * m) (2 * l) who None (λ e. keys (sym e)) ∙ get_or-set_same w.sections (2 * l) who None section_l
+    held_l = get_or-set_other (set w.sections (2 * l) who) (2 * m) (2 * l) who None (λ e. keys (sym e))
+        ∙ get_or-set_same w.sections (2 * l) who None section_l
 
     pub held_m : section_at with_both (key_of m Main) ≡ who
-    held_m = get_or-set_same (set w.sections (2 * l) who) (2 * m) who None (rw (length-set w.sections (2 * l) who) section_m)
+    held_m = get_or-set_same (set w.sections (2 * l) who) (2 * m) who None
+        (rw (length-set w.sections (2 * l) who) section_m)
 
-    pub elsewhere : (key : ℕ) → key ≢ key_of l Main → key ≢ key_of m Main → section_at with_both key ≡ section_at w key
-    elsewhere key nl nm = get_or-set_other (set w.sections (2 * l) who) (2 * m) key who None nm ∙ get_or-set_other w.sections (2 * l) key who None nl
+    pub elsewhere : (key : ℕ) → key ≢ key_of l Main → key ≢ key_of m Main → section_at with_both key
+        ≡ section_at w key
+    elsewhere key nl nm = get_or-set_other (set w.sections (2 * l) who) (2 * m) key who None nm
+        ∙ get_or-set_other w.sections (2 * l) key who None nl
 
   -- from a place to the next one, of which no other lock sees anything
-  module _ (at : NotifyAt) (is : place_at w t ≡ Condvar l (notifies at)) (n : Next CondvarPlace) (beside : Beside m n) where
+  module _ (at : NotifyAt) (is : place_at w t ≡ Condvar l (notifies at)) (n : Next CondvarPlace)
+      (beside : Beside m n) where
     abbrev p2 : Place
     p2 = condvar_goes l n
 
     else_alike : (k : ℕ) → k ≢ l → k ≢ m → Alike k (place_at w t) p2
-    else_alike k nl nm = subst (λ q. Alike k q p2) (sym is) (nothing_else l m apart (At (notifies at)) n refl beside k nl nm)
+    else_alike k nl nm = subst (λ q. Alike k q p2) (sym is) (nothing_else l m apart (At (notifies at)) n refl
+        beside k nl nm)
 
     still : (u k : ℕ) → (u ≡ t → k ≡ l → ⊥) → (u ≡ t → k ≡ m → ⊥)
         → locations_of (putting (place_at w) t p2) u k ≡ locations_of (place_at w) u k
@@ -96,36 +107,59 @@ module _ (w : State) (t l m : ℕ) (all : Bool) (steady : IsInductive w) (is_the
 
   -- ---------------------------------------------------------------- into both
 
-  module _ (is : place_at w t ≡ Condvar l (notifies notify.Enter)) (can : can_do w (notify_act all l m notify.Enter) ≡ true) where
+  module _ (is : place_at w t ≡ Condvar l (notifies notify.Enter))
+      (can : can_do w (notify_act all l m notify.Enter) ≡ true) where
     abbrev again : Next CondvarPlace
     again = At (notifies notify.Again)
 
     free_l : section_at w (2 * l) ≡ None
-    free_l = none_so (section_at w (2 * l)) (both (is_none (section_at w (2 * l))) (is_none (section_at w (2 * m))) can).0
+    free_l = none_so (section_at w (2 * l)) (both (is_none (section_at w (2 * l)))
+        (is_none (section_at w (2 * m))) can).0
 
     free_m : section_at w (2 * m) ≡ None
-    free_m = none_so (section_at w (2 * m)) (both (is_none (section_at w (2 * l))) (is_none (section_at w (2 * m))) can).1
+    free_m = none_so (section_at w (2 * m)) (both (is_none (section_at w (2 * l)))
+        (is_none (section_at w (2 * m))) can).1
 
     in_follows : FollowsBeside (rules_in w m) (site_of w m) (condvar_of w l) t m all notify.Enter Done
-    in_follows = notifiers_follow (rules_in w m) (site_of w m) (condvar_of w l) t m all notify.Enter Done sort_m (hears.role_beside w t l (notifies notify.Enter) steady is m refl) (notifier_hears w t l m all notify.Enter steady kept aside is can)
+    in_follows = notifiers_follow (rules_in w m) (site_of w m) (condvar_of w l) t m all notify.Enter Done
+        sort_m (hears.role_beside w t l (notifies notify.Enter) steady is m refl)
+        (notifier_hears w t l m all notify.Enter steady kept aside is can)
 
-    in_m : Steps (rules_in w m) m (parts_at w m) (parts_at w m) (place_at w) t (Condvar l (notifies notify.Again)) (In Main ∷ [])
-    in_m = steps_by (rules_in w m) m (parts_at w m) (parts_at w m) (place_at w) t (Condvar l (notifies notify.Again)) (In Main ∷ []) (in_follows.needed.0, tt) (tt, tt)
-        (taken_m notify.Enter is again refl ∙ taken_beside l m apart (At (notifies notify.Enter)) refl ∙ sym (taken_beside l m apart again refl)) refl refl refl refl (role_beside l m apart again refl ∙ sym in_follows.role)
+    in_m : Steps (rules_in w m) m (parts_at w m) (parts_at w m) (place_at w) t
+        (Condvar l (notifies notify.Again)) (In Main ∷ [])
+    in_m = steps_by (rules_in w m) m (parts_at w m) (parts_at w m) (place_at w) t
+        (Condvar l (notifies notify.Again)) (In Main ∷ []) (in_follows.needed.0, tt) (tt, tt)
+        (taken_m notify.Enter is again refl ∙ taken_beside l m apart (At (notifies notify.Enter)) refl
+        ∙ sym (taken_beside l m apart again refl)) refl refl refl refl (role_beside l m apart again refl
+        ∙ sym in_follows.role)
 
-    in_l : Steps (rules_in w l) l (parts_at w l) (parts_at w l) (place_at w) t (Condvar l (notifies notify.Again)) (In Main ∷ [])
-    in_l = in_steps w t l m (notifies notify.Enter) steady is_there apart sort_l is refl Done refl free_l refl refl
+    in_l : Steps (rules_in w l) l (parts_at w l) (parts_at w l) (place_at w) t
+        (Condvar l (notifies notify.Again)) (In Main ∷ [])
+    in_l = in_steps w t l m (notifies notify.Enter) steady is_there apart sort_l is refl Done refl free_l refl
+        refl
 
     pub goes_into_both : FitsItsLock w (Condvar l (notifies notify.Again))
         → GoesAll w (put (with_both (Some t)) t (Condvar l (notifies notify.Again)))
         (two_at l m (acts t (In Main ∷ [])) (acts t (In Main ∷ [])))
     goes_into_both fits = record {
-      follows = two_follow w v steady t is_there there_then l m apart (else_alike notify.Enter is again refl) refl refl refl refl unshared_l unshared_m (In Main ∷ []) (In Main ∷ []) in_l in_m;
-      stands = stands_put w v steady.stands (λ k. refl) t there_then fits (places_put w v steady t is_there there_then l m apart (else_alike notify.Enter is again refl) refl refl refl refl unshared_l unshared_m (In Main ∷ []) (In Main ∷ []) in_l in_m)
-          (goes_in_two (locations_of (place_at w)) (locations_of (putting (place_at w) t there_then)) (section_at w) (queue_at w) (there_in w steady.stands) t l m apart (still notify.Enter is again refl) (section_at v) (elsewhere (Some t)) free_l free_m (held_l (Some t)) (held_m (Some t))
-          (ap (λ (y : Location). y.inside) (was w t l m (notifies notify.Enter) steady is_there apart sort_l is refl Done refl)) (ap (λ (y : Location). y.inside) (location_m notify.Enter is again refl))
-          (ap (λ q. location_at q l) (put_here (place_at w) t there_then) ∙ then_is w t l m (notifies notify.Enter) steady is_there apart sort_l is refl Done refl ∙ sym (ap (λ (y : Location). record y { inside = Some Main }) (was w t l m (notifies notify.Enter) steady is_there apart sort_l is refl Done refl)))
-          (ap (λ q. location_at q m) (put_here (place_at w) t there_then) ∙ then_m notify.Enter is again refl ∙ sym (ap (λ (y : Location). record y { inside = Some Main }) (location_m notify.Enter is again refl))));
+      follows = two_follow w v steady t is_there there_then l m apart (else_alike notify.Enter is again refl)
+          refl refl refl refl unshared_l unshared_m (In Main ∷ []) (In Main ∷ []) in_l in_m;
+      stands = stands_put w v steady.stands (λ k. refl) t there_then fits (places_put w v steady t is_there
+          there_then l m apart (else_alike notify.Enter is again refl) refl refl refl refl unshared_l
+          unshared_m (In Main ∷ []) (In Main ∷ []) in_l in_m)
+          (goes_in_two (locations_of (place_at w)) (locations_of (putting (place_at w) t there_then))
+          (section_at w) (queue_at w) (there_in w steady.stands) t l m apart
+          (still notify.Enter is again refl) (section_at v) (elsewhere (Some t)) free_l free_m
+          (held_l (Some t)) (held_m (Some t))
+          (ap (λ (y : Location). y.inside) (was w t l m (notifies notify.Enter) steady is_there apart sort_l
+          is refl Done refl)) (ap (λ (y : Location). y.inside) (location_m notify.Enter is again refl))
+          (ap (λ q. location_at q l) (put_here (place_at w) t there_then)
+          ∙ then_is w t l m (notifies notify.Enter) steady is_there apart sort_l is refl Done refl
+          ∙ sym (ap (λ (y : Location). record y { inside = Some Main })
+          (was w t l m (notifies notify.Enter) steady is_there apart sort_l is refl Done refl)))
+          (ap (λ q. location_at q m) (put_here (place_at w) t there_then) ∙ then_m notify.Enter is again refl
+          ∙ sym (ap (λ (y : Location). record y { inside = Some Main })
+          (location_m notify.Enter is again refl))));
     }
       where
         there_then : Place
@@ -137,7 +171,8 @@ module _ (w : State) (t l m : ℕ) (all : Bool) (steady : IsInductive w) (is_the
   -- ---------------------------------------------------------------- and out of them
 
   -- it is inside the section of the mutex, whatever waiters it has moved
-  pub inside_leave : (any : Bool) (number : ℕ) → (notify_row all m (notify.Leave any number)).role.inside ≡ Some Main
+  pub inside_leave : (any : Bool) (number : ℕ) → (notify_row all m (notify.Leave any number)).role.inside
+      ≡ Some Main
   inside_leave any number = by_number (number == 0)
     where
       by_number : (b : Bool) → (if b then inside else has_moved any false).inside ≡ Some Main
@@ -152,7 +187,9 @@ module _ (w : State) (t l m : ℕ) (all : Bool) (steady : IsInductive w) (is_the
     over = Over (notified all number)
 
     out_follows : FollowsBeside (rules_in w m) (site_of w m) (condvar_of w l) t m all leaves_at Done
-    out_follows = notifiers_follow (rules_in w m) (site_of w m) (condvar_of w l) t m all leaves_at Done sort_m (hears.role_beside w t l (notifies leaves_at) steady is m refl) (notifier_hears w t l m all leaves_at steady kept aside is refl)
+    out_follows = notifiers_follow (rules_in w m) (site_of w m) (condvar_of w l) t m all leaves_at Done sort_m
+        (hears.role_beside w t l (notifies leaves_at) steady is m refl) (notifier_hears w t l m all leaves_at
+        steady kept aside is refl)
 
     out_l : Steps (rules_in w l) l (parts_at w l) (parts_at w l) (place_at w) t Idle (Out ∷ [])
     out_l = out_steps w t l m (notifies leaves_at) steady is_there apart sort_l is refl Done tt refl refl
@@ -161,25 +198,43 @@ module _ (w : State) (t l m : ℕ) (all : Bool) (steady : IsInductive w) (is_the
     untaken_m = taken_m leaves_at is over tt ∙ taken_beside l m apart (At (notifies leaves_at)) refl
 
     nobody : (u : ℕ) → hand_at (place_at w u) m ≡ hand t false → ⊥
-    nobody u h = let a : carried_at (place_at w t) m ≡ Some false = steady.stands.hands.taken t u m false h in let b : carried_at (place_at w t) m ≡ None = ap (λ (y : Location). y.carries) (location_m leaves_at is over tt) in
+    nobody u h = let a : carried_at (place_at w t) m ≡ Some false = steady.stands.hands.taken t u m false h
+        in let b : carried_at (place_at w t) m ≡ None = ap (λ (y : Location). y.carries)
+        (location_m leaves_at is over tt) in
         let c : ◌≡◌ {A = Option Bool} None (Some false) = sym b ∙ a in cc
 
     out_m : Steps (rules_in w m) m (parts_at w m) (parts_at w m) (place_at w) t Idle (Out ∷ End ∷ [])
     out_m = record {
-      site = leaving_by (rules_in w m) m (parts_at w m) (place_at w) (putting (place_at w) t Idle) t (ap (λ q. taken_at q m) (put_here (place_at w) t Idle) ∙ sym (ap (keep_from t) untaken_m))
-          (λ u ne. subst (λ q. LetGo t m (place_at w u) q) (sym (put_other (place_at w) t Idle u ne)) (stays t m (place_at w u) (untaken (place_at w u) t m (nobody u))))
-          (Out ∷ End ∷ []) tt (ap (λ q. role_on q m) (put_here (place_at w) t Idle) ∙ sym out_follows.role ∙ sym (ap (λ (y : Site). y.role t) (after_same (rules_in w m) (Out ∷ End ∷ []) (site_of w m) t)));
+      site = leaving_by (rules_in w m) m (parts_at w m) (place_at w) (putting (place_at w) t Idle) t
+          (ap (λ q. taken_at q m) (put_here (place_at w) t Idle) ∙ sym (ap (keep_from t) untaken_m))
+          (λ u ne. subst (λ q. LetGo t m (place_at w u) q) (sym (put_other (place_at w) t Idle u ne))
+          (stays t m (place_at w u) (untaken (place_at w u) t m (nobody u))))
+          (Out ∷ End ∷ []) tt (ap (λ q. role_on q m) (put_here (place_at w) t Idle) ∙ sym out_follows.role
+          ∙ sym (ap (λ (y : Site). y.role t) (after_same (rules_in w m) (Out ∷ End ∷ []) (site_of w m)
+          t)));
       needed = needed_same (rules_in w m) (Out ∷ End ∷ []) (site_of w m) t out_follows.needed;
     }
 
-    pub goes_out_of_both : GoesAll w (put (with_both None) t Idle) (two_at l m (acts t (Out ∷ [])) (acts t (Out ∷ End ∷ [])))
+    pub goes_out_of_both : GoesAll w (put (with_both None) t Idle) (two_at l m (acts t (Out ∷ []))
+        (acts t (Out ∷ End ∷ [])))
     goes_out_of_both = record {
-      follows = two_follow w v steady t is_there Idle l m apart (else_alike leaves_at is over tt) refl refl refl refl unshared_l unshared_m (Out ∷ []) (Out ∷ End ∷ []) out_l out_m;
-      stands = stands_put w v steady.stands (λ k. refl) t Idle tt (places_put w v steady t is_there Idle l m apart (else_alike leaves_at is over tt) refl refl refl refl unshared_l unshared_m (Out ∷ []) (Out ∷ End ∷ []) out_l out_m)
-          (goes_out_two (locations_of (place_at w)) (locations_of (putting (place_at w) t Idle)) (section_at w) (queue_at w) (there_in w steady.stands) t l m apart (still leaves_at is over tt) (section_at v) (elsewhere None) (held_l None) (held_m None)
-          (ap (λ (y : Location). y.inside) (was w t l m (notifies leaves_at) steady is_there apart sort_l is refl Done tt)) (ap (λ (y : Location). y.inside) (location_m leaves_at is over tt) ∙ inside_leave false number)
-          (ap (λ q. location_at q l) (put_here (place_at w) t Idle) ∙ then_is w t l m (notifies leaves_at) steady is_there apart sort_l is refl Done tt ∙ sym (ap (λ (y : Location). record y { inside = None }) (was w t l m (notifies leaves_at) steady is_there apart sort_l is refl Done tt)))
-          (ap (λ q. location_at q m) (put_here (place_at w) t Idle) ∙ then_m leaves_at is over tt ∙ sym (ap (λ (y : Location). record y { inside = None }) (location_m leaves_at is over tt))));
+      follows = two_follow w v steady t is_there Idle l m apart (else_alike leaves_at is over tt) refl refl
+          refl refl unshared_l unshared_m (Out ∷ []) (Out ∷ End ∷ []) out_l out_m;
+      stands = stands_put w v steady.stands (λ k. refl) t Idle tt (places_put w v steady t is_there Idle l m
+          apart (else_alike leaves_at is over tt) refl refl refl refl unshared_l unshared_m (Out ∷ [])
+          (Out ∷ End ∷ []) out_l out_m)
+          (goes_out_two (locations_of (place_at w)) (locations_of (putting (place_at w) t Idle))
+          (section_at w) (queue_at w) (there_in w steady.stands) t l m apart (still leaves_at is over tt)
+          (section_at v) (elsewhere None) (held_l None) (held_m None)
+          (ap (λ (y : Location). y.inside) (was w t l m (notifies leaves_at) steady is_there apart sort_l is
+          refl Done tt)) (ap (λ (y : Location). y.inside) (location_m leaves_at is over tt)
+          ∙ inside_leave false number)
+          (ap (λ q. location_at q l) (put_here (place_at w) t Idle) ∙ then_is w t l m (notifies leaves_at)
+          steady is_there apart sort_l is refl Done tt
+          ∙ sym (ap (λ (y : Location). record y { inside = None }) (was w t l m (notifies leaves_at)
+          steady is_there apart sort_l is refl Done tt)))
+          (ap (λ q. location_at q m) (put_here (place_at w) t Idle) ∙ then_m leaves_at is over tt
+          ∙ sym (ap (λ (y : Location). record y { inside = None }) (location_m leaves_at is over tt))));
     }
       where
         v : State

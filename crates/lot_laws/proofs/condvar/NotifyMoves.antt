@@ -1,5 +1,8 @@
--- A notification moves waiters of its condition variable to the mutex, or takes the first of them: both locks are sites again.
-use Rattle.std.proofs.Common.{ℕ, Bool, true, false, Some, None, if◌then◌else◌, ◌==◌, ◌≡◌, ◌≢◌, ◌+◌, ◌*◌, ◌≤◌, ◌<◌, List, [], ◌∷◌, ◌++◌, length, map, drop, take, get_or, set, not, refl, sym, ◌∙◌, ap, subst, arith, inl, inr, length-set, get_or-set_same, get_or-set_other}
+-- A notification moves waiters of its condition variable to the mutex, or takes the first of them: both locks
+-- are sites again.
+use Rattle.std.proofs.Common.{ℕ, Bool, true, false, Some, None, if◌then◌else◌, ◌==◌, ◌≡◌, ◌≢◌, ◌+◌, ◌*◌, ◌≤◌}
+use Rattle.std.proofs.Common.{◌<◌, List, [], ◌∷◌, ◌++◌, length, map, drop, take, get_or, set, not, refl, sym}
+use Rattle.std.proofs.Common.{◌∙◌, ap, subst, arith, inl, inr, length-set, get_or-set_same, get_or-set_other}
 use Rattle.std.proofs.lemmas.Bool.Decides.{nat_tests}
 use Rattle.core_base.specs.declared.requeues.Requeue.{Requeue}
 use Rattle.core_base.specs.declared.requeues.Requeue.TheVariants as requeue
@@ -31,21 +34,26 @@ use Rattle.spec_locks.specs.Locks as locks
 use Rattle.spec_locks.specs.Locks.{putting, Rights}
 use Rattle.spec_locks.specs.Picks.{queued_of}
 use Rattle.spec_locks.specs.Sites.{Bring, Deed, Role, bringing, Main, Send, has_readers, idle}
-use Rattle.lot_machine.specs.Machine.{State, left_in_line, listed, moved_threads, moved_under, place_at, places_told, put, queue_at, state_after_requeue, queues_without_first, state_after_taking, reply_to, state_after_act}
+use Rattle.lot_machine.specs.Machine.{State, left_in_line, listed, moved_threads, moved_under, place_at}
+use Rattle.lot_machine.specs.Machine.{places_told, put, queue_at, state_after_requeue, queues_without_first}
+use Rattle.lot_machine.specs.Machine.{state_after_taking, reply_to, state_after_act}
 use Rattle.lot_laws.specs.MutexDeeds.{acts}
 use Rattle.lot_laws.specs.Refinement.{taken_at, call_state}
 use Rattle.lot_laws.specs.Locations.{role_on, location_at}
-use Rattle.lot_laws.specs.SitesOf.{ActsNeeded, AreWaiting, FitsItsLock, GoesAll, IsInductive, condvar_of, key_of, rules_in, site_of, locations_of, stood_in}
+use Rattle.lot_laws.specs.SitesOf.{ActsNeeded, AreWaiting, FitsItsLock, GoesAll, IsInductive, condvar_of}
+use Rattle.lot_laws.specs.SitesOf.{key_of, rules_in, site_of, locations_of, stood_in}
 use Rattle.lot_laws.proofs.machine.Parts.{put_here, same, put_places, put_other}
 use Rattle.lot_laws.proofs.sites.LawsKept.{needed_same}
 use Rattle.lot_laws.proofs.sites.StandsKept.{Alike, other_key}
 use Rattle.lot_laws.proofs.sites.TwoLocks.{two_at}
-use Rattle.lot_laws.proofs.condvar.TwoParts.{Beside, role_beside, role_of_row, role_there, nothing_else, location_beside, location_there, taken_beside, taken_there}
+use Rattle.lot_laws.proofs.condvar.TwoParts.{Beside, role_beside, role_of_row, role_there, nothing_else}
+use Rattle.lot_laws.proofs.condvar.TwoParts.{location_beside, location_there, taken_beside, taken_there}
 use Rattle.lot_laws.proofs.condvar.Replies as hears
 use Rattle.lot_laws.proofs.condvar.MovedWaiters.{waits_across, knows_moved, knows_taken}
 use Rattle.lot_laws.proofs.condvar.MovingKept.{moves_kept}
 use Rattle.lot_laws.proofs.condvar.Moving.{WaitsAcross, places_across, goes}
-use Rattle.lot_laws.proofs.sites.TakesAt.{member, at_most_one, member_times, told_once, told_places, stranger_times, only_member}
+use Rattle.lot_laws.proofs.sites.TakesAt.{member, at_most_one, member_times, told_once, told_places}
+use Rattle.lot_laws.proofs.sites.TakesAt.{stranger_times, only_member}
 use Rattle.lot_machine.proofs.QueueLemmas.{told_count}
 use Rattle.steps_condvar.proofs.CondvarActs.{notifies_move}
 use Rattle.lot_laws.proofs.condvar.Replies.{notifier_hears}
@@ -67,7 +75,8 @@ gone_threads requeue.All q = refl
 gone_threads requeue.TakeOneMoveRest [] = refl
 gone_threads requeue.TakeOneMoveRest (x ∷ q) = refl
 
-threads_moved : (how : Requeue) (q : List Waiter) → moved_threads how (threads_of q) ≡ threads_of (moved_by how q)
+threads_moved : (how : Requeue) (q : List Waiter) → moved_threads how (threads_of q) ≡ threads_of
+    (moved_by how q)
 threads_moved requeue.All q = refl
 threads_moved requeue.One [] = refl
 threads_moved requeue.One (x ∷ q) = refl
@@ -98,7 +107,8 @@ left_waits at l requeue.TakeOneMoveRest q h = tt
 left_waits at l requeue.One [] h = tt
 left_waits at l requeue.One (x ∷ q) h = h.1
 
-one_taken : (how : Requeue) (q : List Waiter) (u v : ℕ) → member u (gone_by how q) ≡ true → member v (gone_by how q) ≡ true
+one_taken : (how : Requeue) (q : List Waiter) (u v : ℕ) → member u (gone_by how q) ≡ true
+    → member v (gone_by how q) ≡ true
     → u ≡ v
 one_taken requeue.One q u v h g = absurd cc
 one_taken requeue.All q u v h g = absurd cc
@@ -106,19 +116,26 @@ one_taken requeue.TakeOneMoveRest [] u v h g = absurd cc
 one_taken requeue.TakeOneMoveRest (x ∷ q) u v h g = sym (only_member x u h) ∙ only_member x v g
 
 -- as the abstract locks have them
-under_lined : (key : ℕ) (q : List Waiter) → map queued_of (moved_under key q) ≡ map wanting_mutex (map queued_of q)
+under_lined : (key : ℕ) (q : List Waiter) → map queued_of (moved_under key q) ≡ map wanting_mutex
+    (map queued_of q)
 under_lined key [] = refl
-under_lined key (x ∷ q) = ap (λ (ys : List locks.Queued). record { thread = x.thread; want = Exclusive } ∷ ys) (under_lined key q)
+under_lined key (x ∷ q) = ap (λ (ys : List locks.Queued). record {
+  thread = x.thread;
+  want = Exclusive;
+} ∷ ys) (under_lined key q)
 
-first_lined : (key : ℕ) (q : List Waiter) → map queued_of (moved_under key (take 1 q)) ≡ map wanting_mutex (take 1 (map queued_of q))
+first_lined : (key : ℕ) (q : List Waiter) → map queued_of (moved_under key (take 1 q)) ≡ map wanting_mutex
+    (take 1 (map queued_of q))
 first_lined key [] = refl
 first_lined key (x ∷ q) = refl
 
-rest_lined : (key : ℕ) (q : List Waiter) → map queued_of (moved_under key (drop 1 q)) ≡ drop 1 (map wanting_mutex (map queued_of q))
+rest_lined : (key : ℕ) (q : List Waiter) → map queued_of (moved_under key (drop 1 q)) ≡ drop 1
+    (map wanting_mutex (map queued_of q))
 rest_lined key [] = refl
 rest_lined key (x ∷ q) = under_lined key q
 
-taken_lined : (key : ℕ) (q : List Waiter) → map queued_of (moved_under key (take 1 q)) ≡ take 1 (map wanting_mutex (map queued_of q))
+taken_lined : (key : ℕ) (q : List Waiter) → map queued_of (moved_under key (take 1 q)) ≡ take 1
+    (map wanting_mutex (map queued_of q))
 taken_lined key [] = refl
 taken_lined key (x ∷ q) = refl
 
@@ -135,7 +152,8 @@ is_some n h = grind (arith, nat_tests)
 
 -- ---------------------------------------------------------------- a notification at its move
 
-module _ (w : State) (t l m : ℕ) (all locked : Bool) (steady : IsInductive w) (is_there : t < length w.places) (apart : m ≢ l)
+module _ (w : State) (t l m : ℕ) (all locked : Bool) (steady : IsInductive w) (is_there : t < length w.places)
+    (apart : m ≢ l)
     (sort_l : (rules_in w l).sort ≡ locks.Condvar) (sort_m : (rules_in w m).sort ≡ locks.Mutex)
     (kept : IsCondvar (condvar_of w l))
     (is : place_at w t ≡ Condvar l (Notify all m (notify.Move locked))) where
@@ -147,7 +165,8 @@ module _ (w : State) (t l m : ℕ) (all locked : Bool) (steady : IsInductive w) 
 
   module _ (told : Reply) (x : MovesWaiters (map queued_of line) this all locked told)
       (beside : Beside m (condvar_next this told))
-      (hears_it : MayHearBeside (rules_in w m) (site_of w m) (condvar_of w l) t m all (notify.Move locked) told)
+      (hears_it : MayHearBeside (rules_in w m) (site_of w m) (condvar_of w l) t m all (notify.Move locked)
+      told)
       (fits : FitsItsLock w (condvar_goes l (condvar_next this told))) where
     abbrev p2 : Place
     p2 = condvar_goes l (condvar_next this told)
@@ -162,50 +181,78 @@ module _ (w : State) (t l m : ℕ) (all locked : Bool) (steady : IsInductive w) 
     now_l = location_there l m apart (condvar_next this told) beside ∙ x.stays ∙ sym location_l
 
     now_m : location_at p2 m ≡ record (location_at (place_at w t) m) { carries = in_hand (not locked) false }
-    now_m = location_beside l m apart (condvar_next this told) beside ∙ x.carries ∙ sym (ap (λ (y : Location). record y { carries = in_hand (not locked) false }) location_m)
+    now_m = location_beside l m apart (condvar_next this told) beside ∙ x.carries
+        ∙ sym (ap (λ (y : Location). record y { carries = in_hand (not locked) false }) location_m)
 
     alike_t : (k : ℕ) → k ≢ l → k ≢ m → Alike k (place_at w t) p2
-    alike_t k nl nm = subst (λ q. Alike k q p2) (sym is) (nothing_else l m apart (At this) (condvar_next this told) refl beside k nl nm)
+    alike_t k nl nm = subst (λ q. Alike k q p2) (sym is)
+        (nothing_else l m apart (At this) (condvar_next this told) refl beside k nl nm)
 
     -- at the condition variable it does what it did
     same_l : (role_on p2 l ≡ role_on (place_at w t) l) × (taken_at p2 l ≡ taken_at (place_at w t) l)
     same_l = (
-      role_there l m apart (condvar_next this told) beside ∙ role_of_row (condvar_next this told) ∙ ap (λ (y : Location). record idle { inside = y.inside }) x.stays ∙ sym (role_of_row (At this)) ∙ sym (ap (λ q. role_on q l) is ∙ role_there l m apart (At this) refl),
-      taken_there l m apart (condvar_next this told) beside ∙ sym (ap (λ q. taken_at q l) is ∙ taken_there l m apart (At this) refl),
+      role_there l m apart (condvar_next this told) beside ∙ role_of_row (condvar_next this told)
+          ∙ ap (λ (y : Location). record idle { inside = y.inside }) x.stays ∙ sym (role_of_row (At this))
+          ∙ sym (ap (λ q. role_on q l) is ∙ role_there l m apart (At this) refl),
+      taken_there l m apart (condvar_next this told) beside ∙ sym (ap (λ q. taken_at q l) is
+          ∙ taken_there l m apart (At this) refl),
     )
 
     -- A waiter that is moved is in nobody's hand.
     same_m : taken_at p2 m ≡ taken_at (place_at w t) m
-    same_m = taken_beside l m apart (condvar_next this told) beside ∙ ap (λ h. taken_from h (row_beside (condvar_next this told)).wants true) (ap (λ (y : Location). y.hand) x.carries) ∙ sym (ap (λ q. taken_at q m) is ∙ taken_beside l m apart (At this) refl)
+    same_m = taken_beside l m apart (condvar_next this told) beside
+        ∙ ap (λ h. taken_from h (row_beside (condvar_next this told)).wants true)
+        (ap (λ (y : Location). y.hand) x.carries) ∙ sym (ap (λ q. taken_at q m) is
+        ∙ taken_beside l m apart (At this) refl)
 
     needed_l : ActsNeeded (rules_in w l) (acts t (Send all ∷ [])) (site_of w l)
-    needed_l = ((sort_l, ap (λ q. (role_on q l).inside) is ∙ ap (λ (d : Role). d.inside) (role_there l m apart (At this) refl) ∙ ap (λ (y : Location). y.inside) x.inside.0), tt)
+    needed_l = (
+      (
+        sort_l,
+        ap (λ q. (role_on q l).inside) is
+            ∙ ap (λ (d : Role). d.inside) (role_there l m apart (At this) refl)
+            ∙ ap (λ (y : Location). y.inside) x.inside.0,
+      ),
+      tt,
+    )
 
     follows : FollowsBeside (rules_in w m) (site_of w m) (condvar_of w l) t m all (notify.Move locked) told
-    follows = notifiers_follow (rules_in w m) (site_of w m) (condvar_of w l) t m all (notify.Move locked) told sort_m (hears.role_beside w t l this steady is m refl) hears_it
+    follows = notifiers_follow (rules_in w m) (site_of w m) (condvar_of w l) t m all (notify.Move locked) told
+        sort_m (hears.role_beside w t l this steady is m refl) hears_it
 
     needed_m : ActsNeeded (rules_in w m)
-        (acts t (Bring (taken_of locked (moved_of all (map queued_of line))) (line_of locked (moved_of all (map queued_of line))) ∷ []))
+        (acts t (Bring (taken_of locked (moved_of all (map queued_of line)))
+        (line_of locked (moved_of all (map queued_of line))) ∷ []))
         (site_of w m)
-    needed_m = subst (λ ds. ActsNeeded (rules_in w m) (acts t ds) (site_of w m)) x.deeds_beside (needed_same (rules_in w m) (beside_deeds all (map queued_of line) (notify.Move locked) told) (site_of w m) t follows.needed)
+    needed_m = subst (λ ds. ActsNeeded (rules_in w m) (acts t ds) (site_of w m)) x.deeds_beside
+        (needed_same (rules_in w m) (beside_deeds all (map queued_of line) (notify.Move locked) told)
+        (site_of w m) t follows.needed)
 
     -- tells what it does about the mutex then
     does_m : role_on p2 m
-        ≡ bringing (taken_of locked (moved_of all (map queued_of line))) (line_of locked (moved_of all (map queued_of line)))
+        ≡ bringing (taken_of locked (moved_of all (map queued_of line)))
+        (line_of locked (moved_of all (map queued_of line)))
         (role_on (place_at w t) m)
-    does_m = role_beside l m apart (condvar_next this told) beside ∙ by_next (next_notify all m (notify.Move locked) told) ∙ sym follows.role
-        ∙ ap (λ ds. (laws.after_all (rules_in w m) ds (site_of w m) t).role t) x.deeds_beside ∙ put_here (λ u. role_on (place_at w u) m) t _
+    does_m = role_beside l m apart (condvar_next this told) beside
+        ∙ by_next (next_notify all m (notify.Move locked) told) ∙ sym follows.role
+        ∙ ap (λ ds. (laws.after_all (rules_in w m) ds (site_of w m) t).role t) x.deeds_beside
+        ∙ put_here (λ u. role_on (place_at w u) m) t _
       where
         by_next : (n : Next NotifyAt) → (row_beside (in_notify all m n)).role ≡ role_next all m n
         by_next (At at) = refl
         by_next (Over answer) = refl
 
     -- by the threads that it takes, that it moves, and that are left
-    module _ (gone moved left : List Waiter) (counts : (u : ℕ) → times u gone + times u moved + times u left ≡ times u line)
+    module _ (gone moved left : List Waiter) (counts : (u : ℕ) → times u gone + times u moved + times u left
+        ≡ times u line)
         (lefts : AreWaiting (locations_of (place_at w)) l Main left)
         (one_gone : (u v : ℕ) → member u gone ≡ true → member v gone ≡ true → u ≡ v)
-        (none_gone : locked ≡ true → gone ≡ []) (some_gone : locked ≡ false → (u : ℕ) × (member u gone ≡ true))
-        (left_is : map queued_of left ≡ (if all then [] else drop 1 (map queued_of line))) (gone_is : map queued_of (moved_under (key_of m Main) gone) ≡ taken_of locked (moved_of all (map queued_of line))) (moved_is : map queued_of (moved_under (key_of m Main) moved) ≡ line_of locked (moved_of all (map queued_of line))) where
+        (none_gone : locked ≡ true → gone ≡ []) (some_gone : locked ≡ false → (u : ℕ)
+        × (member u gone ≡ true))
+        (left_is : map queued_of left ≡ (if all then [] else drop 1 (map queued_of line)))
+        (gone_is : map queued_of (moved_under (key_of m Main) gone) ≡ taken_of locked
+        (moved_of all (map queued_of line))) (moved_is : map queued_of (moved_under (key_of m Main) moved)
+        ≡ line_of locked (moved_of all (map queued_of line))) where
       across : (u : ℕ) → 1 ≤ times u line → WaitsAcross w t l m (place_at w u)
       across = waits_across w t l m steady apart sort_l all locked is kept
 
@@ -216,36 +263,56 @@ module _ (w : State) (t l m : ℕ) (all locked : Bool) (steady : IsInductive w) 
       bare = ap (λ (y : Location). y.carries) location_m
 
       abbrev behind : ℕ → Place
-      behind = places_across w t l m apart steady p2 gone moved left counts lefts across one_gone out bare now_l (in_hand (not locked) false) now_m alike_t fits
+      behind = places_across w t l m apart steady p2 gone moved left counts lefts across one_gone out bare
+          now_l (in_hand (not locked) false) now_m alike_t fits
 
       -- the others' calls say so: a thread that is taken or moved knows it
-      knows : ((u : ℕ) → locks.times u (moved_of all (map queued_of line)) ≡ times u gone + times u moved) → (u : ℕ) → u ≢ t
+      knows : ((u : ℕ) → locks.times u (moved_of all (map queued_of line)) ≡ times u gone + times u moved)
+          → (u : ℕ) → u ≢ t
           → (r : ℕ → Rights)
-          → call_state (behind u) r ≡ if_moved u (moved_of all (map queued_of line)) (call_state (place_at w u) r)
-      knows counted u ne r = ap (λ q. call_state q r) (put_other goes_across t p2 u ne) ∙ either (member u gone) (member u moved) refl refl
+          → call_state (behind u) r ≡ if_moved u (moved_of all (map queued_of line))
+          (call_state (place_at w u) r)
+      knows counted u ne r = ap (λ q. call_state q r) (put_other goes_across t p2 u ne)
+          ∙ either (member u gone) (member u moved) refl refl
         where
           goes_across : ℕ → Place
-          goes_across = goes w t l m apart steady p2 gone moved left counts lefts across one_gone out bare now_l (in_hand (not locked) false) now_m alike_t fits
+          goes_across = goes w t l m apart steady p2 gone moved left counts lefts across one_gone out bare
+              now_l (in_hand (not locked) false) now_m alike_t fits
 
-          known : 1 ≤ times u gone + times u moved → if_moved u (moved_of all (map queued_of line)) (call_state (place_at w u) r) ≡ record (call_state (place_at w u) r) { recalls = WasMoved }
-          known some = ap (λ b. if b then record (call_state (place_at w u) r) { recalls = WasMoved } else call_state (place_at w u) r) (is_some (locks.times u (moved_of all (map queued_of line))) (let a = counted u in omega arith))
+          known : 1 ≤ times u gone + times u moved → if_moved u (moved_of all (map queued_of line))
+              (call_state (place_at w u) r) ≡ record (call_state (place_at w u) r) { recalls = WasMoved }
+          known some = ap (λ b. if b then record (call_state (place_at w u) r) { recalls = WasMoved }
+              else call_state (place_at w u) r) (is_some (locks.times u (moved_of all (map queued_of line)))
+              (let a = counted u in omega arith))
 
           unknown : times u gone + times u moved ≡ 0
-              → if_moved u (moved_of all (map queued_of line)) (call_state (place_at w u) r) ≡ call_state (place_at w u) r
-          unknown none = ap (λ n. if nat_le 1 n then record (call_state (place_at w u) r) { recalls = WasMoved } else call_state (place_at w u) r) (counted u ∙ none)
+              → if_moved u (moved_of all (map queued_of line)) (call_state (place_at w u) r)
+              ≡ call_state (place_at w u) r
+          unknown none = ap (λ n. if nat_le 1 n then record (call_state (place_at w u) r) {
+            recalls =
+                WasMoved;
+          } else call_state (place_at w u) r) (counted u ∙ none)
 
           either : (a b : Bool) → member u gone ≡ a → member u moved ≡ b
               → call_state
-              (if a then next_place (place_at w u) (TakenBy t) else if b then next_place (place_at w u) (MovedTo (key_of m Main)) else place_at w u) r
+              (if a then next_place (place_at w u) (TakenBy t) else if b then next_place (place_at w u)
+              (MovedTo (key_of m Main)) else place_at w u) r
               ≡ if_moved u (moved_of all (map queued_of line)) (call_state (place_at w u) r)
-          either true b e f = let n : 1 ≤ times u gone = member_times u gone e in knows_taken w t l m steady apart sort_l all locked is kept u (let a = counts u in omega arith) r ∙ sym (known (omega arith))
-          either false true e f = let n : 1 ≤ times u moved = member_times u moved f in knows_moved w t l m steady apart sort_l all locked is kept u (let a = counts u in omega arith) r ∙ sym (known (omega arith))
-          either false false e f = sym (unknown (let a = stranger_times u gone e in let b = stranger_times u moved f in omega arith))
+          either true b e f = let n : 1 ≤ times u gone = member_times u gone e
+              in knows_taken w t l m steady apart sort_l all locked is kept u (let a = counts u
+              in omega arith) r ∙ sym (known (omega arith))
+          either false true e f = let n : 1 ≤ times u moved = member_times u moved f
+              in knows_moved w t l m steady apart sort_l all locked is kept u (let a = counts u
+              in omega arith) r ∙ sym (known (omega arith))
+          either false false e f = sym (unknown (let a = stranger_times u gone e in let b =
+              stranger_times u moved f in omega arith))
 
-      carries_some : (b : Bool) → in_hand (not locked) false ≡ Some b → (b ≡ false) × ((u : ℕ) × (member u gone ≡ true))
+      carries_some : (b : Bool) → in_hand (not locked) false ≡ Some b → (b ≡ false)
+          × ((u : ℕ) × (member u gone ≡ true))
       carries_some b e = by_locked locked refl e
         where
-          by_locked : (c : Bool) → locked ≡ c → in_hand (not c) false ≡ Some b → (b ≡ false) × ((u : ℕ) × (member u gone ≡ true))
+          by_locked : (c : Bool) → locked ≡ c → in_hand (not c) false ≡ Some b → (b ≡ false)
+              × ((u : ℕ) × (member u gone ≡ true))
           by_locked true f e = absurd cc
           by_locked false f e = (let g : false ≡ b = cc in sym g, some_gone f)
 
@@ -258,18 +325,30 @@ module _ (w : State) (t l m : ℕ) (all locked : Bool) (steady : IsInductive w) 
 
       module _ (v : State) (el : v.locks ≡ w.locks) (eh : v.shares ≡ w.shares) (es : v.sections ≡ w.sections)
           (threads : length v.places ≡ length w.places) (places : place_at v ≡ behind)
-          (here : queue_at v (key_of l Main) ≡ left) (there_now : queue_at v (key_of m Main) ≡ queue_at w (key_of m Main) ++ moved_under (key_of m Main) moved) (others : (key : ℕ) → key ≢ key_of l Main → key ≢ key_of m Main → queue_at v key ≡ queue_at w key) where
+          (here : queue_at v (key_of l Main) ≡ left) (there_now : queue_at v (key_of m Main)
+          ≡ queue_at w (key_of m Main) ++ moved_under (key_of m Main) moved) (others : (key : ℕ)
+          → key ≢ key_of l Main → key ≢ key_of m Main → queue_at v key ≡ queue_at w key) where
         moves_so : GoesAll w v
-            (two_at l m (acts t (Send all ∷ [])) (acts t (Bring (taken_of locked (moved_of all (map queued_of line))) (line_of locked (moved_of all (map queued_of line))) ∷ [])))
-        moves_so = moves_kept w v t l m apart steady p2 gone moved left counts lefts across one_gone out bare now_l (in_hand (not locked) false) now_m alike_t fits
-            el eh es threads places here there_now others same_l same_m all locked left_is gone_is moved_is does_m is_there (ap has_readers sort_l) (ap has_readers sort_m) needed_l needed_m carries_some carries_all
+            (two_at l m (acts t (Send all ∷ []))
+            (acts t (Bring (taken_of locked (moved_of all (map queued_of line)))
+            (line_of locked (moved_of all (map queued_of line))) ∷ [])))
+        moves_so = moves_kept w v t l m apart steady p2 gone moved left counts lefts across one_gone out bare
+            now_l (in_hand (not locked) false) now_m alike_t fits
+            el eh es threads places here there_now others same_l same_m all locked left_is gone_is moved_is
+            does_m is_there (ap has_readers sort_l) (ap has_readers sort_m) needed_l needed_m carries_some
+            carries_all
 
     -- ---------------------------------------------------------------- by a requeue
 
-    module _ (how : Requeue) (line_l : key_of l Main < length w.queues) (line_m : key_of m Main < length w.queues)
+    module _ (how : Requeue) (line_l : key_of l Main < length w.queues) (line_m : key_of m Main
+        < length w.queues)
         (none_gone : locked ≡ true → gone_by how line ≡ [])
         (some_gone : locked ≡ false → (u : ℕ) × (member u (gone_by how line) ≡ true))
-        (left_is : map queued_of (left_in_line how line) ≡ (if all then [] else drop 1 (map queued_of line))) (gone_is : map queued_of (moved_under (key_of m Main) (gone_by how line)) ≡ taken_of locked (moved_of all (map queued_of line))) (moved_is : map queued_of (moved_under (key_of m Main) (moved_by how line)) ≡ line_of locked (moved_of all (map queued_of line))) where
+        (left_is : map queued_of (left_in_line how line) ≡ (if all then [] else drop 1 (map queued_of line)))
+        (gone_is : map queued_of (moved_under (key_of m Main) (gone_by how line)) ≡ taken_of locked
+        (moved_of all (map queued_of line))) (moved_is : map queued_of
+        (moved_under (key_of m Main) (moved_by how line)) ≡ line_of locked
+        (moved_of all (map queued_of line))) where
       abbrev gone : List Waiter
       gone = gone_by how line
 
@@ -283,31 +362,45 @@ module _ (w : State) (t l m : ℕ) (all locked : Bool) (steady : IsInductive w) 
       keys = other_key l m Main Main apart
 
       at_most : (u : ℕ) → times u gone + times u moved ≤ 1
-      at_most u = let a : times u gone + times u moved + times u (left_in_line how line) ≡ times u line = all_counted how line u in let b : times u line ≡ stood_in (location_at (place_at w u) l).stands Main = steady.stands.lines u l Main in
-          let c : stood_in (location_at (place_at w u) l).stands Main ≤ 1 = at_most_one (location_at (place_at w u) l).stands Main in omega arith
+      at_most u = let a : times u gone + times u moved + times u (left_in_line how line) ≡ times u line =
+          all_counted how line u in let b : times u line ≡ stood_in (location_at (place_at w u) l).stands
+          Main = steady.stands.lines u l Main in
+          let c : stood_in (location_at (place_at w u) l).stands Main ≤ 1 =
+          at_most_one (location_at (place_at w u) l).stands Main in omega arith
 
       -- first the threads that it takes are told
       abbrev taken_places : List Place
       taken_places = places_told (TakenBy t) (threads_of gone) w.places
 
       taken_then : (u : ℕ)
-          → get_or taken_places u Idle ≡ (if member u gone then next_place (place_at w u) (TakenBy t) else place_at w u)
-      taken_then u = ap (λ (f : ℕ → Place). f u) (told_places (TakenBy t) gone w.places) ∙ told_once (TakenBy t) gone (place_at w) u (let a = at_most u in omega arith)
+          → get_or taken_places u Idle ≡ (if member u gone then next_place (place_at w u) (TakenBy t)
+          else place_at w u)
+      taken_then u = ap (λ (f : ℕ → Place). f u) (told_places (TakenBy t) gone w.places)
+          ∙ told_once (TakenBy t) gone (place_at w) u (let a = at_most u in omega arith)
 
       -- where each goes
       abbrev goes_then : ℕ → Place
-      goes_then u = if member u gone then next_place (place_at w u) (TakenBy t) else if member u moved then next_place (place_at w u) (MovedTo (key_of m Main)) else place_at w u
+      goes_then u = if member u gone then next_place (place_at w u) (TakenBy t) else if member u moved
+          then next_place (place_at w u) (MovedTo (key_of m Main)) else place_at w u
 
       place_then : (u : ℕ) → place_at requeued u ≡ goes_then u
-      place_then u = ap (λ us. get_or (places_told (MovedTo (2 * m)) us (places_told (TakenBy t) (listed (taken_by how line)) w.places)) u Idle) (threads_moved how line)
-          ∙ ap (λ us. get_or (places_told (MovedTo (2 * m)) (threads_of moved) (places_told (TakenBy t) us w.places)) u Idle) (gone_threads how line)
-          ∙ ap (λ (f : ℕ → Place). f u) (told_places (MovedTo (2 * m)) moved taken_places) ∙ told_once (MovedTo (2 * m)) moved (λ u. get_or taken_places u Idle) u (let a = at_most u in omega arith)
-          ∙ ap (λ p. if member u moved then next_place p (MovedTo (2 * m)) else p) (taken_then u) ∙ either (member u gone) (member u moved) refl refl
+      place_then u = ap (λ us. get_or (places_told (MovedTo (2 * m)) us (places_told (TakenBy t)
+          (listed (taken_by how line)) w.places)) u Idle) (threads_moved how line)
+          ∙ ap (λ us. get_or (places_told (MovedTo (2 * m)) (threads_of moved)
+          (places_told (TakenBy t) us w.places)) u Idle) (gone_threads how line)
+          ∙ ap (λ (f : ℕ → Place). f u) (told_places (MovedTo (2 * m)) moved taken_places)
+          ∙ told_once (MovedTo (2 * m)) moved (λ u. get_or taken_places u Idle) u (let a = at_most u
+          in omega arith)
+          ∙ ap (λ p. if member u moved then next_place p (MovedTo (2 * m)) else p) (taken_then u)
+          ∙ either (member u gone) (member u moved) refl refl
         where
           either : (a b : Bool) → member u gone ≡ a → member u moved ≡ b
-              → (if b then next_place (if a then next_place (place_at w u) (TakenBy t) else place_at w u) (MovedTo (2 * m)) else if a then next_place (place_at w u) (TakenBy t) else place_at w u)
-              ≡ (if a then next_place (place_at w u) (TakenBy t) else if b then next_place (place_at w u) (MovedTo (key_of m Main)) else place_at w u)
-          either true true e f = absurd (let a = at_most u in let b = member_times u gone e in let c = member_times u moved f in omega arith)
+              → (if b then next_place (if a then next_place (place_at w u) (TakenBy t) else place_at w u)
+              (MovedTo (2 * m)) else if a then next_place (place_at w u) (TakenBy t) else place_at w u)
+              ≡ (if a then next_place (place_at w u) (TakenBy t) else if b then next_place (place_at w u)
+              (MovedTo (key_of m Main)) else place_at w u)
+          either true true e f = absurd (let a = at_most u in let b = member_times u gone e in let c =
+              member_times u moved f in omega arith)
           either true false e f = refl
           either false true e f = refl
           either false false e f = refl
@@ -316,35 +409,52 @@ module _ (w : State) (t l m : ℕ) (all locked : Bool) (steady : IsInductive w) 
       v = put requeued t p2
 
       told_length : length requeued.places ≡ length w.places
-      told_length = told_count (MovedTo (2 * m)) (moved_threads how (threads_of line)) (places_told (TakenBy t) (listed (taken_by how line)) w.places) ∙ told_count (TakenBy t) (listed (taken_by how line)) w.places
+      told_length = told_count (MovedTo (2 * m)) (moved_threads how (threads_of line))
+          (places_told (TakenBy t) (listed (taken_by how line)) w.places) ∙ told_count (TakenBy t)
+          (listed (taken_by how line)) w.places
 
       places_now : place_at v ≡ putting goes_then t p2
-      places_now = put_places requeued t p2 (λ h. absurd (let n = told_length in omega arith)) ∙ ap (λ (f : ℕ → Place). putting f t p2) (λ i u. place_then u i)
+      places_now = put_places requeued t p2 (λ h. absurd (let n = told_length in omega arith))
+          ∙ ap (λ (f : ℕ → Place). putting f t p2) (λ i u. place_then u i)
 
       -- the others' calls say so
-      pub requeued_calls : ((u : ℕ) → locks.times u (moved_of all (map queued_of line)) ≡ times u gone + times u moved) → (u : ℕ)
+      pub requeued_calls : ((u : ℕ) → locks.times u (moved_of all (map queued_of line)) ≡ times u gone
+          + times u moved) → (u : ℕ)
           → u ≢ t → (r : ℕ → Rights)
-          → call_state (place_at v u) r ≡ if_moved u (moved_of all (map queued_of line)) (call_state (place_at w u) r)
+          → call_state (place_at v u) r ≡ if_moved u (moved_of all (map queued_of line))
+          (call_state (place_at w u) r)
       requeued_calls counted u ne r = ap (λ (f : ℕ → Place). call_state (f u) r) places_now
-          ∙ knows gone moved (left_in_line how line) (all_counted how line) (left_waits (locations_of (place_at w)) l how line (steady.stands.waits l Main)) (one_taken how line) none_gone some_gone left_is gone_is moved_is counted u ne r
+          ∙ knows gone moved (left_in_line how line) (all_counted how line)
+          (left_waits (locations_of (place_at w)) l how line (steady.stands.waits l Main))
+          (one_taken how line) none_gone some_gone left_is gone_is moved_is counted u ne r
 
       abbrev others_left : List (List Waiter)
       others_left = set w.queues (2 * l) (left_in_line how line)
 
       pub requeues : GoesAll w v
-          (two_at l m (acts t (Send all ∷ [])) (acts t (Bring (taken_of locked (moved_of all (map queued_of line))) (line_of locked (moved_of all (map queued_of line))) ∷ [])))
-      requeues = moves_so gone moved (left_in_line how line) (all_counted how line) (left_waits (locations_of (place_at w)) l how line (steady.stands.waits l Main)) (one_taken how line) none_gone some_gone left_is gone_is moved_is v refl refl refl
+          (two_at l m (acts t (Send all ∷ []))
+          (acts t (Bring (taken_of locked (moved_of all (map queued_of line)))
+          (line_of locked (moved_of all (map queued_of line))) ∷ [])))
+      requeues = moves_so gone moved (left_in_line how line) (all_counted how line)
+          (left_waits (locations_of (place_at w)) l how line (steady.stands.waits l Main))
+          (one_taken how line) none_gone some_gone left_is gone_is moved_is v refl refl refl
           (length-set requeued.places t p2 ∙ told_length)
           places_now
-          (get_or-set_other others_left (2 * m) (2 * l) _ [] (λ e. keys (sym e)) ∙ get_or-set_same w.queues (2 * l) (left_in_line how line) [] line_l)
-          (get_or-set_same others_left (2 * m) _ [] (rw (length-set w.queues (2 * l) (left_in_line how line)) line_m) ∙ ap (λ q. q ++ moved_under (key_of m Main) moved) (get_or-set_other w.queues (2 * l) (2 * m) (left_in_line how line) [] keys))
-          (λ key nl nm. get_or-set_other others_left (2 * m) key _ [] nm ∙ get_or-set_other w.queues (2 * l) key (left_in_line how line) [] nl)
+          (get_or-set_other others_left (2 * m) (2 * l) _ [] (λ e. keys (sym e))
+          ∙ get_or-set_same w.queues (2 * l) (left_in_line how line) [] line_l)
+          (get_or-set_same others_left (2 * m) _ [] (rw (length-set w.queues (2 * l) (left_in_line how line))
+          line_m) ∙ ap (λ q. q ++ moved_under (key_of m Main) moved) (get_or-set_other w.queues (2 * l)
+          (2 * m) (left_in_line how line) [] keys))
+          (λ key nl nm. get_or-set_other others_left (2 * m) key _ [] nm ∙ get_or-set_other w.queues (2 * l)
+          key (left_in_line how line) [] nl)
 
     -- ---------------------------------------------------------------- by a take of the first
 
-    module _ (line_l : key_of l Main < length w.queues) (free : locked ≡ false) (some : (u : ℕ) × (member u (take 1 line) ≡ true))
+    module _ (line_l : key_of l Main < length w.queues) (free : locked ≡ false) (some : (u : ℕ)
+        × (member u (take 1 line) ≡ true))
         (left_is : map queued_of (drop 1 line) ≡ (if all then [] else drop 1 (map queued_of line)))
-        (gone_is : map queued_of (moved_under (key_of m Main) (take 1 line)) ≡ taken_of locked (moved_of all (map queued_of line)))
+        (gone_is : map queued_of (moved_under (key_of m Main) (take 1 line)) ≡ taken_of locked
+        (moved_of all (map queued_of line)))
         (moved_is : [] ≡ line_of locked (moved_of all (map queued_of line))) where
       abbrev without : State
       without = record w { queues = queues_without_first w.queues (2 * l) }
@@ -373,9 +483,11 @@ module _ (w : State) (t l m : ℕ) (all locked : Bool) (steady : IsInductive w) 
       after_threads (x ∷ q) = length-set w.places x.thread _
 
       after_place : (q : List Waiter) (u : ℕ)
-          → place_at (after q) u ≡ (if member u (take 1 q) then next_place (place_at w u) (TakenBy t) else place_at w u)
+          → place_at (after q) u ≡ (if member u (take 1 q) then next_place (place_at w u) (TakenBy t)
+          else place_at w u)
       after_place [] u = refl
-      after_place (x ∷ q) u = ap (λ (f : ℕ → Place). f u) (told_places (TakenBy t) (x ∷ []) w.places) ∙ told_once (TakenBy t) (x ∷ []) (place_at w) u (once (x.thread == u))
+      after_place (x ∷ q) u = ap (λ (f : ℕ → Place). f u) (told_places (TakenBy t) (x ∷ []) w.places)
+          ∙ told_once (TakenBy t) (x ∷ []) (place_at w) u (once (x.thread == u))
         where
           once : (b : Bool) → (if b then 1 else 0) + 0 ≤ 1
           once true = omega arith
@@ -397,28 +509,41 @@ module _ (w : State) (t l m : ℕ) (all locked : Bool) (steady : IsInductive w) 
       taken_state = put (after line) t p2
 
       first_places : place_at taken_state
-          ≡ putting (λ u. if member u (take 1 line) then next_place (place_at w u) (TakenBy t) else place_at w u) t p2
-      first_places = put_places (after line) t p2 (λ h. absurd (let n = after_threads line in omega arith)) ∙ ap (λ (f : ℕ → Place). putting f t p2) (λ i u. after_place line u i)
+          ≡ putting (λ u. if member u (take 1 line) then next_place (place_at w u) (TakenBy t)
+          else place_at w u) t p2
+      first_places = put_places (after line) t p2 (λ h. absurd (let n = after_threads line in omega arith))
+          ∙ ap (λ (f : ℕ → Place). putting f t p2) (λ i u. after_place line u i)
 
       no_locked : locked ≡ true → take 1 line ≡ []
       no_locked e = absurd (let f : true ≡ false = sym e ∙ free in cc)
 
-      pub taken_calls : ((u : ℕ) → locks.times u (moved_of all (map queued_of line)) ≡ times u (take 1 line) + 0) → (u : ℕ)
+      pub taken_calls : ((u : ℕ) → locks.times u (moved_of all (map queued_of line)) ≡ times u (take 1 line)
+          + 0) → (u : ℕ)
           → u ≢ t → (r : ℕ → Rights)
-          → call_state (place_at taken_state u) r ≡ if_moved u (moved_of all (map queued_of line)) (call_state (place_at w u) r)
+          → call_state (place_at taken_state u) r ≡ if_moved u (moved_of all (map queued_of line))
+          (call_state (place_at w u) r)
       taken_calls once u ne r = ap (λ (f : ℕ → Place). call_state (f u) r) first_places
-          ∙ knows (take 1 line) [] (drop 1 line) (counted line) (left_lined line (steady.stands.waits l Main)) (one_taken requeue.TakeOneMoveRest line) no_locked (λ e. some) left_is gone_is moved_is once u ne r
+          ∙ knows (take 1 line) [] (drop 1 line) (counted line) (left_lined line (steady.stands.waits l Main))
+          (one_taken requeue.TakeOneMoveRest line) no_locked (λ e. some) left_is gone_is moved_is once u
+          ne r
 
-      queue_then : (key : ℕ) → queue_at taken_state key ≡ get_or (queues_without_first w.queues (2 * l)) key []
+      queue_then : (key : ℕ) → queue_at taken_state key ≡ get_or (queues_without_first w.queues (2 * l)) key
+          []
       queue_then key = ap (λ qs. get_or qs key []) (after_queues line)
 
       pub takes_first : GoesAll w taken_state
-          (two_at l m (acts t (Send all ∷ [])) (acts t (Bring (taken_of locked (moved_of all (map queued_of line))) (line_of locked (moved_of all (map queued_of line))) ∷ [])))
-      takes_first = moves_so (take 1 line) [] (drop 1 line) (counted line) (left_lined line (steady.stands.waits l Main)) (one_taken requeue.TakeOneMoveRest line) no_locked (λ e. some) left_is gone_is moved_is taken_state
-          (after_locks line) (after_shares line) (after_sections line) (length-set (after line).places t p2 ∙ after_threads line)
+          (two_at l m (acts t (Send all ∷ []))
+          (acts t (Bring (taken_of locked (moved_of all (map queued_of line)))
+          (line_of locked (moved_of all (map queued_of line))) ∷ [])))
+      takes_first = moves_so (take 1 line) [] (drop 1 line) (counted line)
+          (left_lined line (steady.stands.waits l Main)) (one_taken requeue.TakeOneMoveRest line) no_locked
+          (λ e. some) left_is gone_is moved_is taken_state
+          (after_locks line) (after_shares line) (after_sections line) (length-set (after line).places t p2
+          ∙ after_threads line)
           first_places
           (queue_then (2 * l) ∙ get_or-set_same w.queues (2 * l) (drop 1 line) [] line_l)
-          (queue_then (2 * m) ∙ get_or-set_other w.queues (2 * l) (2 * m) (drop 1 line) [] (other_key l m Main Main apart) ∙ none_more (queue_at w (2 * m)))
+          (queue_then (2 * m) ∙ get_or-set_other w.queues (2 * l) (2 * m) (drop 1 line) []
+          (other_key l m Main Main apart) ∙ none_more (queue_at w (2 * m)))
           (λ key nl nm. queue_then key ∙ get_or-set_other w.queues (2 * l) key (drop 1 line) [] nl)
 
 -- ---------------------------------------------------------------- whichever it is
@@ -440,21 +565,25 @@ module _ (w : State) (t l m : ℕ) (steady : IsInductive w) (is_there : t < leng
   waiting = queue_at w (key_of l Main)
 
   abbrev brings_of : Bool → Bool → List Deed
-  brings_of all locked = Bring (taken_of locked (moved_of all (map queued_of waiting))) (line_of locked (moved_of all (map queued_of waiting))) ∷ []
+  brings_of all locked = Bring (taken_of locked (moved_of all (map queued_of waiting)))
+      (line_of locked (moved_of all (map queued_of waiting))) ∷ []
 
   heard_so : place_at w t ≡ Condvar l (moves_at false false)
-      → MayHearBeside (rules_in w m) (site_of w m) (condvar_of w l) t m false (notify.Move false) (told_of false false)
+      → MayHearBeside (rules_in w m) (site_of w m) (condvar_of w l) t m false (notify.Move false)
+      (told_of false false)
   heard_so is = notifier_hears w t l m false (notify.Move false) steady kept aside is refl
 
   takes_so : place_at w t ≡ Condvar l (moves_at false false)
       → MovesWaiters (map queued_of waiting) (moves_at false false) false false (told_of false false)
   takes_so is = elim (notifies_move l m (map queued_of waiting) false (notify.Move false) tt) [
     | inl at_m ↦ absurd (apart (let e : 2 * l ≡ 2 * m = at_m.0 in omega arith))
-    | inr at_l ↦ subst (λ b. MovesWaiters (map queued_of waiting) (moves_at false false) false false (Took b (length (drop 1 waiting) == 0))) (sym (heard_so is).0) (at_l.1 (length (drop 1 waiting) == 0))
+    | inr at_l ↦ subst (λ b. MovesWaiters (map queued_of waiting) (moves_at false false) false false
+        (Took b (length (drop 1 waiting) == 0))) (sym (heard_so is).0) (at_l.1 (length (drop 1 waiting) == 0))
   ]
 
   first_taken : (q : List Waiter)
-      → map queued_of (moved_under (key_of m Main) (take 1 q)) ≡ taken_of false (moved_of false (map queued_of q))
+      → map queued_of (moved_under (key_of m Main) (take 1 q)) ≡ taken_of false
+      (moved_of false (map queued_of q))
   first_taken [] = refl
   first_taken (x ∷ q) = refl
 
@@ -462,22 +591,37 @@ module _ (w : State) (t l m : ℕ) (steady : IsInductive w) (is_there : t < leng
   none_moved [] = refl
   none_moved (x ∷ q) = refl
 
-  pub moves : (all locked : Bool) → place_at w t ≡ Condvar l (moves_at all locked) → FitsItsLock w (next_of all locked)
-      → GoesAll w (put (state_after_act w t (Condvar l (moves_at all locked)) (move_act all locked l m)) t (next_of all locked))
+  pub moves : (all locked : Bool) → place_at w t ≡ Condvar l (moves_at all locked)
+      → FitsItsLock w (next_of all locked)
+      → GoesAll w (put (state_after_act w t (Condvar l (moves_at all locked)) (move_act all locked l m)) t
+      (next_of all locked))
       (two_at l m (acts t (Send all ∷ [])) (acts t (brings_of all locked)))
-  moves true true is fits = requeues w t l m true true steady is_there apart sort_l sort_m kept is (told_of true true) ((notifies_move l m (map queued_of waiting) true (notify.Move true) tt).2 _ _) refl
-      (notifier_hears w t l m true (notify.Move true) steady kept aside is refl) fits requeue.All line_l line_m (λ e. refl) (λ e. absurd cc) refl refl (under_lined (key_of m Main) waiting)
-  moves true false is fits = requeues w t l m true false steady is_there apart sort_l sort_m kept is (told_of true false) ((notifies_move l m (map queued_of waiting) true (notify.Move false) tt).2 _ _) refl
-      heard fits requeue.TakeOneMoveRest line_l line_m (λ e. absurd cc) (λ e. some_first waiting heard.1.some) refl (taken_lined (key_of m Main) waiting) (rest_lined (key_of m Main) waiting)
+  moves true true is fits = requeues w t l m true true steady is_there apart sort_l sort_m kept is
+      (told_of true true) ((notifies_move l m (map queued_of waiting) true (notify.Move true) tt).2 _ _) refl
+      (notifier_hears w t l m true (notify.Move true) steady kept aside is refl) fits requeue.All line_l
+      line_m (λ e. refl) (λ e. absurd cc) refl refl (under_lined (key_of m Main) waiting)
+  moves true false is fits = requeues w t l m true false steady is_there apart sort_l sort_m kept is
+      (told_of true false) ((notifies_move l m (map queued_of waiting) true (notify.Move false) tt).2 _ _)
+      refl
+      heard fits requeue.TakeOneMoveRest line_l line_m (λ e. absurd cc) (λ e. some_first waiting heard.1.some)
+      refl (taken_lined (key_of m Main) waiting) (rest_lined (key_of m Main) waiting)
     where
-      heard : MayHearBeside (rules_in w m) (site_of w m) (condvar_of w l) t m true (notify.Move false) (told_of true false)
+      heard : MayHearBeside (rules_in w m) (site_of w m) (condvar_of w l) t m true (notify.Move false)
+          (told_of true false)
       heard = notifier_hears w t l m true (notify.Move false) steady kept aside is refl
-  moves false true is fits = requeues w t l m false true steady is_there apart sort_l sort_m kept is (told_of false true) ((notifies_move l m (map queued_of waiting) false (notify.Move true) tt).2 _ _) next_beside
-      (notifier_hears w t l m false (notify.Move true) steady kept aside is refl) fits requeue.One line_l line_m (λ e. refl) (λ e. absurd cc) (dropped_lined waiting) refl (first_lined (key_of m Main) waiting)
+  moves false true is fits = requeues w t l m false true steady is_there apart sort_l sort_m kept is
+      (told_of false true) ((notifies_move l m (map queued_of waiting) false (notify.Move true) tt).2 _ _)
+      next_beside
+      (notifier_hears w t l m false (notify.Move true) steady kept aside is refl) fits requeue.One line_l
+      line_m (λ e. refl) (λ e. absurd cc) (dropped_lined waiting) refl
+      (first_lined (key_of m Main) waiting)
     where
       next_beside : Beside m (condvar_next (moves_at false true) (told_of false true))
       next_beside = refl
-  moves false false is fits = takes_first w t l m false false steady is_there apart sort_l sort_m kept is (told_of false false) (takes_so is) refl (heard_so is) fits line_l refl (some_first waiting (λ e. (heard_so is).1.some (ap (take 1) e))) (dropped_lined waiting) (first_taken waiting) (none_moved waiting)
+  moves false false is fits = takes_first w t l m false false steady is_there apart sort_l sort_m kept is
+      (told_of false false) (takes_so is) refl (heard_so is) fits line_l refl
+      (some_first waiting (λ e. (heard_so is).1.some (ap (take 1) e))) (dropped_lined waiting)
+      (first_taken waiting) (none_moved waiting)
 
   -- ---------------------------------------------------------------- the calls of the others
 
@@ -486,20 +630,37 @@ module _ (w : State) (t l m : ℕ) (steady : IsInductive w) (is_there : t < leng
   first_counted (x ∷ q) u = refl
 
   -- each thread that is moved or taken knows it
-  pub moves_calls : (all locked : Bool) → place_at w t ≡ Condvar l (moves_at all locked) → FitsItsLock w (next_of all locked)
+  pub moves_calls : (all locked : Bool) → place_at w t ≡ Condvar l (moves_at all locked)
+      → FitsItsLock w (next_of all locked)
       → (u : ℕ) → u ≢ t → (r : ℕ → Rights)
       → call_state
-      (place_at (put (state_after_act w t (Condvar l (moves_at all locked)) (move_act all locked l m)) t (next_of all locked)) u) r
+      (place_at (put (state_after_act w t (Condvar l (moves_at all locked)) (move_act all locked l m)) t
+      (next_of all locked)) u) r
       ≡ if_moved u (moved_of all (map queued_of waiting)) (call_state (place_at w u) r)
-  moves_calls true true is fits = requeued_calls w t l m true true steady is_there apart sort_l sort_m kept is (told_of true true) ((notifies_move l m (map queued_of waiting) true (notify.Move true) tt).2 _ _) refl
-      (notifier_hears w t l m true (notify.Move true) steady kept aside is refl) fits requeue.All line_l line_m (λ e. refl) (λ e. absurd cc) refl refl (under_lined (key_of m Main) waiting) (λ u. let a = queued_times u waiting in omega arith)
-  moves_calls true false is fits = requeued_calls w t l m true false steady is_there apart sort_l sort_m kept is (told_of true false) ((notifies_move l m (map queued_of waiting) true (notify.Move false) tt).2 _ _) refl
-      heard fits requeue.TakeOneMoveRest line_l line_m (λ e. absurd cc) (λ e. some_first waiting heard.1.some) refl (taken_lined (key_of m Main) waiting) (rest_lined (key_of m Main) waiting)
-      (λ u. let a = queued_times u waiting in let b = all_counted requeue.TakeOneMoveRest waiting u in omega arith)
+  moves_calls true true is fits = requeued_calls w t l m true true steady is_there apart sort_l sort_m kept is
+      (told_of true true) ((notifies_move l m (map queued_of waiting) true (notify.Move true) tt).2 _ _) refl
+      (notifier_hears w t l m true (notify.Move true) steady kept aside is refl) fits requeue.All line_l
+      line_m (λ e. refl) (λ e. absurd cc) refl refl (under_lined (key_of m Main) waiting) (λ u. let a =
+      queued_times u waiting in omega arith)
+  moves_calls true false is fits = requeued_calls w t l m true false steady is_there apart sort_l sort_m kept
+      is (told_of true false) ((notifies_move l m (map queued_of waiting) true (notify.Move false) tt).2 _ _)
+      refl
+      heard fits requeue.TakeOneMoveRest line_l line_m (λ e. absurd cc) (λ e. some_first waiting heard.1.some)
+      refl (taken_lined (key_of m Main) waiting) (rest_lined (key_of m Main) waiting)
+      (λ u. let a = queued_times u waiting in let b = all_counted requeue.TakeOneMoveRest waiting u
+      in omega arith)
     where
-      heard : MayHearBeside (rules_in w m) (site_of w m) (condvar_of w l) t m true (notify.Move false) (told_of true false)
+      heard : MayHearBeside (rules_in w m) (site_of w m) (condvar_of w l) t m true (notify.Move false)
+          (told_of true false)
       heard = notifier_hears w t l m true (notify.Move false) steady kept aside is refl
-  moves_calls false true is fits = requeued_calls w t l m false true steady is_there apart sort_l sort_m kept is (told_of false true) ((notifies_move l m (map queued_of waiting) false (notify.Move true) tt).2 _ _) refl
-      (notifier_hears w t l m false (notify.Move true) steady kept aside is refl) fits requeue.One line_l line_m (λ e. refl) (λ e. absurd cc) (dropped_lined waiting) refl (first_lined (key_of m Main) waiting) (λ u. let a = first_counted waiting u in omega arith)
-  moves_calls false false is fits = taken_calls w t l m false false steady is_there apart sort_l sort_m kept is (told_of false false) (takes_so is) refl (heard_so is) fits line_l refl (some_first waiting (λ e. (heard_so is).1.some (ap (take 1) e))) (dropped_lined waiting) (first_taken waiting) (none_moved waiting)
+  moves_calls false true is fits = requeued_calls w t l m false true steady is_there apart sort_l sort_m kept
+      is (told_of false true) ((notifies_move l m (map queued_of waiting) false (notify.Move true) tt).2 _ _)
+      refl
+      (notifier_hears w t l m false (notify.Move true) steady kept aside is refl) fits requeue.One line_l
+      line_m (λ e. refl) (λ e. absurd cc) (dropped_lined waiting) refl
+      (first_lined (key_of m Main) waiting) (λ u. let a = first_counted waiting u in omega arith)
+  moves_calls false false is fits = taken_calls w t l m false false steady is_there apart sort_l sort_m kept
+      is (told_of false false) (takes_so is) refl (heard_so is) fits line_l refl
+      (some_first waiting (λ e. (heard_so is).1.some (ap (take 1) e))) (dropped_lined waiting)
+      (first_taken waiting) (none_moved waiting)
       (λ u. let a = first_counted waiting u in omega arith)

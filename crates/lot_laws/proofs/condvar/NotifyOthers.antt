@@ -1,6 +1,7 @@
 -- By each act of a notification the calls of the other threads become what its event makes of them: each
 -- thread that is moved or taken knows it, and each thread that is woken tries the mutex again.
-use Rattle.std.proofs.Common.{ℕ, Bool, true, false, None, if◌then◌else◌, ◌==◌, ◌≡◌, ◌≢◌, ◌*◌, ◌<◌, length, refl, sym, ◌∙◌, ap, subst, inl, inr}
+use Rattle.std.proofs.Common.{ℕ, Bool, true, false, None, if◌then◌else◌, ◌==◌, ◌≡◌, ◌≢◌, ◌*◌, ◌<◌, length}
+use Rattle.std.proofs.Common.{refl, sym, ◌∙◌, ap, subst, inl, inr}
 use Rattle.std.proofs.lemmas.Bool.{cases_eq}
 use Rattle.core_base.specs.declared.keys.Keys.TheVariants.{Two}
 use Rattle.steps_base.specs.declared.acts.Next.TheVariants.{At}
@@ -20,9 +21,11 @@ use Rattle.spec_locks.specs.Locks as locks
 use Rattle.spec_locks.specs.Locks.{Rights, rights_of, LockState, putting}
 use Rattle.spec_locks.specs.Runs.{AtLock, Event, Moves, Nothing, if_moved}
 use Rattle.spec_locks.specs.Sites.{Main}
-use Rattle.lot_machine.specs.Machine.{State, place_at, put, reply_to, state_after_act, state_with_sections, word_at}
+use Rattle.lot_machine.specs.Machine.{State, place_at, put, reply_to, state_after_act, state_with_sections}
+use Rattle.lot_machine.specs.Machine.{word_at}
 use Rattle.lot_laws.specs.Refinement.{call_state, lock_state}
-use Rattle.lot_laws.specs.SitesOf.{FitsItsLock, IsInductive, carried_at, condvar_of, key_of, rules_in, site_of}
+use Rattle.lot_laws.specs.SitesOf.{FitsItsLock, IsInductive, carried_at, condvar_of, key_of, rules_in}
+use Rattle.lot_laws.specs.SitesOf.{site_of}
 use Rattle.lot_laws.proofs.calls.Events.{Happens, OthersFollow, rights}
 use Rattle.lot_laws.proofs.condvar.OtherCalls.{IsCalmEvent, calm_follow, condvar_carries, wake_follows}
 use Rattle.lot_laws.proofs.condvar.TwoParts.{location_beside}
@@ -49,18 +52,23 @@ module _ (w : State) (t l m : ℕ) (all : Bool) where
   marked_calm false = tt
 
   set_calm : (b c : Bool)
-      → IsCalmEvent (if b then AtLock m (locks.SeeOwner true) else if c then Nothing else AtLock m (locks.SeeOwner false))
+      → IsCalmEvent (if b then AtLock m (locks.SeeOwner true) else if c then Nothing else AtLock m
+      (locks.SeeOwner false))
   set_calm true c = tt
   set_calm false c = marked_calm c
 
   -- an act by which nobody else goes elsewhere
   alone : (p : NotifyAt) (p2 : Place) → IsLonely (notify_act all l m p) → IsCalmEvent (event p) → Follow p p2
-  alone p p2 h calm happens = calm_follow w (behind p p2) t (event p) happens calm (lonely w t p2 (Condvar l (notifies p)) (notify_act all l m p) h)
+  alone p p2 h calm happens = calm_follow w (behind p p2) t (event p) happens calm
+      (lonely w t p2 (Condvar l (notifies p)) (notify_act all l m p) h)
 
   module _ (steady : IsInductive w) (apart : m ≢ l) where
     wakes : (number : ℕ) → place_at w t ≡ Condvar l (notifies (notify.Leave true number)) → (p2 : Place)
         → Follow (notify.Leave true number) p2
-    wakes number is p2 h = wake_follows w t m steady (subst (CarriesAt m) (sym is) (condvar_carries l m apart this refl)) (ap (λ q. carried_at q m) is ∙ ap (λ (y : Location). y.carries) (location_beside l m apart (At this) refl)) p2 (state_with_sections w (Two (2 * l) (2 * m)) None) refl h
+    wakes number is p2 h = wake_follows w t m steady (subst (CarriesAt m) (sym is)
+        (condvar_carries l m apart this refl)) (ap (λ q. carried_at q m) is
+        ∙ ap (λ (y : Location). y.carries) (location_beside l m apart (At this) refl)) p2
+        (state_with_sections w (Two (2 * l) (2 * m)) None) refl h
       where
         this : CondvarPlace
         this = notifies (notify.Leave true number)
@@ -73,32 +81,38 @@ put_rights f x s u e k = elim (cases_eq k x) [
   | inr ne ↦ ap (λ y. rights_of y u) (put_other f x s k ne)
 ]
 
-module _ (w v : State) (t l m : ℕ) (all owned : Bool) (number : ℕ) (h : Happens w v t (Moves l m all owned number)) where
+module _ (w v : State) (t l m : ℕ) (all owned : Bool) (number : ℕ)
+    (h : Happens w v t (Moves l m all owned number)) where
   left_rights : (u : ℕ) → rights_of (locks.left_behind all (lock_state w l)) u ≡ rights_of (lock_state w l) u
   left_rights u = refl
 
   moved_rights : (u k : ℕ) → rights_of (lock_state v k) u ≡ rights_of (lock_state w k) u
   moved_rights u k = ap (λ s. rights_of s u) (h.led k)
-      ∙ put_rights (putting (lock_state w) l (locks.left_behind all (lock_state w l))) m _ u (sym (put_rights (lock_state w) l (locks.left_behind all (lock_state w l)) u (left_rights u) m)) k
+      ∙ put_rights (putting (lock_state w) l (locks.left_behind all (lock_state w l))) m _ u
+      (sym (put_rights (lock_state w) l (locks.left_behind all (lock_state w l)) u (left_rights u) m)) k
       ∙ put_rights (lock_state w) l (locks.left_behind all (lock_state w l)) u (left_rights u) k
 
   -- the others follow where each thread that is moved or taken knows it
-  moves_follow : ((u : ℕ) → u ≢ t → (r : ℕ → Rights) → call_state (place_at v u) r ≡ if_moved u (moved_of all (lock_state w l).queue) (call_state (place_at w u) r))
+  moves_follow : ((u : ℕ) → u ≢ t → (r : ℕ → Rights) → call_state (place_at v u) r ≡ if_moved u
+      (moved_of all (lock_state w l).queue) (call_state (place_at w u) r))
       → OthersFollow w v t (Moves l m all owned number)
-  moves_follow knows u ne = ap (call_state (place_at v u)) (λ i k. moved_rights u k i) ∙ knows u ne (rights w u)
+  moves_follow knows u ne = ap (call_state (place_at v u)) (λ i k. moved_rights u k i)
+      ∙ knows u ne (rights w u)
 
 -- ---------------------------------------------------------------- whichever it is
 
 -- tells what its move is to the abstract locks
 moves_event : (w : State) (t l m : ℕ) (all locked : Bool)
     → (number : ℕ)
-    × (notify_event l all m (notify.Move locked) (reply_to w t (move_act all locked l m)) ≡ Moves l m all locked number)
+    × (notify_event l all m (notify.Move locked) (reply_to w t (move_act all locked l m)) ≡ Moves l m all
+    locked number)
 moves_event w t l m true true = (_, refl)
 moves_event w t l m true false = (_, refl)
 moves_event w t l m false true = (_, refl)
 moves_event w t l m false false = (_, refl)
 
-module _ (w : State) (t l m : ℕ) (all : Bool) (steady : IsInductive w) (is_there : t < length w.places) (apart : m ≢ l)
+module _ (w : State) (t l m : ℕ) (all : Bool) (steady : IsInductive w) (is_there : t < length w.places)
+    (apart : m ≢ l)
     (sort_l : (rules_in w l).sort ≡ locks.Condvar) (sort_m : (rules_in w m).sort ≡ locks.Mutex)
     (kept : IsCondvar (condvar_of w l)) (aside : WaitsAside (condvar_of w l) (site_of w m) m)
     (line_l : key_of l Main < length w.queues) (line_m : key_of m Main < length w.queues) where
@@ -111,15 +125,22 @@ module _ (w : State) (t l m : ℕ) (all : Bool) (steady : IsInductive w) (is_the
   notify_others notify.Enter is fits = alone w t l m all notify.Enter (next notify.Enter) tt tt
   notify_others notify.Again is fits = alone w t l m all notify.Again (next notify.Again) tt tt
   notify_others notify.Hide is fits = alone w t l m all notify.Hide (next notify.Hide) tt tt
-  notify_others notify.Mark is fits = alone w t l m all notify.Mark (next notify.Mark) tt (marked_calm w t l m all (is_locked (word_at w m)))
-  notify_others (notify.Set x) is fits = alone w t l m all (notify.Set x) (next (notify.Set x)) tt (set_calm w t l m all (word_at w m == x) (is_locked (word_at w m)))
-  notify_others (notify.Clear any) is fits = alone w t l m all (notify.Clear any) (next (notify.Clear any)) tt tt
-  notify_others (notify.MarkMoved number) is fits = alone w t l m all (notify.MarkMoved number) (next (notify.MarkMoved number)) tt tt
-  notify_others (notify.Leave false number) is fits = alone w t l m all (notify.Leave false number) (next (notify.Leave false number)) tt tt
-  notify_others (notify.Leave true number) is fits = wakes w t l m all steady apart number is (next (notify.Leave true number))
+  notify_others notify.Mark is fits = alone w t l m all notify.Mark (next notify.Mark) tt
+      (marked_calm w t l m all (is_locked (word_at w m)))
+  notify_others (notify.Set x) is fits = alone w t l m all (notify.Set x) (next (notify.Set x)) tt
+      (set_calm w t l m all (word_at w m == x) (is_locked (word_at w m)))
+  notify_others (notify.Clear any) is fits = alone w t l m all (notify.Clear any) (next (notify.Clear any)) tt
+      tt
+  notify_others (notify.MarkMoved number) is fits = alone w t l m all (notify.MarkMoved number)
+      (next (notify.MarkMoved number)) tt tt
+  notify_others (notify.Leave false number) is fits = alone w t l m all (notify.Leave false number)
+      (next (notify.Leave false number)) tt tt
+  notify_others (notify.Leave true number) is fits = wakes w t l m all steady apart number is
+      (next (notify.Leave true number))
   notify_others (notify.Move locked) is fits = let e = moves_event w t l m all locked in
       subst (λ x. Happens w after_move t x → OthersFollow w after_move t x) (sym e.1)
-      (λ h. moves_follow w after_move t l m all locked e.0 h (moves_calls w t l m steady is_there apart sort_l sort_m kept aside line_l line_m all locked is fits))
+      (λ h. moves_follow w after_move t l m all locked e.0 h (moves_calls w t l m steady is_there apart sort_l
+      sort_m kept aside line_l line_m all locked is fits))
     where
       after_move : State
       after_move = behind w t l m all (notify.Move locked) (next (notify.Move locked))

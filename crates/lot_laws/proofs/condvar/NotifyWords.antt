@@ -1,5 +1,7 @@
--- Each step of a notification on a word, of its condition variable or of the mutex beside it: every lock is a site again.
-use Rattle.std.proofs.Common.{ℕ, Bool, true, false, None, if◌then◌else◌, ◌==◌, ◌≡◌, ◌≢◌, ◌<◌, List, [], ◌∷◌, length, not, refl, sym, ◌∙◌, ap, subst, inl, inr}
+-- Each step of a notification on a word, of its condition variable or of the mutex beside it: every lock is a
+-- site again.
+use Rattle.std.proofs.Common.{ℕ, Bool, true, false, None, if◌then◌else◌, ◌==◌, ◌≡◌, ◌≢◌, ◌<◌, List, [], ◌∷◌}
+use Rattle.std.proofs.Common.{length, not, refl, sym, ◌∙◌, ap, subst, inl, inr}
 use Rattle.std.proofs.lemmas.Bool.{cases_eq}
 use Rattle.core_base.specs.declared.ops.Op.{Op}
 use Rattle.core_base.specs.declared.ops.Op.TheVariants as op
@@ -24,7 +26,8 @@ use Rattle.steps_condvar.specs.declared.places.CondvarPlace.TheVariants.{Notify}
 use Rattle.steps_condvar.specs.CondvarDeeds.{MayHear, condvar_deeds}
 use Rattle.steps_condvar.specs.CondvarMoves.{row_beside, row_there, there}
 use Rattle.steps_condvar.specs.CondvarMutex.{FollowsBeside, MayHearBeside, beside_deeds, role_next}
-use Rattle.steps_condvar.specs.CondvarSteps.{condvar_next, condvar_owners, in_notify, is_shown, marks, next_notify, notify_act}
+use Rattle.steps_condvar.specs.CondvarSteps.{condvar_next, condvar_owners, in_notify, is_shown, marks}
+use Rattle.steps_condvar.specs.CondvarSteps.{next_notify, notify_act}
 use Rattle.steps_condvar.proofs.CondvarFit.{condvar_steps_follow}
 use Rattle.steps_condvar.proofs.NotifierFit.{notifiers_code, notifiers_follow}
 use Rattle.spec_locks.specs.Codes.{code}
@@ -34,21 +37,24 @@ use Rattle.spec_locks.specs.Deeds as laws
 use Rattle.spec_locks.specs.Locks as locks
 use Rattle.spec_locks.specs.Locks.{Rules}
 use Rattle.spec_locks.specs.Sites.{Deed, Main, MarkOwned, Site}
-use Rattle.lot_machine.specs.Machine.{State, can_do, owners_at, place_at, put, reply_to, state_after_act, word_at}
+use Rattle.lot_machine.specs.Machine.{State, can_do, owners_at, place_at, put, reply_to, state_after_act}
+use Rattle.lot_machine.specs.Machine.{word_at}
 use Rattle.lot_laws.specs.MutexDeeds.{acts}
 use Rattle.lot_laws.specs.Refinement.{taken_at}
 use Rattle.lot_laws.specs.Locations.{location_at}
 use Rattle.lot_laws.specs.SitesOf.{FitsItsLock, Goes, IsInductive, condvar_of, rules_in, site_of}
 use Rattle.lot_laws.proofs.machine.Parts.{differ}
 use Rattle.lot_laws.proofs.sites.StandsKept.{Alike, AlikeBeside}
-use Rattle.lot_laws.proofs.condvar.TwoParts.{Beside, SameBeside, alike_beside, alike_there, role_beside, nothing_else, location_beside, taken_beside}
+use Rattle.lot_laws.proofs.condvar.TwoParts.{Beside, SameBeside, alike_beside, alike_there, role_beside}
+use Rattle.lot_laws.proofs.condvar.TwoParts.{nothing_else, location_beside, taken_beside}
 use Rattle.lot_laws.proofs.condvar.Replies as hears
 use Rattle.lot_laws.proofs.condvar.Replies.{at_it, may_hear, notifier_hears, word_is}
 use Rattle.lot_laws.proofs.condvar.MutexUntouched as condvar
 use Rattle.lot_laws.proofs.condvar.MutexUntouched.{there_deeds, works_there}
 use Rattle.lot_laws.proofs.mutex.Acts.{IsOfWord, owned_by, works_at}
 
-module _ (w : State) (t l m : ℕ) (all : Bool) (steady : IsInductive w) (is_there : t < length w.places) (apart : m ≢ l)
+module _ (w : State) (t l m : ℕ) (all : Bool) (steady : IsInductive w) (is_there : t < length w.places)
+    (apart : m ≢ l)
     (sort_l : (rules_in w l).sort ≡ locks.Condvar) (sort_m : (rules_in w m).sort ≡ locks.Mutex)
     (kept : IsCondvar (condvar_of w l)) where
   abbrev notifies : NotifyAt → CondvarPlace
@@ -61,7 +67,9 @@ module _ (w : State) (t l m : ℕ) (all : Bool) (steady : IsInductive w) (is_the
 
   module _ (lock : l < length w.locks) where
     abbrev KeptThere : NotifyAt → Op → Type 0
-    KeptThere at f = Goes w (put (state_after_act w t (Condvar l (notifies at)) (act.Word l f)) t (goes_to at (act.Word l f))) l (acts t (there_deeds (condvar_deeds (notifies at) (Value (word_at w l)))))
+    KeptThere at f = Goes w (put (state_after_act w t (Condvar l (notifies at)) (act.Word l f)) t
+        (goes_to at (act.Word l f))) l
+        (acts t (there_deeds (condvar_deeds (notifies at) (Value (word_at w l)))))
 
     module _ (at : NotifyAt) (is : place_at w t ≡ Condvar l (notifies at)) (f : Op)
         (acts_so : notify_act all l m at ≡ act.Word l f) where
@@ -71,13 +79,18 @@ module _ (w : State) (t l m : ℕ) (all : Bool) (steady : IsInductive w) (is_the
       can : can_do w (notify_act all l m at) ≡ true
       can = subst (λ a. can_do w a ≡ true) (sym acts_so) refl
 
-      works : Beside m next → SameBeside (At (notifies at)) next → location_by (row_there next) ≡ there (notifies at)
-          → condvar.IsOfWord (condvar_deeds (notifies at) (Value (word_at w l))) → FitsItsLock w (condvar_goes l next)
+      works : Beside m next → SameBeside (At (notifies at)) next → location_by (row_there next)
+          ≡ there (notifies at)
+          → condvar.IsOfWord (condvar_deeds (notifies at) (Value (word_at w l)))
+          → FitsItsLock w (condvar_goes l next)
           → KeptThere at f
-      works beside same stays of_word fits = works_there w t l m (notifies at) steady is_there apart sort_l is refl (Value (word_at w l)) beside fits
-          (subst (λ q. Alike m q (condvar_goes l next)) (sym is) (alike_beside l m apart (At (notifies at)) next refl beside same))
+      works beside same stays of_word fits = works_there w t l m (notifies at) steady is_there apart sort_l is
+          refl (Value (word_at w l)) beside fits
+          (subst (λ q. Alike m q (condvar_goes l next)) (sym is) (alike_beside l m apart (At (notifies at))
+          next refl beside same))
           f lock acts_so refl (word_is w t l (notifies at) steady is) stays of_word
-          (condvar_steps_follow (condvar_of w l) t (notifies at) (Value (word_at w l)) kept (at_it w t l (notifies at) steady is)
+          (condvar_steps_follow (condvar_of w l) t (notifies at) (Value (word_at w l)) kept
+          (at_it w t l (notifies at) steady is)
           (subst (λ a. condvars_hear a) acts_so (may_hear w t l (notifies at) steady is can)))
         where
           condvars_hear : Act → Type 0
@@ -86,13 +99,15 @@ module _ (w : State) (t l m : ℕ) (all : Bool) (steady : IsInductive w) (is_the
     -- under both keys, whether its mutex is still the one that is shown
     module _ (shown : Bool) where
       abbrev seen_again : Next CondvarPlace
-      seen_again = At (notifies (if not shown then notify.Leave false 0 else if all then notify.Hide else notify.Mark))
+      seen_again = At (notifies (if not shown then notify.Leave false 0 else if all then notify.Hide
+          else notify.Mark))
 
     again_same : (shown : Bool) → SameBeside (At (notifies notify.Again)) (seen_again shown)
     again_same false = (refl, refl, refl)
     again_same true = by_all all
       where
-        by_all : (b : Bool) → SameBeside (At (notifies notify.Again)) (At (notifies (if b then notify.Hide else notify.Mark)))
+        by_all : (b : Bool) → SameBeside (At (notifies notify.Again))
+            (At (notifies (if b then notify.Hide else notify.Mark)))
         by_all true = (refl, refl, refl)
         by_all false = (refl, refl, refl)
 
@@ -101,24 +116,30 @@ module _ (w : State) (t l m : ℕ) (all : Bool) (steady : IsInductive w) (is_the
     again_there true = by_all all
       where
         by_all : (b : Bool)
-            → location_by (row_there (At (notifies (if b then notify.Hide else notify.Mark)))) ≡ there (notifies notify.Again)
+            → location_by (row_there (At (notifies (if b then notify.Hide else notify.Mark))))
+            ≡ there (notifies notify.Again)
         by_all true = refl
         by_all false = refl
 
-    again_word : (shown : Bool) → condvar.IsOfWord (if shown then condvars.SeeAgain m ∷ [] else condvars.MissIt m ∷ [])
+    again_word : (shown : Bool) → condvar.IsOfWord (if shown then condvars.SeeAgain m ∷ []
+        else condvars.MissIt m ∷ [])
     again_word true = tt
     again_word false = tt
 
-    pub looks_again : place_at w t ≡ Condvar l (notifies notify.Again) → FitsItsLock w (goes_to notify.Again (act.Word l op.Load))
+    pub looks_again : place_at w t ≡ Condvar l (notifies notify.Again)
+        → FitsItsLock w (goes_to notify.Again (act.Word l op.Load))
         → KeptThere notify.Again op.Load
-    looks_again is fits = works notify.Again is op.Load refl refl (again_same (is_shown (word_at w l) m)) (again_there (is_shown (word_at w l) m)) (again_word (is_shown (word_at w l) m)) fits
+    looks_again is fits = works notify.Again is op.Load refl refl (again_same (is_shown (word_at w l) m))
+        (again_there (is_shown (word_at w l) m)) (again_word (is_shown (word_at w l) m)) fits
 
-    pub hides : place_at w t ≡ Condvar l (notifies notify.Hide) → FitsItsLock w (goes_to notify.Hide (act.Word l (op.Store 0)))
+    pub hides : place_at w t ≡ Condvar l (notifies notify.Hide)
+        → FitsItsLock w (goes_to notify.Hide (act.Word l (op.Store 0)))
         → KeptThere notify.Hide (op.Store 0)
     hides is fits = works notify.Hide is (op.Store 0) refl refl (refl, refl, refl) refl tt fits
 
     pub clears : (any : Bool) → place_at w t ≡ Condvar l (notifies (notify.Clear any))
-        → FitsItsLock w (goes_to (notify.Clear any) (act.Word l (op.Store 0))) → KeptThere (notify.Clear any) (op.Store 0)
+        → FitsItsLock w (goes_to (notify.Clear any) (act.Word l (op.Store 0)))
+        → KeptThere (notify.Clear any) (op.Store 0)
     clears any is fits = works (notify.Clear any) is (op.Store 0) refl refl (refl, refl, refl) refl tt fits
 
   -- ---------------------------------------------------------------- the mutex's part
@@ -137,7 +158,8 @@ module _ (w : State) (t l m : ℕ) (all : Bool) (steady : IsInductive w) (is_the
     does at = beside_deeds all (condvar_of w l).waiters at (Value seen)
 
     abbrev KeptBeside : NotifyAt → Op → Type 0
-    KeptBeside at f = Goes w (put (state_after_act w t (Condvar l (notifies at)) (act.Word m f)) t (goes_to at (act.Word m f))) m (acts t (does at))
+    KeptBeside at f = Goes w (put (state_after_act w t (Condvar l (notifies at)) (act.Word m f)) t
+        (goes_to at (act.Word m f))) m (acts t (does at))
 
     module _ (at : NotifyAt) (is : place_at w t ≡ Condvar l (notifies at)) (f : Op)
         (acts_so : notify_act all l m at ≡ act.Word m f) where
@@ -148,14 +170,21 @@ module _ (w : State) (t l m : ℕ) (all : Bool) (steady : IsInductive w) (is_the
       then_there = condvar_next (notifies at) (Value seen)
 
       hears_it : MayHearBeside r here (condvar_of w l) t m all at (Value seen)
-      hears_it = subst (λ a. MayHearBeside r here (condvar_of w l) t m all at (reply_to w t a)) acts_so (notifier_hears w t l m all at steady kept aside is (subst (λ a. can_do w a ≡ true) (sym acts_so) refl))
+      hears_it = subst (λ a. MayHearBeside r here (condvar_of w l) t m all at (reply_to w t a)) acts_so
+          (notifier_hears w t l m all at steady kept aside is (subst (λ a. can_do w a ≡ true) (sym acts_so)
+          refl))
 
       follows : FollowsBeside r here (condvar_of w l) t m all at (Value seen)
-      follows = notifiers_follow r here (condvar_of w l) t m all at (Value seen) sort_m (hears.role_beside w t l (notifies at) steady is m refl) hears_it
+      follows = notifiers_follow r here (condvar_of w l) t m all at (Value seen) sort_m
+          (hears.role_beside w t l (notifies at) steady is m refl) hears_it
 
       coded : apply f seen ≡ code r (laws.after_all r (does at) here t)
-      coded = subst (λ v. apply f v ≡ code r (laws.after_all r (beside_deeds all (condvar_of w l).waiters at (Value v)) here t)) (sym (steady.sites.word m))
-          (notifiers_code r here (condvar_of w l) t l m all at f sort_m (λ e. apart (sym e)) (subst (λ v. MayHearBeside r here (condvar_of w l) t m all at (Value v)) (steady.sites.word m) hears_it) acts_so)
+      coded = subst (λ v. apply f v ≡ code r
+          (laws.after_all r (beside_deeds all (condvar_of w l).waiters at (Value v)) here t))
+          (sym (steady.sites.word m))
+          (notifiers_code r here (condvar_of w l) t l m all at f sort_m (λ e. apart (sym e))
+          (subst (λ v. MayHearBeside r here (condvar_of w l) t m all at (Value v)) (steady.sites.word m)
+          hears_it) acts_so)
 
       works_beside : Beside m then_there → location_by (row_there then_there) ≡ there (notifies at)
           → location_by (row_beside then_there) ≡ location_by (row_beside (At (notifies at)))
@@ -163,16 +192,23 @@ module _ (w : State) (t l m : ℕ) (all : Bool) (steady : IsInductive w) (is_the
           ≡ taken_from (row_beside (At (notifies at))).hand (row_beside (At (notifies at))).wants true
           → (row_beside then_there).role ≡ role_next all m next_at
           → condvar_owners (notifies at) t seen (owners_at w m) ≡ owners_at w m → IsOfWord (does at)
-          → (laws.after_all r (does at) here t).lock.exclusive ≡ here.lock.exclusive → FitsItsLock w (condvar_goes l then_there)
+          → (laws.after_all r (does at) here t).lock.exclusive ≡ here.lock.exclusive
+          → FitsItsLock w (condvar_goes l then_there)
           → KeptBeside at f
-      works_beside beside stays same same_taken does_next unowned of_word keeps fits = works_at w t m steady is_there sort_m (condvar_goes l then_there) alike fits (Condvar l (notifies at)) f lock (does at) (owned_by r (does at) here t of_word) refl follows.needed
-          (follows.role ∙ sym does_next ∙ sym (role_beside l m apart then_there beside)) (unowned ∙ sym (ap (with_exclusive (owners_at w m)) keeps)) coded
-          (location_beside l m apart then_there beside ∙ same ∙ sym (location_beside l m apart (At (notifies at)) refl) ∙ sym (ap (λ q. location_at q m) is))
-          (ap (λ q. taken_at q m) is ∙ taken_beside l m apart (At (notifies at)) refl ∙ sym same_taken ∙ sym (taken_beside l m apart then_there beside))
+      works_beside beside stays same same_taken does_next unowned of_word keeps fits =
+          works_at w t m steady is_there sort_m (condvar_goes l then_there) alike fits
+          (Condvar l (notifies at)) f lock (does at) (owned_by r (does at) here t of_word) refl follows.needed
+          (follows.role ∙ sym does_next ∙ sym (role_beside l m apart then_there beside)) (unowned
+          ∙ sym (ap (with_exclusive (owners_at w m)) keeps)) coded
+          (location_beside l m apart then_there beside ∙ same
+          ∙ sym (location_beside l m apart (At (notifies at)) refl) ∙ sym (ap (λ q. location_at q m) is))
+          (ap (λ q. taken_at q m) is ∙ taken_beside l m apart (At (notifies at)) refl ∙ sym same_taken
+          ∙ sym (taken_beside l m apart then_there beside))
         where
           alike : AlikeBeside m (place_at w t) (condvar_goes l then_there)
           alike k ne = subst (λ q. Alike k q (condvar_goes l then_there)) (sym is) (elim (cases_eq k l) [
-            | inl e ↦ subst (λ j. Alike j (Condvar l (notifies at)) (condvar_goes l then_there)) (sym e) (alike_there l m apart (At (notifies at)) then_there refl beside stays)
+            | inl e ↦ subst (λ j. Alike j (Condvar l (notifies at)) (condvar_goes l then_there)) (sym e)
+                (alike_there l m apart (At (notifies at)) then_there refl beside stays)
             | inr nl ↦ nothing_else l m apart (At (notifies at)) then_there refl beside k nl ne
           ])
 
@@ -188,13 +224,16 @@ module _ (w : State) (t l m : ℕ) (all : Bool) (steady : IsInductive w) (is_the
     marked_beside true v = refl
     marked_beside false v = refl
 
-    marked_taken : (b : Bool) (v : ℕ) → taken_from (row_beside (marked b v)).hand (row_beside (marked b v)).wants true ≡ None
+    marked_taken : (b : Bool) (v : ℕ) → taken_from (row_beside (marked b v)).hand
+        (row_beside (marked b v)).wants true ≡ None
     marked_taken true v = refl
     marked_taken false v = refl
 
-    pub marks_it : place_at w t ≡ Condvar l (notifies notify.Mark) → FitsItsLock w (goes_to notify.Mark (act.Word m op.Load))
+    pub marks_it : place_at w t ≡ Condvar l (notifies notify.Mark)
+        → FitsItsLock w (goes_to notify.Mark (act.Word m op.Load))
         → KeptBeside notify.Mark op.Load
-    marks_it is fits = works_beside notify.Mark is op.Load refl refl (marked_there (is_locked seen) seen) (marked_beside (is_locked seen) seen) (marked_taken (is_locked seen) seen) refl refl tt refl fits
+    marks_it is fits = works_beside notify.Mark is op.Load refl refl (marked_there (is_locked seen) seen)
+        (marked_beside (is_locked seen) seen) (marked_taken (is_locked seen) seen) refl refl tt refl fits
 
     -- it is marked, or not as it was seen
     abbrev set_next : Bool → Next NotifyAt
@@ -213,7 +252,8 @@ module _ (w : State) (t l m : ℕ) (all : Bool) (steady : IsInductive w) (is_the
     set_side false = marked_beside (is_locked seen) seen
 
     set_taken : (b : Bool)
-        → taken_from (row_beside (in_notify all m (set_next b))).hand (row_beside (in_notify all m (set_next b))).wants true
+        → taken_from (row_beside (in_notify all m (set_next b))).hand
+        (row_beside (in_notify all m (set_next b))).wants true
         ≡ None
     set_taken true = refl
     set_taken false = marked_taken (is_locked seen) seen
@@ -226,19 +266,25 @@ module _ (w : State) (t l m : ℕ) (all : Bool) (steady : IsInductive w) (is_the
     set_word true = tt
     set_word false = tt
 
-    set_keeps : (b : Bool) → (laws.after_all r (if b then MarkOwned ∷ [] else []) here t).lock.exclusive ≡ here.lock.exclusive
+    set_keeps : (b : Bool) → (laws.after_all r (if b then MarkOwned ∷ [] else []) here t).lock.exclusive
+        ≡ here.lock.exclusive
     set_keeps true = refl
     set_keeps false = refl
 
     pub sets_bit : (x : ℕ) → place_at w t ≡ Condvar l (notifies (notify.Set x))
-        → FitsItsLock w (goes_to (notify.Set x) (act.Word m (op.Exchange x 3))) → KeptBeside (notify.Set x) (op.Exchange x 3)
-    sets_bit x is fits = works_beside (notify.Set x) is (op.Exchange x 3) refl (set_beside (seen == x)) (set_stays (seen == x)) (set_side (seen == x)) (set_taken (seen == x)) (set_does (seen == x)) refl (set_word (seen == x)) (set_keeps (seen == x)) fits
+        → FitsItsLock w (goes_to (notify.Set x) (act.Word m (op.Exchange x 3)))
+        → KeptBeside (notify.Set x) (op.Exchange x 3)
+    sets_bit x is fits = works_beside (notify.Set x) is (op.Exchange x 3) refl (set_beside (seen == x))
+        (set_stays (seen == x)) (set_side (seen == x)) (set_taken (seen == x)) (set_does (seen == x)) refl
+        (set_word (seen == x)) (set_keeps (seen == x)) fits
 
     -- where it has moved some
     pub marks_moved : (number : ℕ) → place_at w t ≡ Condvar l (notifies (notify.MarkMoved number))
         → FitsItsLock w (goes_to (notify.MarkMoved number) (act.Word m (op.Or 2)))
         → KeptBeside (notify.MarkMoved number) (op.Or 2)
-    marks_moved number is fits = works_beside (notify.MarkMoved number) is (op.Or 2) refl refl refl (rw some refl) refl refl refl tt refl fits
+    marks_moved number is fits = works_beside (notify.MarkMoved number) is (op.Or 2) refl refl refl
+        (rw some refl) refl refl refl tt refl fits
       where
         some : (number == 0) ≡ false
-        some = differ number 0 (hears.fits_here w t l (notifies (notify.MarkMoved number)) steady is).reached.1
+        some = differ number 0 (hears.fits_here w t l (notifies (notify.MarkMoved number)) steady
+            is).reached.1

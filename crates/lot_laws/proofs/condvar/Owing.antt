@@ -1,5 +1,6 @@
 -- A thread in a call of a condition variable owes what it owed, whichever event befalls it.
-use Rattle.std.proofs.Common.{ℕ, Bool, true, false, Option, None, if◌then◌else◌, ◌==◌, ◌≡◌, refl, sym, ◌∙◌, ap}
+use Rattle.std.proofs.Common.{ℕ, Bool, true, false, Option, None, if◌then◌else◌, ◌==◌, ◌≡◌, refl, sym, ◌∙◌}
+use Rattle.std.proofs.Common.{ap}
 use Rattle.core_base.specs.declared.keys.Line.{Line}
 use Rattle.core_base.specs.declared.notes.Note.TheVariants as note
 use Rattle.steps_base.specs.Profiles.{in_line}
@@ -27,19 +28,22 @@ use Rattle.lot_laws.proofs.promises.RowPromises.{Befalls}
 
 -- while it locks its mutex again, it owes there what such a call owes
 abbrev owed_beside : ℕ → ℕ → Option Line → ℕ → Option Line
-owed_beside c m owes k = or_else (if m == k then in_line (is_main_line owes) Main else None) (if c == k then None else None)
+owed_beside c m owes k = or_else (if m == k then in_line (is_main_line owes) Main else None)
+    (if c == k then None else None)
 
 owes_none : (c m k : ℕ) → ◌≡◌ {A = Option Line} None (owed_beside c m None k)
 owes_none c m k = either (m == k) (c == k)
   where
-    either : (a b : Bool) → ◌≡◌ {A = Option Line} None (or_else (if a then None else None) (if b then None else None))
+    either : (a b : Bool) → ◌≡◌ {A = Option Line} None (or_else (if a then None else None) (if b then None
+        else None))
     either true true = refl
     either true false = refl
     either false true = refl
     either false false = refl
 
 relocked_owes : (c m : ℕ) (timed late : Bool) (n : Next MutexPlace) (k : ℕ)
-    → line_owed (condvar_goes c (in_wait m timed (relocked timed late n))) k ≡ owed_beside c m (profile (mutex_goes m n)).owes k
+    → line_owed (condvar_goes c (in_wait m timed (relocked timed late n))) k ≡ owed_beside c m
+    (profile (mutex_goes m n)).owes k
 relocked_owes c m timed late (next.At at) k = refl
 relocked_owes c m timed late (next.End answer) k = owes_none c m k
 
@@ -75,7 +79,8 @@ wait_owes : (c m : ℕ) (timed : Bool) (at : WaitAt) (r : Reply) → Befalls r �
     → line_owed (next_place (Condvar c (Wait m timed at)) r) k ≡ line_owed (Condvar c (Wait m timed at)) k
 wait_owes c m timed (wait.Release s at) r b k = release_owes c m timed s at r b k
 wait_owes c m timed (wait.Asleep s) r b k = asleep_owes c m timed s r b k
-wait_owes c m timed (wait.Lock late at) r b k = relocked_owes c m timed late (mutex_next at r) k ∙ ap (λ o. owed_beside c m o k) (mutex_owes m at r b)
+wait_owes c m timed (wait.Lock late at) r b k = relocked_owes c m timed late (mutex_next at r) k
+    ∙ ap (λ o. owed_beside c m o k) (mutex_owes m at r b)
 wait_owes c m timed at (TakenBy t) b k = refl
 wait_owes c m timed at (MovedTo key) b k = refl
 wait_owes c m timed at (HandedBy t alone) b k = refl

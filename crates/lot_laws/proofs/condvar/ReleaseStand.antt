@@ -1,5 +1,8 @@
--- Where a wait's own release of its mutex leaves its thread: where it stood, unless it has taken itself from the queue of the mutex, or wakes itself.
-use Rattle.std.proofs.Common.{ℕ, Bool, true, false, if◌then◌else◌, ◌==◌, ◌≡◌, ◌≢◌, ◌⊎◌, ◌*◌, ◌<◌, List, [], ◌∷◌, length, drop, get_or, set, get_or-set_other, get_or-set_same, inl, inr, refl, sym, ◌∙◌, ap, subst}
+-- Where a wait's own release of its mutex leaves its thread: where it stood, unless it has taken itself from
+-- the queue of the mutex, or wakes itself.
+use Rattle.std.proofs.Common.{ℕ, Bool, true, false, if◌then◌else◌, ◌==◌, ◌≡◌, ◌≢◌, ◌⊎◌, ◌*◌, ◌<◌, List, []}
+use Rattle.std.proofs.Common.{◌∷◌, length, drop, get_or, set, get_or-set_other, get_or-set_same, inl, inr}
+use Rattle.std.proofs.Common.{refl, sym, ◌∙◌, ap, subst}
 use Rattle.std.proofs.Math.ListN.{get_or-map}
 use Rattle.std.proofs.lemmas.Bool.{cases_eq}
 use Rattle.core_base.specs.declared.notes.Note.TheVariants as note
@@ -23,7 +26,8 @@ use Rattle.lot_steps.specs.declared.places.Place.TheVariants.{Condvar, Idle}
 use Rattle.lot_steps.specs.Steps.{next_place}
 use Rattle.spec_locks.specs.Locks as locks
 use Rattle.spec_locks.specs.Sites.{Main}
-use Rattle.lot_machine.specs.Machine.{State, is_there, place_after_telling, place_at, queue_at, queues_without_first, reply_to, state_after_act, state_after_taking}
+use Rattle.lot_machine.specs.Machine.{State, is_there, place_after_telling, place_at, queue_at}
+use Rattle.lot_machine.specs.Machine.{queues_without_first, reply_to, state_after_act, state_after_taking}
 use Rattle.lot_laws.specs.SitesOf.{IsInductive, key_of, rules_in}
 use Rattle.lot_laws.proofs.machine.Parts as glue
 use Rattle.lot_laws.proofs.machine.Parts.{differ, same}
@@ -51,7 +55,8 @@ pub record WokeItself (t : ℕ) (s s2 : Stands) (at : UnlockAt) : Type 0 where
   pub in_hand : s ≡ stands.InHand t
   pub noted : s2 ≡ stands.Noted note.Normal
 
-module _ (w : State) (t l m : ℕ) (timed : Bool) (steady : IsInductive w) (here : t < length w.places) (apart : m ≢ l)
+module _ (w : State) (t l m : ℕ) (timed : Bool) (steady : IsInductive w) (here : t < length w.places)
+    (apart : m ≢ l)
     (sort : (rules_in w m).sort ≡ locks.Mutex) (plain : rules_in w m ≡ glue.mutex)
     (line : key_of m Main < length w.queues) (section : key_of m Main < length w.sections) where
   abbrev pub place_of : Stands → UnlockAt → Place
@@ -68,20 +73,29 @@ module _ (w : State) (t l m : ℕ) (timed : Bool) (steady : IsInductive w) (here
 
   module _ (s : Stands) (is : place_at w t ≡ place_of s unlock.Take) where
     abbrev behind_take : List Waiter → State
-    behind_take q = state_after_taking (record w { queues = queues_without_first w.queues (2 * m) }) t (first_of q)
+    behind_take q = state_after_taking (record w { queues = queues_without_first w.queues (2 * m) }) t
+        (first_of q)
 
     takes : (q : List Waiter) → queue_at w (2 * m) ≡ q → LeftAt s unlock.Take
-    takes [] e = record { now = s; place = ap (λ q. place_at (behind_take q) t) e ∙ is; how = inl (refl, λ f. absurd cc) }
+    takes [] e = record {
+      now = s;
+      place = ap (λ q. place_at (behind_take q) t) e ∙ is;
+      how = inl (refl, λ f. absurd cc);
+    }
     takes (x ∷ rest) e = elim (cases_eq x.thread t) [
       | inr other ↦ record {
         now = s;
-        place = ap (λ q. place_at (behind_take q) t) e ∙ get_or-set_other w.places x.thread t (next_place (place_at w x.thread) (TakenBy t)) Idle (λ f. other (sym f)) ∙ is;
+        place = ap (λ q. place_at (behind_take q) t) e ∙ get_or-set_other w.places x.thread t
+            (next_place (place_at w x.thread) (TakenBy t)) Idle (λ f. other (sym f)) ∙ is;
         how = inl (refl, λ f. absurd cc);
       }
       | inl itself ↦ record {
         now = stands.InHand t;
-        place = ap (λ q. place_at (behind_take q) t) e ∙ subst (λ u. get_or (set w.places u (next_place (place_at w u) (TakenBy t))) t Idle ≡ place_of (stands.InHand t) unlock.Take) (sym itself)
-            (get_or-set_same w.places t (next_place (place_at w t) (TakenBy t)) Idle here ∙ ap (λ q. next_place q (TakenBy t)) is);
+        place = ap (λ q. place_at (behind_take q) t) e
+            ∙ subst (λ u. get_or (set w.places u (next_place (place_at w u) (TakenBy t))) t Idle
+            ≡ place_of (stands.InHand t) unlock.Take) (sym itself)
+            (get_or-set_same w.places t (next_place (place_at w t) (TakenBy t)) Idle here
+            ∙ ap (λ q. next_place q (TakenBy t)) is);
         how = inr (inl (record {
           takes = refl;
           moved = moved_first w t l m timed steady here apart sort plain line s is x rest e itself;
@@ -93,27 +107,53 @@ module _ (w : State) (t l m : ℕ) (timed : Bool) (steady : IsInductive w) (here
     ]
 
   abbrev Told : Stands → Type 0
-  Told s = place_at (acted s (unlock.Leave true)) t ≡ place_after_telling t (Woken note.Normal) (place_of s (unlock.Leave true))
+  Told s = place_at (acted s (unlock.Leave true)) t ≡ place_after_telling t (Woken note.Normal)
+      (place_of s (unlock.Leave true))
 
   -- it opens its hand
   leaves : (s : Stands) → place_at w t ≡ place_of s (unlock.Leave true) → LeftAt s (unlock.Leave true)
-  leaves s is = by_stand s (not_given w t l m timed steady here apart sort plain section true s is) (get_or-map (place_after_telling t (Woken note.Normal)) w.places t Idle ∙ ap (place_after_telling t (Woken note.Normal)) is)
+  leaves s is = by_stand s (not_given w t l m timed steady here apart sort plain section true s is)
+      (get_or-map (place_after_telling t (Woken note.Normal)) w.places t Idle
+      ∙ ap (place_after_telling t (Woken note.Normal)) is)
     where
       by_stand : (s : Stands) → (hand_of s ≡ hand t true → ⊥) → Told s → LeftAt s (unlock.Leave true)
-      by_stand stands.Listed given told = record { now = stands.Listed; place = told; how = inl (refl, λ e. refl) }
-      by_stand stands.Moved given told = record { now = stands.Moved; place = told; how = inl (refl, λ e. refl) }
-      by_stand (stands.Noted n) given told = record { now = stands.Noted n; place = told; how = inl (refl, λ e. refl) }
+      by_stand stands.Listed given told = record {
+        now = stands.Listed;
+        place = told;
+        how = inl (refl, λ e. refl);
+      }
+      by_stand stands.Moved given told = record {
+        now = stands.Moved;
+        place = told;
+        how = inl (refl, λ e. refl);
+      }
+      by_stand (stands.Noted n) given told = record {
+        now = stands.Noted n;
+        place = told;
+        how = inl (refl, λ e. refl);
+      }
       by_stand (stands.Handed u) given told = elim (cases_eq u t) [
         | inl e ↦ absurd (given (ap (λ x. hand x true) e))
-        | inr ne ↦ record { now = stands.Handed u; place = told ∙ ap (λ (b : Bool). if b then place_of (stands.Noted note.Normal) (unlock.Leave true) else place_of (stands.Handed u) (unlock.Leave true)) (differ u t ne); how = inl (refl, λ e. differ u t ne) }
+        | inr ne ↦ record {
+          now = stands.Handed u;
+          place = told ∙ ap (λ (b : Bool). if b then place_of (stands.Noted note.Normal) (unlock.Leave true)
+              else place_of (stands.Handed u) (unlock.Leave true)) (differ u t ne);
+          how = inl (refl, λ e. differ u t ne);
+        }
       ]
       by_stand (stands.InHand u) given told = elim (cases_eq u t) [
         | inl e ↦ record {
           now = stands.Noted note.Normal;
-          place = told ∙ ap (λ (b : Bool). if b then place_of (stands.Noted note.Normal) (unlock.Leave true) else place_of (stands.InHand u) (unlock.Leave true)) (ap (λ k. u == k) (sym e) ∙ same u);
+          place = told ∙ ap (λ (b : Bool). if b then place_of (stands.Noted note.Normal) (unlock.Leave true)
+              else place_of (stands.InHand u) (unlock.Leave true)) (ap (λ k. u == k) (sym e) ∙ same u);
           how = inr (inr (record { leaves = refl; in_hand = ap stands.InHand e; noted = refl }));
         }
-        | inr ne ↦ record { now = stands.InHand u; place = told ∙ ap (λ (b : Bool). if b then place_of (stands.Noted note.Normal) (unlock.Leave true) else place_of (stands.InHand u) (unlock.Leave true)) (differ u t ne); how = inl (refl, λ e. differ u t ne) }
+        | inr ne ↦ record {
+          now = stands.InHand u;
+          place = told ∙ ap (λ (b : Bool). if b then place_of (stands.Noted note.Normal) (unlock.Leave true)
+              else place_of (stands.InHand u) (unlock.Leave true)) (differ u t ne);
+          how = inl (refl, λ e. differ u t ne);
+        }
       ]
 
   -- for every act

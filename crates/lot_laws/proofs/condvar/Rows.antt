@@ -18,7 +18,8 @@ use Rattle.steps_mutex.specs.declared.unlock.UnlockAt.{UnlockAt}
 use Rattle.steps_mutex.specs.declared.unlock.UnlockAt.TheVariants as unlock
 use Rattle.steps_mutex.specs.declared.hand_off.HandOffAt.{HandOffAt}
 use Rattle.steps_mutex.specs.declared.hand_off.HandOffAt.TheVariants as hand_off
-use Rattle.steps_mutex.specs.MutexSteps.{in_hand_off, in_lock, in_unlock, mutex_next, next_hand_off, next_lock, next_unlock, still_retries}
+use Rattle.steps_mutex.specs.MutexSteps.{in_hand_off, in_lock, in_unlock, mutex_next, next_hand_off}
+use Rattle.steps_mutex.specs.MutexSteps.{next_lock, next_unlock, still_retries}
 use Rattle.steps_rwlock_fair.specs.declared.places.RwLockCallPlace.{RwLockCallPlace}
 use Rattle.steps_rwlock_fair.specs.FairSteps.{call_next}
 use Rattle.steps_once.specs.declared.places.OncePlace.{OncePlace}
@@ -33,9 +34,11 @@ use Rattle.steps_condvar.specs.CondvarProfiles.{condvar_profile, condvar_row, mu
 use Rattle.steps_condvar.specs.CondvarSteps.{condvar_next, in_wait, mutex_beside, relocked}
 use Rattle.lot_steps.specs.declared.places.Place.{Place}
 use Rattle.lot_steps.specs.declared.places.Place.TheVariants.{Idle, Mutex, RwLock, Once, Condvar, Semaphore}
-use Rattle.lot_steps.specs.Steps.{condvar_goes, is_lock, mutex_goes, profile, next_place, once_goes, profile_at, rwlock_goes, semaphore_goes}
+use Rattle.lot_steps.specs.Steps.{condvar_goes, is_lock, mutex_goes, profile, next_place, once_goes}
+use Rattle.lot_steps.specs.Steps.{profile_at, rwlock_goes, semaphore_goes}
 use Rattle.spec_locks.specs.Condvars.{CondvarStage}
-use Rattle.lot_laws.proofs.machine.PlaceTest.{IsSilent, call_facts, mutex_row_facts, once_facts, semaphore_facts}
+use Rattle.lot_laws.proofs.machine.PlaceTest.{IsSilent, call_facts, mutex_row_facts, once_facts}
+use Rattle.lot_laws.proofs.machine.PlaceTest.{semaphore_facts}
 use Rattle.lot_laws.proofs.promises.RowPromises.{Befalls}
 
 -- ---------------------------------------------------------------- by the place
@@ -49,11 +52,13 @@ names_of (Condvar c at) k = if c == k then (condvar_row at).waits_with else None
 names_of p k = None
 
 -- a call of another lock says nothing of either
-nothing : (row : Profile) → IsSilent row → (b : Bool) → ((if b then row else blank_row).stage ≡ None) × ((if b then row else blank_row).names ≡ None)
+nothing : (row : Profile) → IsSilent row → (b : Bool) → ((if b then row else blank_row).stage ≡ None)
+    × ((if b then row else blank_row).names ≡ None)
 nothing row says true = (says.stage, says.names)
 nothing row says false = (refl, refl)
 
-pub row_says : (p : Place) (k : ℕ) → ((profile_at p k).stage ≡ stage_of p k) × ((profile_at p k).names ≡ names_of p k)
+pub row_says : (p : Place) (k : ℕ) → ((profile_at p k).stage ≡ stage_of p k)
+    × ((profile_at p k).names ≡ names_of p k)
 row_says Idle k = (refl, refl)
 row_says (Mutex l at) k = nothing (profile (Mutex l at)) (mutex_row_facts l at).silent (l == k)
 row_says (RwLock l a c) k = nothing (profile (RwLock l a c)) (call_facts l a c).silent (l == k)
@@ -62,8 +67,10 @@ row_says (Semaphore l at) k = nothing (profile (Semaphore l at)) (semaphore_fact
 row_says (Condvar c at) k = either (c == k) (is_lock k (mutex_beside at))
   where
     either : (here there : Bool)
-        → (((if here then condvar_profile at else if there then mutex_side at else blank_row)).stage ≡ (if here then (condvar_row at).stage else None))
-        × (((if here then condvar_profile at else if there then mutex_side at else blank_row)).names ≡ (if here then (condvar_row at).waits_with else None))
+        → (((if here then condvar_profile at else if there then mutex_side at else blank_row)).stage
+        ≡ (if here then (condvar_row at).stage else None))
+        × (((if here then condvar_profile at else if there then mutex_side at else blank_row)).names
+        ≡ (if here then (condvar_row at).waits_with else None))
     either true there = (refl, refl)
     either false true = (refl, refl)
     either false false = (refl, refl)
@@ -72,7 +79,8 @@ row_says (Condvar c at) k = either (c == k) (is_lock k (mutex_beside at))
 
 -- by the four replies that tell what another thread has done
 pub befalling : (P : Reply → Type 0) → ((t : ℕ) → P (TakenBy t)) → ((key : ℕ) → P (MovedTo key))
-    → ((t : ℕ) (alone : Bool) → P (HandedBy t alone)) → ((n : Note) → P (Woken n)) → (r : Reply) → Befalls r → P r
+    → ((t : ℕ) (alone : Bool) → P (HandedBy t alone)) → ((n : Note) → P (Woken n)) → (r : Reply) → Befalls r
+    → P r
 befalling P taken moved handed woken (TakenBy t) h = taken t
 befalling P taken moved handed woken (MovedTo key) h = moved key
 befalling P taken moved handed woken (HandedBy t alone) h = handed t alone
@@ -84,7 +92,10 @@ GoesOn at r = (b : MutexPlace) × (mutex_next at r ≡ next.At b)
 
 -- a call of a mutex goes on
 mutex_goes_on : (at : MutexPlace) (r : Reply) → Befalls r → GoesOn at r
-mutex_goes_on (mutex.Lock e again a) r h = (mutex.Lock e (still_retries again r) (locks a r h).0, ap (in_lock e (still_retries again r)) (locks a r h).1)
+mutex_goes_on (mutex.Lock e again a) r h = (
+  mutex.Lock e (still_retries again r) (locks a r h).0,
+  ap (in_lock e (still_retries again r)) (locks a r h).1,
+)
   where
     locks : (a : LockAt) (r : Reply) → Befalls r → (b : LockAt) × (next_lock e a r ≡ next.At b)
     locks lock.Asleep (TakenBy t) h = (lock.Taken t, refl)
@@ -99,9 +110,13 @@ mutex_goes_on (mutex.Lock e again a) r h = (mutex.Lock e (still_retries again r)
     locks a (Woken note.Normal) h = (a, refl)
     locks a (Woken note.HandOff) h = (a, refl)
     locks a r h = absurd h
-mutex_goes_on mutex.TryLock r h = befalling (GoesOn mutex.TryLock) (λ t. (mutex.TryLock, refl)) (λ key. (mutex.TryLock, refl)) (λ t alone. (mutex.TryLock, refl)) (λ n. (mutex.TryLock, refl)) r h
-mutex_goes_on mutex.UnlockFair r h = befalling (GoesOn mutex.UnlockFair) (λ t. (mutex.UnlockFair, refl)) (λ key. (mutex.UnlockFair, refl)) (λ t alone. (mutex.UnlockFair, refl)) (λ n. (mutex.UnlockFair, refl)) r h
-mutex_goes_on mutex.Bump r h = befalling (GoesOn mutex.Bump) (λ t. (mutex.Bump, refl)) (λ key. (mutex.Bump, refl)) (λ t alone. (mutex.Bump, refl)) (λ n. (mutex.Bump, refl)) r h
+mutex_goes_on mutex.TryLock r h = befalling (GoesOn mutex.TryLock) (λ t. (mutex.TryLock, refl))
+    (λ key. (mutex.TryLock, refl)) (λ t alone. (mutex.TryLock, refl)) (λ n. (mutex.TryLock, refl)) r h
+mutex_goes_on mutex.UnlockFair r h = befalling (GoesOn mutex.UnlockFair) (λ t. (mutex.UnlockFair, refl))
+    (λ key. (mutex.UnlockFair, refl)) (λ t alone. (mutex.UnlockFair, refl)) (λ n. (mutex.UnlockFair, refl)) r
+    h
+mutex_goes_on mutex.Bump r h = befalling (GoesOn mutex.Bump) (λ t. (mutex.Bump, refl))
+    (λ key. (mutex.Bump, refl)) (λ t alone. (mutex.Bump, refl)) (λ n. (mutex.Bump, refl)) r h
 mutex_goes_on (mutex.Unlock a) r h = (mutex.Unlock a, ap in_unlock (unlocks a r h))
   where
     unlocks : (a : UnlockAt) (r : Reply) → Befalls r → next_unlock a r ≡ next.At a
@@ -144,10 +159,16 @@ says m timed (wait.Asleep s) r h = befalling (SaysTheSame (Wait m timed (wait.As
     woken : (n : Note) → SaysTheSame (Wait m timed (wait.Asleep s)) (Woken n)
     woken note.Normal = record { place = _; goes = refl; stage = refl; names = refl }
     woken note.HandOff = record { place = _; goes = refl; stage = refl; names = refl }
-says m timed (wait.Lock late at) r h = let k = mutex_goes_on at r h in record { place = Wait m timed (wait.Lock late k.0); goes = by_reply r h ∙ ap (λ n. in_wait m timed (relocked timed late n)) k.1; stage = refl; names = refl }
+says m timed (wait.Lock late at) r h = let k = mutex_goes_on at r h in record {
+  place = Wait m timed (wait.Lock late k.0);
+  goes = by_reply r h ∙ ap (λ n. in_wait m timed (relocked timed late n)) k.1;
+  stage = refl;
+  names = refl;
+}
   where
     by_reply : (r : Reply) → Befalls r
-        → condvar_next (Wait m timed (wait.Lock late at)) r ≡ in_wait m timed (relocked timed late (mutex_next at r))
+        → condvar_next (Wait m timed (wait.Lock late at)) r ≡ in_wait m timed
+        (relocked timed late (mutex_next at r))
     by_reply r h = refl
 says m timed wait.Enter (TakenBy t) h = record { place = _; goes = refl; stage = refl; names = refl }
 says m timed at (TakenBy t) h = record { place = _; goes = refl; stage = refl; names = refl }
@@ -196,7 +217,8 @@ stage_unmoved k (Semaphore l at) r h = by_next (semaphore_next at r)
     by_next : (n : Next SemaphorePlace) → stage_of (semaphore_goes l n) k ≡ None
     by_next (next.At q) = refl
     by_next (next.End answer) = refl
-stage_unmoved k (Condvar c at) r h = let x = says_same at r h in ap (λ n. stage_of (condvar_goes c n) k) x.goes ∙ ap (λ o. if c == k then o else None) x.stage
+stage_unmoved k (Condvar c at) r h = let x = says_same at r h in ap (λ n. stage_of (condvar_goes c n) k)
+    x.goes ∙ ap (λ o. if c == k then o else None) x.stage
 
 pub names_unmoved : (k : ℕ) (p : Place) (r : Reply) → Befalls r → names_of (next_place p r) k ≡ names_of p k
 names_unmoved k Idle r h = refl
@@ -220,4 +242,5 @@ names_unmoved k (Semaphore l at) r h = by_next (semaphore_next at r)
     by_next : (n : Next SemaphorePlace) → names_of (semaphore_goes l n) k ≡ None
     by_next (next.At q) = refl
     by_next (next.End answer) = refl
-names_unmoved k (Condvar c at) r h = let x = says_same at r h in ap (λ n. names_of (condvar_goes c n) k) x.goes ∙ ap (λ o. if c == k then o else None) x.names
+names_unmoved k (Condvar c at) r h = let x = says_same at r h in ap (λ n. names_of (condvar_goes c n) k)
+    x.goes ∙ ap (λ o. if c == k then o else None) x.names

@@ -1,6 +1,7 @@
 -- A condition variable is as it was where these are: what it shows, its waiters, the thread inside, and what
 -- places say of it.
-use Rattle.std.proofs.Common.{ℕ, Bool, true, false, Option, Some, None, if◌then◌else◌, ◌==◌, ◌≡◌, ◌<◌, length, get_or-set_other, get_or-set_same, inl, inr, refl, sym, ◌∙◌, ap, subst}
+use Rattle.std.proofs.Common.{ℕ, Bool, true, false, Option, Some, None, if◌then◌else◌, ◌==◌, ◌≡◌, ◌<◌, length}
+use Rattle.std.proofs.Common.{get_or-set_other, get_or-set_same, inl, inr, refl, sym, ◌∙◌, ap, subst}
 use Rattle.std.proofs.lemmas.Bool.{cases_eq}
 use Rattle.steps_semaphore.specs.declared.places.SemaphorePlace.{SemaphorePlace}
 use Rattle.steps_semaphore.specs.SemaphoreSteps.{semaphore_looking}
@@ -34,7 +35,8 @@ Kept s s2 = (s2.shown ≡ s.shown) × (s2.queue ≡ s.queue)
 
 pub same_condvar : (w v : State) (k : ℕ) → Kept (lock_state w k) (lock_state v k)
     → section_at v (key_of k Main) ≡ section_at w (key_of k Main)
-    → ((u : ℕ) → (stage_of (place_at v u) k ≡ stage_of (place_at w u) k) × (names_of (place_at v u) k ≡ names_of (place_at w u) k))
+    → ((u : ℕ) → (stage_of (place_at v u) k ≡ stage_of (place_at w u) k)
+    × (names_of (place_at v u) k ≡ names_of (place_at w u) k))
     → condvar_of v k ≡ condvar_of w k
 same_condvar w v k lock section says = λ i. record {
   shown = lock.0 i;
@@ -51,16 +53,21 @@ same_condvar w v k lock section says = λ i. record {
 
 -- a thread that stands elsewhere, where its place says the same of it, leaves each as it was
 pub put_condvars : (w : State) (t : ℕ) (q : Place) → t < length w.places
-    → ((k : ℕ) → (stage_of q k ≡ stage_of (place_at w t) k) × (names_of q k ≡ names_of (place_at w t) k)) → AreCondvars w
+    → ((k : ℕ) → (stage_of q k ≡ stage_of (place_at w t) k) × (names_of q k ≡ names_of (place_at w t) k))
+    → AreCondvars w
     → AreCondvars (put w t q)
-put_condvars w t q there says condvars k sort = subst IsCondvar (sym (same_condvar w (put w t q) k (refl, refl) refl says_now)) (condvars k sort)
+put_condvars w t q there says condvars k sort =
+    subst IsCondvar (sym (same_condvar w (put w t q) k (refl, refl) refl says_now)) (condvars k sort)
   where
     says_now : (u : ℕ)
         → (stage_of (place_at (put w t q) u) k ≡ stage_of (place_at w u) k)
         × (names_of (place_at (put w t q) u) k ≡ names_of (place_at w u) k)
     says_now u = elim (cases_eq u t) [
       | inl e ↦ rw (e, get_or-set_same w.places t q Idle there) (says k)
-      | inr ne ↦ let stays = get_or-set_other w.places t u q Idle ne in (ap (λ p. stage_of p k) stays, ap (λ p. names_of p k) stays)
+      | inr ne ↦ let stays = get_or-set_other w.places t u q Idle ne in (
+        ap (λ p. stage_of p k) stays,
+        ap (λ p. names_of p k) stays,
+      )
     ]
 
 -- ---------------------------------------------------------------- another place of its call
@@ -75,28 +82,36 @@ looks_alike (Mutex l at) q is = by_place (mutex_looking at) is
   where
     by_place : (o : Option MutexPlace) → in_mutex l o ≡ Some q → Says (Mutex l at) q
     by_place None e = absurd cc
-    by_place (Some to) e = let there : Mutex l to ≡ q = cc in subst (Says (Mutex l at)) there (λ k. (refl, refl))
+    by_place (Some to) e = let there : Mutex l to ≡ q = cc in subst (Says (Mutex l at)) there
+        (λ k. (refl, refl))
 looks_alike (RwLock l a c) q is = by_place (call_looking a c) is
   where
     by_place : (o : Option RwLockCallPlace) → in_rwlock l a o ≡ Some q → Says (RwLock l a c) q
     by_place None e = absurd cc
-    by_place (Some to) e = let there : RwLock l a to ≡ q = cc in subst (Says (RwLock l a c)) there (λ k. (refl, refl))
+    by_place (Some to) e = let there : RwLock l a to ≡ q = cc in subst (Says (RwLock l a c)) there
+        (λ k. (refl, refl))
 looks_alike (Once l at) q is = by_place (once_looking at) is
   where
     by_place : (o : Option OncePlace) → in_once l o ≡ Some q → Says (Once l at) q
     by_place None e = absurd cc
-    by_place (Some to) e = let there : Once l to ≡ q = cc in subst (Says (Once l at)) there (λ k. (refl, refl))
+    by_place (Some to) e = let there : Once l to ≡ q = cc
+        in subst (Says (Once l at)) there (λ k. (refl, refl))
 looks_alike (Semaphore l at) q is = by_place (semaphore_looking at) is
   where
     by_place : (o : Option SemaphorePlace) → in_semaphore l o ≡ Some q → Says (Semaphore l at) q
     by_place None e = absurd cc
-    by_place (Some to) e = let there : Semaphore l to ≡ q = cc in subst (Says (Semaphore l at)) there (λ k. (refl, refl))
-looks_alike (Condvar l (Wait m timed (wait.Lock late (mutex.Lock e again (lock.Decide seen))))) q is = by_word (seen == 1) is
+    by_place (Some to) e = let there : Semaphore l to ≡ q = cc in subst (Says (Semaphore l at)) there
+        (λ k. (refl, refl))
+looks_alike (Condvar l (Wait m timed (wait.Lock late (mutex.Lock e again (lock.Decide seen))))) q is =
+    by_word (seen == 1) is
   where
-    by_word : (b : Bool) → in_condvar l (in_lock m timed late (if b then Some (mutex.Lock e again lock.Load) else None)) ≡ Some q
+    by_word : (b : Bool) → in_condvar l (in_lock m timed late (if b then Some (mutex.Lock e again lock.Load)
+        else None)) ≡ Some q
         → Says (Condvar l (Wait m timed (wait.Lock late (mutex.Lock e again (lock.Decide seen))))) q
-    by_word true f = let there : Condvar l (Wait m timed (wait.Lock late (mutex.Lock e again lock.Load))) ≡ q = cc in
-        subst (Says (Condvar l (Wait m timed (wait.Lock late (mutex.Lock e again (lock.Decide seen)))))) there (λ k. (refl, refl))
+    by_word true f = let there : Condvar l (Wait m timed (wait.Lock late (mutex.Lock e again lock.Load)))
+        ≡ q = cc in
+        subst (Says (Condvar l (Wait m timed (wait.Lock late (mutex.Lock e again (lock.Decide seen)))))) there
+        (λ k. (refl, refl))
     by_word false f = absurd cc
 looks_alike (Condvar l (Wait m timed (wait.Lock late (mutex.Lock e again a)))) q is = absurd cc
 looks_alike (Condvar l (Wait m timed (wait.Lock late a))) q is = absurd cc
@@ -104,14 +119,17 @@ looks_alike (Condvar l (Wait m timed p)) q is = absurd cc
 looks_alike (Condvar l (Look all)) q is = absurd cc
 looks_alike (Condvar l (Notify all m p)) q is = absurd cc
 
-pub looking_condvars : (w : State) (t : ℕ) (q : Place) → t < length w.places → looking (place_at w t) ≡ Some q → AreCondvars w
+pub looking_condvars : (w : State) (t : ℕ) (q : Place) → t < length w.places → looking (place_at w t) ≡ Some q
+    → AreCondvars w
     → AreCondvars (put w t q)
 looking_condvars w t q there is condvars = put_condvars w t q there (looks_alike (place_at w t) q is) condvars
 
 -- A thread whose closure has ended leaves each condition variable as it was.
-pub closing_condvars : (w : State) (t : ℕ) (there : t < length w.places) (succeeded : Bool) (one : RunsOne (place_at w t))
+pub closing_condvars : (w : State) (t : ℕ) (there : t < length w.places) (succeeded : Bool)
+    (one : RunsOne (place_at w t))
     → AreCondvars w → AreCondvars (closing w t there succeeded one)
-closing_condvars w t there succeeded one condvars = put_condvars w t (closed_place w t succeeded) there (λ k. (
-  ap (λ q. stage_of q k) (is_behind w t there succeeded one) ∙ sym (ap (λ q. stage_of q k) one.is),
-  ap (λ q. names_of q k) (is_behind w t there succeeded one) ∙ sym (ap (λ q. names_of q k) one.is),
-)) condvars
+closing_condvars w t there succeeded one condvars = put_condvars w t (closed_place w t succeeded) there
+    (λ k. (
+      ap (λ q. stage_of q k) (is_behind w t there succeeded one) ∙ sym (ap (λ q. stage_of q k) one.is),
+      ap (λ q. names_of q k) (is_behind w t there succeeded one) ∙ sym (ap (λ q. names_of q k) one.is),
+    )) condvars

@@ -1,6 +1,8 @@
--- An act in a call of a condition variable enters sections of its two locks, and one that leaves sections or touches queues is of those that
+-- An act in a call of a condition variable enters sections of its two locks, and one that leaves sections or
+-- touches queues is of those that
 -- its thread is inside, as its row says.
-use Rattle.std.proofs.Common.{ℕ, Bool, true, false, Option, Some, None, if◌then◌else◌, ◌==◌, not, ◌+◌, ◌*◌, ◌≡◌, ◌≢◌, ◌⊎◌, inl, inr, [], map, get_or, refl, sym, ◌∙◌, ap}
+use Rattle.std.proofs.Common.{ℕ, Bool, true, false, Option, Some, None, if◌then◌else◌, ◌==◌, not, ◌+◌, ◌*◌}
+use Rattle.std.proofs.Common.{◌≡◌, ◌≢◌, ◌⊎◌, inl, inr, [], map, get_or, refl, sym, ◌∙◌, ap}
 use Rattle.std.proofs.lemmas.Bool.{cases_eq, eqb-true}
 use Rattle.std.proofs.Math.ListN.{get_or-map}
 use Rattle.core_base.specs.declared.keys.Keys.TheVariants.{One, Two}
@@ -79,7 +81,8 @@ module _ (c m : ℕ) where
     where
       decides : (a b : Bool)
           → IsActOfTwo c (Wait m timed (wait.Lock late (mutex.Lock entry.Lock r (lock.Decide x))))
-          (if not a then act.Word m (op.TheVariants.Exchange x (x + 1)) else if b then act.Word m (op.TheVariants.Exchange 1 3) else act.Enter (One (2 * m)))
+          (if not a then act.Word m (op.TheVariants.Exchange x (x + 1)) else if b then act.Word m
+          (op.TheVariants.Exchange 1 3) else act.Enter (One (2 * m)))
       decides false b = tt
       decides true true = tt
       decides true false = inr (m, refl, refl)
@@ -107,13 +110,16 @@ module _ (c m : ℕ) where
   wait_lines timed (wait.Release s at) reached = absurd reached.0
   wait_lines timed wait.Remove reached = (inl (refl, refl), (λ e. refl, λ e k f. absurd cc))
   wait_lines timed wait.GiveUp reached = inl (refl, refl)
-  wait_lines timed wait.RemoveMoved reached = (inr (m, refl, refl, refl), (λ e. absurd cc, λ e k f. let here : m ≡ k = cc in ap (λ j. 2 * j) here))
+  wait_lines timed wait.RemoveMoved reached =
+      (inr (m, refl, refl, refl), (λ e. absurd cc, λ e k f. let here : m ≡ k = cc in ap (λ j. 2 * j) here))
   wait_lines timed (wait.GiveUpMoved none_left) reached = inr (m, refl, refl, refl)
-  wait_lines timed (wait.Lock late (mutex.Lock entry.Lock r a)) reached = relock_lines timed late r a reached.1
+  wait_lines timed (wait.Lock late (mutex.Lock entry.Lock r a)) reached = relock_lines timed late r a
+      reached.1
   wait_lines timed (wait.Lock late at) reached = absurd reached.1
   wait_lines timed at reached = tt
 
-  notify_lines : (all : Bool) (at : NotifyAt) → IsActOfTwo c (Notify all m at) (condvar_act c (Notify all m at))
+  notify_lines : (all : Bool) (at : NotifyAt) → IsActOfTwo c (Notify all m at)
+      (condvar_act c (Notify all m at))
   notify_lines all notify.Enter = (inl refl, inr (m, refl, refl))
   notify_lines all (notify.Move locked) = moves all locked
     where
@@ -139,31 +145,37 @@ module _ (w : State) (t c : ℕ) (at : CondvarPlace) (steady : IsInductive w) (i
     (fits : FitsItsLock w (Condvar c at)) where
   -- it holds each section in which its row has it
   pub holds_key : (key : ℕ) → IsInsideKey c at key → section_at w key ≡ Some t
-  holds_key key (inl h) = ap (section_at w) h.0 ∙ (steady.stands.sections t c Main).0 (ap (λ (s : Location). s.inside) (location_there w steady.stands t c at is) ∙ h.1)
+  holds_key key (inl h) = ap (section_at w) h.0 ∙ (steady.stands.sections t c Main).0
+      (ap (λ (s : Location). s.inside) (location_there w steady.stands t c at is) ∙ h.1)
   holds_key key (inr h) = ap (section_at w) h.2 ∙ (steady.stands.sections t h.0 Main).0
-      (ap (λ p. (location_at p h.0).inside) is ∙ ap (λ (s : Location). s.inside) (location_beside c h.0 (condvar_apart w c at fits h.0 h.1) at h.1) ∙ h.3)
+      (ap (λ p. (location_at p h.0).inside) is ∙ ap (λ (s : Location). s.inside)
+      (location_beside c h.0 (condvar_apart w c at fits h.0 h.1) at h.1) ∙ h.3)
 
   -- in no queue but that one it stands
   module _ (key : ℕ) (under : StandsUnder c at key) where
     main_out : (k : ℕ) → 2 * k ≢ key → (o : Option Line)
         → o
-        ≡ (if c == k then in_line (condvar_row at).listed Main else if is_lock k (mutex_beside at) then in_line (condvar_row at).moved Main else None)
+        ≡ (if c == k then in_line (condvar_row at).listed Main else if is_lock k (mutex_beside at)
+        then in_line (condvar_row at).moved Main else None)
         → stood_in o Main ≡ 0
     main_out k ne o e = rw e (by_lock (c == k) (mutex_beside at) refl refl)
       where
-        listed : (b : Bool) → (condvar_row at).listed ≡ b → (c == k) ≡ true → stood_in (in_line b Main) Main ≡ 0
+        listed : (b : Bool) → (condvar_row at).listed ≡ b → (c == k) ≡ true → stood_in (in_line b Main) Main
+            ≡ 0
         listed true f g = absurd (ne (ap (λ j. 2 * j) (sym (eqb-true c k g)) ∙ sym (under.0 f)))
         listed false f g = refl
 
         moved : (m : ℕ) → mutex_beside at ≡ Some m → (b d : Bool) → (condvar_row at).moved ≡ b → (m == k) ≡ d
             → stood_in (if d then in_line b Main else None) Main ≡ 0
-        moved m names true true f g = absurd (ne (ap (λ j. 2 * j) (sym (eqb-true m k g)) ∙ sym (under.1 f m names)))
+        moved m names true true f g =
+            absurd (ne (ap (λ j. 2 * j) (sym (eqb-true m k g)) ∙ sym (under.1 f m names)))
         moved m names false true f g = refl
         moved m names b false f g = refl
 
         by_lock : (b : Bool) (o : Option ℕ) → (c == k) ≡ b → mutex_beside at ≡ o
             → stood_in
-            (if b then in_line (condvar_row at).listed Main else if is_lock k o then in_line (condvar_row at).moved Main else None) Main
+            (if b then in_line (condvar_row at).listed Main else if is_lock k o then in_line
+            (condvar_row at).moved Main else None) Main
             ≡ 0
         by_lock true o f g = listed (condvar_row at).listed refl f
         by_lock false None f g = refl
@@ -175,13 +187,19 @@ module _ (w : State) (t c : ℕ) (at : CondvarPlace) (steady : IsInductive w) (i
     second_out k (Some Second) e = absurd (two_stand_main c at k e)
 
     stood_out : (k : ℕ) (n : Line) → key_of k n ≢ key → times t (queue_at w (key_of k n)) ≡ 0
-    stood_out k Main ne = steady.stands.lines t k Main ∙ ap (λ p. stood_in (location_at p k).stands Main) is ∙ main_out k ne (location_at (Condvar c at) k).stands (stands_at c at k)
-    stood_out k Second ne = steady.stands.lines t k Second ∙ ap (λ p. stood_in (location_at p k).stands Second) is ∙ second_out k (location_at (Condvar c at) k).stands refl
+    stood_out k Main ne = steady.stands.lines t k Main ∙ ap (λ p. stood_in (location_at p k).stands Main) is
+        ∙ main_out k ne (location_at (Condvar c at) k).stands (stands_at c at k)
+    stood_out k Second ne = steady.stands.lines t k Second
+        ∙ ap (λ p. stood_in (location_at p k).stands Second) is
+        ∙ second_out k (location_at (Condvar c at) k).stands refl
 
     -- where it leaves the queues, only that one changes
     pub left_at : IsInsideKey c at key → (k : ℕ)
         → (get_or (map (without t) w.queues) k [] ≡ queue_at w k) ⊎ (section_at w k ≡ Some t)
     left_at within k = let of = line_of_key k in elim (cases_eq (key_of of.0 of.1) key) [
       | inl e ↦ inr (ap (section_at w) (of.2 ∙ e) ∙ holds_key key within)
-      | inr ne ↦ inl (ap (λ j. get_or (map (without t) w.queues) j []) of.2 ∙ get_or-map (without t) w.queues (key_of of.0 of.1) [] ∙ without_absent t (queue_at w (key_of of.0 of.1)) (stood_out of.0 of.1 ne) ∙ sym (ap (queue_at w) of.2))
+      | inr ne ↦ inl (ap (λ j. get_or (map (without t) w.queues) j []) of.2
+          ∙ get_or-map (without t) w.queues (key_of of.0 of.1) []
+          ∙ without_absent t (queue_at w (key_of of.0 of.1)) (stood_out of.0 of.1 ne)
+          ∙ sym (ap (queue_at w) of.2))
     ]

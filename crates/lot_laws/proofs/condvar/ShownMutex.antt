@@ -1,5 +1,7 @@
--- While nobody is inside its section, a condition variable shows a mutex exactly while somebody waits, and all wait with that one.
-use Rattle.std.proofs.Common.{ℕ, Bool, true, false, Option, Some, None, if◌then◌else◌, ◌==◌, ◌≡◌, ◌≤◌, inl, inr, [], refl, sym, ◌∙◌, ap, subst, eqb-true, arith}
+-- While nobody is inside its section, a condition variable shows a mutex exactly while somebody waits, and
+-- all wait with that one.
+use Rattle.std.proofs.Common.{ℕ, Bool, true, false, Option, Some, None, if◌then◌else◌, ◌==◌, ◌≡◌, ◌≤◌, inl}
+use Rattle.std.proofs.Common.{inr, [], refl, sym, ◌∙◌, ap, subst, eqb-true, arith}
 use Rattle.steps_condvar.specs.declared.places.CondvarPlace.TheVariants.{Look, Notify, Wait}
 use Rattle.steps_condvar.specs.declared.notify.NotifyAt.{NotifyAt}
 use Rattle.steps_condvar.specs.declared.notify.NotifyAt.TheVariants as notify
@@ -9,7 +11,9 @@ use Rattle.steps_condvar.specs.CondvarProfiles.{notify_row, wait_row}
 use Rattle.lot_steps.specs.declared.places.Place.{Place}
 use Rattle.lot_steps.specs.declared.places.Place.TheVariants.{Condvar, Idle, Mutex, Once, RwLock, Semaphore}
 use Rattle.lot_steps.specs.Steps.{profile_at}
-use Rattle.spec_locks.specs.Condvars.{AllOf, Clears, CondvarStage, Inside, IsAsInside, IsCondvar, IsSettled, IsSettledAt, Misses, NothingToDo, Sees, SeesOther, StageHolds, Takes, ToStandLast, moving}
+use Rattle.spec_locks.specs.Condvars.{AllOf, Clears, CondvarStage, Inside, IsAsInside, IsCondvar, IsSettled}
+use Rattle.spec_locks.specs.Condvars.{IsSettledAt, Misses, NothingToDo, Sees, SeesOther, StageHolds, Takes}
+use Rattle.spec_locks.specs.Condvars.{ToStandLast, moving}
 use Rattle.spec_locks.specs.Locks.{Rights, times}
 use Rattle.spec_locks.specs.Runs.{ShowsWaiters}
 use Rattle.spec_locks.specs.Purposes.{Notifies, Waits}
@@ -40,7 +44,11 @@ named_by (Condvar c (Wait k timed at)) l m r names = either (c == l) refl names
   where
     either : (b : Bool) → (c == l) ≡ b → (if b then Some k else None) ≡ Some m
         → (x : Bool) × (Some (Waits c k timed) ≡ Some (Waits l m x))
-    either true e f = let same : k ≡ m = cc in (timed, ap (λ j. Some (Waits j k timed)) (eqb-true c l e) ∙ ap (λ j. Some (Waits l j timed)) same)
+    either true e f = let same : k ≡ m = cc in (
+      timed,
+      ap (λ j. Some (Waits j k timed)) (eqb-true c l e)
+          ∙ ap (λ j. Some (Waits l j timed)) same,
+    )
     either false e f = absurd cc
 named_by (Condvar c (Look all)) l m r names = either (c == l) names
   where
@@ -52,7 +60,8 @@ named_by (Condvar c (Notify all k p)) l m r names = either (c == l) names
   where
     either : (b : Bool) → (if b then (notify_row all k p).waits_with else None) ≡ Some m
         → (timed : Bool) × ((call_state (Condvar c (Notify all k p)) r).purpose ≡ Some (Waits l m timed))
-    either true f = absurd (let none : ◌≡◌ {A = Option ℕ} None (Some m) = sym (notifier_names all k p) ∙ f in cc)
+    either true f = absurd (let none : ◌≡◌ {A = Option ℕ} None (Some m) = sym (notifier_names all k p) ∙ f
+        in cc)
     either false f = absurd cc
 named_by Idle l m r names = absurd cc
 named_by (Mutex c at) l m r names = absurd cc
@@ -60,21 +69,28 @@ named_by (RwLock c a at) l m r names = absurd cc
 named_by (Once c at) l m r names = absurd cc
 named_by (Semaphore c at) l m r names = absurd cc
 
-module _ (w : State) (l : ℕ) (condvar : IsCondvar (condvar_of w l)) (free : section_at w (key_of l Main) ≡ None) where
+module _ (w : State) (l : ℕ) (condvar : IsCondvar (condvar_of w l)) (free : section_at w (key_of l Main)
+    ≡ None) where
   settled : IsSettled (condvar_of w l)
-  settled = subst (λ (i : Option Inside). IsAsInside (condvar_of w l) i) (ap (λ o. inside_as o (λ t. (profile_at (place_at w t) l).stage)) free) condvar.inside
+  settled = subst (λ (i : Option Inside). IsAsInside (condvar_of w l) i)
+      (ap (λ o. inside_as o (λ t. (profile_at (place_at w t) l).stage)) free) condvar.inside
 
   pub shows_waiters : ShowsItsWaiters w l
   shows_waiters = by_shown (lock_state w l).shown refl settled
     where
-      by_shown : (o : Option ℕ) → (lock_state w l).shown ≡ o → IsSettledAt o (condvar_of w l) → ShowsItsWaiters w l
+      by_shown : (o : Option ℕ) → (lock_state w l).shown ≡ o → IsSettledAt o (condvar_of w l)
+          → ShowsItsWaiters w l
       by_shown None e empty = record {
         shows = ((λ h. empty), (λ h. e));
         one = λ t m f waits. absurd (let none : ◌≡◌ {A = Option ℕ} None (Some m) = sym e ∙ f in cc);
       }
       by_shown (Some k) e some = record {
-        shows = ((λ h. absurd (let none : ◌≡◌ {A = Option ℕ} None (Some k) = sym h ∙ e in cc)), (λ h. absurd (some.0 h)));
-        one = λ t m f waits. let same : Some k ≡ Some m = sym e ∙ f in named_by (place_at w t) l m (rights w t) (sym (row_says (place_at w t) l).1 ∙ some.1 t waits ∙ same);
+        shows = (
+          (λ h. absurd (let none : ◌≡◌ {A = Option ℕ} None (Some k) = sym h ∙ e in cc)),
+          (λ h. absurd (some.0 h)),
+        );
+        one = λ t m f waits. let same : Some k ≡ Some m = sym e ∙ f in named_by (place_at w t) l m
+            (rights w t) (sym (row_says (place_at w t) l).1 ∙ some.1 t waits ∙ same);
       }
 
 -- ---------------------------------------------------------------- at any time
@@ -95,15 +111,18 @@ wait_stage k m wait.RemoveMoved e = absurd cc
 wait_stage k m (wait.GiveUpMoved none_left) e = absurd cc
 wait_stage k m (wait.Lock late at) e = absurd cc
 
-moving_all : (all : Bool) (k m : ℕ) → ◌≡◌ {A = Option CondvarStage} (Some (moving all k)) (Some (Takes m)) → all ≡ true
+moving_all : (all : Bool) (k m : ℕ) → ◌≡◌ {A = Option CondvarStage} (Some (moving all k)) (Some (Takes m))
+    → all ≡ true
 moving_all true k m e = refl
 moving_all false k m e = absurd cc
 
-told_none : (b : Bool) (k m : ℕ) → ◌≡◌ {A = Option CondvarStage} (Some (if b then Misses k else NothingToDo)) (Some (Takes m)) → ⊥
+told_none : (b : Bool) (k m : ℕ) → ◌≡◌ {A = Option CondvarStage} (Some (if b then Misses k else NothingToDo))
+    (Some (Takes m)) → ⊥
 told_none true k m e = absurd cc
 told_none false k m e = absurd cc
 
-notify_stage : (all : Bool) (k m : ℕ) (at : NotifyAt) → (notify_row all k at).stage ≡ Some (Takes m) → all ≡ true
+notify_stage : (all : Bool) (k m : ℕ) (at : NotifyAt) → (notify_row all k at).stage ≡ Some (Takes m)
+    → all ≡ true
 notify_stage all k m notify.Enter e = absurd cc
 notify_stage all k m notify.Again e = absurd cc
 notify_stage all k m notify.Hide e = absurd cc
@@ -114,11 +133,14 @@ notify_stage all k m (notify.Clear any) e = absurd cc
 notify_stage all k m (notify.MarkMoved number) e = absurd cc
 notify_stage all k m (notify.Leave any number) e = absurd (told_none (number == 0) k m e)
 
-notifies_all : (p : Place) (l m : ℕ) (r : ℕ → Rights) → stage_of p l ≡ Some (Takes m) → (call_state p r).purpose ≡ Some (Notifies l true)
+notifies_all : (p : Place) (l m : ℕ) (r : ℕ → Rights) → stage_of p l ≡ Some (Takes m)
+    → (call_state p r).purpose ≡ Some (Notifies l true)
 notifies_all (Condvar c (Notify all k at)) l m r e = either (c == l) refl e
   where
-    either : (b : Bool) → (c == l) ≡ b → (if b then (notify_row all k at).stage else None) ≡ Some (Takes m) → (call_state (Condvar c (Notify all k at)) r).purpose ≡ Some (Notifies l true)
-    either true same f = ap (λ (x : Bool). Some (Notifies c x)) (notify_stage all k m at f) ∙ ap (λ j. Some (Notifies j true)) (eqb-true c l same)
+    either : (b : Bool) → (c == l) ≡ b → (if b then (notify_row all k at).stage else None) ≡ Some (Takes m)
+        → (call_state (Condvar c (Notify all k at)) r).purpose ≡ Some (Notifies l true)
+    either true same f = ap (λ (x : Bool). Some (Notifies c x)) (notify_stage all k m at f)
+        ∙ ap (λ j. Some (Notifies j true)) (eqb-true c l same)
     either false other f = absurd cc
 notifies_all (Condvar c (Wait k timed at)) l m r e = absurd (either (c == l) e)
   where
@@ -149,14 +171,16 @@ module _ (w : State) (l : ℕ) (condvar : IsCondvar (condvar_of w l)) where
 
   of_mutex : (m : ℕ) → (lock_state w l).shown ≡ Some m → AllOf (condvar_of w l) m → Shows
   of_mutex m e all = record {
-    one = λ t k f waits. (let same : Some m ≡ Some k = sym e ∙ f in named_by (place_at w t) l k (rights w t) (sym (row_says (place_at w t) l).1 ∙ all t waits ∙ same));
+    one = λ t k f waits. (let same : Some m ≡ Some k = sym e ∙ f in named_by (place_at w t) l k (rights w t)
+        (sym (row_says (place_at w t) l).1 ∙ all t waits ∙ same));
     none = λ f. absurd (let g : ◌≡◌ {A = Option ℕ} None (Some m) = sym f ∙ e in cc);
     left = clears;
   }
 
   of_nobody : (lock_state w l).queue ≡ [] → Shows
   of_nobody empty = record {
-    one = λ t k f waits. absurd (let some : 1 ≤ times t [] = subst (λ q. 1 ≤ times t q) empty waits in omega arith);
+    one = λ t k f waits. absurd (let some : 1 ≤ times t [] = subst (λ q. 1 ≤ times t q) empty waits
+        in omega arith);
     none = λ f. inl empty;
     left = clears;
   }
@@ -168,7 +192,8 @@ module _ (w : State) (l : ℕ) (condvar : IsCondvar (condvar_of w l)) where
   as_settled : IsSettled (condvar_of w l) → Shows
   as_settled h = of_settled (lock_state w l).shown refl h
 
-  of_stage : (u : ℕ) (stage : CondvarStage) → section_at w (key_of l Main) ≡ Some u → stage_or (profile_at (place_at w u) l).stage ≡ stage → StageHolds (condvar_of w l) u stage → Shows
+  of_stage : (u : ℕ) (stage : CondvarStage) → section_at w (key_of l Main) ≡ Some u
+      → stage_or (profile_at (place_at w u) l).stage ≡ stage → StageHolds (condvar_of w l) u stage → Shows
   of_stage u NothingToDo e f h = as_settled h
   of_stage u (ToStandLast m) e f h = of_mutex m h.0 h.2
   of_stage u (SeesOther m) e f h = as_settled h.0
@@ -179,13 +204,15 @@ module _ (w : State) (l : ℕ) (condvar : IsCondvar (condvar_of w l)) where
     none = λ g. inr (record {
       thread = u;
       inside = e;
-      notifies = notifies_all (place_at w u) l m (rights w u) (sym (row_says (place_at w u) l).0 ∙ takes_stage (profile_at (place_at w u) l).stage m f);
+      notifies = notifies_all (place_at w u) l m (rights w u) (sym (row_says (place_at w u) l).0
+          ∙ takes_stage (profile_at (place_at w u) l).stage m f);
     });
     left = clears;
   }
   of_stage u Clears e f h = of_nobody h
 
-  by_section : (o : Option ℕ) → section_at w (key_of l Main) ≡ o → IsAsInside (condvar_of w l) (inside_as o (λ t. (profile_at (place_at w t) l).stage)) → Shows
+  by_section : (o : Option ℕ) → section_at w (key_of l Main) ≡ o → IsAsInside (condvar_of w l)
+      (inside_as o (λ t. (profile_at (place_at w t) l).stage)) → Shows
   by_section None e h = as_settled h
   by_section (Some u) e h = of_stage u (stage_or (profile_at (place_at w u) l).stage) e refl h
 

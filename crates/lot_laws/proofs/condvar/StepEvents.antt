@@ -1,6 +1,7 @@
 -- A step in a call of a condition variable is one event of one of its two locks, or a move of waiters
 -- between them. Its call is made of that event, and comes to what the next place says.
-use Rattle.std.proofs.Common.{ℕ, Bool, false, Option, Some, None, if◌then◌else◌, ◌≡◌, ◌≢◌, ◌⊎◌, List, [], ◌∷◌, append-nil, inl, inr, refl, sym, ◌∙◌, ap, subst}
+use Rattle.std.proofs.Common.{ℕ, Bool, false, Option, Some, None, if◌then◌else◌, ◌≡◌, ◌≢◌, ◌⊎◌, List, [], ◌∷◌}
+use Rattle.std.proofs.Common.{append-nil, inl, inr, refl, sym, ◌∙◌, ap, subst}
 use Rattle.std.proofs.lemmas.Bool.{cases_eq}
 use Rattle.spec_locks.specs.declared.outcomes.Outcome.{Outcome}
 use Rattle.spec_locks.specs.declared.outcomes.Outcome as outcome
@@ -26,14 +27,17 @@ use Rattle.spec_locks.specs.Deeds.{AreOneCase, EventNeeds, after_event, case_of,
 use Rattle.spec_locks.specs.Onces.{Start}
 use Rattle.spec_locks.specs.Purposes.{WasMoved}
 use Rattle.spec_locks.specs.Locks.{HandOff, OfOnce, Wake, HasTakenNobody, LockCase, LockState}
-use Rattle.spec_locks.specs.Runs.{AnswerHolds, AtLock, Begins, LocksState, is_among, is_closure, is_taken_by, CallState, Event, GoesOn, MayHappen, MayMove, Moves, Nothing, going_on, woken}
+use Rattle.spec_locks.specs.Runs.{AnswerHolds, AtLock, Begins, LocksState, is_among, is_closure, is_taken_by}
+use Rattle.spec_locks.specs.Runs.{CallState, Event, GoesOn, MayHappen, MayMove, Moves, Nothing, going_on}
+use Rattle.spec_locks.specs.Runs.{woken}
 use Rattle.spec_locks.specs.Sites.{Deed, Site}
 use Rattle.spec_locks.proofs.Deeds.{deeds_lead, deeds_need}
 use Rattle.lot_machine.specs.Machine.{State, kind_at, place_at}
 use Rattle.lot_laws.specs.MutexDeeds.{Act, acts}
 use Rattle.lot_laws.specs.Refinement.{call_at, call_on_both, call_state, lock_state, locks_of, taken_at}
 use Rattle.lot_laws.specs.SitesOf.{ActsNeeded, FollowAll, IsInductive, after_acts, rules_in, site_of}
-use Rattle.lot_laws.proofs.calls.Events.{CallLed, GoesAs, Happens, RunsNothing, never_starts, OthersFollow, deeds_by, goes_with, happens_at, may_do, needed_then, rights}
+use Rattle.lot_laws.proofs.calls.Events.{CallLed, GoesAs, Happens, RunsNothing, never_starts, OthersFollow}
+use Rattle.lot_laws.proofs.calls.Events.{deeds_by, goes_with, happens_at, may_do, needed_then, rights}
 use Rattle.lot_laws.proofs.calls.Closures.{closure_told, condvar_runs_none}
 use Rattle.lot_laws.proofs.condvar.MutexUntouched.{there_deeds}
 
@@ -43,16 +47,23 @@ module _ (w v : State) (t c m : ℕ) (apart : m ≢ c) (before : IsInductive w) 
     (kinds : (k : ℕ) → kind_at v k ≡ kind_at w k)
     (others : (k : ℕ) → k ≢ c → k ≢ m → lock_state v k ≡ lock_state w k) where
   abbrev pub Led : ℕ → Option LockCase → Type 0
-  Led l x = (lock_state v l ≡ after_event (rules_in w l) (event_by l x) (lock_state w l) t) × EventNeeds (rules_in w l) (event_by l x) (lock_state w l) t
+  Led l x = (lock_state v l ≡ after_event (rules_in w l) (event_by l x) (lock_state w l) t)
+      × EventNeeds (rules_in w l) (event_by l x) (lock_state w l) t
 
   -- nothing happens to the one, or to the other
   pub happens_two : (x y : Option LockCase) → Led m x → Led c y → (x ≡ None) ⊎ (y ≡ None)
       → Happens w v t (or_else (event_by m x) (event_by c y))
   happens_two (Some a) (Some b) at_m at_c one = absurd (elim one [ inl e ↦ cc | inr e ↦ cc ])
   happens_two (Some a) None at_m at_c one = happens_at w v t m (Some a) before after kinds at_m.0
-      (λ k ne. elim (cases_eq k c) [ inl e ↦ subst (λ j. lock_state v j ≡ lock_state w j) (sym e) at_c.0 | inr nc ↦ others k nc ne ]) at_m.1
+      (λ k ne. elim (cases_eq k c) [
+        | inl e ↦ subst (λ j. lock_state v j ≡ lock_state w j) (sym e) at_c.0
+        | inr nc ↦ others k nc ne
+      ]) at_m.1
   happens_two None y at_m at_c one = happens_at w v t c y before after kinds at_c.0
-      (λ k ne. elim (cases_eq k m) [ inl e ↦ subst (λ j. lock_state v j ≡ lock_state w j) (sym e) at_m.0 | inr nm ↦ others k ne nm ]) at_c.1
+      (λ k ne. elim (cases_eq k m) [
+        | inl e ↦ subst (λ j. lock_state v j ≡ lock_state w j) (sym e) at_m.0
+        | inr nm ↦ others k ne nm
+      ]) at_c.1
 
 -- the deeds of a condition variable are that case of it
 there_case : (ds : List CondvarDeed) → case_of None (there_deeds ds) ≡ case_there ds
@@ -70,10 +81,13 @@ there_case (d ∷ ds) = refl
 
 -- ---------------------------------------------------------------- a step of both locks
 
-module _ (w v : State) (t c m : ℕ) (apart : m ≢ c) (before : IsInductive w) (after : IsInductive v) (all : ℕ → List Act)
+module _ (w v : State) (t c m : ℕ) (apart : m ≢ c) (before : IsInductive w) (after : IsInductive v) (all : ℕ
+    → List Act)
     (f : FollowAll w v all) (elsewhere : (k : ℕ) → k ≢ c → k ≢ m → all k ≡ []) where
-  pub locks_led : (k : ℕ) (ds : List Act) → all k ≡ ds → lock_state v k ≡ (after_acts (rules_in w k) ds (site_of w k)).lock
-  locks_led k ds is = ap (λ (s : Site). s.lock) (f.site k) ∙ ap (λ done. (after_acts (rules_in w k) done (site_of w k)).lock) is
+  pub locks_led : (k : ℕ) (ds : List Act) → all k ≡ ds → lock_state v k
+      ≡ (after_acts (rules_in w k) ds (site_of w k)).lock
+  locks_led k ds is = ap (λ (s : Site). s.lock) (f.site k)
+      ∙ ap (λ done. (after_acts (rules_in w k) done (site_of w k)).lock) is
 
   pub others : (k : ℕ) → k ≢ c → k ≢ m → lock_state v k ≡ lock_state w k
   others k nc nm = locks_led k [] (elsewhere k nc nm)
@@ -82,20 +96,29 @@ module _ (w v : State) (t c m : ℕ) (apart : m ≢ c) (before : IsInductive w) 
       → (hand ≢ Some false → HasTakenNobody (lock_state w l) t)
       → Led w v t c m apart before after f.kinds others l (case_of hand ds)
   led_by l hand ds is one free = (
-    locks_led l (acts t ds) is ∙ deeds_by (rules_in w l) t ds (site_of w l) ∙ deeds_lead (rules_in w l) t l hand ds (site_of w l) free one,
-    deeds_need (rules_in w l) t l hand ds (site_of w l) (needed_then (rules_in w l) t ds [] (site_of w l) (subst (λ done. ActsNeeded (rules_in w l) done (site_of w l)) (is ∙ sym (append-nil (acts t ds))) (f.needed l))) one,
+    locks_led l (acts t ds) is ∙ deeds_by (rules_in w l) t ds (site_of w l)
+        ∙ deeds_lead (rules_in w l) t l hand ds (site_of w l) free one,
+    deeds_need (rules_in w l) t l hand ds (site_of w l) (needed_then (rules_in w l) t ds [] (site_of w l)
+        (subst (λ done. ActsNeeded (rules_in w l) done (site_of w l)) (is ∙ sym (append-nil (acts t ds)))
+        (f.needed l))) one,
   )
 
   -- tells what happens in a step of a wait
-  pub wait_happens : (p : WaitAt) (whom : Option ℕ) (told : Reply) → all c ≡ acts t (there_deeds (wait_deeds m p told))
+  pub wait_happens : (p : WaitAt) (whom : Option ℕ) (told : Reply) → all c
+      ≡ acts t (there_deeds (wait_deeds m p told))
       → all m ≡ acts t (waiter_deeds p whom told)
-      → AreOneCase (there_deeds (wait_deeds m p told)) → AreOneCase (waiter_deeds p whom told) → HasTakenNobody (lock_state w c) t
+      → AreOneCase (there_deeds (wait_deeds m p told)) → AreOneCase (waiter_deeds p whom told)
+      → HasTakenNobody (lock_state w c) t
       → (wait_carries p ≢ Some false → HasTakenNobody (lock_state w m) t)
-      → (case_of (wait_carries p) (waiter_deeds p whom told) ≡ None) ⊎ (case_there (wait_deeds m p told) ≡ None)
+      → (case_of (wait_carries p) (waiter_deeds p whom told) ≡ None)
+      ⊎ (case_there (wait_deeds m p told) ≡ None)
       → Happens w v t (wait_event c m p whom told)
-  wait_happens p whom told at_c at_m one_c one_m free_c free_m alone = happens_two w v t c m apart before after f.kinds others (case_of (wait_carries p) (waiter_deeds p whom told)) (case_there (wait_deeds m p told))
+  wait_happens p whom told at_c at_m one_c one_m free_c free_m alone = happens_two w v t c m apart before
+      after f.kinds others (case_of (wait_carries p) (waiter_deeds p whom told))
+      (case_there (wait_deeds m p told))
       (led_by m (wait_carries p) (waiter_deeds p whom told) at_m one_m free_m)
-      (subst (Led w v t c m apart before after f.kinds others c) (there_case (wait_deeds m p told)) (led_by c None (there_deeds (wait_deeds m p told)) at_c one_c (λ h. free_c)))
+      (subst (Led w v t c m apart before after f.kinds others c) (there_case (wait_deeds m p told))
+      (led_by c None (there_deeds (wait_deeds m p told)) at_c one_c (λ h. free_c)))
       alone
 
 -- ---------------------------------------------------------------- its call
@@ -111,30 +134,37 @@ ToldSo v t (next.At q) o = (l : ℕ) × GoesAs v t l o
 ToldSo v t (next.End answer) o = o ≡ outcome.TheVariants.End answer
 
 -- its call is that of its place at both locks
-pub call_named : (w : State) (t l m : ℕ) (p : CondvarPlace) → place_at w t ≡ Condvar l p → mutex_beside p ≡ Some m
+pub call_named : (w : State) (t l m : ℕ) (p : CondvarPlace) → place_at w t ≡ Condvar l p → mutex_beside p
+    ≡ Some m
     → call_at w t ≡ calls.condvar_call_by l m p (rights w t)
-call_named w t l m p is names = ap (λ q. call_state q (rights w t)) is ∙ ap (λ o. call_on_both o (Some l) (condvar_profile p) (mutex_side p) (rights w t)) names
+call_named w t l m p is names = ap (λ q. call_state q (rights w t)) is
+    ∙ ap (λ o. call_on_both o (Some l) (condvar_profile p) (mutex_side p) (rights w t)) names
 
-module _ (w v : State) (t l m : ℕ) (p : CondvarPlace) (call_is : call_at w t ≡ calls.condvar_call_by l m p (rights w t)) (told : Reply)
+module _ (w v : State) (t l m : ℕ) (p : CondvarPlace) (call_is : call_at w t ≡ calls.condvar_call_by l m p
+    (rights w t)) (told : Reply)
     (e : Event) (h : Happens w v t e) (shown : Option ℕ) (s2 : LockState) where
   abbrev call : CallState
   call = calls.condvar_call_by l m p (rights w t)
 
   pub call_then : (q : CondvarPlace) → place_at v t ≡ Condvar l q → mutex_beside q ≡ Some m
       → call_state (place_at v t) (rights v t) ≡ calls.condvar_call_by l m q (rights v t)
-  call_then q there named = ap (λ x. call_state x (rights v t)) there ∙ ap (λ o. call_on_both o (Some l) (condvar_profile q) (mutex_side q) (rights v t)) named
+  call_then q there named = ap (λ x. call_state x (rights v t)) there
+      ∙ ap (λ o. call_on_both o (Some l) (condvar_profile q) (mutex_side q) (rights v t)) named
 
   -- tells what it is made of
   pub may_go : MayComeOfTwo l (condvar_profile p) e
-      → ((c k : ℕ) (all owned : Bool) (n : ℕ) → e ≡ Moves c k all owned n → MayMove (locks_of w) t c k all owned n)
+      → ((c k : ℕ) (all owned : Bool) (n : ℕ) → e ≡ Moves c k all owned n → MayMove (locks_of w) t c k all
+      owned n)
       → MayHappen (locks_of w) t e
   may_go may moves = by_event e h may moves
     where
       by_event : (e : Event) → Happens w v t e → MayComeOfTwo l (condvar_profile p) e
-          → ((c k : ℕ) (all owned : Bool) (n : ℕ) → e ≡ Moves c k all owned n → MayMove (locks_of w) t c k all owned n)
+          → ((c k : ℕ) (all owned : Bool) (n : ℕ) → e ≡ Moves c k all owned n
+          → MayMove (locks_of w) t c k all owned n)
           → MayHappen (locks_of w) t e
       by_event Nothing h may moves = tt
-      by_event (AtLock k case) h may moves = may_do (locks_of w) t k case ((condvar_profile p).purpose l) call call_is refl may.0 h.needs may.1
+      by_event (AtLock k case) h may moves = may_do (locks_of w) t k case ((condvar_profile p).purpose l) call
+          call_is refl may.0 h.needs may.1
       by_event (Moves c k all owned n) h may moves = moves c k all owned n refl
 
   -- The call that a step leads to.
@@ -142,22 +172,27 @@ module _ (w v : State) (t l m : ℕ) (p : CondvarPlace) (call_is : call_at w t �
       → woken (locks_of w) t e t (going_on e call) ≡ going_on e call
       → calls.BecomesOfTwo l m p told e shown (lock_state w m) s2 t n
       → place_at v t ≡ condvar_goes l n → NamesStill m n → (lock_state v l).shown ≡ shown
-      → ((k : ℕ) → rights v t k ≡ rights_where m s2 t (rights w t) k) → ToldSo v t n o → CallLed w v t e call o
+      → ((k : ℕ) → rights v t k ≡ rights_where m s2 t (rights w t) k) → ToldSo v t n o
+      → CallLed w v t e call o
   call_led (next.At q) o unheard unwoken becomes there named shown_is led so = inl (
-    call_then q there named ∙ ap (calls.condvar_call_by l m q) (λ i k. led k i) ∙ becomes (rights w t) refl ∙ ap (going_on e) unheard ∙ sym unwoken,
+    call_then q there named ∙ ap (calls.condvar_call_by l m q) (λ i k. led k i) ∙ becomes (rights w t) refl
+        ∙ ap (going_on e) unheard ∙ sym unwoken,
     so,
   )
   call_led (next.End a) o unheard unwoken becomes there named shown_is led so = inr (
     a,
     so,
     there,
-    subst (λ x. AnswerHolds (Some ((condvar_profile p).purpose l)) (locks_of v) t (going_on e x) a) unheard (becomes (locks_of v) (rights w t) shown_is refl led),
+    subst (λ x. AnswerHolds (Some ((condvar_profile p).purpose l)) (locks_of v) t (going_on e x) a) unheard
+        (becomes (locks_of v) (rights w t) shown_is refl led),
   )
 
   -- the step is that event
-  pub condvar_goes_on : (n : Next CondvarPlace) (o : Outcome) → MayHappen (locks_of w) t e → CallLed w v t e call o
+  pub condvar_goes_on : (n : Next CondvarPlace) (o : Outcome) → MayHappen (locks_of w) t e
+      → CallLed w v t e call o
       → OthersFollow w v t e → Begins (locks_of w) e o → GoesOn (locks_of w) t o (locks_of v)
-  condvar_goes_on n o may led others begins = goes_with w v t e h call call_is o may (λ f. cc) led others begins
+  condvar_goes_on n o may led others begins = goes_with w v t e h call call_is o may (λ f. cc) led others
+      begins
 
 -- --------------------- notes that a thread in such a call never gets, and deeds that it never does to itself
 
@@ -167,13 +202,15 @@ runs_nothing_here l (Look all) = tt
 runs_nothing_here l (Notify all m at) = tt
 
 -- it runs no closure
-pub begins_two : (w : LocksState) (l : ℕ) (p : CondvarPlace) (e : Event) (o : Outcome) → MayComeOfTwo l (condvar_profile p) e
+pub begins_two : (w : LocksState) (l : ℕ) (p : CondvarPlace) (e : Event) (o : Outcome)
+    → MayComeOfTwo l (condvar_profile p) e
     → is_closure o ≡ false → Begins w e o
 begins_two w l p Nothing (outcome.TheVariants.Closure state) may told = absurd cc
 begins_two w l p Nothing o may told = tt
 begins_two w l p (Moves c m all owned number) (outcome.TheVariants.Closure state) may told = absurd cc
 begins_two w l p (Moves c m all owned number) o may told = tt
-begins_two w l p (AtLock k (OfOnce (Start forced))) o may told = absurd (never_starts ((condvar_profile p).purpose l) _ _ _ k forced (runs_nothing_here l p) may.0)
+begins_two w l p (AtLock k (OfOnce (Start forced))) o may told =
+    absurd (never_starts ((condvar_profile p).purpose l) _ _ _ k forced (runs_nothing_here l p) may.0)
 begins_two w l p (AtLock k case) (outcome.TheVariants.Closure state) may told = absurd cc
 begins_two w l p (AtLock k case) o may told = tt
 
@@ -182,11 +219,14 @@ no_closure l (next.At q) = closure_told (condvar_act l q) ∙ condvar_runs_none 
 no_closure l (next.End answer) = refl
 
 -- where it isn't in its own hand, nor among those that it moves, it is neither woken nor moved by itself
-pub unwoken : (w : State) (t : ℕ) (e : Event) (x : CallState) → ((k : ℕ) → is_taken_by t (taken_at (place_at w t) k) ≡ false)
-    → ((c m n : ℕ) (all owned : Bool) → e ≡ Moves c m all owned n → is_among t (moved_of all (lock_state w c).queue) ≡ false)
+pub unwoken : (w : State) (t : ℕ) (e : Event) (x : CallState)
+    → ((k : ℕ) → is_taken_by t (taken_at (place_at w t) k) ≡ false)
+    → ((c m n : ℕ) (all owned : Bool) → e ≡ Moves c m all owned n
+    → is_among t (moved_of all (lock_state w c).queue) ≡ false)
     → woken (locks_of w) t e t x ≡ x
 unwoken w t Nothing x free apart = refl
 unwoken w t (AtLock k Wake) x free apart = rw (free k) refl
 unwoken w t (AtLock k (HandOff y z)) x free apart = rw (free k) refl
 unwoken w t (AtLock k case) x free apart = refl
-unwoken w t (Moves c m all owned n) x free apart = ap (λ (b : Bool). if b then record x { recalls = WasMoved } else x) (apart c m n all owned refl)
+unwoken w t (Moves c m all owned n) x free apart = ap (λ (b : Bool). if b then record x { recalls = WasMoved }
+    else x) (apart c m n all owned refl)

@@ -53,7 +53,8 @@ module _ (l m : ℕ) (apart : m ≢ l) where
     pub location_beside : location_at place m ≡ location_by (row_beside n)
     location_beside = by_next n beside
       where
-        by_next : (n : Next CondvarPlace) → Beside m n → location_at (condvar_goes l n) m ≡ location_by (row_beside n)
+        by_next : (n : Next CondvarPlace) → Beside m n → location_at (condvar_goes l n) m ≡ location_by
+            (row_beside n)
         by_next (At p) e = rw (there_differ, e, same m) refl
         by_next (Over answer) e = refl
 
@@ -73,23 +74,35 @@ module _ (l m : ℕ) (apart : m ≢ l) where
         by_next (Over answer) e = refl
 
   -- elsewhere it stands nowhere
-  pub nothing_there : (n : Next CondvarPlace) → Beside m n → (k : ℕ) → k ≢ l → k ≢ m → location_at (condvar_goes l n) k ≡ nowhere
+  pub nothing_there : (n : Next CondvarPlace) → Beside m n → (k : ℕ) → k ≢ l → k ≢ m
+      → location_at (condvar_goes l n) k ≡ nowhere
   nothing_there (At p) e k nl nm = rw (differ l k (λ f. nl (sym f)), e, differ m k (λ f. nm (sym f))) refl
   nothing_there (Over answer) e k nl nm = refl
 
   -- another lock sees nothing of it
   pub nothing_else : (n n2 : Next CondvarPlace) → Beside m n → Beside m n2 → (k : ℕ) → k ≢ l → k ≢ m
       → Alike k (condvar_goes l n) (condvar_goes l n2)
-  nothing_else n n2 h h2 k nl nm = let a = nothing n h in let b = nothing n2 h2 in record { location = b.0 ∙ sym a.0; role = b.1 ∙ sym a.1; taken = b.2 ∙ sym a.2 }
+  nothing_else n n2 h h2 k nl nm = let a = nothing n h in let b = nothing n2 h2 in record {
+    location = b.0 ∙ sym a.0;
+    role = b.1 ∙ sym a.1;
+    taken = b.2 ∙ sym a.2;
+  }
     where
       nothing : (n : Next CondvarPlace) → Beside m n
           → (location_at (condvar_goes l n) k ≡ nowhere) × (role_on (condvar_goes l n) k ≡ idle)
           × (taken_at (condvar_goes l n) k ≡ None)
-      nothing (At p) e = (rw (differ l k (λ f. nl (sym f)), e, differ m k (λ f. nm (sym f))) refl, rw (differ l k (λ f. nl (sym f)), e, differ m k (λ f. nm (sym f))) refl, rw (differ l k (λ f. nl (sym f)), e, differ m k (λ f. nm (sym f))) refl)
+      nothing (At p) e = (
+        rw (differ l k (λ f. nl (sym f)), e, differ m k (λ f. nm (sym f))) refl,
+        rw (differ l k (λ f. nl (sym f)), e, differ m k (λ f. nm (sym f))) refl,
+        rw (differ l k (λ f. nl (sym f)), e, differ m k (λ f. nm (sym f))) refl,
+      )
       nothing (Over answer) e = (refl, refl, refl)
 
 -- the row there says of the thread's doing where it is inside
-pub role_of_row : (n : Next CondvarPlace) → (row_there n).role ≡ record idle { inside = (location_by (row_there n)).inside }
+pub role_of_row : (n : Next CondvarPlace) → (row_there n).role ≡ record idle {
+  inside =
+      (location_by (row_there n)).inside;
+}
 role_of_row (At p) = refl
 role_of_row (Over answer) = refl
 
@@ -99,19 +112,24 @@ role_of_row (Over answer) = refl
 abbrev pub SameBeside : Next CondvarPlace → Next CondvarPlace → Type 0
 SameBeside n n2 =
     (location_by (row_beside n2) ≡ location_by (row_beside n)) × ((row_beside n2).role ≡ (row_beside n).role)
-    × (taken_from (row_beside n2).hand (row_beside n2).wants true ≡ taken_from (row_beside n).hand (row_beside n).wants true)
+    × (taken_from (row_beside n2).hand (row_beside n2).wants true ≡ taken_from (row_beside n).hand
+    (row_beside n).wants true)
 
-module _ (l m : ℕ) (apart : m ≢ l) (n n2 : Next CondvarPlace) (beside : Beside m n) (beside2 : Beside m n2) where
-  pub alike_beside : SameBeside n n2 → Alike m (condvar_goes l n) (condvar_goes l n2)
-  alike_beside e = record {
-    location = location_beside l m apart n2 beside2 ∙ e.0 ∙ sym (location_beside l m apart n beside);
-    role = role_beside l m apart n2 beside2 ∙ e.1 ∙ sym (role_beside l m apart n beside);
-    taken = taken_beside l m apart n2 beside2 ∙ e.2 ∙ sym (taken_beside l m apart n beside);
-  }
+module _ (l m : ℕ) (apart : m ≢ l) (n n2 : Next CondvarPlace) (beside : Beside m n) (beside2 : Beside m n2)
+  where
+    pub alike_beside : SameBeside n n2 → Alike m (condvar_goes l n) (condvar_goes l n2)
+    alike_beside e = record {
+      location = location_beside l m apart n2 beside2 ∙ e.0 ∙ sym (location_beside l m apart n beside);
+      role = role_beside l m apart n2 beside2 ∙ e.1 ∙ sym (role_beside l m apart n beside);
+      taken = taken_beside l m apart n2 beside2 ∙ e.2 ∙ sym (taken_beside l m apart n beside);
+    }
 
-  pub alike_there : location_by (row_there n2) ≡ location_by (row_there n) → Alike l (condvar_goes l n) (condvar_goes l n2)
-  alike_there e = record {
-    location = location_there l m apart n2 beside2 ∙ e ∙ sym (location_there l m apart n beside);
-    role = role_there l m apart n2 beside2 ∙ role_of_row n2 ∙ ap (λ (y : Location). record idle { inside = y.inside }) e ∙ sym (role_of_row n) ∙ sym (role_there l m apart n beside);
-    taken = taken_there l m apart n2 beside2 ∙ sym (taken_there l m apart n beside);
-  }
+    pub alike_there : location_by (row_there n2) ≡ location_by (row_there n)
+        → Alike l (condvar_goes l n) (condvar_goes l n2)
+    alike_there e = record {
+      location = location_there l m apart n2 beside2 ∙ e ∙ sym (location_there l m apart n beside);
+      role = role_there l m apart n2 beside2 ∙ role_of_row n2
+          ∙ ap (λ (y : Location). record idle { inside = y.inside }) e ∙ sym (role_of_row n)
+          ∙ sym (role_there l m apart n beside);
+      taken = taken_there l m apart n2 beside2 ∙ sym (taken_there l m apart n beside);
+    }

@@ -1,5 +1,7 @@
--- Each act in a wait at its condition variable, where it leaves its mutex as it is: every lock is a site again.
-use Rattle.std.proofs.Common.{ℕ, Bool, true, false, None, if◌then◌else◌, ◌==◌, ◌||◌, ◌≡◌, ◌≢◌, ◌*◌, ◌<◌, [], ◌∷◌, length, refl, sym, ◌∙◌, ap, subst}
+-- Each act in a wait at its condition variable, where it leaves its mutex as it is: every lock is a site
+-- again.
+use Rattle.std.proofs.Common.{ℕ, Bool, true, false, None, if◌then◌else◌, ◌==◌, ◌||◌, ◌≡◌, ◌≢◌, ◌*◌, ◌<◌, []}
+use Rattle.std.proofs.Common.{◌∷◌, length, refl, sym, ◌∙◌, ap, subst}
 use Rattle.steps_base.specs.declared.acts.Next.{Next}
 use Rattle.steps_base.specs.declared.acts.Next.TheVariants.{At}
 use Rattle.steps_base.specs.Moves.{inside_of}
@@ -20,14 +22,16 @@ use Rattle.spec_locks.specs.Condvars as condvars
 use Rattle.spec_locks.specs.Condvars.{IsCondvar}
 use Rattle.spec_locks.specs.Locks as locks
 use Rattle.spec_locks.specs.Sites.{Main}
-use Rattle.lot_machine.specs.Machine.{State, can_do, place_at, put, queue_at, reply_to, section_at, state_after_act, word_at}
+use Rattle.lot_machine.specs.Machine.{State, can_do, place_at, put, queue_at, reply_to, section_at}
+use Rattle.lot_machine.specs.Machine.{state_after_act, word_at}
 use Rattle.lot_laws.specs.MutexDeeds.{acts}
 use Rattle.lot_laws.specs.Locations.{location_at}
 use Rattle.lot_laws.specs.SitesOf.{FitsItsLock, Goes, IsInductive, condvar_of, key_of, rules_in}
 use Rattle.lot_laws.proofs.sites.StandsKept.{Alike}
 use Rattle.lot_laws.proofs.condvar.TwoParts.{Beside, SameBeside, alike_beside, location_beside}
 use Rattle.lot_laws.proofs.condvar.Replies.{at_it, may_hear, word_is, none_so}
-use Rattle.lot_laws.proofs.condvar.MutexUntouched.{IsOfWord, enters_there, leaves_list, leaves_there, stands_there, there_deeds, works_there}
+use Rattle.lot_laws.proofs.condvar.MutexUntouched.{IsOfWord, enters_there, leaves_list, leaves_there}
+use Rattle.lot_laws.proofs.condvar.MutexUntouched.{stands_there, there_deeds, works_there}
 use Rattle.steps_base.specs.Locations.{Location, location_by}
 
 -- the places of a wait whose act is at the condition variable alone
@@ -41,14 +45,17 @@ IsAtCondvar wait.Hide = Unit {0}
 IsAtCondvar wait.GiveUp = Unit {0}
 IsAtCondvar at = ⊥
 
-module _ (w : State) (t l m : ℕ) (timed : Bool) (steady : IsInductive w) (is_there : t < length w.places) (apart : m ≢ l)
+module _ (w : State) (t l m : ℕ) (timed : Bool) (steady : IsInductive w) (is_there : t < length w.places)
+    (apart : m ≢ l)
     (sort : (rules_in w l).sort ≡ locks.Condvar) (condvar : IsCondvar (condvar_of w l))
-    (lock : l < length w.locks) (section : key_of l Main < length w.sections) (line : key_of l Main < length w.queues) where
+    (lock : l < length w.locks) (section : key_of l Main < length w.sections) (line : key_of l Main
+    < length w.queues) where
   abbrev waits : WaitAt → CondvarPlace
   waits at = Wait m timed at
 
   abbrev Kept : WaitAt → Type 0
-  Kept at = Goes w (put (state_after_act w t (Condvar l (waits at)) (wait_act l m at)) t (condvar_goes l (condvar_next (waits at) (reply_to w t (wait_act l m at))))) l
+  Kept at = Goes w (put (state_after_act w t (Condvar l (waits at)) (wait_act l m at)) t
+      (condvar_goes l (condvar_next (waits at) (reply_to w t (wait_act l m at))))) l
       (acts t (there_deeds (condvar_deeds (waits at) (reply_to w t (wait_act l m at)))))
 
   abbrev FitsNext : WaitAt → Type 0
@@ -57,43 +64,59 @@ module _ (w : State) (t l m : ℕ) (timed : Bool) (steady : IsInductive w) (is_t
   -- tells what a step leaves as it was at the mutex
   same_beside : (at : WaitAt) → place_at w t ≡ Condvar l (waits at) → (n : Next CondvarPlace) → Beside m n
       → SameBeside (At (waits at)) n → Alike m (place_at w t) (condvar_goes l n)
-  same_beside at is n beside e = subst (λ q. Alike m q (condvar_goes l n)) (sym is) (alike_beside l m apart (At (waits at)) n refl beside e)
+  same_beside at is n beside e = subst (λ q. Alike m q (condvar_goes l n)) (sym is)
+      (alike_beside l m apart (At (waits at)) n refl beside e)
 
   -- it stands in no line there
-  outside : (at : WaitAt) → place_at w t ≡ Condvar l (waits at) → (location_by (row_beside (At (waits at)))).stands ≡ None
+  outside : (at : WaitAt) → place_at w t ≡ Condvar l (waits at)
+      → (location_by (row_beside (At (waits at)))).stands ≡ None
       → (location_at (place_at w t) m).stands ≡ None
-  outside at is e = ap (λ q. (location_at q m).stands) is ∙ ap (λ (y : Location). y.stands) (location_beside l m apart (At (waits at)) refl) ∙ e
+  outside at is e = ap (λ q. (location_at q m).stands) is
+      ∙ ap (λ (y : Location). y.stands) (location_beside l m apart (At (waits at)) refl) ∙ e
 
-  enters : place_at w t ≡ Condvar l (waits wait.Enter) → can_do w (wait_act l m wait.Enter) ≡ true → FitsNext wait.Enter
+  enters : place_at w t ≡ Condvar l (waits wait.Enter) → can_do w (wait_act l m wait.Enter) ≡ true
+      → FitsNext wait.Enter
       → Kept wait.Enter
-  enters is can fits = enters_there w t l m (waits wait.Enter) steady is_there apart sort is refl Done refl fits (same_beside wait.Enter is (At (waits wait.Show)) refl (refl, refl, refl))
+  enters is can fits = enters_there w t l m (waits wait.Enter) steady is_there apart sort is refl Done refl
+      fits (same_beside wait.Enter is (At (waits wait.Show)) refl (refl, refl, refl))
       section (none_so (section_at w (2 * l)) can) refl refl
 
   stands : place_at w t ≡ Condvar l (waits wait.Stand) → FitsNext wait.Stand → Kept wait.Stand
-  stands is fits = stands_there w t l m (waits wait.Stand) steady is_there apart sort is refl Done refl fits (same_beside wait.Stand is (At (waits wait.Leave)) refl (refl, refl, refl)) (outside wait.Stand is refl) line refl refl
+  stands is fits = stands_there w t l m (waits wait.Stand) steady is_there apart sort is refl Done refl fits
+      (same_beside wait.Stand is (At (waits wait.Leave)) refl (refl, refl, refl)) (outside wait.Stand is refl)
+      line refl refl
 
   leaves : place_at w t ≡ Condvar l (waits wait.Leave) → FitsNext wait.Leave → Kept wait.Leave
-  leaves is fits = leaves_there w t l m (waits wait.Leave) steady is_there apart sort is refl Done refl fits (same_beside wait.Leave is (condvar_next (waits wait.Leave) Done) refl (refl, refl, refl)) section refl refl
+  leaves is fits = leaves_there w t l m (waits wait.Leave) steady is_there apart sort is refl Done refl fits
+      (same_beside wait.Leave is (condvar_next (waits wait.Leave) Done) refl (refl, refl, refl)) section refl
+      refl
 
   gives_up : place_at w t ≡ Condvar l (waits wait.GiveUp) → FitsNext wait.GiveUp → Kept wait.GiveUp
-  gives_up is fits = leaves_there w t l m (waits wait.GiveUp) steady is_there apart sort is refl Done refl fits (same_beside wait.GiveUp is (condvar_next (waits wait.GiveUp) Done) refl (refl, refl, refl)) section refl refl
+  gives_up is fits = leaves_there w t l m (waits wait.GiveUp) steady is_there apart sort is refl Done refl
+      fits (same_beside wait.GiveUp is (condvar_next (waits wait.GiveUp) Done) refl (refl, refl, refl))
+      section refl refl
 
   -- its time is up, and it leaves the list; whether anybody is left there
   removed_next : (b : Bool) → Beside m (in_wait m timed (if b then At wait.Hide else At wait.GiveUp))
   removed_next true = refl
   removed_next false = refl
 
-  removed_same : (b : Bool) → SameBeside (At (waits wait.Remove)) (in_wait m timed (if b then At wait.Hide else At wait.GiveUp))
+  removed_same : (b : Bool) → SameBeside (At (waits wait.Remove))
+      (in_wait m timed (if b then At wait.Hide else At wait.GiveUp))
   removed_same true = (refl, refl, refl)
   removed_same false = (refl, refl, refl)
 
   removed_there : (b : Bool)
-      → location_by (row_there (in_wait m timed (if b then At wait.Hide else At wait.GiveUp))) ≡ inside_of Main
+      → location_by (row_there (in_wait m timed (if b then At wait.Hide else At wait.GiveUp)))
+      ≡ inside_of Main
   removed_there true = refl
   removed_there false = refl
 
   removes : place_at w t ≡ Condvar l (waits wait.Remove) → FitsNext wait.Remove → Kept wait.Remove
-  removes is fits = leaves_list w t l m (waits wait.Remove) steady is_there apart sort is refl (Removed none_left) (removed_next none_left) fits (same_beside wait.Remove is (condvar_next (waits wait.Remove) (Removed none_left)) (removed_next none_left) (removed_same none_left))
+  removes is fits = leaves_list w t l m (waits wait.Remove) steady is_there apart sort is refl
+      (Removed none_left) (removed_next none_left) fits (same_beside wait.Remove is
+      (condvar_next (waits wait.Remove) (Removed none_left)) (removed_next none_left)
+      (removed_same none_left))
       (outside wait.Remove is refl) refl (removed_there none_left)
     where
       none_left : Bool
@@ -104,12 +127,14 @@ module _ (w : State) (t l m : ℕ) (timed : Bool) (steady : IsInductive w) (is_t
   shows_next true = refl
   shows_next false = refl
 
-  shows_same : (b : Bool) → SameBeside (At (waits wait.Show)) (in_wait m timed (if b then At wait.Stand else At wait.Refuse))
+  shows_same : (b : Bool) → SameBeside (At (waits wait.Show))
+      (in_wait m timed (if b then At wait.Stand else At wait.Refuse))
   shows_same true = (refl, refl, refl)
   shows_same false = (refl, refl, refl)
 
   shows_there : (b : Bool)
-      → location_by (row_there (in_wait m timed (if b then At wait.Stand else At wait.Refuse))) ≡ there (waits wait.Show)
+      → location_by (row_there (in_wait m timed (if b then At wait.Stand else At wait.Refuse)))
+      ≡ there (waits wait.Show)
   shows_there true = refl
   shows_there false = refl
 
@@ -117,11 +142,16 @@ module _ (w : State) (t l m : ℕ) (timed : Bool) (steady : IsInductive w) (is_t
   shows_deeds true = tt
   shows_deeds false = tt
 
-  shows : place_at w t ≡ Condvar l (waits wait.Show) → can_do w (wait_act l m wait.Show) ≡ true → FitsNext wait.Show
+  shows : place_at w t ≡ Condvar l (waits wait.Show) → can_do w (wait_act l m wait.Show) ≡ true
+      → FitsNext wait.Show
       → Kept wait.Show
-  shows is can fits = works_there w t l m (waits wait.Show) steady is_there apart sort is refl (Value seen) (shows_next (sees seen)) fits (same_beside wait.Show is (condvar_next (waits wait.Show) (Value seen)) (shows_next (sees seen)) (shows_same (sees seen)))
-      (op.Exchange 0 (shown_as m)) lock refl refl (word_is w t l (waits wait.Show) steady is) (shows_there (sees seen)) (shows_deeds (sees seen))
-      (condvar_steps_follow (condvar_of w l) t (waits wait.Show) (Value seen) condvar (at_it w t l (waits wait.Show) steady is) (may_hear w t l (waits wait.Show) steady is can))
+  shows is can fits = works_there w t l m (waits wait.Show) steady is_there apart sort is refl (Value seen)
+      (shows_next (sees seen)) fits (same_beside wait.Show is (condvar_next (waits wait.Show) (Value seen))
+      (shows_next (sees seen)) (shows_same (sees seen)))
+      (op.Exchange 0 (shown_as m)) lock refl refl (word_is w t l (waits wait.Show) steady is)
+      (shows_there (sees seen)) (shows_deeds (sees seen))
+      (condvar_steps_follow (condvar_of w l) t (waits wait.Show) (Value seen) condvar
+      (at_it w t l (waits wait.Show) steady is) (may_hear w t l (waits wait.Show) steady is can))
     where
       seen : ℕ
       seen = word_at w l
@@ -129,13 +159,21 @@ module _ (w : State) (t l m : ℕ) (timed : Bool) (steady : IsInductive w) (is_t
       sees : ℕ → Bool
       sees v = (v == 0) || is_shown v m
 
-  hides : place_at w t ≡ Condvar l (waits wait.Hide) → can_do w (wait_act l m wait.Hide) ≡ true → FitsNext wait.Hide
+  hides : place_at w t ≡ Condvar l (waits wait.Hide) → can_do w (wait_act l m wait.Hide) ≡ true
+      → FitsNext wait.Hide
       → Kept wait.Hide
-  hides is can fits = works_there w t l m (waits wait.Hide) steady is_there apart sort is refl (Value (word_at w l)) refl fits (same_beside wait.Hide is (At (waits wait.GiveUp)) refl (refl, refl, refl))
+  hides is can fits = works_there w t l m (waits wait.Hide) steady is_there apart sort is refl
+      (Value (word_at w l)) refl fits (same_beside wait.Hide is (At (waits wait.GiveUp)) refl (
+        refl,
+        refl,
+        refl,
+      ))
       (op.Store 0) lock refl refl (word_is w t l (waits wait.Hide) steady is) refl tt
-      (condvar_steps_follow (condvar_of w l) t (waits wait.Hide) (Value (word_at w l)) condvar (at_it w t l (waits wait.Hide) steady is) (may_hear w t l (waits wait.Hide) steady is can))
+      (condvar_steps_follow (condvar_of w l) t (waits wait.Hide) (Value (word_at w l)) condvar
+      (at_it w t l (waits wait.Hide) steady is) (may_hear w t l (waits wait.Hide) steady is can))
 
-  pub waits_there : (at : WaitAt) → IsAtCondvar at → place_at w t ≡ Condvar l (waits at) → can_do w (wait_act l m at) ≡ true
+  pub waits_there : (at : WaitAt) → IsAtCondvar at → place_at w t ≡ Condvar l (waits at)
+      → can_do w (wait_act l m at) ≡ true
       → FitsNext at → Kept at
   waits_there wait.Enter h is can fits = enters is can fits
   waits_there wait.Show h is can fits = shows is can fits

@@ -1,6 +1,7 @@
 -- A wait's own step never leads it to sleep where it was handed its mutex: each thread that hands it over is
 -- inside the section of the mutex till it has told so.
-use Rattle.std.proofs.Common.{ℕ, Bool, true, false, Some, if◌then◌else◌, ◌==◌, ◌≡◌, ◌≢◌, ◌+◌, ◌*◌, not, refl, sym, ◌∙◌, ap}
+use Rattle.std.proofs.Common.{ℕ, Bool, true, false, Some, if◌then◌else◌, ◌==◌, ◌≡◌, ◌≢◌, ◌+◌, ◌*◌, not, refl}
+use Rattle.std.proofs.Common.{sym, ◌∙◌, ap}
 use Rattle.std.proofs.lemmas.Bool.{eqb-true}
 use Rattle.core_base.specs.declared.keys.Keys.TheVariants.{One}
 use Rattle.core_base.specs.declared.notes.Note.TheVariants as note
@@ -19,7 +20,8 @@ use Rattle.steps_mutex.specs.declared.lock.LockAt.{LockAt}
 use Rattle.steps_mutex.specs.declared.lock.LockAt.TheVariants as lock
 use Rattle.steps_mutex.specs.declared.unlock.UnlockAt.TheVariants as unlock
 use Rattle.steps_mutex.specs.MutexProfiles.{mutex_profile}
-use Rattle.steps_mutex.specs.MutexSteps.{entered, in_lock, in_unlock, is_locked, is_parked, lock_act, mutex_next}
+use Rattle.steps_mutex.specs.MutexSteps.{entered, in_lock, in_unlock, is_locked, is_parked, lock_act}
+use Rattle.steps_mutex.specs.MutexSteps.{mutex_next}
 use Rattle.steps_condvar.specs.declared.notify.NotifyAt.TheVariants as notify
 use Rattle.steps_condvar.specs.declared.places.CondvarPlace.{CondvarPlace}
 use Rattle.steps_condvar.specs.declared.places.CondvarPlace.TheVariants.{Wait, Look, Notify}
@@ -29,7 +31,8 @@ use Rattle.steps_condvar.specs.declared.wait.WaitAt.{WaitAt}
 use Rattle.steps_condvar.specs.declared.wait.WaitAt.TheVariants as wait
 use Rattle.steps_condvar.specs.CondvarCalls.{IsLockOf, IsReached}
 use Rattle.steps_condvar.specs.CondvarProfiles.{has_mutex, carries_beside, condvar_profile, mutex_side}
-use Rattle.steps_condvar.specs.CondvarSteps.{behind_release, mutex_beside, next_wait, released, relocked, wait_act}
+use Rattle.steps_condvar.specs.CondvarSteps.{behind_release, mutex_beside, next_wait, released, relocked}
+use Rattle.steps_condvar.specs.CondvarSteps.{wait_act}
 use Rattle.lot_steps.specs.declared.places.Place.{Place}
 use Rattle.lot_steps.specs.declared.places.Place.TheVariants.{Idle, Mutex, RwLock, Once, Condvar, Semaphore}
 use Rattle.lot_steps.specs.Steps.{is_lock}
@@ -90,52 +93,79 @@ module _ (w : State) (steady : IsInductive w) (u m : ℕ) (sort : (rules_in w m)
       by_place Idle is fits h = absurd cc
       by_place (Mutex k at) is fits h = either (k == m) refl h
         where
-          either : (b : Bool) → (k == m) ≡ b → (if b then location (Mutex k at) else nowhere).carries ≡ Some true
+          either : (b : Bool) → (k == m) ≡ b → (if b then location (Mutex k at) else nowhere).carries
+              ≡ Some true
               → (b : Bool) × (place_at w u ≡ Mutex m (mutex.HandOff b (hand_off.Leave true)))
-          either true e g = let x = handed_mutex at g in (x.0, is ∙ ap (λ j. Mutex j at) (eqb-true k m e) ∙ ap (Mutex m) x.1)
+          either true e g = let x = handed_mutex at g in (
+            x.0,
+            is ∙ ap (λ j. Mutex j at) (eqb-true k m e)
+                ∙ ap (Mutex m) x.1,
+          )
           either false e g = absurd cc
       by_place (RwLock k a c) is fits h = either (k == m) refl h
         where
-          either : (b : Bool) → (k == m) ≡ b → (if b then location (RwLock k a c) else nowhere).carries ≡ Some true
+          either : (b : Bool) → (k == m) ≡ b → (if b then location (RwLock k a c) else nowhere).carries
+              ≡ Some true
               → (b : Bool) × (place_at w u ≡ Mutex m (mutex.HandOff b (hand_off.Leave true)))
-          either true e g = absurd (let both : false ≡ true = sym (ap has_readers (ap (λ j. (rules_in w j).sort) (eqb-true k m e) ∙ sort)) ∙ fits.0.0 in cc)
+          either true e g = absurd (let both : false ≡ true =
+              sym (ap has_readers (ap (λ j. (rules_in w j).sort) (eqb-true k m e) ∙ sort)) ∙ fits.0.0 in cc)
           either false e g = absurd cc
       by_place (Once k at) is fits h = either (k == m) refl h
         where
-          either : (b : Bool) → (k == m) ≡ b → (if b then location (Once k at) else nowhere).carries ≡ Some true
+          either : (b : Bool) → (k == m) ≡ b → (if b then location (Once k at) else nowhere).carries
+              ≡ Some true
               → (b : Bool) × (place_at w u ≡ Mutex m (mutex.HandOff b (hand_off.Leave true)))
-          either true e g = absurd (let both : locks.Once ≡ locks.Mutex = sym fits ∙ ap (λ j. (rules_in w j).sort) (eqb-true k m e) ∙ sort in cc)
+          either true e g = absurd (let both : locks.Once ≡ locks.Mutex = sym fits
+              ∙ ap (λ j. (rules_in w j).sort) (eqb-true k m e) ∙ sort in cc)
           either false e g = absurd cc
       by_place (Semaphore k at) is fits h = either (k == m) refl h
         where
-          either : (b : Bool) → (k == m) ≡ b → (if b then location (Semaphore k at) else nowhere).carries ≡ Some true
+          either : (b : Bool) → (k == m) ≡ b → (if b then location (Semaphore k at) else nowhere).carries
+              ≡ Some true
               → (b : Bool) × (place_at w u ≡ Mutex m (mutex.HandOff b (hand_off.Leave true)))
-          either true e g = absurd (let both : locks.Semaphore ≡ locks.Mutex = sym fits.0 ∙ ap (λ j. (rules_in w j).sort) (eqb-true k m e) ∙ sort in cc)
+          either true e g = absurd (let both : locks.Semaphore ≡ locks.Mutex = sym fits.0
+              ∙ ap (λ j. (rules_in w j).sort) (eqb-true k m e) ∙ sort in cc)
           either false e g = absurd cc
       by_place (Condvar k at) is fits h = either (k == m) (is_lock m (mutex_beside at)) refl h
         where
           either : (b there : Bool) → (k == m) ≡ b
-              → (if b then location_by (condvar_profile at) else if there then location_by (mutex_side at) else nowhere).carries
+              → (if b then location_by (condvar_profile at) else if there then location_by (mutex_side at)
+              else nowhere).carries
               ≡ Some true
               → (b : Bool) × (place_at w u ≡ Mutex m (mutex.HandOff b (hand_off.Leave true)))
-          either true there e g = absurd (let both : locks.Condvar ≡ locks.Mutex = sym fits.sort ∙ ap (λ j. (rules_in w j).sort) (eqb-true k m e) ∙ sort in cc)
+          either true there e g = absurd (let both : locks.Condvar ≡ locks.Mutex = sym fits.sort
+              ∙ ap (λ j. (rules_in w j).sort) (eqb-true k m e) ∙ sort in cc)
           either false true e g = absurd (hands_none at fits.reached g)
           either false false e g = absurd cc
 
 -- a thread that is inside the section of its mutex, and releases it, was not handed it meanwhile
 module _ (w : State) (t l m : ℕ) (timed : Bool) (steady : IsInductive w) where
   never_handed : (u : ℕ) (any : Bool)
-      → place_at w t ≡ Condvar l (Wait m timed (wait.Release (stands.Handed u) (mutex.Unlock (unlock.Leave any)))) → ⊥
+      → place_at w t ≡ Condvar l (Wait m timed (wait.Release (stands.Handed u)
+      (mutex.Unlock (unlock.Leave any)))) → ⊥
   never_handed u any is =
-      let here = location_beside w t l (Wait m timed (wait.Release (stands.Handed u) (mutex.Unlock (unlock.Leave any)))) steady is m refl in
-      let in_hand_of : (location_at (place_at w t) m).hand ≡ hand u true = ap (λ (y : Location). y.hand) here in
-      let giver = has_handed w steady u m (rules_beside w t l (Wait m timed (wait.Release (stands.Handed u) (mutex.Unlock (unlock.Leave any)))) steady is m refl) (steady.stands.hands.taken u t m true in_hand_of) in
-      let giver_inside : (location_at (place_at w u) m).inside ≡ Some Main = ap (λ p. (location_at p m).inside) giver.1 ∙ ap (λ (b : Bool). (if b then location (Mutex m (mutex.HandOff giver.0 (hand_off.Leave true))) else nowhere).inside) (same m) in
-      let by_giver : section_at w (key_of m Main) ≡ Some u = (steady.stands.sections u m Main).0 giver_inside in
-      let by_own : section_at w (key_of m Main) ≡ Some t = (steady.stands.sections t m Main).0 (ap (λ (y : Location). y.inside) here) in
+      let here = location_beside w t l
+      (Wait m timed (wait.Release (stands.Handed u) (mutex.Unlock (unlock.Leave any)))) steady is m refl
+      in
+      let in_hand_of : (location_at (place_at w t) m).hand ≡ hand u true = ap (λ (y : Location). y.hand) here
+      in
+      let giver = has_handed w steady u m
+      (rules_beside w t l (Wait m timed (wait.Release (stands.Handed u)
+      (mutex.Unlock (unlock.Leave any)))) steady is m refl) (steady.stands.hands.taken u t m true
+      in_hand_of) in
+      let giver_inside : (location_at (place_at w u) m).inside ≡ Some Main =
+      ap (λ p. (location_at p m).inside) giver.1
+      ∙ ap (λ (b : Bool). (if b then location (Mutex m (mutex.HandOff giver.0 (hand_off.Leave true)))
+      else nowhere).inside) (same m) in
+      let by_giver : section_at w (key_of m Main) ≡ Some u = (steady.stands.sections u m Main).0 giver_inside
+      in
+      let by_own : section_at w (key_of m Main) ≡ Some t = (steady.stands.sections t m Main).0
+      (ap (λ (y : Location). y.inside) here) in
       let both : Some u ≡ Some t = sym by_giver ∙ by_own in
       let one : u ≡ t = cc in
-      let places : Mutex m (mutex.HandOff giver.0 (hand_off.Leave true)) ≡ Condvar l (Wait m timed (wait.Release (stands.Handed u) (mutex.Unlock (unlock.Leave any)))) = sym giver.1 ∙ ap (place_at w) one ∙ is in cc
+      let places : Mutex m (mutex.HandOff giver.0 (hand_off.Leave true)) ≡ Condvar l
+      (Wait m timed (wait.Release (stands.Handed u) (mutex.Unlock (unlock.Leave any)))) = sym giver.1
+      ∙ ap (place_at w) one ∙ is in cc
 
   settled_behind : (s : Stands) → ((u : ℕ) → s ≡ stands.Handed u → ⊥) → IsSettled (behind_release s)
   settled_behind stands.Listed free = tt
@@ -162,12 +192,14 @@ module _ (w : State) (t l m : ℕ) (timed : Bool) (steady : IsInductive w) where
   subtracts s free false = settled_behind s free
 
   takes : (s : Stands) (any b : Bool)
-      → IsSettled (released s (in_unlock (if b then next.At (unlock.Clear any) else next.At (unlock.Leave any))))
+      → IsSettled (released s (in_unlock (if b then next.At (unlock.Clear any)
+      else next.At (unlock.Leave any))))
   takes s any true = tt
   takes s any false = tt
 
   module _ (late : Bool) where
-    by_two : (b : Bool) (x y : Next LockAt) → ((again : Bool) → IsSettledNext (relocked timed late (in_lock entry.Lock again x)))
+    by_two : (b : Bool) (x y : Next LockAt)
+        → ((again : Bool) → IsSettledNext (relocked timed late (in_lock entry.Lock again x)))
         → ((again : Bool) → IsSettledNext (relocked timed late (in_lock entry.Lock again y)))
         → (again : Bool) → IsSettledNext (relocked timed late (in_lock entry.Lock again (if b then x else y)))
     by_two true x y h k = h
@@ -175,25 +207,31 @@ module _ (w : State) (t l m : ℕ) (timed : Bool) (steady : IsInductive w) where
 
     sees : (seen : ℕ) (again other locked : Bool)
         → IsSettledNext
-        (relocked timed late (in_lock entry.Lock again (if other then next.At (lock.Decide (word_at w m)) else if locked then next.At (lock.Decide 3) else next.End (entered entry.Lock))))
+        (relocked timed late (in_lock entry.Lock again (if other then next.At (lock.Decide (word_at w m))
+        else if locked then next.At (lock.Decide 3) else next.End (entered entry.Lock))))
     sees seen again true locked = tt
     sees seen again false true = tt
     sees seen again false false = tt
 
     decides : (seen : ℕ) (again a b : Bool)
         → IsSettledNext
-        (relocked timed late (mutex_next (mutex.Lock entry.Lock again (lock.Decide seen)) (reply_to w t (if not a then act.Word m (op.TheVariants.Exchange seen (seen + 1)) else if b then act.Word m (op.TheVariants.Exchange 1 3) else act.Enter (One (2 * m))))))
+        (relocked timed late (mutex_next (mutex.Lock entry.Lock again (lock.Decide seen))
+        (reply_to w t (if not a then act.Word m (op.TheVariants.Exchange seen (seen + 1)) else if b
+        then act.Word m (op.TheVariants.Exchange 1 3) else act.Enter (One (2 * m))))))
     decides seen again false b = sees seen again (not (word_at w m == seen)) (is_locked (word_at w m))
     decides seen again true true = sees seen again (not (word_at w m == seen)) (is_locked (word_at w m))
     decides seen again true false = tt
 
     lock_settles : (again : Bool) (a : LockAt) → IsLockOf a → can_do w (lock_act m a) ≡ true
-        → IsSettledNext (relocked timed late (mutex_next (mutex.Lock entry.Lock again a) (reply_to w t (lock_act m a))))
-    lock_settles again lock.First of can = by_two (word_at w m == 0) (next.End _) (next.At lock.Load) (λ g. tt) (λ g. tt) again
+        → IsSettledNext (relocked timed late (mutex_next (mutex.Lock entry.Lock again a)
+        (reply_to w t (lock_act m a))))
+    lock_settles again lock.First of can = by_two (word_at w m == 0) (next.End _) (next.At lock.Load)
+        (λ g. tt) (λ g. tt) again
     lock_settles again lock.Load of can = tt
     lock_settles again (lock.Decide seen) of can = decides seen again (is_locked seen) (seen == 1)
     lock_settles again lock.Check of can = tt
-    lock_settles again (lock.Leave parked) of can = by_two parked (next.At lock.Asleep) (next.At lock.Load) (λ g. tt) (λ g. tt) again
+    lock_settles again (lock.Leave parked) of can = by_two parked (next.At lock.Asleep) (next.At lock.Load)
+        (λ g. tt) (λ g. tt) again
     lock_settles again lock.Asleep of can = absurd cc
     lock_settles again (lock.Taken by) of can = absurd cc
     lock_settles again (lock.Handed by) of can = absurd cc
@@ -207,11 +245,14 @@ module _ (w : State) (t l m : ℕ) (timed : Bool) (steady : IsInductive w) where
   wait_settles wait.Stand is reached can = tt
   wait_settles wait.Leave is reached can = tt
   wait_settles wait.Refuse is reached can = tt
-  wait_settles (wait.Release s (mutex.Unlock unlock.Subtract)) is reached can = subtracts s (λ u e. let none = reached.1 (ap has_mutex e) in cc) (is_parked (word_at w m))
+  wait_settles (wait.Release s (mutex.Unlock unlock.Subtract)) is reached can =
+      subtracts s (λ u e. let none = reached.1 (ap has_mutex e) in cc) (is_parked (word_at w m))
   wait_settles (wait.Release s (mutex.Unlock unlock.Enter)) is reached can = tt
   wait_settles (wait.Release s (mutex.Unlock unlock.Take)) is reached can = takes s _ _
   wait_settles (wait.Release s (mutex.Unlock (unlock.Clear any))) is reached can = tt
-  wait_settles (wait.Release s (mutex.Unlock (unlock.Leave any))) is reached can = settled_behind s (λ u e. never_handed u any (is ∙ ap (λ x. Condvar l (Wait m timed (wait.Release x (mutex.Unlock (unlock.Leave any))))) e))
+  wait_settles (wait.Release s (mutex.Unlock (unlock.Leave any))) is reached can =
+      settled_behind s (λ u e. never_handed u any (is
+      ∙ ap (λ x. Condvar l (Wait m timed (wait.Release x (mutex.Unlock (unlock.Leave any))))) e))
   wait_settles (wait.Release s a) is reached can = absurd reached.0
   wait_settles (wait.Asleep s) is reached can = absurd cc
   wait_settles wait.Remove is reached can = leaves _
@@ -219,5 +260,6 @@ module _ (w : State) (t l m : ℕ) (timed : Bool) (steady : IsInductive w) where
   wait_settles wait.GiveUp is reached can = tt
   wait_settles wait.RemoveMoved is reached can = tt
   wait_settles (wait.GiveUpMoved none_left) is reached can = tt
-  wait_settles (wait.Lock late (mutex.Lock entry.Lock again a)) is reached can = lock_settles late again a reached.1 can
+  wait_settles (wait.Lock late (mutex.Lock entry.Lock again a)) is reached can =
+      lock_settles late again a reached.1 can
   wait_settles (wait.Lock late a) is reached can = absurd reached.1

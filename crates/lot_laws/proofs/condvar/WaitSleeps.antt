@@ -1,5 +1,6 @@
 -- A wait that is told to sleep stands in a queue, or is in a hand.
-use Rattle.std.proofs.Common.{ℕ, Bool, true, false, Some, None, if◌then◌else◌, ◌==◌, ◌≡◌, ◌+◌, ◌*◌, ◌≤◌, not, inl, inr, refl, ◌∙◌, ap, arith}
+use Rattle.std.proofs.Common.{ℕ, Bool, true, false, Some, None, if◌then◌else◌, ◌==◌, ◌≡◌, ◌+◌, ◌*◌, ◌≤◌, not}
+use Rattle.std.proofs.Common.{inl, inr, refl, ◌∙◌, ap, arith}
 use Rattle.core_base.specs.declared.keys.Keys.TheVariants.{One}
 use Rattle.core_base.specs.declared.ops.Op as op
 use Rattle.spec_locks.specs.declared.outcomes.Outcome as outcome
@@ -48,19 +49,24 @@ IsSettledNext (next.End answer) = Unit {0}
 module _ (v : State) (t l m : ℕ) (timed : Bool) (steady : IsInductive v) where
   module _ (q : WaitAt) (there : place_at v t ≡ Condvar l (Wait m timed q)) where
     listed : (wait_row m q).listed ≡ true → 1 ≤ standing t (lock_state v l)
-    listed e = let a : (location_at (place_at v t) l).stands ≡ Some Main = ap (λ (y : Location). y.stands) (location_there v steady.stands t l (Wait m timed q) there) ∙ ap (λ (b : Bool). if b then Some Main else None) e in
+    listed e = let a : (location_at (place_at v t) l).stands ≡ Some Main =
+        ap (λ (y : Location). y.stands) (location_there v steady.stands t l (Wait m timed q) there)
+        ∙ ap (λ (b : Bool). if b then Some Main else None) e in
         let one : stood_in (location_at (place_at v t) l).stands Main ≡ 1 = ap (λ o. stood_in o Main) a in
         let by = standing_by v t steady l in omega arith
 
     moved : (wait_row m q).moved ≡ true → 1 ≤ standing t (lock_state v m)
-    moved e = let a : (location_at (place_at v t) m).stands ≡ Some Main = ap (λ (y : Location). y.stands) (location_beside v t l (Wait m timed q) steady there m refl) ∙ ap (λ (b : Bool). if b then Some Main else None) e in
+    moved e = let a : (location_at (place_at v t) m).stands ≡ Some Main = ap (λ (y : Location). y.stands)
+        (location_beside v t l (Wait m timed q) steady there m refl)
+        ∙ ap (λ (b : Bool). if b then Some Main else None) e in
         let one : stood_in (location_at (place_at v t) m).stands Main ≡ 1 = ap (λ o. stood_in o Main) a in
         let by = standing_by v t steady m in omega arith
 
     held : one_if_some (taken_at (place_at v t) m) ≡ 1 → 1 ≤ standing t (lock_state v m)
     held one = let by = standing_by v t steady m in omega arith
 
-  rests_at : (q : WaitAt) → place_at v t ≡ Condvar l (Wait m timed q) → IsReached (Wait m timed q) → IsSettled q
+  rests_at : (q : WaitAt) → place_at v t ≡ Condvar l (Wait m timed q) → IsReached (Wait m timed q)
+      → IsSettled q
       → (k : ℕ) × GoesAs v t k (outcome_of (wait_act l m q))
   rests_at wait.Enter there reached settled = (l, inl refl)
   rests_at wait.Show there reached settled = (l, inl refl)
@@ -73,9 +79,19 @@ module _ (v : State) (t l m : ℕ) (timed : Bool) (steady : IsInductive v) where
   rests_at (wait.Release s (mutex.Unlock (unlock.Clear any))) there reached settled = (l, inl refl)
   rests_at (wait.Release s (mutex.Unlock (unlock.Leave any))) there reached settled = (l, inl refl)
   rests_at (wait.Release s a) there reached settled = absurd reached.0
-  rests_at (wait.Asleep stands.Listed) there reached settled = (l, inr (inl (refl, listed (wait.Asleep stands.Listed) there refl)))
-  rests_at (wait.Asleep stands.Moved) there reached settled = (m, inr (inl (refl, moved (wait.Asleep stands.Moved) there refl)))
-  rests_at (wait.Asleep (stands.InHand by)) there reached settled = (m, inr (inl (refl, held (wait.Asleep (stands.InHand by)) there (ap one_if_some (taken_beside v t l (Wait m timed (wait.Asleep (stands.InHand by))) steady there m refl)))))
+  rests_at (wait.Asleep stands.Listed) there reached settled =
+      (l, inr (inl (refl, listed (wait.Asleep stands.Listed) there refl)))
+  rests_at (wait.Asleep stands.Moved) there reached settled =
+      (m, inr (inl (refl, moved (wait.Asleep stands.Moved) there refl)))
+  rests_at (wait.Asleep (stands.InHand by)) there reached settled = (
+    m,
+    inr (inl (
+      refl,
+      held (wait.Asleep (stands.InHand by)) there
+          (ap one_if_some (taken_beside v t l (Wait m timed (wait.Asleep (stands.InHand by))) steady there m
+          refl)),
+    )),
+  )
   rests_at (wait.Asleep s) there reached settled = absurd settled
   rests_at wait.Remove there reached settled = (l, inl refl)
   rests_at wait.Hide there reached settled = (l, inl refl)
@@ -84,26 +100,40 @@ module _ (v : State) (t l m : ℕ) (timed : Bool) (steady : IsInductive v) where
   rests_at (wait.GiveUpMoved none_left) there reached settled = (l, inl refl)
   rests_at (wait.Lock late (mutex.Lock entry.Lock again lock.First)) there reached settled = (l, inl refl)
   rests_at (wait.Lock late (mutex.Lock entry.Lock again lock.Load)) there reached settled = (l, inl refl)
-  rests_at (wait.Lock late (mutex.Lock entry.Lock again (lock.Decide seen))) there reached settled = (l, inl (decides (is_locked seen) (seen == 1)))
+  rests_at (wait.Lock late (mutex.Lock entry.Lock again (lock.Decide seen))) there reached settled =
+      (l, inl (decides (is_locked seen) (seen == 1)))
     where
       decides : (a b : Bool)
           → outcome_of
-          (if not a then act.Word m (op.TheVariants.Exchange seen (seen + 1)) else if b then act.Word m (op.TheVariants.Exchange 1 3) else act.Enter (One (2 * m)))
+          (if not a then act.Word m (op.TheVariants.Exchange seen (seen + 1)) else if b then act.Word m
+          (op.TheVariants.Exchange 1 3) else act.Enter (One (2 * m)))
           ≡ outcome.TheVariants.Step
       decides false b = refl
       decides true true = refl
       decides true false = refl
   rests_at (wait.Lock late (mutex.Lock entry.Lock again lock.Check)) there reached settled = (l, inl refl)
-  rests_at (wait.Lock late (mutex.Lock entry.Lock again (lock.Leave parked))) there reached settled = (l, inl refl)
+  rests_at (wait.Lock late (mutex.Lock entry.Lock again (lock.Leave parked))) there reached settled =
+      (l, inl refl)
   rests_at (wait.Lock late (mutex.Lock entry.Lock again lock.Accept)) there reached settled = (l, inl refl)
-  rests_at (wait.Lock late (mutex.Lock entry.Lock again lock.Asleep)) there reached settled = (m, inr (inl (refl, moved (wait.Lock late (mutex.Lock entry.Lock again lock.Asleep)) there refl)))
-  rests_at (wait.Lock late (mutex.Lock entry.Lock again (lock.Taken by))) there reached settled = (m, inr (inl (refl, held (wait.Lock late (mutex.Lock entry.Lock again (lock.Taken by))) there (ap one_if_some (taken_beside v t l (Wait m timed (wait.Lock late (mutex.Lock entry.Lock again (lock.Taken by)))) steady there m refl)))))
-  rests_at (wait.Lock late (mutex.Lock entry.Lock again (lock.Handed by))) there reached settled = absurd settled
+  rests_at (wait.Lock late (mutex.Lock entry.Lock again lock.Asleep)) there reached settled =
+      (m, inr (inl (refl, moved (wait.Lock late (mutex.Lock entry.Lock again lock.Asleep)) there refl)))
+  rests_at (wait.Lock late (mutex.Lock entry.Lock again (lock.Taken by))) there reached settled = (
+    m,
+    inr (inl (
+      refl,
+      held (wait.Lock late (mutex.Lock entry.Lock again (lock.Taken by))) there
+          (ap one_if_some (taken_beside v t l
+          (Wait m timed (wait.Lock late (mutex.Lock entry.Lock again (lock.Taken by)))) steady there m refl)),
+    )),
+  )
+  rests_at (wait.Lock late (mutex.Lock entry.Lock again (lock.Handed by))) there reached settled =
+      absurd settled
   rests_at (wait.Lock late (mutex.Lock entry.Lock again a)) there reached settled = absurd reached.1
   rests_at (wait.Lock late a) there reached settled = absurd reached.1
 
   -- tells what it is told of its step
   pub wait_rests : (n : Next WaitAt) → place_at v t ≡ condvar_goes l (in_wait m timed n) → IsSettledNext n
       → ToldSo v t (in_wait m timed n) (outcome_of (condvar_does l (in_wait m timed n)))
-  wait_rests (next.At q) there settled = rests_at q there (fits_here v t l (Wait m timed q) steady there).reached settled
+  wait_rests (next.At q) there settled =
+      rests_at q there (fits_here v t l (Wait m timed q) steady there).reached settled
   wait_rests (next.End answer) there settled = refl

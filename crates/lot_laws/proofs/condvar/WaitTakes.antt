@@ -1,5 +1,8 @@
--- A wait that releases its mutex takes the first of its line, itself too where a notification brought it there: every lock is a site again.
-use Rattle.std.proofs.Common.{ℕ, Bool, true, false, Option, Some, None, if◌then◌else◌, ◌==◌, ◌≡◌, ◌≢◌, ◌*◌, ◌<◌, List, [], ◌∷◌, length, map, drop, get_or, set, refl, sym, ◌∙◌, ap, subst, inl, inr, get_or-set_same, get_or-set_other}
+-- A wait that releases its mutex takes the first of its line, itself too where a notification brought it
+-- there: every lock is a site again.
+use Rattle.std.proofs.Common.{ℕ, Bool, true, false, Option, Some, None, if◌then◌else◌, ◌==◌, ◌≡◌, ◌≢◌, ◌*◌}
+use Rattle.std.proofs.Common.{◌<◌, List, [], ◌∷◌, length, map, drop, get_or, set, refl, sym, ◌∙◌, ap, subst}
+use Rattle.std.proofs.Common.{inl, inr, get_or-set_same, get_or-set_other}
 use Rattle.std.proofs.lemmas.Bool.{cases_eq}
 use Rattle.core_base.specs.declared.wants.Waiter.{Waiter}
 use Rattle.core_base.specs.Lines.{first_of}
@@ -29,7 +32,8 @@ use Rattle.spec_locks.specs.Locks as locks
 use Rattle.spec_locks.specs.Locks.{TakeFirst, Taken, first_thread}
 use Rattle.spec_locks.specs.Picks.{queued_of}
 use Rattle.spec_locks.specs.Sites.{Deed, Main, Site}
-use Rattle.lot_machine.specs.Machine.{State, is_there, place_at, put, queue_at, queues_without_first, state_after_taking}
+use Rattle.lot_machine.specs.Machine.{State, is_there, place_at, put, queue_at, queues_without_first}
+use Rattle.lot_machine.specs.Machine.{state_after_taking}
 use Rattle.lot_laws.specs.MutexDeeds.{acts}
 use Rattle.lot_laws.specs.Refinement.{taken_at}
 use Rattle.lot_laws.specs.Locations.{role_on, location_at}
@@ -45,8 +49,10 @@ use Rattle.lot_laws.proofs.sites.TakesAt.{behind_take, member}
 use Rattle.lot_laws.proofs.mutex.Waiters.{SleepsAt, release_sleeps}
 use Rattle.lot_laws.proofs.condvar.WaitWords as beside
 
-module _ (w : State) (t l m : ℕ) (timed : Bool) (steady : IsInductive w) (here : t < length w.places) (apart : m ≢ l)
-    (sort : (rules_in w m).sort ≡ locks.Mutex) (plain : rules_in w m ≡ glue.mutex) (line : key_of m Main < length w.queues) where
+module _ (w : State) (t l m : ℕ) (timed : Bool) (steady : IsInductive w) (here : t < length w.places)
+    (apart : m ≢ l)
+    (sort : (rules_in w m).sort ≡ locks.Mutex) (plain : rules_in w m ≡ glue.mutex) (line : key_of m Main
+    < length w.queues) where
   abbrev waits : WaitAt → CondvarPlace
   waits at = Wait m timed at
 
@@ -67,7 +73,8 @@ module _ (w : State) (t l m : ℕ) (timed : Bool) (steady : IsInductive w) (here
 
   -- after it the bit goes, where nobody is left
   abbrev goes_to : Stands → Bool → Bool → WaitAt
-  goes_to s any none_left = released s (in_unlock (if none_left then At (unlock.Clear any) else At (unlock.Leave any)))
+  goes_to s any none_left = released s
+      (in_unlock (if none_left then At (unlock.Clear any) else At (unlock.Leave any)))
 
   -- by the threads that stand in the line
   abbrev told : List Waiter → Reply
@@ -92,40 +99,51 @@ module _ (w : State) (t l m : ℕ) (timed : Bool) (steady : IsInductive w) (here
     taken_was : taken_at (place_at w t) m ≡ taken_of (taking s)
     taken_was = ap (λ q. taken_at q m) is ∙ taken_beside l m apart (At (waits (taking s))) refl
 
-    follows : WaiterFollows (rules_in w m) lock t m timed (taking s) (first_thread (map queued_of (queue_at w (2 * m))))
+    follows : WaiterFollows (rules_in w m) lock t m timed (taking s)
+        (first_thread (map queued_of (queue_at w (2 * m))))
         (told (queue_at w (2 * m)))
-    follows = beside.follows w t l m timed steady here apart sort (taking s) is (first_thread (map queued_of (queue_at w (2 * m)))) (told (queue_at w (2 * m))) (waiter_hears w t l m timed (taking s) steady is refl)
+    follows = beside.follows w t l m timed steady here apart sort (taking s) is
+        (first_thread (map queued_of (queue_at w (2 * m)))) (told (queue_at w (2 * m)))
+        (waiter_hears w t l m timed (taking s) steady is refl)
 
     follows_by : (q : List Waiter) → queue_at w (2 * m) ≡ q
         → WaiterFollows (rules_in w m) lock t m timed (taking s) (first_thread (map queued_of q)) (told q)
-    follows_by q e = subst (λ q. WaiterFollows (rules_in w m) lock t m timed (taking s) (first_thread (map queued_of q)) (told q)) e follows
+    follows_by q e = subst (λ q. WaiterFollows (rules_in w m) lock t m timed (taking s)
+        (first_thread (map queued_of q)) (told q)) e follows
 
     -- where it goes on, as it stands then
     module _ (s2 : Stands) (any none_left : Bool)
-        (stays : location_by (row_there (At (waits (goes_to s2 any none_left)))) ≡ there (waits (taking s))) where
-      abbrev then_at : Place
-      then_at = Condvar l (waits (goes_to s2 any none_left))
+        (stays : location_by (row_there (At (waits (goes_to s2 any none_left)))) ≡ there (waits (taking s)))
+      where
+        abbrev then_at : Place
+        then_at = Condvar l (waits (goes_to s2 any none_left))
 
-      alike : AlikeBeside m (place_at w t) then_at
-      alike = beside.alike w t l m timed steady here apart sort (taking s) is (At (waits (goes_to s2 any none_left))) (refl, stays)
+        alike : AlikeBeside m (place_at w t) then_at
+        alike = beside.alike w t l m timed steady here apart sort (taking s) is
+            (At (waits (goes_to s2 any none_left))) (refl, stays)
 
-      location_then : location_at then_at m ≡ beside_of (goes_to s2 any none_left)
-      location_then = location_beside l m apart (At (waits (goes_to s2 any none_left))) refl
+        location_then : location_at then_at m ≡ beside_of (goes_to s2 any none_left)
+        location_then = location_beside l m apart (At (waits (goes_to s2 any none_left))) refl
 
-      taken_then : taken_at then_at m ≡ taken_of (goes_to s2 any none_left)
-      taken_then = taken_beside l m apart (At (waits (goes_to s2 any none_left))) refl
+        taken_then : taken_at then_at m ≡ taken_of (goes_to s2 any none_left)
+        taken_then = taken_beside l m apart (At (waits (goes_to s2 any none_left))) refl
 
-      does_then : role_on then_at m ≡ (wait_row m (goes_to s2 any none_left)).role
-      does_then = beside.does_next w t l m timed steady here apart sort (At (goes_to s2 any none_left)) refl
+        does_then : role_on then_at m ≡ (wait_row m (goes_to s2 any none_left)).role
+        does_then = beside.does_next w t l m timed steady here apart sort (At (goes_to s2 any none_left)) refl
 
-    next_there : (any none_left : Bool) → location_by (row_there (At (waits (goes_to s any none_left)))) ≡ there (waits (taking s))
+    next_there : (any none_left : Bool) → location_by (row_there (At (waits (goes_to s any none_left))))
+        ≡ there (waits (taking s))
     next_there any true = refl
     next_there any false = refl
 
     -- nobody stands there
     finds_nobody : queue_at w (2 * m) ≡ [] → FitsBy [] → KeptBy [] s
-    finds_nobody empty fits = subst (λ p. FitsItsLock w (next_place p (told [])) → Goes w (put (after []) t (next_place p (told []))) m (acts t (deeds_of [] s))) (sym is) (λ fits. finds_nobody_at w t m steady here sort then_there (alike s false true refl) fits line empty
-        (follows_by [] empty).needed ((follows_by [] empty).role ∙ sym (does_then s false true refl)) (location_then s false true refl ∙ sym location_was) (taken_was ∙ sym (taken_then s false true refl))) fits
+    finds_nobody empty fits = subst (λ p. FitsItsLock w (next_place p (told []))
+        → Goes w (put (after []) t (next_place p (told []))) m (acts t (deeds_of [] s))) (sym is)
+        (λ fits. finds_nobody_at w t m steady here sort then_there (alike s false true refl) fits line empty
+        (follows_by [] empty).needed ((follows_by [] empty).role ∙ sym (does_then s false true refl))
+        (location_then s false true refl ∙ sym location_was) (taken_was
+        ∙ sym (taken_then s false true refl))) fits
       where
         then_there : Place
         then_there = Condvar l (waits (releasing s (unlock.Clear false)))
@@ -136,7 +154,8 @@ module _ (w : State) (t l m : ℕ) (timed : Bool) (steady : IsInductive w) (here
       abbrev none_left : Bool
       none_left = length rest == 0
 
-      follows_first : WaiterFollows (rules_in w m) lock t m timed (taking s) (Some x.thread) (Took true none_left)
+      follows_first : WaiterFollows (rules_in w m) lock t m timed (taking s) (Some x.thread)
+          (Took true none_left)
       follows_first = follows_by (x ∷ rest) first
 
       bare : (location_at (place_at w t) m).carries ≡ None
@@ -147,7 +166,10 @@ module _ (w : State) (t l m : ℕ) (timed : Bool) (steady : IsInductive w) (here
         not_self : member t (x ∷ []) ≡ false
         not_self = rw (differ x.thread t other) refl
 
-        next_beside : (b : Bool) → beside_of (goes_to s true b) ≡ record (beside_of (taking s)) { carries = Some false }
+        next_beside : (b : Bool) → beside_of (goes_to s true b) ≡ record (beside_of (taking s)) {
+          carries =
+              Some false;
+        }
         next_beside true = refl
         next_beside false = refl
 
@@ -156,14 +178,28 @@ module _ (w : State) (t l m : ℕ) (timed : Bool) (steady : IsInductive w) (here
         next_taken false = refl
 
         place_then : place_at (after (x ∷ rest)) t ≡ Condvar l (waits (taking s))
-        place_then = get_or-set_other w.places x.thread t (next_place (place_at w x.thread) (TakenBy t)) Idle (λ e. other (sym e)) ∙ is
+        place_then = get_or-set_other w.places x.thread t (next_place (place_at w x.thread) (TakenBy t)) Idle
+            (λ e. other (sym e)) ∙ is
 
         takes_another : FitsBy (x ∷ rest) → KeptBy (x ∷ rest) s
-        takes_another fits = subst (λ p. FitsItsLock w (next_place p (Took true none_left)) → Goes w (put (after (x ∷ rest)) t (next_place p (Took true none_left))) m (acts t (takes_it w m steady plain x rest first))) (sym place_then)
-            (λ fits. first_goes w m steady plain x rest first t here (then_at s true none_left (next_there true none_left)) (alike s true none_left (next_there true none_left)) fits line (first_sleeps w m steady plain x rest first t other (ap (λ (y : Location). y.inside) location_was)) bare
-            (location_then s true none_left (next_there true none_left) ∙ next_beside none_left ∙ sym (ap (λ (y : Location). record y { carries = Some false }) location_was) ∙ sym (ap (λ b. record (behind_take t b (location_at (place_at w t) m)) { carries = Some false }) not_self))
-            (taken_then s true none_left (next_there true none_left) ∙ next_taken none_left ∙ sym taken_was ∙ sym (ap (λ b. if b then taken_at (next_place (place_at w t) (TakenBy t)) m else taken_at (place_at w t) m) not_self))
-            follows_first.needed (follows_first.role ∙ sym (does_then s true none_left (next_there true none_left)))) fits
+        takes_another fits = subst (λ p. FitsItsLock w (next_place p (Took true none_left))
+            → Goes w (put (after (x ∷ rest)) t (next_place p (Took true none_left))) m
+            (acts t (takes_it w m steady plain x rest first))) (sym place_then)
+            (λ fits. first_goes w m steady plain x rest first t here (then_at s true none_left
+            (next_there true none_left)) (alike s true none_left (next_there true none_left)) fits line
+            (first_sleeps w m steady plain x rest first t other (ap (λ (y : Location). y.inside)
+            location_was)) bare
+            (location_then s true none_left (next_there true none_left) ∙ next_beside none_left
+            ∙ sym (ap (λ (y : Location). record y { carries = Some false }) location_was)
+            ∙ sym (ap (λ b. record (behind_take t b (location_at (place_at w t) m)) {
+              carries =
+                  Some false;
+            }) not_self))
+            (taken_then s true none_left (next_there true none_left) ∙ next_taken none_left ∙ sym taken_was
+            ∙ sym (ap (λ b. if b then taken_at (next_place (place_at w t) (TakenBy t)) m
+            else taken_at (place_at w t) m) not_self))
+            follows_first.needed (follows_first.role
+            ∙ sym (does_then s true none_left (next_there true none_left)))) fits
 
   -- ---------------------------------------------------------------- it takes itself
 
@@ -184,20 +220,25 @@ module _ (w : State) (t l m : ℕ) (timed : Bool) (steady : IsInductive w) (here
     taken_place = ap (λ q. next_place q (TakenBy t)) is
 
     own_place : place_at (after (x ∷ rest)) t ≡ Condvar l (waits (taking (stands.InHand t)))
-    own_place = subst (λ u. get_or (set w.places u (next_place (place_at w u) (TakenBy t))) t Idle ≡ Condvar l (waits (taking (stands.InHand t)))) (sym itself) (get_or-set_same w.places t (next_place (place_at w t) (TakenBy t)) Idle here ∙ taken_place)
+    own_place = subst (λ u. get_or (set w.places u (next_place (place_at w u) (TakenBy t))) t Idle
+        ≡ Condvar l (waits (taking (stands.InHand t)))) (sym itself) (get_or-set_same w.places t
+        (next_place (place_at w t) (TakenBy t)) Idle here ∙ taken_place)
 
     own_sleeps : SleepsAt m (place_at w x.thread)
-    own_sleeps = subst (λ q. SleepsAt m q) (sym (ap (place_at w) itself ∙ is)) (release_sleeps l m (λ e. apart (sym e)) m timed refl (mutex.Unlock unlock.Take))
+    own_sleeps = subst (λ q. SleepsAt m q) (sym (ap (place_at w) itself ∙ is))
+        (release_sleeps l m (λ e. apart (sym e)) m timed refl (mutex.Unlock unlock.Take))
 
     own_member : member t (x ∷ []) ≡ true
     own_member = rw (itself, same t) refl
 
     own_there : (b : Bool)
-        → location_by (row_there (At (waits (goes_to (stands.InHand t) true b)))) ≡ there (waits (taking stands.Moved))
+        → location_by (row_there (At (waits (goes_to (stands.InHand t) true b))))
+        ≡ there (waits (taking stands.Moved))
     own_there true = refl
     own_there false = refl
 
-    own_beside : (b : Bool) → beside_of (goes_to (stands.InHand t) true b) ≡ record (behind_take t true (beside_of (taking stands.Moved))) { carries = Some false }
+    own_beside : (b : Bool) → beside_of (goes_to (stands.InHand t) true b)
+        ≡ record (behind_take t true (beside_of (taking stands.Moved))) { carries = Some false }
     own_beside true = refl
     own_beside false = refl
 
@@ -206,23 +247,40 @@ module _ (w : State) (t l m : ℕ) (timed : Bool) (steady : IsInductive w) (here
     own_taken false = refl
 
     own_does : (b : Bool)
-        → (wait_row m (goes_to (stands.InHand t) true b)).role ≡ (wait_row m (goes_to stands.Moved true b)).role
+        → (wait_row m (goes_to (stands.InHand t) true b)).role
+        ≡ (wait_row m (goes_to stands.Moved true b)).role
     own_does true = refl
     own_does false = refl
 
     takes_itself : FitsBy (x ∷ rest) → KeptBy (x ∷ rest) stands.Moved
-    takes_itself fits = subst (λ p. FitsItsLock w (next_place p (Took true nobody_left)) → Goes w (put (after (x ∷ rest)) t (next_place p (Took true nobody_left))) m (acts t (takes_it w m steady plain x rest first))) (sym own_place)
-        (λ fits. first_goes w m steady plain x rest first t here (then_at stands.Moved is (stands.InHand t) true nobody_left (own_there nobody_left)) (alike stands.Moved is (stands.InHand t) true nobody_left (own_there nobody_left)) fits line
+    takes_itself fits = subst (λ p. FitsItsLock w (next_place p (Took true nobody_left))
+        → Goes w (put (after (x ∷ rest)) t (next_place p (Took true nobody_left))) m
+        (acts t (takes_it w m steady plain x rest first))) (sym own_place)
+        (λ fits. first_goes w m steady plain x rest first t here (then_at stands.Moved is (stands.InHand t)
+        true nobody_left (own_there nobody_left)) (alike stands.Moved is (stands.InHand t) true
+        nobody_left (own_there nobody_left)) fits line
         own_sleeps (bare stands.Moved is x rest first)
-        (location_then stands.Moved is (stands.InHand t) true nobody_left (own_there nobody_left) ∙ own_beside nobody_left ∙ sym (ap (λ (y : Location). record (behind_take t true y) { carries = Some false }) (location_was stands.Moved is))
-        ∙ sym (ap (λ b. record (behind_take t b (location_at (place_at w t) m)) { carries = Some false }) own_member))
-        (taken_then stands.Moved is (stands.InHand t) true nobody_left (own_there nobody_left) ∙ own_taken nobody_left ∙ sym (taken_beside l m apart (At (waits (taking (stands.InHand t)))) refl)
-        ∙ sym (ap (λ q. taken_at q m) taken_place) ∙ sym (ap (λ b. if b then taken_at (next_place (place_at w t) (TakenBy t)) m else taken_at (place_at w t) m) own_member))
-        (follows_first stands.Moved is x rest first).needed ((follows_first stands.Moved is x rest first).role ∙ sym (does_then stands.Moved is (stands.InHand t) true nobody_left (own_there nobody_left) ∙ own_does nobody_left))) fits
+        (location_then stands.Moved is (stands.InHand t) true nobody_left (own_there nobody_left)
+        ∙ own_beside nobody_left ∙ sym
+        (ap (λ (y : Location). record (behind_take t true y) { carries = Some false })
+        (location_was stands.Moved is))
+        ∙ sym (ap (λ b. record (behind_take t b (location_at (place_at w t) m)) { carries = Some false })
+        own_member))
+        (taken_then stands.Moved is (stands.InHand t) true nobody_left (own_there nobody_left)
+        ∙ own_taken nobody_left ∙ sym (taken_beside l m apart (At (waits (taking (stands.InHand t))))
+        refl)
+        ∙ sym (ap (λ q. taken_at q m) taken_place)
+        ∙ sym (ap (λ b. if b then taken_at (next_place (place_at w t) (TakenBy t)) m else taken_at
+        (place_at w t) m) own_member))
+        (follows_first stands.Moved is x rest first).needed ((follows_first stands.Moved is x rest first).role
+        ∙ sym (does_then stands.Moved is (stands.InHand t) true nobody_left (own_there nobody_left)
+        ∙ own_does nobody_left))) fits
 
-  pub moved_first : (s : Stands) → place_at w t ≡ Condvar l (waits (taking s)) → (x : Waiter) (rest : List Waiter)
+  pub moved_first : (s : Stands) → place_at w t ≡ Condvar l (waits (taking s))
+      → (x : Waiter) (rest : List Waiter)
       → queue_at w (2 * m) ≡ x ∷ rest → x.thread ≡ t → s ≡ stands.Moved
-  moved_first s is x rest e itself = moved_so s (sym (ap (λ (y : Location). y.stands) (location_was s is)) ∙ sym (ap (λ u. (location_at (place_at w u) m).stands) itself) ∙ first_stands w m steady plain x rest e)
+  moved_first s is x rest e itself = moved_so s (sym (ap (λ (y : Location). y.stands) (location_was s is))
+      ∙ sym (ap (λ u. (location_at (place_at w u) m).stands) itself) ∙ first_stands w m steady plain x rest e)
 
   -- ---------------------------------------------------------------- each thread that it takes
 
@@ -237,6 +295,9 @@ module _ (w : State) (t l m : ℕ) (timed : Bool) (steady : IsInductive w) (here
         | inl itself ↦ by_stand s is (moved_first s is x rest e itself) itself
       ]
         where
-          by_stand : (s : Stands) → place_at w t ≡ Condvar l (waits (taking s)) → s ≡ stands.Moved → x.thread ≡ t
+          by_stand : (s : Stands) → place_at w t ≡ Condvar l (waits (taking s)) → s ≡ stands.Moved
+              → x.thread ≡ t
               → KeptBy (x ∷ rest) s
-          by_stand s is f itself = subst (λ z. KeptBy (x ∷ rest) z) (sym f) (takes_itself (subst (λ z. place_at w t ≡ Condvar l (waits (taking z))) f is) x rest e itself fits)
+          by_stand s is f itself = subst (λ z. KeptBy (x ∷ rest) z) (sym f)
+              (takes_itself (subst (λ z. place_at w t ≡ Condvar l (waits (taking z))) f is) x rest e itself
+              fits)

@@ -1,5 +1,7 @@
--- Each step of a wait on the word of its mutex, as it releases it and locks it again: every lock is a site again.
-use Rattle.std.proofs.Common.{ℕ, Bool, true, false, Option, Some, None, if◌then◌else◌, ◌==◌, ◌&&◌, ◌≡◌, ◌≢◌, ◌<◌, List, [], ◌∷◌, length, not, refl, sym, ◌∙◌, ap, subst, inl, inr}
+-- Each step of a wait on the word of its mutex, as it releases it and locks it again: every lock is a site
+-- again.
+use Rattle.std.proofs.Common.{ℕ, Bool, true, false, Option, Some, None, if◌then◌else◌, ◌==◌, ◌&&◌, ◌≡◌, ◌≢◌}
+use Rattle.std.proofs.Common.{◌<◌, List, [], ◌∷◌, length, not, refl, sym, ◌∙◌, ap, subst, inl, inr}
 use Rattle.std.proofs.lemmas.Bool.{cases_eq}
 use Rattle.core_base.specs.declared.ops.Op.{Op}
 use Rattle.core_base.specs.declared.ops.Op.TheVariants as op
@@ -31,9 +33,11 @@ use Rattle.steps_condvar.specs.declared.wait.Stands.{Stands}
 use Rattle.steps_condvar.specs.declared.wait.Stands.TheVariants as stands
 use Rattle.steps_condvar.specs.declared.wait.WaitAt.{WaitAt}
 use Rattle.steps_condvar.specs.declared.wait.WaitAt.TheVariants as wait
-use Rattle.steps_condvar.specs.CondvarSteps.{condvar_next, condvar_owners, in_wait, next_wait, relocked, released, wait_act, behind_release}
+use Rattle.steps_condvar.specs.CondvarSteps.{condvar_next, condvar_owners, in_wait, next_wait, relocked}
+use Rattle.steps_condvar.specs.CondvarSteps.{released, wait_act, behind_release}
 use Rattle.steps_condvar.specs.CondvarMoves.{row_beside, row_there, there}
-use Rattle.steps_condvar.specs.CondvarWaits.{LeavesMutex, MayHearWaiter, WaiterFollows, itself_woken, unended, waiter_deeds, waiter_next}
+use Rattle.steps_condvar.specs.CondvarWaits.{LeavesMutex, MayHearWaiter, WaiterFollows, itself_woken, unended}
+use Rattle.steps_condvar.specs.CondvarWaits.{waiter_deeds, waiter_next}
 use Rattle.steps_condvar.proofs.WaiterFit.{waiters_code, waiters_follow}
 use Rattle.spec_locks.specs.declared.outcomes.Answer.TheVariants as answer
 use Rattle.spec_locks.specs.Codes.{code}
@@ -41,19 +45,22 @@ use Rattle.spec_locks.specs.Deeds as laws
 use Rattle.spec_locks.specs.Locks as locks
 use Rattle.spec_locks.specs.Locks.{Enter, Leave, Rules}
 use Rattle.spec_locks.specs.Sites.{Case, Clear, Deed, Role, End, Main, Mark, MarkBrought, MarkOwned, Site}
-use Rattle.lot_machine.specs.Machine.{State, can_do, owners_at, place_at, put, reply_to, state_after_operation, word_at, state_after_act}
+use Rattle.lot_machine.specs.Machine.{State, can_do, owners_at, place_at, put, reply_to}
+use Rattle.lot_machine.specs.Machine.{state_after_operation, word_at, state_after_act}
 use Rattle.lot_laws.specs.MutexDeeds.{acts}
 use Rattle.lot_laws.specs.Refinement.{taken_at}
 use Rattle.lot_laws.specs.Locations.{role_on, location_at}
 use Rattle.lot_laws.specs.SitesOf.{FitsItsLock, Goes, IsInductive, rules_in, site_of}
 use Rattle.lot_laws.proofs.sites.StandsKept.{Alike, AlikeBeside}
-use Rattle.lot_laws.proofs.condvar.TwoParts.{Beside, alike_there, role_beside, nothing_else, location_beside, taken_beside}
+use Rattle.lot_laws.proofs.condvar.TwoParts.{Beside, alike_there, role_beside, nothing_else, location_beside}
+use Rattle.lot_laws.proofs.condvar.TwoParts.{taken_beside}
 use Rattle.lot_laws.proofs.condvar.Replies as hears
 use Rattle.lot_laws.proofs.condvar.Replies.{taken_by_wait, waiter_hears}
 use Rattle.lot_laws.proofs.mutex.Acts.{IsOfWord, owned_by, works_at}
 use Rattle.steps_base.specs.declared.acts.Act.{Act}
 
-module _ (w : State) (t l m : ℕ) (timed : Bool) (steady : IsInductive w) (is_there : t < length w.places) (apart : m ≢ l)
+module _ (w : State) (t l m : ℕ) (timed : Bool) (steady : IsInductive w) (is_there : t < length w.places)
+    (apart : m ≢ l)
     (sort : (rules_in w m).sort ≡ locks.Mutex) where
   abbrev waits : WaitAt → CondvarPlace
   waits at = Wait m timed at
@@ -70,10 +77,12 @@ module _ (w : State) (t l m : ℕ) (timed : Bool) (steady : IsInductive w) (is_t
   abbrev pub StaysThere : WaitAt → Next CondvarPlace → Type 0
   StaysThere at n = Beside m n × (location_by (row_there n) ≡ there (waits at))
 
-  module _ (at : WaitAt) (is : place_at w t ≡ Condvar l (waits at)) (n : Next CondvarPlace) (stays : StaysThere at n) where
+  module _ (at : WaitAt) (is : place_at w t ≡ Condvar l (waits at)) (n : Next CondvarPlace)
+      (stays : StaysThere at n) where
     pub alike : AlikeBeside m (place_at w t) (condvar_goes l n)
     alike k ne = subst (λ q. Alike k q (condvar_goes l n)) (sym is) (elim (cases_eq k l) [
-      | inl e ↦ subst (λ j. Alike j (Condvar l (waits at)) (condvar_goes l n)) (sym e) (alike_there l m apart (At (waits at)) n refl stays.0 stays.1)
+      | inl e ↦ subst (λ j. Alike j (Condvar l (waits at)) (condvar_goes l n)) (sym e)
+          (alike_there l m apart (At (waits at)) n refl stays.0 stays.1)
       | inr nl ↦ nothing_else l m apart (At (waits at)) n refl stays.0 k nl ne
     ])
 
@@ -101,7 +110,8 @@ module _ (w : State) (t l m : ℕ) (timed : Bool) (steady : IsInductive w) (is_t
 
   pub follows : (at : WaitAt) → place_at w t ≡ Condvar l (waits at) → (whom : Option ℕ) (told : Reply)
       → MayHearWaiter r here t at whom told → WaiterFollows r here t m timed at whom told
-  follows at is whom told may = waiters_follow r here t m timed at whom told sort (steady.sites.site m) (hears.role_beside w t l (waits at) steady is m refl) may
+  follows at is whom told may = waiters_follow r here t m timed at whom told sort (steady.sites.site m)
+      (hears.role_beside w t l (waits at) steady is m refl) may
 
   -- ---------------------------------------------------------------- the word
 
@@ -120,16 +130,20 @@ module _ (w : State) (t l m : ℕ) (timed : Bool) (steady : IsInductive w) (is_t
 
   -- but for the owner nothing of the owners changes
   abbrev KeepsOthers : WaitAt → Type 0
-  KeepsOthers at = condvar_owners (waits at) t (word_at w m) (owners_at w m) ≡ with_exclusive (owners_at w m) (condvar_owners (waits at) t (word_at w m) (owners_at w m)).exclusive
+  KeepsOthers at = condvar_owners (waits at) t (word_at w m) (owners_at w m) ≡ with_exclusive (owners_at w m)
+      (condvar_owners (waits at) t (word_at w m) (owners_at w m)).exclusive
 
   -- it stays in its line, its section and its hand
   abbrev pub StaysBeside : WaitAt → Next CondvarPlace → Type 0
   StaysBeside at n =
       (location_by (row_beside n) ≡ location_by (row_beside (At (waits at))))
-      × (taken_from (row_beside n).hand (row_beside n).wants true ≡ taken_from (row_beside (At (waits at))).hand (row_beside (At (waits at))).wants true)
+      × (taken_from (row_beside n).hand (row_beside n).wants true ≡ taken_from
+      (row_beside (At (waits at))).hand (row_beside (At (waits at))).wants true)
 
-  module _ (at : WaitAt) (is : place_at w t ≡ Condvar l (waits at)) (op : Op) (acts_so : wait_act l m at ≡ act.Word m op)
-      (can : can_do w (wait_act l m at) ≡ true) (lt : m < length w.locks) (nobody : taken_by_wait w m at ≡ None) where
+  module _ (at : WaitAt) (is : place_at w t ≡ Condvar l (waits at)) (op : Op) (acts_so : wait_act l m at
+      ≡ act.Word m op)
+      (can : can_do w (wait_act l m at) ≡ true) (lt : m < length w.locks) (nobody : taken_by_wait w m at
+      ≡ None) where
     abbrev does : List Deed
     does = waiter_deeds at None (Value (word_at w m))
 
@@ -137,30 +151,44 @@ module _ (w : State) (t l m : ℕ) (timed : Bool) (steady : IsInductive w) (is_t
     next = next_wait m timed at (Value (word_at w m))
 
     may_hear : MayHearWaiter r here t at None (Value (word_at w m))
-    may_hear = subst (λ o. MayHearWaiter r here t at o (Value (word_at w m))) nobody (subst (λ a. MayHearWaiter r here t at (taken_by_wait w m at) (reply_to w t a)) acts_so (waiter_hears w t l m timed at steady is can))
+    may_hear = subst (λ o. MayHearWaiter r here t at o (Value (word_at w m))) nobody
+        (subst (λ a. MayHearWaiter r here t at (taken_by_wait w m at) (reply_to w t a)) acts_so
+        (waiter_hears w t l m timed at steady is can))
 
     f : WaiterFollows r here t m timed at None (Value (word_at w m))
     f = follows at is None (Value (word_at w m)) may_hear
 
     leaves : LeavesMutex r here t m timed at op (owners_at w m)
-    leaves = waiters_code r here t l m timed at op (owners_at w m) sort (λ e. apart (sym e)) (steady.sites.site m) (hears.role_beside w t l (waits at) steady is m refl)
+    leaves = waiters_code r here t l m timed at op (owners_at w m) sort (λ e. apart (sym e))
+        (steady.sites.site m) (hears.role_beside w t l (waits at) steady is m refl)
         (subst (λ v. MayHearWaiter r here t at None (Value v)) (steady.sites.word m) may_hear) acts_so refl
 
     pub works : StaysThere at (in_wait m timed next) → StaysBeside at (in_wait m timed next)
         → FitsItsLock w (condvar_goes l (in_wait m timed next)) → IsOfWord does → KeepsOthers at
-        → Goes w (put (state_after_operation w t (Condvar l (waits at)) m op) t (condvar_goes l (in_wait m timed next))) m
+        → Goes w (put (state_after_operation w t (Condvar l (waits at)) m op) t
+        (condvar_goes l (in_wait m timed next))) m
         (acts t does)
-    works stays same fits of_word others = works_at w t m steady is_there sort (condvar_goes l (in_wait m timed next)) (alike at is (in_wait m timed next) stays) fits (Condvar l (waits at)) op lt does (owned_by r does here t of_word) refl f.needed
+    works stays same fits of_word others = works_at w t m steady is_there sort
+        (condvar_goes l (in_wait m timed next)) (alike at is (in_wait m timed next) stays) fits
+        (Condvar l (waits at)) op lt does (owned_by r does here t of_word) refl f.needed
         (f.role ∙ unwoken does (waiter_next m next) of_word ∙ sym (does_next next stays.0))
-        (others ∙ ap (with_exclusive (owners_at w m)) (subst (λ v. (condvar_owners (waits at) t v (owners_at w m)).exclusive ≡ (laws.after_all r (waiter_deeds at None (Value v)) here t).lock.exclusive) (sym (steady.sites.word m)) leaves.owner))
-        (subst (λ v. apply op v ≡ code r (laws.after_all r (waiter_deeds at None (Value v)) here t)) (sym (steady.sites.word m)) leaves.word)
-        (location_then at is (in_wait m timed next) stays ∙ same.0 ∙ sym (location_was at is (in_wait m timed next) stays))
-        (taken_was at is (in_wait m timed next) stays ∙ sym same.1 ∙ sym (taken_then at is (in_wait m timed next) stays))
+        (others ∙ ap (with_exclusive (owners_at w m))
+        (subst (λ v. (condvar_owners (waits at) t v (owners_at w m)).exclusive
+        ≡ (laws.after_all r (waiter_deeds at None (Value v)) here t).lock.exclusive)
+        (sym (steady.sites.word m)) leaves.owner))
+        (subst (λ v. apply op v ≡ code r (laws.after_all r (waiter_deeds at None (Value v)) here t))
+        (sym (steady.sites.word m)) leaves.word)
+        (location_then at is (in_wait m timed next) stays ∙ same.0
+        ∙ sym (location_was at is (in_wait m timed next) stays))
+        (taken_was at is (in_wait m timed next) stays ∙ sym same.1
+        ∙ sym (taken_then at is (in_wait m timed next) stays))
 
   -- ---------------------------------------------------------------- each place that works on the word
 
   abbrev Kept : WaitAt → Act → Type 0
-  Kept at a = Goes w (put (state_after_act w t (Condvar l (waits at)) a) t (condvar_goes l (condvar_next (waits at) (reply_to w t a)))) m (acts t (waiter_deeds at None (reply_to w t a)))
+  Kept at a = Goes w (put (state_after_act w t (Condvar l (waits at)) a) t
+      (condvar_goes l (condvar_next (waits at) (reply_to w t a)))) m
+      (acts t (waiter_deeds at None (reply_to w t a)))
 
   abbrev FitsNext : WaitAt → Act → Type 0
   FitsNext at a = FitsItsLock w (condvar_goes l (condvar_next (waits at) (reply_to w t a)))
@@ -211,21 +239,29 @@ module _ (w : State) (t l m : ℕ) (timed : Bool) (steady : IsInductive w) (is_t
       pub subtracts : place_at w t ≡ Condvar l (waits (releasing s unlock.Subtract))
           → FitsNext (releasing s unlock.Subtract) (act.Word m (op.Sub 1))
           → Kept (releasing s unlock.Subtract) (act.Word m (op.Sub 1))
-      subtracts is fits = works (releasing s unlock.Subtract) is (op.Sub 1) refl refl lt refl (subtracted_there (is_parked seen)) (subtracted_beside (is_parked seen)) fits (subtracts_word (is_parked seen)) refl
+      subtracts is fits = works (releasing s unlock.Subtract) is (op.Sub 1) refl refl lt refl
+          (subtracted_there (is_parked seen)) (subtracted_beside (is_parked seen)) fits
+          (subtracts_word (is_parked seen)) refl
 
       -- the bit, where nobody was left
       pub clears : (any : Bool) → place_at w t ≡ Condvar l (waits (releasing s (unlock.Clear any)))
           → FitsNext (releasing s (unlock.Clear any)) (unlock_act m (unlock.Clear any))
           → Kept (releasing s (unlock.Clear any)) (unlock_act m (unlock.Clear any))
-      clears any is fits = works (releasing s (unlock.Clear any)) is _ refl refl lt refl (refl, refl) (refl, refl) fits tt refl
+      clears any is fits = works (releasing s (unlock.Clear any)) is _ refl refl lt refl (refl, refl) (
+        refl,
+        refl,
+      ) fits tt refl
 
     -- it locks it again
     module _ (late retries : Bool) where
       abbrev locked : Bool → LockAt → Next CondvarPlace
-      locked b at = in_wait m timed (relocked timed late (in_lock entry.Lock retries (if b then Over answer.Ok else At at)))
+      locked b at = in_wait m timed (relocked timed late
+          (in_lock entry.Lock retries (if b then Over answer.Ok else At at)))
 
-      locked_there : (b : Bool) (at : LockAt) → (p : LockAt) → there (waits (relocks late retries p)) ≡ nowhere
-          → there (waits (relocks late retries at)) ≡ nowhere → StaysThere (relocks late retries p) (locked b at)
+      locked_there : (b : Bool) (at : LockAt) → (p : LockAt) → there (waits (relocks late retries p))
+          ≡ nowhere
+          → there (waits (relocks late retries at)) ≡ nowhere → StaysThere (relocks late retries p)
+          (locked b at)
       locked_there true at p e f = (tt, sym e)
       locked_there false at p e f = (refl, f ∙ sym e)
 
@@ -238,25 +274,34 @@ module _ (w : State) (t l m : ℕ) (timed : Bool) (steady : IsInductive w) (is_t
       tries_word false = tt
 
       one_owner : (o : Owners) (x : Option ℕ) (b : Bool)
-          → (if b then with_exclusive o x else o) ≡ with_exclusive o (if b then with_exclusive o x else o).exclusive
+          → (if b then with_exclusive o x else o) ≡ with_exclusive o (if b then with_exclusive o x
+          else o).exclusive
       one_owner o x true = refl
       one_owner o x false = refl
 
       pub tries : place_at w t ≡ Condvar l (waits (relocks late retries lock.First))
           → FitsNext (relocks late retries lock.First) (act.Word m (op.Exchange 0 1))
           → Kept (relocks late retries lock.First) (act.Word m (op.Exchange 0 1))
-      tries is fits = works (relocks late retries lock.First) is (op.Exchange 0 1) refl refl lt refl (locked_there (seen == 0) lock.Load lock.First refl refl) (tries_beside (seen == 0)) fits (tries_word (seen == 0)) (one_owner (owners_at w m) (Some t) (seen == 0))
+      tries is fits = works (relocks late retries lock.First) is (op.Exchange 0 1) refl refl lt refl
+          (locked_there (seen == 0) lock.Load lock.First refl refl) (tries_beside (seen == 0)) fits
+          (tries_word (seen == 0)) (one_owner (owners_at w m) (Some t) (seen == 0))
 
       pub loads : place_at w t ≡ Condvar l (waits (relocks late retries lock.Load))
           → FitsNext (relocks late retries lock.Load) (act.Word m op.Load)
           → Kept (relocks late retries lock.Load) (act.Word m op.Load)
-      loads is fits = works (relocks late retries lock.Load) is op.Load refl refl lt refl (refl, refl) (refl, refl) fits tt refl
+      loads is fits = works (relocks late retries lock.Load) is op.Load refl refl lt refl (refl, refl) (
+        refl,
+        refl,
+      ) fits tt refl
 
       -- it has seen the word before: its exchange finds it so, or not
       abbrev decided_next : Bool → Bool → Next CondvarPlace
-      decided_next same locked = in_wait m timed (relocked timed late (in_lock entry.Lock retries (if not same then At (lock.Decide seen) else if locked then At (lock.Decide 3) else Over answer.Ok)))
+      decided_next same locked = in_wait m timed
+          (relocked timed late (in_lock entry.Lock retries (if not same then At (lock.Decide seen)
+          else if locked then At (lock.Decide 3) else Over answer.Ok)))
 
-      decided_there : (x : ℕ) (same locked : Bool) → StaysThere (relocks late retries (lock.Decide x)) (decided_next same locked)
+      decided_there : (x : ℕ) (same locked : Bool) → StaysThere (relocks late retries (lock.Decide x))
+          (decided_next same locked)
       decided_there x false locked = (refl, refl)
       decided_there x true true = (refl, refl)
       decided_there x true false = (tt, refl)
@@ -267,7 +312,8 @@ module _ (w : State) (t l m : ℕ) (timed : Bool) (steady : IsInductive w) (is_t
       decided_beside x true true = (refl, refl)
       decided_beside x true false = (refl, refl)
 
-      decides_word : (same locked : Bool) → IsOfWord (if not same then [] else if locked then Mark Main ∷ [] else enter_deeds)
+      decides_word : (same locked : Bool) → IsOfWord (if not same then [] else if locked then Mark Main ∷ []
+          else enter_deeds)
       decides_word false locked = tt
       decides_word true true = tt
       decides_word true false = tt
@@ -276,5 +322,8 @@ module _ (w : State) (t l m : ℕ) (timed : Bool) (steady : IsInductive w) (is_t
           → wait_act l m (relocks late retries (lock.Decide x)) ≡ act.Word m f
           → FitsNext (relocks late retries (lock.Decide x)) (act.Word m f)
           → Kept (relocks late retries (lock.Decide x)) (act.Word m f)
-      decides x f is acts_so fits = works (relocks late retries (lock.Decide x)) is f acts_so (subst (λ a. can_do w a ≡ true) (sym acts_so) refl) lt refl (decided_there x (seen == x) (is_locked seen)) (decided_beside x (seen == x) (is_locked seen)) fits
-          (decides_word (seen == x) (is_locked seen)) (one_owner (owners_at w m) (Some t) ((seen == x) && not (is_locked seen)))
+      decides x f is acts_so fits = works (relocks late retries (lock.Decide x)) is f acts_so
+          (subst (λ a. can_do w a ≡ true) (sym acts_so) refl) lt refl (decided_there x (seen == x)
+          (is_locked seen)) (decided_beside x (seen == x) (is_locked seen)) fits
+          (decides_word (seen == x) (is_locked seen)) (one_owner (owners_at w m) (Some t)
+          ((seen == x) && not (is_locked seen)))

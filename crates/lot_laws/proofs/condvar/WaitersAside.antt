@@ -1,6 +1,7 @@
 -- A thread that waits to be notified stands nowhere at its mutex, is in no hand there, and doesn't try it
 -- again.
-use Rattle.std.proofs.Common.{ℕ, Bool, true, false, Option, Some, None, if◌then◌else◌, ◌==◌, ◌≡◌, ◌≢◌, ◌+◌, ◌*◌, ◌≤◌, refl, sym, ◌∙◌, ap, subst, arith}
+use Rattle.std.proofs.Common.{ℕ, Bool, true, false, Option, Some, None, if◌then◌else◌, ◌==◌, ◌≡◌, ◌≢◌, ◌+◌}
+use Rattle.std.proofs.Common.{◌*◌, ◌≤◌, refl, sym, ◌∙◌, ap, subst, arith}
 use Rattle.std.proofs.lemmas.Bool.{eqb-true}
 use Rattle.spec_locks.specs.declared.kinds.Kind.{Kind}
 use Rattle.spec_locks.specs.declared.kinds.Kind.TheVariants as kind
@@ -22,7 +23,8 @@ use Rattle.spec_locks.specs.Sites.{Main, Second, has_readers}
 use Rattle.lot_machine.specs.Machine.{State, kind_at, place_at, queue_at}
 use Rattle.lot_laws.specs.Refinement.{lock_state, taken_at}
 use Rattle.lot_laws.specs.Locations.{role_on, location, location_at}
-use Rattle.lot_laws.specs.SitesOf.{FitsCondvar, FitsItsLock, IsInductive, condvar_of, rules_in, site_of, stood_in}
+use Rattle.lot_laws.specs.SitesOf.{FitsCondvar, FitsItsLock, IsInductive, condvar_of, rules_in, site_of}
+use Rattle.lot_laws.specs.SitesOf.{stood_in}
 use Rattle.lot_laws.proofs.machine.Parts.{differ, same}
 use Rattle.lot_laws.proofs.sites.OneStep.{queued_times}
 use Rattle.lot_laws.proofs.condvar.Promises.{IsAside, aside, unlisted}
@@ -55,42 +57,52 @@ module _ (w : State) (steady : IsInductive w) (l : ℕ) (sort : (rules_in w l).s
   sort_at k s here is = subst (λ j. (rules_in w j).sort ≡ s) (eqb-true k l here) is
 
   module _ (u : ℕ) where
-    by_place : (p : Place) → place_at w u ≡ p → FitsItsLock w p → 1 ≤ stood_in (location_at p l).stands Main → WaitsThere w u l
+    by_place : (p : Place) → place_at w u ≡ p → FitsItsLock w p → 1 ≤ stood_in (location_at p l).stands Main
+        → WaitsThere w u l
     by_place Idle is fits some = absurd (omega arith)
     by_place (Mutex k at) is fits some = either (k == l) refl some
       where
-        either : (b : Bool) → (k == l) ≡ b → 1 ≤ stood_in (if b then location (Mutex k at) else nowhere).stands Main
+        either : (b : Bool) → (k == l) ≡ b
+            → 1 ≤ stood_in (if b then location (Mutex k at) else nowhere).stands Main
             → WaitsThere w u l
-        either true e h = absurd (no_mutex (sort_at k locks.Mutex e (ap (λ (r : Rules). r.sort) (mutex_rules (kind_at w k) fits))))
+        either true e h = absurd (no_mutex
+            (sort_at k locks.Mutex e (ap (λ (r : Rules). r.sort) (mutex_rules (kind_at w k) fits))))
         either false e h = absurd (omega arith)
     by_place (RwLock k a c) is fits some = either (k == l) refl some
       where
-        either : (b : Bool) → (k == l) ≡ b → 1 ≤ stood_in (if b then location (RwLock k a c) else nowhere).stands Main
+        either : (b : Bool) → (k == l) ≡ b → 1 ≤ stood_in (if b then location (RwLock k a c)
+            else nowhere).stands Main
             → WaitsThere w u l
-        either true e h = absurd (let none : false ≡ true = sym (ap has_readers (ap (λ j. (rules_in w j).sort) (eqb-true k l e) ∙ sort)) ∙ fits.0.0 in cc)
+        either true e h = absurd (let none : false ≡ true =
+            sym (ap has_readers (ap (λ j. (rules_in w j).sort) (eqb-true k l e) ∙ sort)) ∙ fits.0.0 in cc)
         either false e h = absurd (omega arith)
     by_place (Once k at) is fits some = either (k == l) refl some
       where
-        either : (b : Bool) → (k == l) ≡ b → 1 ≤ stood_in (if b then location (Once k at) else nowhere).stands Main
+        either : (b : Bool) → (k == l) ≡ b → 1 ≤ stood_in (if b then location (Once k at) else nowhere).stands
+            Main
             → WaitsThere w u l
         either true e h = absurd (no_once (sort_at k locks.Once e fits))
         either false e h = absurd (omega arith)
     by_place (Semaphore k at) is fits some = either (k == l) refl some
       where
-        either : (b : Bool) → (k == l) ≡ b → 1 ≤ stood_in (if b then location (Semaphore k at) else nowhere).stands Main
+        either : (b : Bool) → (k == l) ≡ b → 1 ≤ stood_in (if b then location (Semaphore k at)
+            else nowhere).stands Main
             → WaitsThere w u l
         either true e h = absurd (no_semaphore (sort_at k locks.Semaphore e fits.0))
         either false e h = absurd (omega arith)
     by_place (Condvar k at) is fits some = either (k == l) refl some
       where
         beside : (o : Option ℕ) → mutex_beside at ≡ o
-            → 1 ≤ stood_in (if is_lock l o then location_by (mutex_side at) else nowhere).stands Main → WaitsThere w u l
+            → 1 ≤ stood_in (if is_lock l o then location_by (mutex_side at) else nowhere).stands Main
+            → WaitsThere w u l
         beside None e h = absurd (omega arith)
         beside (Some m) e h = here (m == l) refl h
           where
-            here : (b : Bool) → (m == l) ≡ b → 1 ≤ stood_in (if b then location_by (mutex_side at) else nowhere).stands Main
+            here : (b : Bool) → (m == l) ≡ b → 1 ≤ stood_in (if b then location_by (mutex_side at)
+                else nowhere).stands Main
                 → WaitsThere w u l
-            here true f g = absurd (no_mutex (sort_at m locks.Mutex f (plain_sort (kind_at w m) (fits.mutex m e))))
+            here true f g = absurd (no_mutex
+                (sort_at m locks.Mutex f (plain_sort (kind_at w m) (fits.mutex m e))))
             here false f g = absurd (omega arith)
 
         listed : (b : Bool) → 1 ≤ stood_in (if b then Some Main else None) Main → b ≡ true
@@ -100,13 +112,20 @@ module _ (w : State) (steady : IsInductive w) (l : ℕ) (sort : (rules_in w l).s
         either : (b : Bool) → (k == l) ≡ b
             → 1
             ≤ stood_in
-            (if b then location_by (condvar_profile at) else if is_lock l (mutex_beside at) then location_by (mutex_side at) else nowhere).stands Main
+            (if b then location_by (condvar_profile at) else if is_lock l (mutex_beside at) then location_by
+            (mutex_side at) else nowhere).stands Main
             → WaitsThere w u l
-        either true e h = record { at = at; is = is ∙ ap (λ j. Condvar j at) (eqb-true k l e); listed = listed (condvar_row at).listed h }
+        either true e h = record {
+          at = at;
+          is = is ∙ ap (λ j. Condvar j at) (eqb-true k l e);
+          listed = listed (condvar_row at).listed h;
+        }
         either false e h = beside (mutex_beside at) refl h
 
     pub waits_there : 1 ≤ locks.times u (lock_state w l).queue → WaitsThere w u l
-    waits_there some = by_place (place_at w u) refl (steady.stands.calls u) (let n : locks.times u (lock_state w l).queue ≡ stood_in (location_at (place_at w u) l).stands Main = queued_times u (queue_at w (2 * l)) ∙ steady.stands.lines u l Main in omega arith)
+    waits_there some = by_place (place_at w u) refl (steady.stands.calls u)
+        (let n : locks.times u (lock_state w l).queue ≡ stood_in (location_at (place_at w u) l).stands Main =
+        queued_times u (queue_at w (2 * l)) ∙ steady.stands.lines u l Main in omega arith)
 
   pub waits_aside : (m : ℕ) → WaitsAside (condvar_of w l) (site_of w m) m
   waits_aside m u some names = let x = waits_there u some in by_at x.at x.is x.listed
@@ -114,7 +133,8 @@ module _ (w : State) (steady : IsInductive w) (l : ℕ) (sort : (rules_in w l).s
       by_at : (at : CondvarPlace) → place_at w u ≡ Condvar l at → (condvar_row at).listed ≡ true
           → (standing u (lock_state w m) ≡ 0) × ((role_on (place_at w u) m).retries ≡ None)
       by_at (Look all) is listed = absurd cc
-      by_at (Notify all k at) is listed = absurd (let none : false ≡ true = sym (unlisted all k at) ∙ listed in cc)
+      by_at (Notify all k at) is listed = absurd (let none : false ≡ true = sym (unlisted all k at) ∙ listed
+          in cc)
       by_at (Wait k timed at) is listed = subst Nowhere named (standing_none, role_none)
         where
           Nowhere : ℕ → Type 0
@@ -130,7 +150,8 @@ module _ (w : State) (steady : IsInductive w) (l : ℕ) (sort : (rules_in w l).s
           fits = subst (FitsItsLock w) is (steady.stands.calls u)
 
           apart : l ≢ k
-          apart e = no_mutex (subst (λ j. (rules_in w j).sort ≡ locks.Mutex) (sym e) (plain_sort (kind_at w k) (fits.mutex k refl)))
+          apart e = no_mutex (subst (λ j. (rules_in w j).sort ≡ locks.Mutex) (sym e)
+              (plain_sort (kind_at w k) (fits.mutex k refl)))
 
           side : IsAside k at
           side = aside k timed at fits.reached listed
@@ -139,13 +160,17 @@ module _ (w : State) (steady : IsInductive w) (l : ℕ) (sort : (rules_in w l).s
           location_beside = rw (is, differ l k apart, same k) refl
 
           stands_none : (location_at (place_at w u) k).stands ≡ None
-          stands_none = ap (λ (y : Location). y.stands) location_beside ∙ ap (λ (b : Bool). if b then Some Main else None) side.moved
+          stands_none = ap (λ (y : Location). y.stands) location_beside
+              ∙ ap (λ (b : Bool). if b then Some Main else None) side.moved
 
           taken_none : taken_at (place_at w u) k ≡ None
-          taken_none = rw (is, differ l k apart, same k) (ap (λ (h : Option Hand). taken_from h (mutex_side (Wait k timed at)).wants true) side.hand)
+          taken_none = rw (is, differ l k apart, same k)
+              (ap (λ (h : Option Hand). taken_from h (mutex_side (Wait k timed at)).wants true) side.hand)
 
           standing_none : standing u (lock_state w k) ≡ 0
-          standing_none = standing_by w u steady k ∙ (λ i. stood_in (stands_none i) Main + stood_in (stands_none i) Second + one_if_some (taken_none i))
+          standing_none = standing_by w u steady k
+              ∙ (λ i. stood_in (stands_none i) Main + stood_in (stands_none i) Second + one_if_some
+              (taken_none i))
 
           role_none : (role_on (place_at w u) k).retries ≡ None
           role_none = rw (is, differ l k apart, same k) side.retries

@@ -1,6 +1,7 @@
 -- The places whose call has counted those that its thread has in hand: a thread comes to one by its own step
 -- alone, and none of them is in a hand.
-use Rattle.std.proofs.Common.{ℕ, Bool, true, false, Option, Some, None, if◌then◌else◌, ◌==◌, ◌≡◌, refl, sym, ◌∙◌, ap, subst}
+use Rattle.std.proofs.Common.{ℕ, Bool, true, false, Option, Some, None, if◌then◌else◌, ◌==◌, ◌≡◌, refl, sym}
+use Rattle.std.proofs.Common.{◌∙◌, ap, subst}
 use Rattle.std.proofs.lemmas.Bool.{eqb-true}
 use Rattle.steps_semaphore.specs.declared.places.SemaphorePlace.{SemaphorePlace}
 use Rattle.steps_semaphore.specs.SemaphoreSteps.{semaphore_looking, semaphore_next}
@@ -31,7 +32,8 @@ use Rattle.steps_rwlock.specs.declared.purposes.RwLockPurpose.TheVariants as pur
 use Rattle.steps_rwlock.specs.RwLockSteps.{rwlock_next}
 use Rattle.steps_rwlock.specs.RwLockProfiles.{rwlock_looking}
 use Rattle.steps_rwlock_fair.specs.declared.places.RwLockCallPlace.{RwLockCallPlace}
-use Rattle.steps_rwlock_fair.specs.declared.places.RwLockCallPlace.TheVariants.{Plain, Glance, HandOver, Bump, Handed}
+use Rattle.steps_rwlock_fair.specs.declared.places.RwLockCallPlace.TheVariants.{Plain, Glance, HandOver, Bump}
+use Rattle.steps_rwlock_fair.specs.declared.places.RwLockCallPlace.TheVariants.{Handed}
 use Rattle.steps_rwlock_fair.specs.declared.hand_over.Taken.{Taken as Counted}
 use Rattle.steps_rwlock_fair.specs.declared.hand_over.HandOverAt.{HandOverAt}
 use Rattle.steps_rwlock_fair.specs.declared.hand_over.HandOverAt.TheVariants as handing
@@ -40,14 +42,18 @@ use Rattle.steps_rwlock_fair.specs.declared.handed.HandedAt.TheVariants as hande
 use Rattle.steps_rwlock_fair.specs.FairBegins.{call_first, release_first}
 use Rattle.steps_rwlock_fair.specs.FairCalls.{in_hand_of}
 use Rattle.steps_rwlock_fair.specs.FairProfiles.{in_call}
-use Rattle.steps_rwlock_fair.specs.FairSteps.{any_taken, bump_ended, bump_next, call_next, entering, given, gives_up_at, gives_way, glances, hand_over_next, handed_by, handed_next, handed_woken, plain_next, unless_given, woken_with}
+use Rattle.steps_rwlock_fair.specs.FairSteps.{any_taken, bump_ended, bump_next, call_next, entering, given}
+use Rattle.steps_rwlock_fair.specs.FairSteps.{gives_up_at, gives_way, glances, hand_over_next, handed_by}
+use Rattle.steps_rwlock_fair.specs.FairSteps.{handed_next, handed_woken, plain_next, unless_given, woken_with}
 use Rattle.steps_once.specs.declared.places.OncePlace.{OncePlace}
 use Rattle.steps_once.specs.OnceSteps.{once_looking, once_next}
 use Rattle.steps_condvar.specs.declared.places.CondvarPlace.{CondvarPlace}
 use Rattle.steps_condvar.specs.CondvarSteps.{condvar_next, condvar_looking}
 use Rattle.lot_steps.specs.declared.places.Place.{Place}
 use Rattle.lot_steps.specs.declared.places.Place.TheVariants.{Idle, Mutex, RwLock, Once, Condvar, Semaphore}
-use Rattle.lot_steps.specs.Steps.{first_place, in_mutex, in_once, in_rwlock, late_key, looking, mutex_goes, next_place, once_goes, rwlock_goes, condvar_goes, in_condvar, in_semaphore, semaphore_goes}
+use Rattle.lot_steps.specs.Steps.{first_place, in_mutex, in_once, in_rwlock, late_key, looking, mutex_goes}
+use Rattle.lot_steps.specs.Steps.{next_place, once_goes, rwlock_goes, condvar_goes, in_condvar, in_semaphore}
+use Rattle.lot_steps.specs.Steps.{semaphore_goes}
 use Rattle.lot_machine.specs.Machine.{State, held, place_at}
 use Rattle.lot_laws.specs.SitesOf.{AreCounted, IsCountOfHand, carried_at}
 use Rattle.lot_laws.specs.Locations.{nowhere, location}
@@ -108,15 +114,25 @@ counting l k (Semaphore j at) e = absurd cc
 counting l k (Condvar j at) e = absurd cc
 counting l k (RwLock j a c) e = either (j == l) refl e
   where
-    either : (b : Bool) → (j == l) ≡ b → (if b then in_hand_of c else None) ≡ Some k → IsCounting l k (RwLock j a c)
-    either true here f = record { admission = a; call = c; is = ap (λ n. RwLock n a c) (eqb-true j l here); counted = f }
+    either : (b : Bool) → (j == l) ≡ b → (if b then in_hand_of c else None) ≡ Some k
+        → IsCounting l k (RwLock j a c)
+    either true here f = record {
+      admission = a;
+      call = c;
+      is = ap (λ n. RwLock n a c) (eqb-true j l here);
+      counted = f;
+    }
     either false here f = absurd cc
 
-pub counts_there : (w : State) (t l : ℕ) (k : Counted) → AreCounted w → counted_on (place_at w t) l ≡ Some k → IsCountOfHand w t k
-counts_there w t l k counted e = let h = counting l k (place_at w t) e in counted t l h.admission h.call k h.is h.counted
+pub counts_there : (w : State) (t l : ℕ) (k : Counted) → AreCounted w → counted_on (place_at w t) l ≡ Some k
+    → IsCountOfHand w t k
+counts_there w t l k counted e = let h = counting l k (place_at w t) e in counted t l h.admission h.call k
+    h.is h.counted
 
-pub are_counted : (w : State) → ((t l : ℕ) (k : Counted) → counted_on (place_at w t) l ≡ Some k → IsCountOfHand w t k) → AreCounted w
-are_counted w each t l a c k is counted = each t l k (ap (λ p. counted_on p l) is ∙ ap (λ b. if b then in_hand_of c else None) (same l) ∙ counted)
+pub are_counted : (w : State) → ((t l : ℕ) (k : Counted) → counted_on (place_at w t) l ≡ Some k
+    → IsCountOfHand w t k) → AreCounted w
+are_counted w each t l a c k is counted = each t l k (ap (λ p. counted_on p l) is
+    ∙ ap (λ b. if b then in_hand_of c else None) (same l) ∙ counted)
 
 pub none_is : (k : Counted) (o : Option Counted) → o ≡ None → o ≡ Some k → ⊥
 none_is k o e f = let g : ◌≡◌ {A = Option Counted} None (Some k) = sym e ∙ f in cc
@@ -131,15 +147,35 @@ pub record HasCounted (l : ℕ) (p : Place) : Type 0 where
   pub any : Bool
   pub carries : carried_at p l ≡ in_hand any false
 
-has_counted : (l : ℕ) (k : Counted) (a : Admission) (c : RwLockCallPlace) → in_hand_of c ≡ Some k → HasCounted l (RwLock l a c)
-has_counted l k a (HandOver x b (handing.Store m)) e = record { of = refl; unheld = refl; any = any_taken m; carries = ap (λ y. (if y then location (RwLock l a (HandOver x b (handing.Store m))) else nowhere).carries) (same l) }
-has_counted l k a (HandOver x b (handing.Look m)) e = record { of = refl; unheld = refl; any = any_taken m; carries = ap (λ y. (if y then location (RwLock l a (HandOver x b (handing.Look m))) else nowhere).carries) (same l) }
-has_counted l k a (HandOver x b (handing.Exchange m seen)) e = record { of = refl; unheld = refl; any = any_taken m; carries = ap (λ y. (if y then location (RwLock l a (HandOver x b (handing.Exchange m seen))) else nowhere).carries) (same l) }
+has_counted : (l : ℕ) (k : Counted) (a : Admission) (c : RwLockCallPlace) → in_hand_of c ≡ Some k
+    → HasCounted l (RwLock l a c)
+has_counted l k a (HandOver x b (handing.Store m)) e = record {
+  of = refl;
+  unheld = refl;
+  any = any_taken m;
+  carries = ap (λ y. (if y then location (RwLock l a (HandOver x b (handing.Store m))) else nowhere).carries)
+      (same l);
+}
+has_counted l k a (HandOver x b (handing.Look m)) e = record {
+  of = refl;
+  unheld = refl;
+  any = any_taken m;
+  carries = ap (λ y. (if y then location (RwLock l a (HandOver x b (handing.Look m))) else nowhere).carries)
+      (same l);
+}
+has_counted l k a (HandOver x b (handing.Exchange m seen)) e = record {
+  of = refl;
+  unheld = refl;
+  any = any_taken m;
+  carries = ap (λ y. (if y then location (RwLock l a (HandOver x b (handing.Exchange m seen)))
+      else nowhere).carries) (same l);
+}
 has_counted l k a (HandOver x b to) e = absurd cc
 has_counted l k a c e = absurd cc
 
 pub counting_row : (l : ℕ) (k : Counted) (p : Place) → counted_on p l ≡ Some k → HasCounted l p
-counting_row l k p e = let h = counting l k p e in subst (HasCounted l) (sym h.is) (has_counted l k h.admission h.call h.counted)
+counting_row l k p e = let h = counting l k p e in subst (HasCounted l) (sym h.is)
+    (has_counted l k h.admission h.call h.counted)
 
 -- ---------------------------------------------------------------- places of calls that don't hand over
 
@@ -153,24 +189,29 @@ woken_bare access.Exclusive how b false = entering_bare b _
 woken_bare access.Shared how b alone = refl
 woken_bare access.Upgradable how b alone = refl
 
-given_bare : (b : Bool) (p : RwLockPlace) (r : Reply) (c : RwLockCallPlace) → given b p r ≡ Some c → in_hand_of c ≡ None
+given_bare : (b : Bool) (p : RwLockPlace) (r : Reply) (c : RwLockCallPlace) → given b p r ≡ Some c
+    → in_hand_of c ≡ None
 given_bare b p (reply.HandedBy u alone) c e = by_place p.purpose p.at e
   where
     by_place : (q : RwLockPurpose) (to : RwLockAt) → handed_by b q to u alone ≡ Some c → in_hand_of c ≡ None
-    by_place (purpose.Enter x how) (at.Park (parking.Taken v)) e = let f : Handed x how b (handed.Asleep u alone) ≡ c = cc in subst (λ (d : RwLockCallPlace). in_hand_of d ≡ None) f refl
+    by_place (purpose.Enter x how) (at.Park (parking.Taken v)) e =
+        let f : Handed x how b (handed.Asleep u alone) ≡ c = cc
+        in subst (λ (d : RwLockCallPlace). in_hand_of d ≡ None) f refl
     by_place (purpose.Enter x how) (at.Park to) e = absurd cc
     by_place q to e = absurd cc
 given_bare b p (reply.Woken note.TheVariants.HandOff) c e = by_place p.purpose p.at e
   where
     by_place : (q : RwLockPurpose) (to : RwLockAt) → woken_with b q to ≡ Some c → in_hand_of c ≡ None
-    by_place (purpose.Enter x how) (at.Park parking.Asleep) e = let f : handed_woken x how b false ≡ c = cc in subst (λ (d : RwLockCallPlace). in_hand_of d ≡ None) f (woken_bare x how b false)
+    by_place (purpose.Enter x how) (at.Park parking.Asleep) e = let f : handed_woken x how b false ≡ c = cc
+        in subst (λ (d : RwLockCallPlace). in_hand_of d ≡ None) f (woken_bare x how b false)
     by_place (purpose.Enter x how) (at.Park to) e = absurd cc
     by_place q to e = absurd cc
 given_bare b p (reply.Woken n) c e = absurd cc
 given_bare b p r c e = absurd cc
 
 unless_given_bare : (o : Option RwLockCallPlace) (n : Next RwLockCallPlace)
-    → ((c : RwLockCallPlace) → o ≡ Some c → in_hand_of c ≡ None) → counted_next n ≡ None → counted_next (unless_given o n) ≡ None
+    → ((c : RwLockCallPlace) → o ≡ Some c → in_hand_of c ≡ None) → counted_next n ≡ None
+    → counted_next (unless_given o n) ≡ None
 unless_given_bare None n bare h = h
 unless_given_bare (Some c) n bare h = bare c refl
 
@@ -203,7 +244,8 @@ glance_bare a x (reply.Value seen) = either (gives_way a x seen)
     by_access access.Upgradable = refl
     by_access access.Exclusive = refl
 
-    either : (b : Bool) → counted_next (if b then next.At (gives_up_at x) else next.End answer.TheVariants.Ok) ≡ None
+    either : (b : Bool) → counted_next (if b then next.At (gives_up_at x) else next.End answer.TheVariants.Ok)
+        ≡ None
     either true = by_access x
     either false = refl
 glance_bare a x r = refl
@@ -213,9 +255,12 @@ IsHandOver (HandOver x b to) = Unit {0}
 IsHandOver c = ⊥
 
 -- such a call has nobody counted then, with any news
-pub others_bare : (a : Admission) (c : RwLockCallPlace) (r : Reply) → (IsHandOver c → ⊥) → counted_next (call_next a c r) ≡ None
-others_bare a (Plain p) r no_hand = unless_given_bare (given false p r) (plain_next (rwlock_next a p r)) (given_bare false p r) (plain_bare (rwlock_next a p r))
-others_bare a (Bump p) r no_hand = unless_given_bare (given true p r) (bump_next p.purpose (rwlock_next a p r)) (given_bare true p r) (bump_bare p.purpose (rwlock_next a p r))
+pub others_bare : (a : Admission) (c : RwLockCallPlace) (r : Reply) → (IsHandOver c → ⊥)
+    → counted_next (call_next a c r) ≡ None
+others_bare a (Plain p) r no_hand = unless_given_bare (given false p r) (plain_next (rwlock_next a p r))
+    (given_bare false p r) (plain_bare (rwlock_next a p r))
+others_bare a (Bump p) r no_hand = unless_given_bare (given true p r)
+    (bump_next p.purpose (rwlock_next a p r)) (given_bare true p r) (bump_bare p.purpose (rwlock_next a p r))
 others_bare a (Glance x) r no_hand = glance_bare a x r
 others_bare a (HandOver x b to) r no_hand = absurd (no_hand tt)
 others_bare a (Handed x how b to) r no_hand = handed_bare x how b to r
@@ -231,20 +276,23 @@ stays_counted a x b to (reply.MovedTo key) h = refl
 stays_counted a x b to (reply.HandedBy v c) h = refl
 stays_counted a x b to r h = absurd h
 
-call_befallen : (a : Admission) (c : RwLockCallPlace) (r : Reply) → Befalls r → counted_next (call_next a c r) ≡ in_hand_of c
+call_befallen : (a : Admission) (c : RwLockCallPlace) (r : Reply) → Befalls r → counted_next (call_next a c r)
+    ≡ in_hand_of c
 call_befallen a (HandOver x b to) r h = stays_counted a x b to r h
 call_befallen a (Plain p) r h = others_bare a (Plain p) r (λ no. no)
 call_befallen a (Bump p) r h = others_bare a (Bump p) r (λ no. no)
 call_befallen a (Glance x) r h = others_bare a (Glance x) r (λ no. no)
 call_befallen a (Handed x how b to) r h = others_bare a (Handed x how b to) r (λ no. no)
 
-pub counted_befallen : (l : ℕ) (p : Place) (r : Reply) → Befalls r → counted_on (next_place p r) l ≡ counted_on p l
+pub counted_befallen : (l : ℕ) (p : Place) (r : Reply) → Befalls r → counted_on (next_place p r) l
+    ≡ counted_on p l
 counted_befallen l Idle r h = refl
 counted_befallen l (Mutex j at) r h = mutex_counted l j (mutex_next at r)
 counted_befallen l (Once j at) r h = once_counted l j (once_next at r)
 counted_befallen l (Semaphore j at) r h = semaphore_counted l j (semaphore_next at r)
 counted_befallen l (Condvar j at) r h = condvar_counted l j (condvar_next at r)
-counted_befallen l (RwLock j a c) r h = goes_counted l j a (call_next a c r) ∙ ap (λ o. if j == l then o else None) (call_befallen a c r h)
+counted_befallen l (RwLock j a c) r h = goes_counted l j a (call_next a c r)
+    ∙ ap (λ o. if j == l then o else None) (call_befallen a c r h)
 
 -- ---------------------------------------------------------------- where calls begin and look
 
@@ -262,24 +310,30 @@ begins_bare l kind (call.TheVariants.Mutex j c) = refl
 begins_bare l kind (call.TheVariants.Once j c) = refl
 begins_bare l kind (call.TheVariants.Semaphore j c) = refl
 begins_bare l kind (call.TheVariants.Condvar j c) = refl
-begins_bare l kind (call.TheVariants.RwLock j c) = ap (λ o. if j == l then o else None) (first_bare c) ∙ nothing (j == l)
+begins_bare l kind (call.TheVariants.RwLock j c) = ap (λ o. if j == l then o else None) (first_bare c)
+    ∙ nothing (j == l)
 
 -- a thread that looks at the word once more hands nothing over
 pub record LooksBare (q : Place) : Type 0 where
   pub bare : (l : ℕ) → counted_on q l ≡ None
   pub goes_on : (r : Reply) (l : ℕ) → counted_on (next_place q r) l ≡ None
 
-bare_at : (j : ℕ) (a : Admission) (c : RwLockCallPlace) → in_hand_of c ≡ None → (IsHandOver c → ⊥) → LooksBare (RwLock j a c)
+bare_at : (j : ℕ) (a : Admission) (c : RwLockCallPlace) → in_hand_of c ≡ None → (IsHandOver c → ⊥)
+    → LooksBare (RwLock j a c)
 bare_at j a c none no_hand = record {
   bare = λ l. ap (λ o. if j == l then o else None) none ∙ nothing (j == l);
-  goes_on = λ r l. goes_counted l j a (call_next a c r) ∙ ap (λ o. if j == l then o else None) (others_bare a c r no_hand) ∙ nothing (j == l);
+  goes_on = λ r l. goes_counted l j a (call_next a c r) ∙ ap (λ o. if j == l then o else None)
+      (others_bare a c r no_hand) ∙ nothing (j == l);
 }
 
-looks_bare_at : (j : ℕ) (a : Admission) (b : Bool) (o : Option RwLockPlace) (q : Place) → in_rwlock j a (in_call b o) ≡ Some q
+looks_bare_at : (j : ℕ) (a : Admission) (b : Bool) (o : Option RwLockPlace) (q : Place)
+    → in_rwlock j a (in_call b o) ≡ Some q
     → LooksBare q
 looks_bare_at j a b None q is = absurd cc
-looks_bare_at j a true (Some p) q is = let there : RwLock j a (Bump p) ≡ q = cc in subst LooksBare there (bare_at j a (Bump p) refl (λ no. no))
-looks_bare_at j a false (Some p) q is = let there : RwLock j a (Plain p) ≡ q = cc in subst LooksBare there (bare_at j a (Plain p) refl (λ no. no))
+looks_bare_at j a true (Some p) q is = let there : RwLock j a (Bump p) ≡ q = cc
+    in subst LooksBare there (bare_at j a (Bump p) refl (λ no. no))
+looks_bare_at j a false (Some p) q is = let there : RwLock j a (Plain p) ≡ q = cc
+    in subst LooksBare there (bare_at j a (Plain p) refl (λ no. no))
 
 pub looks_bare : (p q : Place) → looking p ≡ Some q → LooksBare q
 looks_bare Idle q is = absurd cc
@@ -287,22 +341,34 @@ looks_bare (Mutex j at) q is = by_place (mutex_looking at) is
   where
     by_place : (o : Option MutexPlace) → in_mutex j o ≡ Some q → LooksBare q
     by_place None e = absurd cc
-    by_place (Some at2) e = let there : Mutex j at2 ≡ q = cc in subst LooksBare there (record { bare = λ l. refl; goes_on = λ r l. mutex_counted l j (mutex_next at2 r) })
+    by_place (Some at2) e = let there : Mutex j at2 ≡ q = cc in subst LooksBare there (record {
+      bare = λ l. refl;
+      goes_on = λ r l. mutex_counted l j (mutex_next at2 r);
+    })
 looks_bare (Once j at) q is = by_place (once_looking at) is
   where
     by_place : (o : Option OncePlace) → in_once j o ≡ Some q → LooksBare q
     by_place None e = absurd cc
-    by_place (Some at2) e = let there : Once j at2 ≡ q = cc in subst LooksBare there (record { bare = λ l. refl; goes_on = λ r l. once_counted l j (once_next at2 r) })
+    by_place (Some at2) e = let there : Once j at2 ≡ q = cc in subst LooksBare there (record {
+      bare = λ l. refl;
+      goes_on = λ r l. once_counted l j (once_next at2 r);
+    })
 looks_bare (Semaphore j at) q is = by_place (semaphore_looking at) is
   where
     by_place : (o : Option SemaphorePlace) → in_semaphore j o ≡ Some q → LooksBare q
     by_place None e = absurd cc
-    by_place (Some at2) e = let there : Semaphore j at2 ≡ q = cc in subst LooksBare there (record { bare = λ l. refl; goes_on = λ r l. semaphore_counted l j (semaphore_next at2 r) })
+    by_place (Some at2) e = let there : Semaphore j at2 ≡ q = cc in subst LooksBare there (record {
+      bare = λ l. refl;
+      goes_on = λ r l. semaphore_counted l j (semaphore_next at2 r);
+    })
 looks_bare (Condvar j at) q is = by_place (condvar_looking at) is
   where
     by_place : (o : Option CondvarPlace) → in_condvar j o ≡ Some q → LooksBare q
     by_place None e = absurd cc
-    by_place (Some at2) e = let there : Condvar j at2 ≡ q = cc in subst LooksBare there (record { bare = λ l. refl; goes_on = λ r l. condvar_counted l j (condvar_next at2 r) })
+    by_place (Some at2) e = let there : Condvar j at2 ≡ q = cc in subst LooksBare there (record {
+      bare = λ l. refl;
+      goes_on = λ r l. condvar_counted l j (condvar_next at2 r);
+    })
 looks_bare (RwLock j a (Plain p)) q is = looks_bare_at j a false (rwlock_looking a p) q is
 looks_bare (RwLock j a (Bump p)) q is = looks_bare_at j a true (rwlock_looking a p) q is
 looks_bare (RwLock j a (Glance x)) q is = absurd cc
@@ -310,7 +376,8 @@ looks_bare (RwLock j a (HandOver x b to)) q is = absurd cc
 looks_bare (RwLock j a (Handed x how b to)) q is = absurd cc
 
 -- nor does a thread that is late
-pub late_bare : (p : Place) (key : ℕ) → late_key p ≡ Some key → (l : ℕ) → counted_on (next_place p reply.Late) l ≡ None
+pub late_bare : (p : Place) (key : ℕ) → late_key p ≡ Some key → (l : ℕ) → counted_on (next_place p reply.Late)
+    l ≡ None
 late_bare Idle key e l = refl
 late_bare (Mutex j at) key e l = mutex_counted l j (mutex_next at reply.Late)
 late_bare (Once j at) key e l = once_counted l j (once_next at reply.Late)

@@ -1,6 +1,7 @@
 -- A hand-over of a reader-writer lock is one case of the abstract lock, and the calls of all that were handed
 -- it go on with what they wanted.
-use Rattle.std.proofs.Common.{ℕ, Bool, true, false, Option, Some, None, if◌then◌else◌, ◌==◌, ◌≡◌, ◌<◌, List, ◌++◌, length, get_or, get_or-set_other, refl, sym, ◌∙◌, ap, subst}
+use Rattle.std.proofs.Common.{ℕ, Bool, true, false, Option, Some, None, if◌then◌else◌, ◌==◌, ◌≡◌, ◌<◌, List}
+use Rattle.std.proofs.Common.{◌++◌, length, get_or, get_or-set_other, refl, sym, ◌∙◌, ap, subst}
 use Rattle.lot_laws.proofs.rwlock.Kept.{beside_no_call, of_no_once}
 use Rattle.std.proofs.lemmas.Bool.{eqb-true}
 use Rattle.std.proofs.Math.ListN.{get_or-map}
@@ -35,7 +36,8 @@ use Rattle.spec_locks.specs.Locks.{HandOff, IsTaken, Queued, Rights, Taken, putt
 use Rattle.spec_locks.specs.Runs.{AtLock, Event, is_taken_by}
 use Rattle.spec_locks.specs.Sites.{Deed}
 use Rattle.lot_machine.specs.Fits.{IsWellFormed}
-use Rattle.lot_machine.specs.Machine.{State, place_after_telling, place_at, put, state_after_act, state_after_hand_over_by, unshared_then, word_at}
+use Rattle.lot_machine.specs.Machine.{State, place_after_telling, place_at, put, state_after_act}
+use Rattle.lot_machine.specs.Machine.{state_after_hand_over_by, unshared_then, word_at}
 use Rattle.lot_laws.specs.MutexDeeds.{acts}
 use Rattle.lot_laws.specs.MutexDeeds as deeds
 use Rattle.lot_laws.specs.Refinement.{call_state, lock_state, taken_at}
@@ -47,7 +49,8 @@ use Rattle.lot_laws.proofs.hands.Rights.{given_right}
 use Rattle.lot_laws.proofs.hands.Counted.{hand_there}
 use Rattle.lot_laws.proofs.hands.Events.{IsHandedCall, claims_are, hands_many}
 use Rattle.lot_laws.proofs.hands.Kept.{alone_is, claims_given}
-use Rattle.lot_laws.proofs.hands.HandsOn.{bare, carries, g, given, hands_goes, hands_tell, more_right, of, row, unclaimed, whom}
+use Rattle.lot_laws.proofs.hands.HandsOn.{bare, carries, g, given, hands_goes, hands_tell, more_right, of}
+use Rattle.lot_laws.proofs.hands.HandsOn.{row, unclaimed, whom}
 use Rattle.lot_laws.proofs.calls.LockEvents.{Befalls}
 use Rattle.lot_laws.proofs.calls.OtherCalls.{taken_by_hand}
 use Rattle.lot_laws.proofs.rwlock.Kept.{beside_no_call, admits, of_no_mutex, of_no_semaphore}
@@ -66,9 +69,11 @@ gains false Shared l r = refl
 gains false Wait l r = refl
 gains false CallOnce l r = refl
 
-module _ (w : State) (t l : ℕ) (a : Admission) (c : RwLockCallPlace) (steady : IsInductive w) (shape : IsWellFormed w)
+module _ (w : State) (t l : ℕ) (a : Admission) (c : RwLockCallPlace) (steady : IsInductive w)
+    (shape : IsWellFormed w)
     (there : t < length w.places) (lt : l < length w.locks) (is : place_at w t ≡ RwLock l a c)
-    (k : Counted) (is_k : in_hand_of c ≡ Some k) (count : IsCountOfHand w t k) (op : Op) (e : call_act l a c ≡ act.HandOver l op) (takes : takes_effect op (word_at w l) ≡ true) where
+    (k : Counted) (is_k : in_hand_of c ≡ Some k) (count : IsCountOfHand w t k) (op : Op) (e : call_act l a c
+    ≡ act.HandOver l op) (takes : takes_effect op (word_at w l) ≡ true) where
   abbrev alone : Bool
   alone = unshared_then w t l
 
@@ -76,7 +81,8 @@ module _ (w : State) (t l : ℕ) (a : Admission) (c : RwLockCallPlace) (steady :
   heir = whom w t l a c steady shape there lt is k is_k count op e
 
   abbrev pub behind : State
-  behind = put (state_after_act w t (RwLock l a c) (act.HandOver l op)) t (next_place (RwLock l a c) (Value (word_at w l)))
+  behind = put (state_after_act w t (RwLock l a c) (act.HandOver l op)) t (next_place (RwLock l a c)
+      (Value (word_at w l)))
 
   abbrev pub done : List Deed
   done = call_deeds a c heir (Value (word_at w l))
@@ -85,7 +91,9 @@ module _ (w : State) (t l : ℕ) (a : Admission) (c : RwLockCallPlace) (steady :
   claims = claims_given t alone (λ u. taken_at (place_at w u) l) (length w.places)
 
   went : Goes w behind l (acts t done ++ claims)
-  went = subst (λ q. Goes w (put (state_after_act w t (RwLock l a c) (act.HandOver l op)) t (next_place q (Value (word_at w l)))) l (acts t done ++ claims)) is (hands_goes w t l a c steady shape there lt is k is_k count op e takes)
+  went = subst (λ q. Goes w (put (state_after_act w t (RwLock l a c) (act.HandOver l op)) t
+      (next_place q (Value (word_at w l)))) l (acts t done ++ claims)) is (hands_goes w t l a c steady shape
+      there lt is k is_k count op e takes)
 
   abbrev pub right : Want
   right = (g w t l a c steady shape there lt is k is_k count op e).right
@@ -94,37 +102,50 @@ module _ (w : State) (t l : ℕ) (a : Admission) (c : RwLockCallPlace) (steady :
   successor = heir_of heir (g w t l a c steady shape there lt is k is_k count op e).successor
 
   carried_now : carried_at (place_at w t) l ≡ (call_profile a c).carries
-  carried_now = ap (λ (y : Location). y.carries) (location_here l (place_at w t) (of w t l a c steady shape there lt is k is_k count op e)) ∙ ap (λ (y : Profile). y.carries) (row w t l a c steady shape there lt is k is_k count op e)
+  carried_now = ap (λ (y : Location). y.carries) (location_here l (place_at w t)
+      (of w t l a c steady shape there lt is k is_k count op e)) ∙ ap (λ (y : Profile). y.carries)
+      (row w t l a c steady shape there lt is k is_k count op e)
 
   abbrev event : Event
   event = event_by l (case_of (call_profile a c).carries done)
 
   one_case : event ≡ AtLock l (HandOff right successor)
-  one_case = ap (λ ds. event_by l (case_of (call_profile a c).carries ds)) ((g w t l a c steady shape there lt is k is_k count op e).deeds heir (word_at w l) takes)
+  one_case = ap (λ ds. event_by l (case_of (call_profile a c).carries ds))
+      ((g w t l a c steady shape there lt is k is_k count op e).deeds heir (word_at w l) takes)
 
   pub hands_happen : Happens w behind t event
-  hands_happen = happens w behind t l (call_profile a c).carries done claims steady went (claims_are t alone (λ u. taken_at (place_at w u) l) (length w.places)) (hands_tell w t l a c steady shape there lt is k is_k count op e).one
+  hands_happen = happens w behind t l (call_profile a c).carries done claims steady went
+      (claims_are t alone (λ u. taken_at (place_at w u) l) (length w.places))
+      (hands_tell w t l a c steady shape there lt is k is_k count op e).one
       (λ none. in_no_hand w steady t l (λ h. none (sym carried_now ∙ h)))
 
   -- all in its hand are told, and nobody else
   befalls : Befalls w behind t l (HandedBy t alone)
-  befalls u ne = get_or-set_other (state_after_act w t (RwLock l a c) (act.HandOver l op)).places t u (next_place (RwLock l a c) (Value (word_at w l))) Idle ne
+  befalls u ne = get_or-set_other (state_after_act w t (RwLock l a c) (act.HandOver l op)).places t u
+      (next_place (RwLock l a c) (Value (word_at w l))) Idle ne
       ∙ ap (λ b. get_or (state_after_hand_over_by b w t (RwLock l a c) l op).places u Idle) takes
       ∙ get_or-map (place_after_telling t (HandedBy t alone)) w.places u Idle
-      ∙ ap (λ b. if b then next_place (place_at w u) (HandedBy t alone) else place_at w u) (same_test (is_thread t (taker (place_at w u))) refl)
+      ∙ ap (λ b. if b then next_place (place_at w u) (HandedBy t alone) else place_at w u)
+      (same_test (is_thread t (taker (place_at w u))) refl)
     where
       same_test : (b : Bool) → is_thread t (taker (place_at w u)) ≡ b
           → is_thread t (taker (place_at w u)) ≡ is_taken_by t (taken_at (place_at w u) l)
       same_test true f = f ∙ sym (taken_by_hand w (place_at w u) t l (steady.stands.calls u)
-          (hand_there w t l steady (of w t l a c steady shape there lt is k is_k count op e) (g w t l a c steady shape there lt is k is_k count op e).any (carries w t l a c steady shape there lt is k is_k count op e) u f))
-      same_test false f = f ∙ sym (unless_held w steady t l u (λ h. let z : is_thread t (taker (place_at w u)) ≡ true = held_tells (place_at w u) t l false h in cc))
+          (hand_there w t l steady (of w t l a c steady shape there lt is k is_k count op e)
+          (g w t l a c steady shape there lt is k is_k count op e).any
+          (carries w t l a c steady shape there lt is k is_k count op e) u f))
+      same_test false f = f ∙ sym (unless_held w steady t l u (λ h. let z : is_thread t (taker (place_at w u))
+          ≡ true = held_tells (place_at w u) t l false h in cc))
 
   -- a thread that waits for a lock that is no mutex is in a call of it alone
   handed_single : (u : ℕ) (x : Want) → IsTaken (lock_state w l) t u x → IsSingle (place_at w u)
   handed_single u x taken = by_place (place_at w u) refl taken
     where
-      by_place : (q : Place) → place_at w u ≡ q → taken_at q l ≡ Some (record { by = t; want = x }) → IsSingle q
-      by_place (Condvar j at) f h = let none : taken_at (Condvar j at) l ≡ None = condvar_untaken j at l (beside_no_call w t l a c steady shape there lt is u j at f) in let both : ◌≡◌ {A = Option Taken} None (Some (record { by = t; want = x })) = sym none ∙ h in cc
+      by_place : (q : Place) → place_at w u ≡ q → taken_at q l ≡ Some (record { by = t; want = x })
+          → IsSingle q
+      by_place (Condvar j at) f h = let none : taken_at (Condvar j at) l ≡ None =
+          condvar_untaken j at l (beside_no_call w t l a c steady shape there lt is u j at f)
+          in let both : ◌≡◌ {A = Option Taken} None (Some (record { by = t; want = x })) = sym none ∙ h in cc
       by_place Idle f h = tt
       by_place (Mutex j m) f h = tt
       by_place (RwLock j d q) f h = tt
@@ -135,43 +156,60 @@ module _ (w : State) (t l : ℕ) (a : Admission) (c : RwLockCallPlace) (steady :
   handed_calls : (u : ℕ) (x : Want) → IsTaken (lock_state w l) t u x → IsHandedCall l t alone x (place_at w u)
   handed_calls u x taken = by_place (place_at w u) refl taken
     where
-      by_place : (q : Place) → place_at w u ≡ q → taken_at q l ≡ Some (record { by = t; want = x }) → IsHandedCall l t alone x q
+      by_place : (q : Place) → place_at w u ≡ q → taken_at q l ≡ Some (record { by = t; want = x })
+          → IsHandedCall l t alone x q
       by_place Idle f h = absurd cc
-      by_place (Condvar j at) f h = absurd (let none : taken_at (Condvar j at) l ≡ None = condvar_untaken j at l (beside_no_call w t l a c steady shape there lt is u j at f) in let both : ◌≡◌ {A = Option Taken} None (Some (record { by = t; want = x })) = sym none ∙ h in cc)
+      by_place (Condvar j at) f h = absurd (let none : taken_at (Condvar j at) l ≡ None =
+          condvar_untaken j at l (beside_no_call w t l a c steady shape there lt is u j at f)
+          in let both : ◌≡◌ {A = Option Taken} None (Some (record { by = t; want = x })) = sym none ∙ h in cc)
       by_place (Once j at) f h = either (j == l) refl h
         where
-          either : (y : Bool) → (j == l) ≡ y → taken_from (profile (Once j at)).hand (profile (Once j at)).wants y ≡ Some (record { by = t; want = x }) → IsHandedCall l t alone x (Once j at)
-          either true same_lock z = absurd (of_no_once w t l a c steady shape there lt is u j at f (eqb-true j l same_lock))
+          either : (y : Bool) → (j == l) ≡ y → taken_from (profile (Once j at)).hand
+              (profile (Once j at)).wants y ≡ Some (record { by = t; want = x })
+              → IsHandedCall l t alone x (Once j at)
+          either true same_lock z = absurd (of_no_once w t l a c steady shape there lt is u j at f
+              (eqb-true j l same_lock))
           either false same_lock z = absurd (untaken (profile (Once j at)).hand (profile (Once j at)).wants z)
             where
-              untaken : (o : Option Hand) (y : Option Want) → taken_from o y false ≡ Some (record { by = t; want = x }) → ⊥
+              untaken : (o : Option Hand) (y : Option Want) → taken_from o y false
+                  ≡ Some (record { by = t; want = x }) → ⊥
               untaken None y z = cc
               untaken (Some (Of v true)) y z = cc
               untaken (Some (Of v false)) None z = cc
               untaken (Some (Of v false)) (Some s) z = cc
       by_place (Semaphore j at) f h = either (j == l) refl h
         where
-          either : (y : Bool) → (j == l) ≡ y → taken_from (profile (Semaphore j at)).hand (profile (Semaphore j at)).wants y ≡ Some (record { by = t; want = x }) → IsHandedCall l t alone x (Semaphore j at)
-          either true same_lock z = absurd (of_no_semaphore w t l a c steady shape there lt is u j at f (eqb-true j l same_lock))
-          either false same_lock z = absurd (untaken (profile (Semaphore j at)).hand (profile (Semaphore j at)).wants z)
+          either : (y : Bool) → (j == l) ≡ y → taken_from (profile (Semaphore j at)).hand
+              (profile (Semaphore j at)).wants y ≡ Some (record { by = t; want = x })
+              → IsHandedCall l t alone x (Semaphore j at)
+          either true same_lock z = absurd (of_no_semaphore w t l a c steady shape there lt is u j at f
+              (eqb-true j l same_lock))
+          either false same_lock z = absurd (untaken (profile (Semaphore j at)).hand
+              (profile (Semaphore j at)).wants z)
             where
-              untaken : (o : Option Hand) (y : Option Want) → taken_from o y false ≡ Some (record { by = t; want = x }) → ⊥
+              untaken : (o : Option Hand) (y : Option Want) → taken_from o y false
+                  ≡ Some (record { by = t; want = x }) → ⊥
               untaken None y z = cc
               untaken (Some (Of v true)) y z = cc
               untaken (Some (Of v false)) None z = cc
               untaken (Some (Of v false)) (Some s) z = cc
       by_place (Mutex j m) f h = either (j == l) refl h
         where
-          either : (y : Bool) → (j == l) ≡ y → taken_from (profile (Mutex j m)).hand (profile (Mutex j m)).wants y ≡ Some (record { by = t; want = x }) → IsHandedCall l t alone x (Mutex j m)
-          either true same_lock z = absurd (of_no_mutex w t l a c steady shape there lt is u j m f (eqb-true j l same_lock))
+          either : (y : Bool) → (j == l) ≡ y → taken_from (profile (Mutex j m)).hand
+              (profile (Mutex j m)).wants y ≡ Some (record { by = t; want = x })
+              → IsHandedCall l t alone x (Mutex j m)
+          either true same_lock z = absurd (of_no_mutex w t l a c steady shape there lt is u j m f
+              (eqb-true j l same_lock))
           either false same_lock z = absurd (untaken (profile (Mutex j m)).hand (profile (Mutex j m)).wants z)
             where
-              untaken : (o : Option Hand) (y : Option Want) → taken_from o y false ≡ Some (record { by = t; want = x }) → ⊥
+              untaken : (o : Option Hand) (y : Option Want) → taken_from o y false
+                  ≡ Some (record { by = t; want = x }) → ⊥
               untaken None y z = cc
               untaken (Some (Of v true)) y z = cc
               untaken (Some (Of v false)) None z = cc
               untaken (Some (Of v false)) (Some s) z = cc
-      by_place (RwLock j d q) f h = by_row (call_profile d q).hand (call_profile d q).wants (calls (RwLock j d q) l) refl refl refl h
+      by_place (RwLock j d q) f h = by_row (call_profile d q).hand (call_profile d q).wants
+          (calls (RwLock j d q) l) refl refl refl h
         where
           fits_u : FitsItsLock w (RwLock j d q)
           fits_u = subst (FitsItsLock w) f (steady.stands.calls u)
@@ -181,26 +219,43 @@ module _ (w : State) (t l : ℕ) (a : Admission) (c : RwLockCallPlace) (steady :
           at_lock same_lock z wants r = by_next (call_next d q (HandedBy t alone)) refl
             where
               unclaimed_now : (call_profile d q).role.claims ≡ None
-              unclaimed_now = unclaimed w t l a c steady shape there lt is k is_k count op e takes u j d q f same_lock z
+              unclaimed_now = unclaimed w t l a c steady shape there lt is k is_k count op e takes u j d q f
+                  same_lock z
 
-              by_next : (n : Next RwLockCallPlace) → call_next d q (HandedBy t alone) ≡ n → call_state (rwlock_goes j d n) (putting r l (given_right alone x (r l))) ≡ record (call_state (RwLock j d q) r) { retries = None }
-              by_next (next.At c2) y = ap (call_state (RwLock j d c2)) (gains alone x l r ∙ ap (λ i. with_claim (claim_handed alone x) i r) (sym same_lock)) ∙ (fair_sleepers_hear d j q fits_u.1).given t alone z unclaimed_now c2 r x wants y
+              by_next : (n : Next RwLockCallPlace) → call_next d q (HandedBy t alone) ≡ n
+                  → call_state (rwlock_goes j d n) (putting r l (given_right alone x (r l)))
+                  ≡ record (call_state (RwLock j d q) r) { retries = None }
+              by_next (next.At c2) y = ap (call_state (RwLock j d c2)) (gains alone x l r
+                  ∙ ap (λ i. with_claim (claim_handed alone x) i r) (sym same_lock))
+                  ∙ (fair_sleepers_hear d j q fits_u.1).given t alone z unclaimed_now c2 r x wants y
               by_next (next.End answer) y = absurd (
                   let m = (handed_move d q fits_u.1).given t alone x z unclaimed_now wants in
-                  let goes : location_by ((call_move d q).next (HandedBy t alone)) ≡ record nowhere { hand = hand t true } = m.goes in
-                  let none : ◌≡◌ {A = Option Hand} None (hand t true) = sym (ap (λ (n : Next RwLockCallPlace). (row_of (next_rows d n)).hand) y) ∙ ap (λ (s : Location). s.hand) goes in cc)
+                  let goes : location_by ((call_move d q).next (HandedBy t alone)) ≡ record nowhere {
+                    hand =
+                        hand t true;
+                  } = m.goes in
+                  let none : ◌≡◌ {A = Option Hand} None (hand t true) =
+                  sym (ap (λ (n : Next RwLockCallPlace). (row_of (next_rows d n)).hand) y)
+                  ∙ ap (λ (s : Location). s.hand) goes in cc)
 
-          by_row : (o : Option Hand) (y : Option Want) (b : Bool) → (call_profile d q).hand ≡ o → (call_profile d q).wants ≡ y → (j == l) ≡ b → taken_from o y b ≡ Some (record { by = t; want = x }) → IsHandedCall l t alone x (RwLock j d q)
+          by_row : (o : Option Hand) (y : Option Want) (b : Bool) → (call_profile d q).hand ≡ o
+              → (call_profile d q).wants ≡ y → (j == l) ≡ b → taken_from o y b
+              ≡ Some (record { by = t; want = x }) → IsHandedCall l t alone x (RwLock j d q)
           by_row None y b p1 p2 p3 z = absurd cc
           by_row (Some (Of v true)) y b p1 p2 p3 z = absurd cc
           by_row (Some (Of v false)) None b p1 p2 p3 z = absurd cc
           by_row (Some (Of v false)) (Some s) true p1 p2 p3 z =
               let both : record { by = v; want = s } ≡ record { by = t; want = x } = cc in
-              at_lock (eqb-true j l p3) (p1 ∙ ap (λ (y : Taken). hand y.by false) both) (p2 ∙ ap (λ (y : Taken). Some y.want) both)
+              at_lock (eqb-true j l p3) (p1 ∙ ap (λ (y : Taken). hand y.by false) both) (p2
+              ∙ ap (λ (y : Taken). Some y.want) both)
           by_row (Some (Of v false)) (Some s) false p1 p2 p3 z = absurd cc
 
   pub hands_others : OthersFollow w behind t event
-  hands_others = subst (OthersFollow w behind t) (sym one_case) (hands_many w behind t l right successor (subst (Happens w behind t) one_case hands_happen) alone
-      (alone_is w t l steady (of w t l a c steady shape there lt is k is_k count op e) there lt (RwLock l a c) (place_at w t) (of w t l a c steady shape there lt is k is_k count op e) (steady.stands.calls t) op (rules_in w l) refl (admits w t l a c steady shape there lt is).0
-      (given w t l a c steady shape there lt is k is_k count op e takes) (bare w t l a c steady shape there lt is k is_k count op e) right (more_right w t l a c steady shape there lt is k is_k count op e takes))
+  hands_others = subst (OthersFollow w behind t) (sym one_case) (hands_many w behind t l right successor
+      (subst (Happens w behind t) one_case hands_happen) alone
+      (alone_is w t l steady (of w t l a c steady shape there lt is k is_k count op e) there lt (RwLock l a c)
+      (place_at w t) (of w t l a c steady shape there lt is k is_k count op e) (steady.stands.calls t) op
+      (rules_in w l) refl (admits w t l a c steady shape there lt is).0
+      (given w t l a c steady shape there lt is k is_k count op e takes) (bare w t l a c steady shape there lt
+      is k is_k count op e) right (more_right w t l a c steady shape there lt is k is_k count op e takes))
       befalls handed_calls handed_single)

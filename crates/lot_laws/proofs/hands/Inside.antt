@@ -1,6 +1,8 @@
--- A thread that has taken others is inside the section from whose line it took them. One that is yet to set a parked bit beside waiters is inside
+-- A thread that has taken others is inside the section from whose line it took them. One that is yet to set a
+-- parked bit beside waiters is inside
 -- too, or has ended its run of a `Once` and owes them their wake.
-use Rattle.std.proofs.Common.{ℕ, Bool, true, false, Some, None, if◌then◌else◌, ◌≡◌, inl, inr, sym, ◌∙◌, ap, subst}
+use Rattle.std.proofs.Common.{ℕ, Bool, true, false, Some, None, if◌then◌else◌, ◌≡◌, inl, inr, sym, ◌∙◌, ap}
+use Rattle.std.proofs.Common.{subst}
 use Rattle.spec_locks.specs.Locks.{Taken}
 use Rattle.spec_locks.specs.Sites.{Role, Line, Main, idle}
 use Rattle.steps_condvar.specs.declared.places.CondvarPlace.{CondvarPlace}
@@ -25,7 +27,8 @@ CarriesInside d = d.carries ≡ true → (m : Line) × (d.inside ≡ Some m)
 role_inside : (p : Place) (l : ℕ) → CarriesInside (role_on p l)
 role_inside p l = by_locks (calls p l) (is_lock l (beside_of p))
   where
-    by_locks : (b c : Bool) → CarriesInside (if b then (profile p).role else if c then (profile_beside p).role else idle)
+    by_locks : (b c : Bool) → CarriesInside (if b then (profile p).role else if c then (profile_beside p).role
+        else idle)
     by_locks true c h = (row_facts p).carries h
     by_locks false true h = (beside_facts p).carries h
     by_locks false false h = absurd cc
@@ -35,7 +38,8 @@ module _ (w : State) (steady : IsInductive w) where
   holds_section : (t l : ℕ) (m : Line) → (role_on (place_at w t) l).inside ≡ Some m → IsInside w t l m
   holds_section t l m h = (steady.stands.sections t l m).0 (sym (inside_is (place_at w t) l) ∙ h)
 
-  pub hands_inside : (u l : ℕ) (h : Taken) → (lock_state w l).taken u ≡ Some h → (m : Line) × IsInside w h.by l m
+  pub hands_inside : (u l : ℕ) (h : Taken) → (lock_state w l).taken u ≡ Some h → (m : Line)
+      × IsInside w h.by l m
   hands_inside u l h e =
       let there = role_inside (place_at w h.by) l ((steady.sites.site l).carried u h e) in
       (there.0, holds_section h.by l there.0 there.1)
@@ -43,22 +47,32 @@ module _ (w : State) (steady : IsInductive w) where
 -- ---------------------------------------------------------------- threads that are yet to set a bit
 
 -- a row whose thread is to take waiters beside a clear bit owes them their wake
-owes_soon : (p : Place) (l : ℕ) → (role_on p l).sets ≡ true → (role_on p l).wakes ≡ Some Main → line_owed p l ≡ Some Main
+owes_soon : (p : Place) (l : ℕ) → (role_on p l).sets ≡ true → (role_on p l).wakes ≡ Some Main
+    → line_owed p l ≡ Some Main
 owes_soon p l = elim (single_or_two p) [
-  | inl single ↦ λ sets wakes. single_owes p l single ∙ own (calls p l) (ap (λ (d : Role). d.sets) (sym (single_role p l single)) ∙ sets) (ap (λ (d : Role). d.wakes) (sym (single_role p l single)) ∙ wakes)
-  | inr two ↦ subst (λ q. (role_on q l).sets ≡ true → (role_on q l).wakes ≡ Some Main → line_owed q l ≡ Some Main) (sym two.is) (beside two.lock two.at (calls (Condvar two.lock two.at) l) (is_lock l (beside_of (Condvar two.lock two.at))))
+  | inl single ↦ λ sets wakes. single_owes p l single
+      ∙ own (calls p l) (ap (λ (d : Role). d.sets) (sym (single_role p l single)) ∙ sets)
+      (ap (λ (d : Role). d.wakes) (sym (single_role p l single)) ∙ wakes)
+  | inr two ↦ subst (λ q. (role_on q l).sets ≡ true → (role_on q l).wakes ≡ Some Main → line_owed q l
+      ≡ Some Main) (sym two.is) (beside two.lock two.at (calls (Condvar two.lock two.at) l)
+      (is_lock l (beside_of (Condvar two.lock two.at))))
 ]
   where
-    own : (b : Bool) → (if b then (profile p).role else idle).sets ≡ true → (if b then (profile p).role else idle).wakes ≡ Some Main
+    own : (b : Bool) → (if b then (profile p).role else idle).sets ≡ true
+        → (if b then (profile p).role else idle).wakes ≡ Some Main
         → (if b then (profile p).owes else None) ≡ Some Main
     own true sets wakes = (row_facts p).owed sets wakes
     own false sets wakes = absurd cc
 
-    beside : (k : ℕ) (at : CondvarPlace) (b c : Bool) → (if b then (profile (Condvar k at)).role else if c then (profile_beside (Condvar k at)).role else idle).sets ≡ true
-        → (if b then (profile (Condvar k at)).role else if c then (profile_beside (Condvar k at)).role else idle).wakes ≡ Some Main
-        → or_else (if c then (profile_beside (Condvar k at)).owes else None) (if b then (profile (Condvar k at)).owes else None) ≡ Some Main
+    beside : (k : ℕ) (at : CondvarPlace) (b c : Bool) → (if b then (profile (Condvar k at)).role else if c
+        then (profile_beside (Condvar k at)).role else idle).sets ≡ true
+        → (if b then (profile (Condvar k at)).role else if c then (profile_beside (Condvar k at)).role
+        else idle).wakes ≡ Some Main
+        → or_else (if c then (profile_beside (Condvar k at)).owes else None)
+        (if b then (profile (Condvar k at)).owes else None) ≡ Some Main
     beside k at true c sets wakes = absurd cc
-    beside k at false true sets wakes = ap (λ o. or_else o None) ((beside_facts (Condvar k at)).owed sets wakes)
+    beside k at false true sets wakes =
+        ap (λ o. or_else o None) ((beside_facts (Condvar k at)).owed sets wakes)
     beside k at false false sets wakes = absurd cc
 
 module _ (w : State) (steady : IsInductive w) where

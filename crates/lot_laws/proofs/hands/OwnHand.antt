@@ -1,5 +1,6 @@
 -- A thread that calls one lock is in no hand of its own: a thread that is in a hand has nobody in hand.
-use Rattle.std.proofs.Common.{ℕ, Bool, true, false, Some, None, if◌then◌else◌, ◌≡◌, ◌⊎◌, inl, inr, refl, ◌∙◌, ap}
+use Rattle.std.proofs.Common.{ℕ, Bool, true, false, Some, None, if◌then◌else◌, ◌≡◌, ◌⊎◌, inl, inr, refl, ◌∙◌}
+use Rattle.std.proofs.Common.{ap}
 use Rattle.lot_steps.specs.declared.places.Place.{Place}
 use Rattle.lot_steps.specs.declared.places.Place.TheVariants.{Idle, Mutex, RwLock, Once, Condvar, Semaphore}
 use Rattle.lot_steps.specs.Steps.{calls, profile}
@@ -22,7 +23,8 @@ bare (Condvar l at) single = absurd single
 
 module _ (w : State) (steady : IsInductive w) (t l : ℕ) (single : IsSingle (place_at w t)) where
   nobody : (profile (place_at w t)).carries ≡ None → carried_at (place_at w t) l ≡ None
-  nobody none = ap (λ (x : Location). x.carries) (single_location (place_at w t) l single) ∙ either (calls (place_at w t) l)
+  nobody none = ap (λ (x : Location). x.carries) (single_location (place_at w t) l single)
+      ∙ either (calls (place_at w t) l)
     where
       either : (b : Bool) → (if b then location (place_at w t) else nowhere).carries ≡ None
       either true = none
@@ -31,5 +33,7 @@ module _ (w : State) (steady : IsInductive w) (t l : ℕ) (single : IsSingle (pl
   pub own_hand : is_taken_by t (taken_at (place_at w t) l) ≡ false
   own_hand = elim (bare (place_at w t) single) [
     | inl free ↦ ap (is_taken_by t) (free_of (place_at w t) l single free)
-    | inr none ↦ unless_held w steady t l t (λ h. let some : carried_at (place_at w t) l ≡ Some false = steady.stands.hands.taken t t l false h in let empty : carried_at (place_at w t) l ≡ None = nobody none in cc)
+    | inr none ↦ unless_held w steady t l t (λ h. let some : carried_at (place_at w t) l ≡ Some false =
+        steady.stands.hands.taken t t l false h in let empty : carried_at (place_at w t) l ≡ None =
+        nobody none in cc)
   ]

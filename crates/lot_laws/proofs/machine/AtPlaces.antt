@@ -1,6 +1,7 @@
 -- A thread at a place, between steps: the section that it is inside, the lines in which it stands, and its
 -- rights.
-use Rattle.std.proofs.Common.{ℕ, Bool, true, false, Option, Some, None, if◌then◌else◌, ◌==◌, ◌≡◌, ◌*◌, [], get_or, map, refl, sym, ◌∙◌, ap}
+use Rattle.std.proofs.Common.{ℕ, Bool, true, false, Option, Some, None, if◌then◌else◌, ◌==◌, ◌≡◌, ◌*◌, []}
+use Rattle.std.proofs.Common.{get_or, map, refl, sym, ◌∙◌, ap}
 use Rattle.std.proofs.Math.ListN.{get_or-map}
 use Rattle.core_base.specs.declared.wants.Want.TheVariants.{Exclusive}
 use Rattle.core_base.specs.Lines.{without, times}
@@ -30,18 +31,23 @@ module _ (w : State) (steady : IsInductive w) where
 
   -- a lock that a thread calls as a mutex is one
   pub rules_for : (t l : ℕ) (at : MutexPlace) → place_at w t ≡ Mutex l at → rules_in w l ≡ mutex
-  rules_for t l at is = mutex_rules (kind_at w l) (let c : FitsItsLock w (Mutex l at) = rw is at (steady.stands.calls t) in c)
+  rules_for t l at is = mutex_rules (kind_at w l) (let c : FitsItsLock w (Mutex l at) =
+      rw is at (steady.stands.calls t) in c)
 
-  pub coded_for : (t l : ℕ) (at : MutexPlace) → place_at w t ≡ Mutex l at → IsMutexWord (word_at w l) (owners_at w l).exclusive
+  pub coded_for : (t l : ℕ) (at : MutexPlace) → place_at w t ≡ Mutex l at → IsMutexWord (word_at w l)
+      (owners_at w l).exclusive
   coded_for t l at is = coded l (rules_for t l at is)
 
   -- a thread that has nobody in hand by its place
-  pub taken_nobody : (t l : ℕ) → (role_on (place_at w t) l).carries ≡ false → HasTakenNobody (lock_state w l) t
-  taken_nobody t l none u x h = let some : (role_on (place_at w t) l).carries ≡ true = (steady.sites.site l).carried u (record { by = t; want = x }) h in cc
+  pub taken_nobody : (t l : ℕ) → (role_on (place_at w t) l).carries ≡ false
+      → HasTakenNobody (lock_state w l) t
+  taken_nobody t l none u x h = let some : (role_on (place_at w t) l).carries ≡ true =
+      (steady.sites.site l).carried u (record { by = t; want = x }) h in cc
 
   module _ (t l : ℕ) where
     -- a thread that is not in its hand, to be woken or to be handed the lock, it hasn't taken
-    pub unless_held : (u : ℕ) → (hand_at (place_at w u) l ≡ hand t false → ⊥) → is_taken_by t (taken_at (place_at w u) l) ≡ false
+    pub unless_held : (u : ℕ) → (hand_at (place_at w u) l ≡ hand t false → ⊥)
+        → is_taken_by t (taken_at (place_at w u) l) ≡ false
     unless_held u none = freed (taken_at (place_at w u) l) (untaken (place_at w u) t l none)
       where
         freed : (o : Option Taken) → keep_from t o ≡ o → is_taken_by t o ≡ false
@@ -50,10 +56,12 @@ module _ (w : State) (steady : IsInductive w) where
           where
             either : (b : Bool) → (h.by == t) ≡ b → b ≡ false
             either false f = refl
-            either true f = absurd (let g : ◌≡◌ {A = Option Taken} None (Some h) = sym (ap (λ b. if b then None else Some h) f) ∙ e in cc)
+            either true f = absurd (let g : ◌≡◌ {A = Option Taken} None (Some h) =
+                sym (ap (λ b. if b then None else Some h) f) ∙ e in cc)
 
     pub in_no_hand : (carried_at (place_at w t) l ≡ Some false → ⊥) → HasTakenNobody (lock_state w l) t
-    in_no_hand none u x h = let free : is_taken_by t (taken_at (place_at w u) l) ≡ false = unless_held u (λ g. none (steady.stands.hands.taken t u l false g)) in
+    in_no_hand none u x h = let free : is_taken_by t (taken_at (place_at w u) l) ≡ false =
+        unless_held u (λ g. none (steady.stands.hands.taken t u l false g)) in
         let mine : is_taken_by t (taken_at (place_at w u) l) ≡ true = ap (is_taken_by t) h ∙ same t in cc
 
   module _ (t l : ℕ) where
@@ -62,12 +70,15 @@ module _ (w : State) (steady : IsInductive w) where
     queued_by = queued_times t (queue_at w (2 * l)) ∙ steady.stands.lines t l Main
 
   -- a thread that stands in no line leaves none, in a call of one lock
-  module _ (t : ℕ) (single : IsSingle (place_at w t)) (nowhere_now : (location (place_at w t)).stands ≡ None) where
-    pub absent : (l : ℕ) → times t (queue_at w (2 * l)) ≡ 0
-    absent l = steady.stands.lines t l Main ∙ ap (λ x. stood_in x Main) (nothing_at (place_at w t) l single (λ x. x.stands) refl nowhere_now)
+  module _ (t : ℕ) (single : IsSingle (place_at w t)) (nowhere_now : (location (place_at w t)).stands ≡ None)
+    where
+      pub absent : (l : ℕ) → times t (queue_at w (2 * l)) ≡ 0
+      absent l = steady.stands.lines t l Main
+          ∙ ap (λ x. stood_in x Main) (nothing_at (place_at w t) l single (λ x. x.stands) refl nowhere_now)
 
-    pub same_without : (l : ℕ) → get_or (map (without t) w.queues) (2 * l) [] ≡ queue_at w (2 * l)
-    same_without l = get_or-map (without t) w.queues (2 * l) [] ∙ without_absent t (queue_at w (2 * l)) (absent l)
+      pub same_without : (l : ℕ) → get_or (map (without t) w.queues) (2 * l) [] ≡ queue_at w (2 * l)
+      same_without l = get_or-map (without t) w.queues (2 * l) [] ∙ without_absent t (queue_at w (2 * l))
+          (absent l)
 
   module _ (t l : ℕ) (at : MutexPlace) (is : place_at w t ≡ Mutex l at) where
     pub own_role : role_on (place_at w t) l ≡ mutex_role at

@@ -1,5 +1,6 @@
 -- An act enters a section of the lock that its thread calls, or of the mutex beside.
-use Rattle.std.proofs.Common.{ℕ, Bool, true, false, Some, ◌≡◌, ◌⊎◌, ◌*◌, inl, inr, refl, sym, ◌∙◌, ap, subst, arith}
+use Rattle.std.proofs.Common.{ℕ, Bool, true, false, Some, ◌≡◌, ◌⊎◌, ◌*◌, inl, inr, refl, sym, ◌∙◌, ap, subst}
+use Rattle.std.proofs.Common.{arith}
 use Rattle.core_base.specs.declared.keys.Keys.TheVariants.{One, Two}
 use Rattle.steps_base.specs.declared.acts.Act.{Act}
 use Rattle.steps_base.specs.declared.acts.Act.TheVariants as act
@@ -34,8 +35,10 @@ MainOf p l key = (2 * l ≡ key) ⊎ ((m : ℕ) × (mutex_beside p ≡ Some m) �
 condvar_main : (l key : ℕ) (at : CondvarPlace) → EntersSection key (condvar_act l at) → MainOf at l key
 condvar_main l key (condvar.Look all) h = absurd h
 condvar_main l key (condvar.Wait m timed wait.Enter) h = inl h
-condvar_main l key (condvar.Wait m timed (wait.Release s at)) h = inr (m, refl, (mutex_facts m at).main refl key h)
-condvar_main l key (condvar.Wait m timed (wait.Lock late at)) h = inr (m, refl, (mutex_facts m at).main refl key h)
+condvar_main l key (condvar.Wait m timed (wait.Release s at)) h =
+    inr (m, refl, (mutex_facts m at).main refl key h)
+condvar_main l key (condvar.Wait m timed (wait.Lock late at)) h =
+    inr (m, refl, (mutex_facts m at).main refl key h)
 condvar_main l key (condvar.Wait m timed at) h = absurd h
 condvar_main l key (condvar.Notify all m notify.Enter) (inl h) = inl h
 condvar_main l key (condvar.Notify all m notify.Enter) (inr h) = inr (m, refl, h)
@@ -50,17 +53,20 @@ same_lock k l Second Second e = omega arith
 same_lock k l Main Second e = absurd (omega arith)
 same_lock k l Second Main e = absurd (omega arith)
 
-within_line : (l key : ℕ) (s : Location) (a : Act) → IsLineAct l s a → EntersSection key a → (n : Line) × (key ≡ key_of l n)
+within_line : (l key : ℕ) (s : Location) (a : Act) → IsLineAct l s a → EntersSection key a → (n : Line)
+    × (key ≡ key_of l n)
 within_line l key s (act.Enter (One k)) h e = (h.0, sym e ∙ h.1)
 within_line l key s (act.Enter (Two first second)) h e = absurd h
 within_line l key s a h e = absurd e
 
 module _ (w : State) (t : ℕ) (world : IsWorld w) (b : IsBarred w t) where
   abbrev Own : Type 0
-  Own = ((called_lock (place_at w t) ≡ Some b.lock) ⊎ (beside_of (place_at w t) ≡ Some b.lock)) × HasLine (rules_of (kind_at w b.lock)).sort b.line
+  Own = ((called_lock (place_at w t) ≡ Some b.lock) ⊎ (beside_of (place_at w t) ≡ Some b.lock))
+      × HasLine (rules_of (kind_at w b.lock)).sort b.line
 
   -- for this lock it is the main line
-  main_line : (l : ℕ) → 2 * l ≡ key_of b.lock b.line → (l ≡ b.lock) × HasLine (rules_of (kind_at w b.lock)).sort b.line
+  main_line : (l : ℕ) → 2 * l ≡ key_of b.lock b.line → (l ≡ b.lock)
+      × HasLine (rules_of (kind_at w b.lock)).sort b.line
   main_line l e = by_line b.lock b.line e
     where
       by_line : (k : ℕ) (m : Line) → 2 * l ≡ key_of k m → (l ≡ k) × HasLine (rules_of (kind_at w k)).sort m
@@ -72,25 +78,37 @@ module _ (w : State) (t : ℕ) (world : IsWorld w) (b : IsBarred w t) where
 
   own_shared : (l : ℕ) → called_lock (place_at w t) ≡ Some l → has_readers (rules_in w l).sort ≡ true
       → (n : Line) × (key_of b.lock b.line ≡ key_of l n) → Own
-  own_shared l own readers h = let same : b.lock ≡ l = same_lock b.lock l b.line h.0 h.1 in
-      (inl (own ∙ ap Some (sym same)), by_line b.line (subst (λ k. has_readers (rules_in w k).sort ≡ true) (sym same) readers))
+  own_shared l own readers h = let same : b.lock ≡ l = same_lock b.lock l b.line h.0 h.1 in (
+    inl (own ∙ ap Some (sym same)),
+    by_line b.line (subst (λ k. has_readers (rules_in w k).sort ≡ true) (sym same) readers),
+  )
     where
-      by_line : (m : Line) → has_readers (rules_in w b.lock).sort ≡ true → HasLine (rules_of (kind_at w b.lock)).sort m
+      by_line : (m : Line) → has_readers (rules_in w b.lock).sort ≡ true
+          → HasLine (rules_of (kind_at w b.lock)).sort m
       by_line Main shared = tt
       by_line Second shared = shared
 
   -- the section that bars it is one that its call may enter
   pub enters_own : Own
-  enters_own = by_place (place_at w t) refl (subst (FitsItsLock w) refl (world.steady.stands.calls t)) b.enters
+  enters_own = by_place (place_at w t) refl (subst (FitsItsLock w) refl (world.steady.stands.calls t))
+      b.enters
     where
-      by_place : (p : Place) → place_at w t ≡ p → FitsItsLock w p → EntersSection (key_of b.lock b.line) (act_of p) → Own
+      by_place : (p : Place) → place_at w t ≡ p → FitsItsLock w p → EntersSection (key_of b.lock b.line)
+          (act_of p) → Own
       by_place Idle is fits e = absurd e
-      by_place (Mutex l at) is fits e = own_main l (ap called_lock is) ((mutex_facts l at).main refl (key_of b.lock b.line) e)
-      by_place (Once l at) is fits e = own_main l (ap called_lock is) ((once_facts l at).main refl (key_of b.lock b.line) e)
-      by_place (Semaphore l at) is fits e = own_main l (ap called_lock is) ((semaphore_facts l at).main refl (key_of b.lock b.line) e)
+      by_place (Mutex l at) is fits e =
+          own_main l (ap called_lock is) ((mutex_facts l at).main refl (key_of b.lock b.line) e)
+      by_place (Once l at) is fits e =
+          own_main l (ap called_lock is) ((once_facts l at).main refl (key_of b.lock b.line) e)
+      by_place (Semaphore l at) is fits e = own_main l (ap called_lock is)
+          ((semaphore_facts l at).main refl (key_of b.lock b.line) e)
       by_place (RwLock l a c) is fits e = own_shared l (ap called_lock is) fits.0.0
-          (within_line l (key_of b.lock b.line) (location (RwLock l a c)) (act_of (RwLock l a c)) (call_facts l a c).line e)
+          (within_line l (key_of b.lock b.line) (location (RwLock l a c)) (act_of (RwLock l a c))
+          (call_facts l a c).line e)
       by_place (Condvar l at) is fits e = elim (condvar_main l (key_of b.lock b.line) at e) [
         | inl own ↦ own_main l (ap called_lock is) own
-        | inr beside ↦ let h = main_line beside.0 beside.2 in (inr (ap beside_of is ∙ beside.1 ∙ ap Some h.0), h.1)
+        | inr beside ↦ let h = main_line beside.0 beside.2 in (
+          inr (ap beside_of is ∙ beside.1 ∙ ap Some h.0),
+          h.1,
+        )
       ]

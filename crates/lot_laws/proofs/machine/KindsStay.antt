@@ -1,5 +1,6 @@
 -- Locks stay of their kinds.
-use Rattle.std.proofs.Common.{ℕ, Bool, true, false, Option, Some, None, if◌then◌else◌, ◌||◌, ◌≡◌, length, replicate, get_or, set, refl, ap, ◌∙◌}
+use Rattle.std.proofs.Common.{ℕ, Bool, true, false, Option, Some, None, if◌then◌else◌, ◌||◌, ◌≡◌, length}
+use Rattle.std.proofs.Common.{replicate, get_or, set, refl, ap, ◌∙◌}
 use Rattle.core_base.specs.declared.ops.Op.{Op}
 use Rattle.spec_locks.specs.declared.kinds.Kind.{Kind}
 use Rattle.spec_locks.specs.declared.kinds.Kind as kind
@@ -17,7 +18,9 @@ use Rattle.spec_locks.specs.declared.calls.SemaphoreCall.{SemaphoreCall}
 use Rattle.lot_steps.specs.declared.places.Place.{Place}
 use Rattle.spec_locks.specs.Kinds.{has_call}
 use Rattle.lot_steps.specs.Steps.{act_of, looking, late_key}
-use Rattle.lot_machine.specs.Machine.{State, shares_handed_over, unlocked, place_at, word_at, shares_at, filled_at, kind_at, state_after_hand_over, state_after_look, put, state_after_late_on, state_after_turn, closed_place, is_possible, after}
+use Rattle.lot_machine.specs.Machine.{State, shares_handed_over, unlocked, place_at, word_at, shares_at}
+use Rattle.lot_machine.specs.Machine.{filled_at, kind_at, state_after_hand_over, state_after_look, put}
+use Rattle.lot_machine.specs.Machine.{state_after_late_on, state_after_turn, closed_place, is_possible, after}
 use Rattle.core_base.specs.Words.{apply}
 use Rattle.spec_locks.specs.Locks as locks
 use Rattle.spec_locks.specs.Codes.{fills}
@@ -26,13 +29,17 @@ use Rattle.std.proofs.Math.Bool.{or-false}
 pub use Rattle.lot_machine.proofs.KindsStay.{set_field, operated_kinds, given_kinds, performed_kinds}
 use Rattle.lot_laws.specs.SitesOf.{is_mutex}
 
-pub given_filled : (w : State) (t : ℕ) (p : Place) (l : ℕ) (f : Op) → rules_of (kind_at w l) ≡ record { sort = locks.Mutex; limit = 0 } → (k : ℕ) → filled_at (state_after_hand_over w t p l f) k ≡ filled_at w k
-given_filled w t p l f rules k = set_field (λ x. x.filled) w.locks l _ (unlocked kind.TheVariants.Mutex) (ap (λ r. filled_at w l || fills r (apply f (word_at w l))) rules ∙ or-false (filled_at w l)) k
+pub given_filled : (w : State) (t : ℕ) (p : Place) (l : ℕ) (f : Op) → rules_of (kind_at w l)
+    ≡ record { sort = locks.Mutex; limit = 0 } → (k : ℕ) → filled_at (state_after_hand_over w t p l f) k
+    ≡ filled_at w k
+given_filled w t p l f rules k = set_field (λ x. x.filled) w.locks l _ (unlocked kind.TheVariants.Mutex)
+    (ap (λ r. filled_at w l || fills r (apply f (word_at w l))) rules ∙ or-false (filled_at w l)) k
 
 -- nobody gets a share where none is given
 pub given_shares : (w : State) (t l : ℕ) → shares_handed_over w t l ≡ shares_at w l → (k : ℕ)
     → get_or (set w.shares l (shares_handed_over w t l)) k (replicate (length w.places) 0) ≡ shares_at w k
-given_shares w t l none k = set_field (λ x. x) w.shares l (shares_handed_over w t l) (replicate (length w.places) 0) none k
+given_shares w t l none k = set_field (λ x. x) w.shares l (shares_handed_over w t l)
+    (replicate (length w.places) 0) none k
 
 late_kinds : (w : State) (t : ℕ) (o : Option ℕ) (k : ℕ) → kind_at (state_after_late_on w t o) k ≡ kind_at w k
 late_kinds w t None k = refl
@@ -40,7 +47,8 @@ late_kinds w t (Some key) k = refl
 
 spun_kinds : (w : State) (t : ℕ) (o : Option Place) (k : ℕ) → kind_at (state_after_look w t o) k ≡ kind_at w k
 spun_kinds w t None k = refl
-spun_kinds w t (Some q) k = performed_kinds (put w t q) t (place_at (put w t q) t) (act_of (place_at (put w t q) t)) k
+spun_kinds w t (Some q) k = performed_kinds (put w t q) t (place_at (put w t q) t)
+    (act_of (place_at (put w t q) t)) k
 
 turned_kinds : (w : State) (t : ℕ) (x : Turn) (k : ℕ) → kind_at (state_after_turn w t x) k ≡ kind_at w k
 turned_kinds w t (turn.TheVariants.Begin c) k = refl
@@ -58,7 +66,8 @@ after_kinds w s k = either (is_possible w s)
     either false = refl
 
 -- each sort of lock has its own calls alone
-pub calls_mutex : (k : Kind) (l : ℕ) (c : MutexCall) → has_call k (call.TheVariants.Mutex l c) ≡ true → is_mutex k ≡ true
+pub calls_mutex : (k : Kind) (l : ℕ) (c : MutexCall) → has_call k (call.TheVariants.Mutex l c) ≡ true
+    → is_mutex k ≡ true
 calls_mutex kind.TheVariants.Mutex l c h = refl
 calls_mutex kind.TheVariants.Fair l c h = refl
 calls_mutex k l c h = absurd cc
@@ -74,7 +83,8 @@ pub calls_once : (k : Kind) (l : ℕ) (c : OnceCall) → has_call k (call.TheVar
 calls_once kind.TheVariants.Once l c h = refl
 calls_once k l c h = absurd cc
 
-pub calls_semaphore : (k : Kind) (l : ℕ) (c : SemaphoreCall) → has_call k (call.TheVariants.Semaphore l c) ≡ true
+pub calls_semaphore : (k : Kind) (l : ℕ) (c : SemaphoreCall) → has_call k (call.TheVariants.Semaphore l c)
+    ≡ true
     → (rules_of k).sort ≡ locks.Semaphore
 calls_semaphore (kind.TheVariants.Semaphore permits) l c h = refl
 calls_semaphore k l c h = absurd cc

@@ -1,5 +1,7 @@
 -- A step changes one word at most, or queues whose sections its thread is in.
-use Rattle.std.proofs.Common.{subst, sym, ℕ, Bool, true, false, Option, Some, None, if◌then◌else◌, ◌≡◌, ◌<◌, ◌⊎◌, inl, inr, List, [], ◌∷◌, ◌++◌, get_or, set, map, drop, refl, ◌∙◌, ap, get_or-set_other}
+use Rattle.std.proofs.Common.{subst, sym, ℕ, Bool, true, false, Option, Some, None, if◌then◌else◌, ◌≡◌, ◌<◌}
+use Rattle.std.proofs.Common.{◌⊎◌, inl, inr, List, [], ◌∷◌, ◌++◌, get_or, set, map, drop, refl, ◌∙◌, ap}
+use Rattle.std.proofs.Common.{get_or-set_other}
 use Rattle.steps_base.specs.declared.acts.Reply.TheVariants.{Value}
 use Rattle.steps_once.specs.OnceSteps.{word_behind}
 use Rattle.lot_machine.specs.Machine.{state_after_close, state_after_operation, closed_place}
@@ -24,7 +26,13 @@ use Rattle.spec_locks.specs.declared.calls.Step.{Step}
 use Rattle.lot_steps.specs.declared.places.Place.{Place}
 use Rattle.spec_locks.specs.Calls.{lock_in}
 use Rattle.lot_steps.specs.Steps.{act_of, called_lock, next_place, first_place, looking, late_key}
-use Rattle.lot_machine.specs.Machine.{state_after_hand_over_by, State, left_in_line, state_after_requeue, state_after_take, can_turn, unlocked, place_at, word_at, queue_at, section_at, put, state_after_operation, state_with_sections, queues_with_last, queues_without_first, state_after_taking, state_after_wake, state_after_act, state_after_look, state_after_late_on, go_reply, state_after_turn, is_possible, after, kind_at}
+use Rattle.lot_machine.specs.Machine.{state_after_hand_over_by, State, left_in_line, state_after_requeue}
+use Rattle.lot_machine.specs.Machine.{state_after_take, can_turn, unlocked, place_at, word_at, queue_at}
+use Rattle.lot_machine.specs.Machine.{section_at, put, state_after_operation, state_with_sections}
+use Rattle.lot_machine.specs.Machine.{queues_with_last, queues_without_first, state_after_taking}
+use Rattle.lot_machine.specs.Machine.{state_after_wake, state_after_act, state_after_look}
+use Rattle.lot_machine.specs.Machine.{state_after_late_on, go_reply, state_after_turn, is_possible, after}
+use Rattle.lot_machine.specs.Machine.{kind_at}
 use Rattle.lot_laws.proofs.calls.Looking.{looks_untouched}
 use Rattle.lot_machine.proofs.Shape.{both}
 use Rattle.std.specs.Prelude.{nat_lt, length}
@@ -34,7 +42,8 @@ use Rattle.lot_laws.proofs.condvar.Sections.{IsActOfTwo, condvar_lines, holds_ke
 use Rattle.steps_condvar.specs.declared.places.CondvarPlace.{CondvarPlace}
 use Rattle.lot_steps.specs.declared.places.Place.TheVariants.{Condvar}
 use Rattle.core_base.specs.declared.requeues.Requeue.{Requeue}
-use Rattle.lot_laws.proofs.machine.Parts.{IsOf, IsOfTwo, IsSingle, calls_none, fits_two, of_own, single_or_two}
+use Rattle.lot_laws.proofs.machine.Parts.{IsOf, IsOfTwo, IsSingle, calls_none, fits_two, of_own}
+use Rattle.lot_laws.proofs.machine.Parts.{single_or_two}
 use Rattle.lot_laws.proofs.promises.LineActs.{line_act, holds_line, removed_at}
 use Rattle.lot_laws.proofs.machine.PlaceTest.{IsLineAct}
 use Rattle.core_base.specs.declared.wants.Want.{Want}
@@ -63,7 +72,8 @@ filled_same : (w : State) (keys : Keys) (who : Option ℕ) → Same w (state_wit
 filled_same w (One key) who = (λ l. refl, λ key. refl)
 filled_same w (Two first second) who = (λ l. refl, λ key. refl)
 
-left_same : (w : State) (t : ℕ) (keys : Keys) (x : Wakes) → Same w (state_after_wake (state_with_sections w keys None) t x)
+left_same : (w : State) (t : ℕ) (keys : Keys) (x : Wakes)
+    → Same w (state_after_wake (state_with_sections w keys None) t x)
 left_same w t (One key) wakes.TheVariants.Nobody = (λ l. refl, λ key. refl)
 left_same w t (One key) (wakes.TheVariants.All note) = (λ l. refl, λ key. refl)
 left_same w t (Two first second) wakes.TheVariants.Nobody = (λ l. refl, λ key. refl)
@@ -76,11 +86,21 @@ put_one w v t u p (inr h) = inr h
 
 module _ (w : State) (t : ℕ) (steady : IsInductive w) (there : t < length w.places) where
   word_one : (p : Place) (l : ℕ) (f : op.Op) → ChangesOneThing w t (state_after_operation w t p l f)
-  word_one p l f = inl (l, (λ k ne. ap (λ x. x.word) (get_or-set_other w.locks l k _ (unlocked kind.TheVariants.Mutex) ne)), λ key. refl)
+  word_one p l f = inl (
+    l,
+    (λ k ne. ap (λ x. x.word) (get_or-set_other w.locks l k _
+        (unlocked kind.TheVariants.Mutex) ne)),
+    λ key. refl,
+  )
 
-  given_one : (p : Place) (l : ℕ) (f : op.Op) (b : Bool) → ChangesOneThing w t (state_after_hand_over_by b w t p l f)
+  given_one : (p : Place) (l : ℕ) (f : op.Op) (b : Bool)
+      → ChangesOneThing w t (state_after_hand_over_by b w t p l f)
   given_one p l f false = word_one p l f
-  given_one p l f true = inl (l, (λ k ne. ap (λ x. x.word) (get_or-set_other w.locks l k _ (unlocked kind.TheVariants.Mutex) ne)), λ key. refl)
+  given_one p l f true = inl (
+    l,
+    (λ k ne. ap (λ x. x.word) (get_or-set_other w.locks l k _ (unlocked kind.TheVariants.Mutex) ne)),
+    λ key. refl,
+  )
 
   stays : ChangesOneThing w t w
   stays = same_one w w t (λ l. refl, λ key. refl)
@@ -88,8 +108,10 @@ module _ (w : State) (t : ℕ) (steady : IsInductive w) (there : t < length w.pl
   filled_one : (keys : Keys) (who : Option ℕ) → ChangesOneThing w t (state_with_sections w keys who)
   filled_one keys who = same_one w (state_with_sections w keys who) t (filled_same w keys who)
 
-  left_one : (keys : Keys) (x : Wakes) → ChangesOneThing w t (state_after_wake (state_with_sections w keys None) t x)
-  left_one keys x = same_one w (state_after_wake (state_with_sections w keys None) t x) t (left_same w t keys x)
+  left_one : (keys : Keys) (x : Wakes)
+      → ChangesOneThing w t (state_after_wake (state_with_sections w keys None) t x)
+  left_one keys x = same_one w (state_after_wake (state_with_sections w keys None) t x) t
+      (left_same w t keys x)
 
   -- a queue is set whose section the thread is in
   set_at : (key : ℕ) (queues : List (List Waiter)) (q : List Waiter) → section_at w key ≡ Some t
@@ -103,30 +125,57 @@ module _ (w : State) (t : ℕ) (steady : IsInductive w) (there : t < length w.pl
     ]
   ]
 
-  park_one : (key : ℕ) (x : Want) → section_at w key ≡ Some t → ((k : ℕ) → (get_or (map (without t) w.queues) k [] ≡ queue_at w k) ⊎ (section_at w k ≡ Some t)) → (b : Bool) → ChangesOneThing w t (if b then record w { queues = queues_with_last w.queues key t x } else w)
+  park_one : (key : ℕ) (x : Want) → section_at w key ≡ Some t
+      → ((k : ℕ) → (get_or (map (without t) w.queues) k [] ≡ queue_at w k) ⊎ (section_at w k ≡ Some t))
+      → (b : Bool) → ChangesOneThing w t (if b then record w { queues = queues_with_last w.queues key t x }
+      else w)
   park_one key x held others false = stays
-  park_one key x held others true = inr ((λ k. refl), set_at key (map (without t) w.queues) (get_or (map (without t) w.queues) key [] ++ waiter key t x ∷ []) held others)
+  park_one key x held others true =
+      inr (
+        (λ k. refl),
+        set_at key (map (without t) w.queues) (get_or (map (without t) w.queues) key []
+            ++ waiter key t x ∷ []) held others,
+      )
 
-  take_first : (key : ℕ) → section_at w key ≡ Some t → (o : Option ℕ) → ChangesOneThing w t (state_after_taking (record w { queues = queues_without_first w.queues key }) t o)
-  take_first key held None = inr ((λ k. refl), set_at key w.queues (drop 1 (queue_at w key)) held (λ k. inl refl))
-  take_first key held (Some u) = inr ((λ k. refl), set_at key w.queues (drop 1 (queue_at w key)) held (λ k. inl refl))
+  take_first : (key : ℕ) → section_at w key ≡ Some t → (o : Option ℕ)
+      → ChangesOneThing w t (state_after_taking (record w { queues = queues_without_first w.queues key }) t o)
+  take_first key held None = inr (
+    (λ k. refl),
+    set_at key w.queues (drop 1 (queue_at w key)) held
+        (λ k. inl refl),
+  )
+  take_first key held (Some u) = inr (
+    (λ k. refl),
+    set_at key w.queues (drop 1 (queue_at w key)) held
+        (λ k. inl refl),
+  )
 
-  take_one : (key : ℕ) → section_at w key ≡ Some t → (x : Whom) → ChangesOneThing w t (state_after_take w t key x)
+  take_one : (key : ℕ) → section_at w key ≡ Some t → (x : Whom)
+      → ChangesOneThing w t (state_after_take w t key x)
   take_one key held whom.First = take_first key held (first_of (queue_at w key))
-  take_one key held (whom.Picked start recursive) = inr ((λ k. refl), set_at key w.queues (without_lock_picked start recursive key (queue_at w key)) held (λ k. inl refl))
+  take_one key held (whom.Picked start recursive) =
+      inr (
+        (λ k. refl),
+        set_at key w.queues (without_lock_picked start recursive key (queue_at w key)) held
+            (λ k. inl refl),
+      )
   take_one key held whom.All = inr ((λ k. refl), set_at key w.queues [] held (λ k. inl refl))
 
   -- for every act, by the line that it touches
   module _ (l : ℕ) (is_of : IsOf l (place_at w t)) where
-    act_one : (p : Place) (a : Act) → IsLineAct l (location (place_at w t)) a → ChangesOneThing w t (state_after_act w t p a)
+    act_one : (p : Place) (a : Act) → IsLineAct l (location (place_at w t)) a
+        → ChangesOneThing w t (state_after_act w t p a)
     act_one p (act.TheVariants.Word k f) h = word_one p k f
     act_one p (act.TheVariants.HandOver k f) h = given_one p k f (takes_effect f (word_at w k))
     act_one p (act.TheVariants.Enter keys) h = filled_one keys (Some t)
-    act_one p (act.TheVariants.Park k key check x) h = park_one key x (holds_line w t l steady is_of key h.0) (removed_at w t l steady is_of h.0.0 h.0.1 h.1) (holds check (word_at w k))
-    act_one p (act.TheVariants.Stand key x) h = park_one key x (holds_line w t l steady is_of key h.0) (removed_at w t l steady is_of h.0.0 h.0.1 h.1) true
+    act_one p (act.TheVariants.Park k key check x) h = park_one key x (holds_line w t l steady is_of key h.0)
+        (removed_at w t l steady is_of h.0.0 h.0.1 h.1) (holds check (word_at w k))
+    act_one p (act.TheVariants.Stand key x) h = park_one key x (holds_line w t l steady is_of key h.0)
+        (removed_at w t l steady is_of h.0.0 h.0.1 h.1) true
     act_one p (act.TheVariants.Take key x) h = take_one key (holds_line w t l steady is_of key h) x
     act_one p (act.TheVariants.Requeue from to how) h = absurd h
-    act_one p (act.TheVariants.Remove key) h = inr ((λ k. refl), removed_at w t l steady is_of h.0.0 h.0.1 h.1)
+    act_one p (act.TheVariants.Remove key) h =
+        inr ((λ k. refl), removed_at w t l steady is_of h.0.0 h.0.1 h.1)
     act_one p (act.TheVariants.Leave keys x) h = left_one keys x
     act_one p act.TheVariants.Rest h = stays
     act_one p act.TheVariants.Sleep h = stays
@@ -136,24 +185,38 @@ module _ (w : State) (t : ℕ) (steady : IsInductive w) (there : t < length w.pl
 
   one_gone : IsSingle (place_at w t) → (o : Option ℕ) → called_lock (place_at w t) ≡ o
       → ChangesOneThing w t (state_after_act w t (place_at w t) (act_of (place_at w t)))
-  one_gone single (Some l) own = act_one l (of_own l (place_at w t) single own) (place_at w t) (act_of (place_at w t)) (line_act (place_at w t) l single own)
-  one_gone single None none = subst (λ p. ChangesOneThing w t (state_after_act w t p (act_of p))) (sym (calls_none (place_at w t) none)) stays
+  one_gone single (Some l) own = act_one l (of_own l (place_at w t) single own) (place_at w t)
+      (act_of (place_at w t)) (line_act (place_at w t) l single own)
+  one_gone single None none = subst (λ p. ChangesOneThing w t (state_after_act w t p (act_of p)))
+      (sym (calls_none (place_at w t) none)) stays
 
   -- in a call of a condition variable, by the sections that it is inside
-  module _ (c : ℕ) (at : CondvarPlace) (is : place_at w t ≡ Condvar c at) (fits : FitsItsLock w (Condvar c at)) where
+  module _ (c : ℕ) (at : CondvarPlace) (is : place_at w t ≡ Condvar c at) (fits : FitsItsLock w
+      (Condvar c at)) where
     requeued_one : (from to : ℕ) (how : Requeue) → section_at w from ≡ Some t → section_at w to ≡ Some t
         → ChangesOneThing w t (state_after_requeue w t from to how)
-    requeued_one from to how held_from held_to = inr ((λ k. refl), set_at to (set w.queues from (left_in_line how (queue_at w from))) _ held_to (set_at from w.queues (left_in_line how (queue_at w from)) held_from (λ k. inl refl)))
+    requeued_one from to how held_from held_to =
+        inr (
+          (λ k. refl),
+          set_at to (set w.queues from (left_in_line how (queue_at w from))) _ held_to
+              (set_at from w.queues (left_in_line how (queue_at w from)) held_from (λ k. inl refl)),
+        )
 
     act_of_two : (p : Place) (a : Act) → IsActOfTwo c at a → ChangesOneThing w t (state_after_act w t p a)
     act_of_two p (act.TheVariants.Word k f) h = word_one p k f
     act_of_two p (act.TheVariants.HandOver k f) h = given_one p k f (takes_effect f (word_at w k))
     act_of_two p (act.TheVariants.Enter keys) h = filled_one keys (Some t)
-    act_of_two p (act.TheVariants.Park k key check x) h = park_one key x (holds_key w t c at steady is fits key h.0) (left_at w t c at steady is fits key h.1 h.0) (holds check (word_at w k))
-    act_of_two p (act.TheVariants.Stand key x) h = park_one key x (holds_key w t c at steady is fits key h.0) (left_at w t c at steady is fits key h.1 h.0) true
+    act_of_two p (act.TheVariants.Park k key check x) h =
+        park_one key x (holds_key w t c at steady is fits key h.0) (left_at w t c at steady is fits key h.1
+        h.0) (holds check (word_at w k))
+    act_of_two p (act.TheVariants.Stand key x) h = park_one key x (holds_key w t c at steady is fits key h.0)
+        (left_at w t c at steady is fits key h.1 h.0) true
     act_of_two p (act.TheVariants.Take key x) h = take_one key (holds_key w t c at steady is fits key h) x
-    act_of_two p (act.TheVariants.Requeue from to how) h = requeued_one from to how (holds_key w t c at steady is fits from h.0) (holds_key w t c at steady is fits to h.1)
-    act_of_two p (act.TheVariants.Remove key) h = inr ((λ k. refl), left_at w t c at steady is fits key h.1 h.0)
+    act_of_two p (act.TheVariants.Requeue from to how) h =
+        requeued_one from to how (holds_key w t c at steady is fits from h.0)
+        (holds_key w t c at steady is fits to h.1)
+    act_of_two p (act.TheVariants.Remove key) h =
+        inr ((λ k. refl), left_at w t c at steady is fits key h.1 h.0)
     act_of_two p (act.TheVariants.Leave keys x) h = left_one keys x
     act_of_two p act.TheVariants.Rest h = stays
     act_of_two p act.TheVariants.Sleep h = stays
@@ -161,25 +224,38 @@ module _ (w : State) (t : ℕ) (steady : IsInductive w) (there : t < length w.pl
     act_of_two p (act.TheVariants.Closure state) h = stays
     act_of_two p (act.TheVariants.End answer) h = stays
 
-  two_gone : (two : IsOfTwo (place_at w t)) → ChangesOneThing w t (state_after_act w t (place_at w t) (act_of (place_at w t)))
+  two_gone : (two : IsOfTwo (place_at w t))
+      → ChangesOneThing w t (state_after_act w t (place_at w t) (act_of (place_at w t)))
   two_gone two = let fits = fits_two w t steady two in
-      act_of_two two.lock two.at two.is fits (place_at w t) (act_of (place_at w t)) (subst (λ p. IsActOfTwo two.lock two.at (act_of p)) (sym two.is) (condvar_lines two.lock two.at fits.reached))
+      act_of_two two.lock two.at two.is fits (place_at w t) (act_of (place_at w t))
+      (subst (λ p. IsActOfTwo two.lock two.at (act_of p)) (sym two.is)
+      (condvar_lines two.lock two.at fits.reached))
 
   gone_one : (o : Option ℕ) → called_lock (place_at w t) ≡ o
       → ChangesOneThing w t (state_after_act w t (place_at w t) (act_of (place_at w t)))
-  gone_one o e = elim (single_or_two (place_at w t)) [ inl single ↦ one_gone single o e | inr two ↦ two_gone two ]
+  gone_one o e = elim (single_or_two (place_at w t)) [
+    | inl single ↦ one_gone single o e
+    | inr two ↦
+        two_gone two
+  ]
 
   spin_one : (o : Option Place) → looking (place_at w t) ≡ o → ChangesOneThing w t (state_after_look w t o)
   spin_one o is = same_one w (state_after_look w t o) t (spun_touches w t there o is)
 
   late_one : (o : Option ℕ) → ChangesOneThing w t (state_after_late_on w t o)
   late_one None = stays
-  late_one (Some key) = put_one w (state_with_sections w (One key) (Some t)) t t (next_place (place_at w t) Late) (filled_one (One key) (Some t))
+  late_one (Some key) = put_one w (state_with_sections w (One key) (Some t)) t t
+      (next_place (place_at w t) Late) (filled_one (One key) (Some t))
 
   -- after its closure it swaps the word of its `Once`
-  closed_one : (succeeded : Bool) → RunsOne (place_at w t) → ChangesOneThing w t (state_after_close w t succeeded)
-  closed_one succeeded one = subst (ChangesOneThing w t) (sym (goes_there w t there succeeded one ∙ goes_from_there (closing w t there succeeded one) t swaps (closing_here w t there succeeded one ∙ is_behind w t there succeeded one) tt))
-      (put_one w (put swapped t (closed_place w t succeeded)) t t (next_place swaps (Value (word_at w one.lock))) (put_one w swapped t t (closed_place w t succeeded) (word_one swaps one.lock (op.TheVariants.Swap (word_behind succeeded)))))
+  closed_one : (succeeded : Bool) → RunsOne (place_at w t)
+      → ChangesOneThing w t (state_after_close w t succeeded)
+  closed_one succeeded one = subst (ChangesOneThing w t) (sym (goes_there w t there succeeded one
+      ∙ goes_from_there (closing w t there succeeded one) t swaps (closing_here w t there succeeded one
+      ∙ is_behind w t there succeeded one) tt))
+      (put_one w (put swapped t (closed_place w t succeeded)) t t
+      (next_place swaps (Value (word_at w one.lock))) (put_one w swapped t t (closed_place w t succeeded)
+      (word_one swaps one.lock (op.TheVariants.Swap (word_behind succeeded)))))
     where
       swaps : Place
       swaps = behind w t there succeeded one
@@ -189,8 +265,10 @@ module _ (w : State) (t : ℕ) (steady : IsInductive w) (there : t < length w.pl
 
   turned_one : (x : Turn) → can_turn w t x ≡ true → ChangesOneThing w t (state_after_turn w t x)
   turned_one (turn.TheVariants.Begin c) can = put_one w w t t (first_place (kind_at w (lock_in c)) c) stays
-  turned_one turn.TheVariants.Go can = let acted = state_after_act w t (place_at w t) (act_of (place_at w t)) in
-      put_one w acted t t (next_place (place_at acted t) (go_reply w t)) (gone_one (called_lock (place_at w t)) refl)
+  turned_one turn.TheVariants.Go can = let acted = state_after_act w t (place_at w t) (act_of (place_at w t))
+      in
+      put_one w acted t t (next_place (place_at acted t) (go_reply w t))
+      (gone_one (called_lock (place_at w t)) refl)
   turned_one turn.TheVariants.Spin can = spin_one (looking (place_at w t)) refl
   turned_one turn.TheVariants.Late can = late_one (late_key (place_at w t))
   turned_one turn.TheVariants.Ok can = closed_one true (closes_one w t true can)
@@ -199,7 +277,8 @@ module _ (w : State) (t : ℕ) (steady : IsInductive w) (there : t < length w.pl
 pub one_thing : (w : State) (s : Step) → IsInductive w → ChangesOneThing w s.thread (after w s)
 one_thing w s steady = either (is_possible w s) refl
   where
-    either : (b : Bool) → is_possible w s ≡ b → ChangesOneThing w s.thread (if b then state_after_turn w s.thread s.turn else w)
+    either : (b : Bool) → is_possible w s ≡ b → ChangesOneThing w s.thread
+        (if b then state_after_turn w s.thread s.turn else w)
     either true can = let parts = both (nat_lt s.thread (length w.places)) (can_turn w s.thread s.turn) can in
         turned_one w s.thread steady (ltb-true s.thread (length w.places) parts.0) s.turn parts.1
     either false can = same_one w w s.thread (λ k. refl, λ key. refl)
@@ -210,7 +289,8 @@ late_touches : (w : State) (t : ℕ) (o : Option ℕ) → KeepsWordsAndQueues w 
 late_touches w t None = (λ l. refl, λ key. refl)
 late_touches w t (Some key) = (λ l. refl, λ key. refl)
 
-turned_touches : (w : State) (t : ℕ) (x : Turn) → t < length w.places → TouchesOnlyByGoing w x (state_after_turn w t x)
+turned_touches : (w : State) (t : ℕ) (x : Turn) → t < length w.places → TouchesOnlyByGoing w x
+    (state_after_turn w t x)
 turned_touches w t (turn.TheVariants.Begin c) there = (λ l. refl, λ key. refl)
 turned_touches w t turn.TheVariants.Spin there = spun_touches w t there (looking (place_at w t)) refl
 turned_touches w t turn.TheVariants.Late there = late_touches w t (late_key (place_at w t))
@@ -225,6 +305,8 @@ untouched w x = tt
 pub touches : (w : State) (s : Step) → TouchesOnlyByGoing w s.turn (after w s)
 touches w s = either (is_possible w s) refl
   where
-    either : (b : Bool) → is_possible w s ≡ b → TouchesOnlyByGoing w s.turn (if b then state_after_turn w s.thread s.turn else w)
-    either true can = turned_touches w s.thread s.turn (ltb-true s.thread (length w.places) (both (nat_lt s.thread (length w.places)) (can_turn w s.thread s.turn) can).0)
+    either : (b : Bool) → is_possible w s ≡ b → TouchesOnlyByGoing w s.turn
+        (if b then state_after_turn w s.thread s.turn else w)
+    either true can = turned_touches w s.thread s.turn (ltb-true s.thread (length w.places)
+        (both (nat_lt s.thread (length w.places)) (can_turn w s.thread s.turn) can).0)
     either false cannot = untouched w s.turn

@@ -1,5 +1,7 @@
--- Each place, tested once: its row and the act that its thread does there agree, by a test that computes. Other files read off it what they need.
-use Rattle.std.proofs.Common.{ℕ, Bool, true, false, Option, Some, None, if◌then◌else◌, ◌==◌, ◌&&◌, ◌||◌, not, ◌≡◌, ◌⊎◌, ◌+◌, ◌-◌, ◌*◌, inl, inr, refl, sym, ◌∙◌, ap, subst}
+-- Each place, tested once: its row and the act that its thread does there agree, by a test that computes.
+-- Other files read off it what they need.
+use Rattle.std.proofs.Common.{ℕ, Bool, true, false, Option, Some, None, if◌then◌else◌, ◌==◌, ◌&&◌, ◌||◌, not}
+use Rattle.std.proofs.Common.{◌≡◌, ◌⊎◌, ◌+◌, ◌-◌, ◌*◌, inl, inr, refl, sym, ◌∙◌, ap, subst}
 use Rattle.core_base.specs.declared.keys.Keys.TheVariants.{One, Two}
 use Rattle.core_base.specs.declared.ops.Op.TheVariants as op
 use Rattle.core_base.specs.declared.wants.Want.TheVariants.{Shared}
@@ -68,7 +70,8 @@ use Rattle.steps_condvar.specs.declared.wait.Stands.{Stands}
 use Rattle.steps_condvar.specs.declared.wait.Stands.TheVariants as stands
 use Rattle.steps_condvar.specs.declared.wait.WaitAt.{WaitAt}
 use Rattle.steps_condvar.specs.declared.wait.WaitAt.TheVariants as wait
-use Rattle.steps_condvar.specs.CondvarProfiles.{condvar_profile, hand_of, has_moved, is_main_line, is_moved, mutex_side}
+use Rattle.steps_condvar.specs.CondvarProfiles.{condvar_profile, hand_of, has_moved, is_main_line, is_moved}
+use Rattle.steps_condvar.specs.CondvarProfiles.{mutex_side}
 use Rattle.steps_condvar.specs.CondvarSteps.{condvar_act, move_act}
 use Rattle.lot_steps.specs.declared.places.Place.{Place}
 use Rattle.lot_steps.specs.declared.places.Place.TheVariants.{Idle, Mutex, RwLock, Once, Condvar, Semaphore}
@@ -194,7 +197,8 @@ abbrev line_test : Line → Profile → Act → Bool
 line_test m row (act.Enter (Two first second)) = false
 line_test m row (act.Leave (One key) x) = is_line m row.role.inside
 line_test m row (act.Leave (Two first second) x) = false
-line_test m row (act.Park lock key check x) = is_line m row.role.inside && (no_line row.stands || is_line m row.stands)
+line_test m row (act.Park lock key check x) = is_line m row.role.inside &&
+    (no_line row.stands || is_line m row.stands)
 line_test m row (act.Stand key x) = is_line m row.role.inside && (no_line row.stands || is_line m row.stands)
 line_test m row (act.Take key x) = is_line m row.role.inside
 line_test m row (act.Remove key) = is_line m row.role.inside && (no_line row.stands || is_line m row.stands)
@@ -261,13 +265,25 @@ row_so row a h =
     let t2 = both (not row.role.carries || not (no_line row.role.inside)) _ t1.1 in
     let t3 = both (not (row.role.sets && is_line Main row.role.wakes) || is_line Main row.owes) _ t2.1 in
     record {
-      goes = λ m e. elim (either (no_line row.role.inside) (goes_free a) t1.0) [ inl x ↦ absurd (no_line_so row.role.inside m x e) | inr x ↦ free_so a x ];
-      carries = λ e. elim (either (not row.role.carries) _ t2.0) [ inl x ↦ absurd (not_so row.role.carries x e) | inr x ↦ some_so row.role.inside x ];
+      goes = λ m e. elim (either (no_line row.role.inside) (goes_free a) t1.0) [
+        | inl x ↦
+            absurd (no_line_so row.role.inside m x e)
+        | inr x ↦ free_so a x
+      ];
+      carries = λ e. elim (either (not row.role.carries) _ t2.0) [
+        | inl x ↦
+            absurd (not_so row.role.carries x e)
+        | inr x ↦ some_so row.role.inside x
+      ];
       owed = λ sets wakes. elim (either (not (row.role.sets && is_line Main row.role.wakes)) _ t3.0) [
         | inl x ↦ absurd (not_so (row.role.sets && is_line Main row.role.wakes) x (rw (sets, wakes) refl))
         | inr x ↦ line_is Main row.owes x
       ];
-      unheld = λ m e. elim (either (no_hand row.hand) _ t3.1) [ inl x ↦ hand_so row.hand x | inr x ↦ absurd (no_line_so row.stands m x e) ];
+      unheld = λ m e. elim (either (no_hand row.hand) _ t3.1) [
+        | inl x ↦ hand_so row.hand x
+        | inr x ↦
+            absurd (no_line_so row.stands m x e)
+      ];
     }
 
 stage_so : (x : Option CondvarStage) → no_stage x ≡ true → x ≡ None
@@ -286,13 +302,19 @@ silent_so : (row : Profile) → silent_test row ≡ true → IsSilent row
 silent_so row h =
     let t1 = both (no_stage row.stage) _ h in
     let t2 = both (no_name row.names) (is_blank row.recalls) t1.1 in
-    record { stage = stage_so row.stage t1.0; names = name_so row.names t2.0; recalls = blank_so row.recalls t2.1 }
+    record {
+      stage = stage_so row.stage t1.0;
+      names = name_so row.names t2.0;
+      recalls = blank_so row.recalls t2.1;
+    }
 
 module _ (l : ℕ) (m : Line) (row : Profile) where
-  within_so : (key : ℕ) → is_line m row.role.inside ≡ true → key ≡ key_of l m → IsWithinLine l (location_by row) key
+  within_so : (key : ℕ) → is_line m row.role.inside ≡ true → key ≡ key_of l m
+      → IsWithinLine l (location_by row) key
   within_so key h e = (m, line_is m row.role.inside h, e)
 
-  stands_so : (key : ℕ) → (is_line m row.role.inside && (no_line row.stands || is_line m row.stands)) ≡ true → key ≡ key_of l m
+  stands_so : (key : ℕ) → (is_line m row.role.inside && (no_line row.stands || is_line m row.stands)) ≡ true
+      → key ≡ key_of l m
       → IsWithinLine l (location_by row) key × StandsThere (location_by row)
   stands_so key h e =
       let t = both (is_line m row.role.inside) _ h in (
@@ -303,7 +325,8 @@ module _ (l : ℕ) (m : Line) (row : Profile) where
         ],
       )
 
-  line_so : (a : Act) → key_or (key_of l m) a ≡ key_of l m → line_test m row a ≡ true → IsLineAct l (location_by row) a
+  line_so : (a : Act) → key_or (key_of l m) a ≡ key_of l m → line_test m row a ≡ true
+      → IsLineAct l (location_by row) a
   line_so (act.Enter (One key)) e h = (m, e)
   line_so (act.Enter (Two first second)) e h = absurd cc
   line_so (act.Leave (One key) x) e h = within_so key h e
@@ -315,7 +338,8 @@ module _ (l : ℕ) (m : Line) (row : Profile) where
   line_so (act.Requeue from to how) e h = absurd cc
   line_so a e h = tt
 
-main_so : (l : ℕ) (m : Line) (row : Profile) (a : Act) → key_or (key_of l m) a ≡ key_of l m → line_test m row a ≡ true → is_line Main (Some m) ≡ true
+main_so : (l : ℕ) (m : Line) (row : Profile) (a : Act) → key_or (key_of l m) a ≡ key_of l m
+    → line_test m row a ≡ true → is_line Main (Some m) ≡ true
     → (key : ℕ) → EntersSection key a → 2 * l ≡ key
 main_so l Main row (act.Enter (One k)) e h main key enters = sym e ∙ enters
 main_so l Second row (act.Enter (One k)) e h main key enters = absurd cc
@@ -334,7 +358,8 @@ tries_is q h = absurd h
 pub row_shows : {row : Profile} {a : Act} → row_test row a ≡ true → RowFacts row a
 row_shows h = row_so _ _ h
 
-facts : (shared : Bool) (l : ℕ) (row : Profile) (a : Act) (m : Line) (tried : Bool) → key_or (key_of l m) a ≡ key_of l m
+facts : (shared : Bool) (l : ℕ) (row : Profile) (a : Act) (m : Line) (tried : Bool) → key_or (key_of l m) a
+    ≡ key_of l m
     → tries (row.purpose l) ≡ tried → place_test shared m row a tried ≡ true → PlaceFacts shared l row a
 facts shared l row a m tried e q h =
     let t1 = both (row_test row a) _ h in
@@ -345,13 +370,18 @@ facts shared l row a m tried e q h =
     record {
       by_row = row_so row a t1.0;
       silent = silent_so row s1.0;
-      bare = elim (either (no_hand row.hand) _ t2.0) [ inl x ↦ inl (hand_so row.hand x) | inr x ↦ inr (carries_so row.carries x) ];
+      bare = elim (either (no_hand row.hand) _ t2.0) [
+        | inl x ↦ inl (hand_so row.hand x)
+        | inr x ↦
+            inr (carries_so row.carries x)
+      ];
       line = line_so l m row a e t3.0;
       main = λ alone. main_so l m row a e t3.0 (subst (λ b. (b || is_line Main (Some m)) ≡ true) alone t4.0);
-      tries = λ alone is_try. elim (either (goes_free a) (not tried) (subst (λ b. (b || (goes_free a || not tried)) ≡ true) alone t4.1)) [
-        | inl x ↦ free_so a x
-        | inr x ↦ absurd (not_so tried x (sym q ∙ tries_is (row.purpose l) is_try))
-      ];
+      tries = λ alone is_try. elim (either (goes_free a) (not tried)
+          (subst (λ b. (b || (goes_free a || not tried)) ≡ true) alone t4.1)) [
+            | inl x ↦ free_so a x
+            | inr x ↦ absurd (not_so tried x (sym q ∙ tries_is (row.purpose l) is_try))
+          ];
     }
 
 -- for a place, by the line that its act is on
@@ -379,7 +409,8 @@ pub mutex_facts : (l : ℕ) (p : MutexPlace) → PlaceFacts false l (mutex_profi
 mutex_facts l (mutex.Lock e again (lock.Decide seen)) = by_word (is_locked seen) (seen == 1)
   where
     by_word : (a b : Bool) → PlaceFacts false l (mutex_profile (mutex.Lock e again (lock.Decide seen)))
-        (if not a then act.Word l (op.Exchange seen (seen + 1)) else if b then act.Word l (op.Exchange 1 3) else act.Enter (One (2 * l)))
+        (if not a then act.Word l (op.Exchange seen (seen + 1)) else if b then act.Word l (op.Exchange 1 3)
+        else act.Enter (One (2 * l)))
     by_word false b = waits Main refl (no_try l e) refl
     by_word true true = waits Main refl (no_try l e) refl
     by_word true false = waits Main refl (no_try l e) refl
@@ -389,14 +420,21 @@ mutex_facts l (mutex.Unlock unlock.Take) = shows Main refl refl
 mutex_facts l (mutex.Unlock to) = shows Main refl refl
 mutex_facts l mutex.UnlockFair = shows Main refl refl
 mutex_facts l mutex.Bump = shows Main refl refl
-mutex_facts l (mutex.HandOff bumps (hand_off.Store true none_left)) = waits Main refl (no_release l bumps) refl
-mutex_facts l (mutex.HandOff bumps (hand_off.Store false none_left)) = waits Main refl (no_release l bumps) refl
+mutex_facts l (mutex.HandOff bumps (hand_off.Store true none_left)) = waits Main refl (no_release l bumps)
+    refl
+mutex_facts l (mutex.HandOff bumps (hand_off.Store false none_left)) = waits Main refl (no_release l bumps)
+    refl
 mutex_facts l (mutex.HandOff bumps to) = waits Main refl (no_release l bumps) refl
 
 -- as a place of the world, where it brings no waiters
 pub mutex_row_facts : (l : ℕ) (p : MutexPlace) → PlaceFacts false l (mutex_row p) (mutex_act l p)
 mutex_row_facts l p = let f = mutex_facts l p in record {
-  by_row = record { goes = f.by_row.goes; carries = f.by_row.carries; owed = λ sets wakes. absurd cc; unheld = f.by_row.unheld };
+  by_row = record {
+    goes = f.by_row.goes;
+    carries = f.by_row.carries;
+    owed = λ sets wakes. absurd cc;
+    unheld = f.by_row.unheld;
+  };
   silent = record { stage = f.silent.stage; names = f.silent.names; recalls = f.silent.recalls };
   bare = f.bare;
   line = f.line;
@@ -414,7 +452,8 @@ no_once l once_call.WaitTimed = refl
 pub once_facts : (l : ℕ) (p : OncePlace) → PlaceFacts false l (once_profile p) (once_act l p)
 once_facts l (once.Look c again (look.Decide seen)) = by_course (course_of c seen)
   where
-    by_course : (k : Course) → PlaceFacts false l (once_profile (once.Look c again (look.Decide seen))) (course_act l seen k)
+    by_course : (k : Course) → PlaceFacts false l (once_profile (once.Look c again (look.Decide seen)))
+        (course_act l seen k)
     by_course course.Parks = waits Main refl (no_once l c) refl
     by_course k = waits Main refl (no_once l c) refl
 once_facts l (once.Look c again to) = waits Main refl (no_once l c) refl
@@ -429,11 +468,14 @@ no_patience : (l : ℕ) (timed : Bool) → tries (Enters l Shared (patience time
 no_patience l true = refl
 no_patience l false = refl
 
-pub semaphore_facts : (l : ℕ) (p : SemaphorePlace) → PlaceFacts false l (semaphore_profile p) (semaphore_act l p)
+pub semaphore_facts : (l : ℕ) (p : SemaphorePlace) → PlaceFacts false l (semaphore_profile p)
+    (semaphore_act l p)
 semaphore_facts l (semaphore.Acquire timed again (acquire.Decide seen)) = by_word (is_free seen) (seen == 0)
   where
-    by_word : (free empty : Bool) → PlaceFacts false l (semaphore_profile (semaphore.Acquire timed again (acquire.Decide seen)))
-        (if free then act.Word l (op.Exchange seen (seen - 2)) else if empty then act.Word l (op.Exchange 0 1) else act.Enter (One (2 * l)))
+    by_word : (free empty : Bool)
+        → PlaceFacts false l (semaphore_profile (semaphore.Acquire timed again (acquire.Decide seen)))
+        (if free then act.Word l (op.Exchange seen (seen - 2)) else if empty then act.Word l (op.Exchange 0 1)
+        else act.Enter (One (2 * l)))
     by_word true empty = waits Main refl (no_patience l timed) refl
     by_word false true = waits Main refl (no_patience l timed) refl
     by_word false false = waits Main refl (no_patience l timed) refl
@@ -457,7 +499,8 @@ rwlock_facts : (l : ℕ) (a : Admission) (q : RwLockPurpose) (again : Bool) (to 
     → PlaceFacts true l (rwlock_profile a (at_place q again to)) (act_at l a (at_place q again to) to)
 rwlock_facts l a q again (at.Decide seen) = by_decision (decided a (at_place q again (at.Decide seen)) seen)
   where
-    by_decision : (d : Decision) → PlaceFacts true l (rwlock_profile a (at_place q again (at.Decide seen))) (decided_act l q seen d)
+    by_decision : (d : Decision) → PlaceFacts true l (rwlock_profile a (at_place q again (at.Decide seen)))
+        (decided_act l q seen d)
     by_decision decisions.Park = shows Main refl refl
     by_decision d = shows Main refl refl
 rwlock_facts l a q again (at.Count seen) = by_aside (has_aside seen)
@@ -483,16 +526,23 @@ hand_over_facts : (l : ℕ) (a : Admission) (x : Access) (b : Bool) (to : HandOv
     → PlaceFacts true l (call_profile a (fair.HandOver x b to)) (hand_over_act l a x to)
 hand_over_facts l a x b (handing.Exchange k seen) = by_room (has_room a.limit k seen) _ _
   where
-    by_room : (c : Bool) (y z : ℕ) → PlaceFacts true l (call_profile a (fair.HandOver x b (handing.Exchange k seen)))
+    by_room : (c : Bool) (y z : ℕ)
+        → PlaceFacts true l (call_profile a (fair.HandOver x b (handing.Exchange k seen)))
         (if c then act.HandOver l (op.Exchange seen y) else act.Word l (op.Exchange seen z))
     by_room true y z = shows Main refl refl
     by_room false y z = shows Main refl refl
 hand_over_facts l a x b to = shows Main refl refl
 
-pub call_facts : (l : ℕ) (a : Admission) (c : RwLockCallPlace) → PlaceFacts true l (call_profile a c) (call_act l a c)
+pub call_facts : (l : ℕ) (a : Admission) (c : RwLockCallPlace) → PlaceFacts true l (call_profile a c)
+    (call_act l a c)
 call_facts l a (fair.Plain p) = rwlock_facts l a p.purpose p.retries p.at
 call_facts l a (fair.Bump p) = let f = rwlock_facts l a p.purpose p.retries p.at in record {
-  by_row = record { goes = f.by_row.goes; carries = f.by_row.carries; owed = f.by_row.owed; unheld = f.by_row.unheld };
+  by_row = record {
+    goes = f.by_row.goes;
+    carries = f.by_row.carries;
+    owed = f.by_row.owed;
+    unheld = f.by_row.unheld;
+  };
   silent = record { stage = f.silent.stage; names = f.silent.names; recalls = f.silent.recalls };
   bare = f.bare;
   line = f.line;
@@ -514,14 +564,16 @@ condvar_facts l (condvar.Wait m timed (wait.Release s to)) = row_shows refl
 condvar_facts l (condvar.Wait m timed to) = row_shows refl
 condvar_facts l (condvar.Notify all m (notify.Move locked)) = by_all all locked
   where
-    by_all : (b c : Bool) → RowFacts (condvar_profile (condvar.Notify all m (notify.Move locked))) (move_act b c l m)
+    by_all : (b c : Bool) → RowFacts (condvar_profile (condvar.Notify all m (notify.Move locked)))
+        (move_act b c l m)
     by_all true c = row_shows refl
     by_all false true = row_shows refl
     by_all false false = row_shows refl
 condvar_facts l (condvar.Notify all m to) = row_shows refl
 
 -- The facts of a wait at the mutex beside its condition variable.
-wait_beside : (l m : ℕ) (timed : Bool) (to : WaitAt) → RowFacts (mutex_side (condvar.Wait m timed to)) (condvar_act l (condvar.Wait m timed to))
+wait_beside : (l m : ℕ) (timed : Bool) (to : WaitAt) → RowFacts (mutex_side (condvar.Wait m timed to))
+    (condvar_act l (condvar.Wait m timed to))
 wait_beside l m timed (wait.Release s to) = let f = (mutex_facts m to).by_row in record {
   goes = f.goes;
   carries = f.carries;
@@ -546,16 +598,19 @@ wait_beside l m timed (wait.Asleep stands.Moved) = row_shows refl
 wait_beside l m timed (wait.Asleep s) = row_shows refl
 wait_beside l m timed to = row_shows refl
 
-notify_beside : (l m : ℕ) (all : Bool) (to : NotifyAt) → RowFacts (mutex_side (condvar.Notify all m to)) (condvar_act l (condvar.Notify all m to))
+notify_beside : (l m : ℕ) (all : Bool) (to : NotifyAt) → RowFacts (mutex_side (condvar.Notify all m to))
+    (condvar_act l (condvar.Notify all m to))
 notify_beside l m all (notify.Move locked) = by_all all locked
   where
-    by_all : (b c : Bool) → RowFacts (mutex_side (condvar.Notify all m (notify.Move locked))) (move_act b c l m)
+    by_all : (b c : Bool) → RowFacts (mutex_side (condvar.Notify all m (notify.Move locked)))
+        (move_act b c l m)
     by_all true c = row_shows refl
     by_all false true = row_shows refl
     by_all false false = row_shows refl
 notify_beside l m all (notify.Leave any number) = by_number (number == 0)
   where
-    by_number : (b : Bool) → RowFacts (record (mutex_side (condvar.Notify all m (notify.Leave any number))) { role = if b then inside else has_moved any false })
+    by_number : (b : Bool) → RowFacts (record (mutex_side (condvar.Notify all m (notify.Leave any number)))
+        { role = if b then inside else has_moved any false })
         (condvar_act l (condvar.Notify all m (notify.Leave any number)))
     by_number true = row_shows refl
     by_number false = row_shows refl

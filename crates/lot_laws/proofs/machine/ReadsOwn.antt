@@ -73,14 +73,16 @@ module _ (w : State) (t l : ℕ) (own : HasMainLine w t l) where
   of_semaphore (kinds.Semaphore permits) semaphore_call.Release = tt
   of_semaphore k c = tt
 
-pub reads_its_own : (w : State) (t : ℕ) (c : Call) → place_at w t ≡ first_place (kind_at w (lock_in c)) c → IsUnobstructed w t
+pub reads_its_own : (w : State) (t : ℕ) (c : Call) → place_at w t ≡ first_place (kind_at w (lock_in c)) c
+    → IsUnobstructed w t
     → HasWhatItReads w t (purpose_at (locks_of w) c)
 reads_its_own w t c is way = by_call c is
   where
     own : (l : ℕ) → called_lock (place_at w t) ≡ Some l → HasMainLine w t l
     own l calls u inside = way l u Main (inl calls) tt inside
 
-    by_call : (c : Call) → place_at w t ≡ first_place (kind_at w (lock_in c)) c → HasWhatItReads w t (purpose_at (locks_of w) c)
+    by_call : (c : Call) → place_at w t ≡ first_place (kind_at w (lock_in c)) c
+        → HasWhatItReads w t (purpose_at (locks_of w) c)
     by_call (call.Mutex l c) is = of_mutex w t l (own l (ap called_lock is)) (kind_at w l) c
     by_call (call.RwLock l c) is = of_rwlock w t l (own l (ap called_lock is)) (kind_at w l) c
     by_call (call.Once l c) is = of_once w t l (own l (ap called_lock is)) (kind_at w l) c

@@ -1,5 +1,6 @@
 -- A thread that is awake stands as it does, whatever befalls it as long as its own turn doesn't come.
-use Rattle.std.proofs.Common.{ℕ, Bool, true, false, Option, Some, None, if◌then◌else◌, ◌==◌, ◌≡◌, ◌≢◌, refl, sym, ◌∙◌, ap, get_or-set_other, is_some}
+use Rattle.std.proofs.Common.{ℕ, Bool, true, false, Option, Some, None, if◌then◌else◌, ◌==◌, ◌≡◌, ◌≢◌, refl}
+use Rattle.std.proofs.Common.{sym, ◌∙◌, ap, get_or-set_other, is_some}
 use Rattle.core_base.specs.declared.keys.Keys.TheVariants.{One}
 use Rattle.core_base.specs.declared.notes.Note.TheVariants as note
 use Rattle.spec_locks.specs.declared.calls.Step.{Step}
@@ -54,14 +55,23 @@ use Rattle.steps_condvar.specs.declared.notify.NotifyAt.TheVariants as notify
 use Rattle.steps_condvar.specs.CondvarSteps.{condvar_act, in_lock, in_wait, relocked, wait_act}
 use Rattle.lot_steps.specs.declared.places.Place.{Place}
 use Rattle.lot_steps.specs.declared.places.Place.TheVariants.{Idle, Mutex, RwLock, Once, Condvar, Semaphore}
-use Rattle.lot_steps.specs.Steps.{act_of, condvar_goes, in_condvar, in_mutex, in_once, in_semaphore, late_key, looking, mutex_goes, next_place, rwlock_goes}
-use Rattle.lot_machine.specs.Machine.{State, after, closed_place, is_possible, place_at, put, state_after_act, state_after_go, state_after_going, state_after_late_on, state_after_look, state_after_turn, state_with_sections}
+use Rattle.lot_steps.specs.Steps.{act_of, condvar_goes, in_condvar, in_mutex, in_once, in_semaphore, late_key}
+use Rattle.lot_steps.specs.Steps.{looking, mutex_goes, next_place, rwlock_goes}
+use Rattle.lot_machine.specs.Machine.{State, after, closed_place, is_possible, place_at, put, state_after_act}
+use Rattle.lot_machine.specs.Machine.{state_after_go, state_after_going, state_after_late_on}
+use Rattle.lot_machine.specs.Machine.{state_after_look, state_after_turn, state_with_sections}
 use Rattle.lot_machine.proofs.Acted.{Befalls, acted_keeps}
 use Rattle.lot_laws.specs.Refinement.{sleeps, stance_by, stance_of}
 
 -- by the same act, and whether it may look once more
-pub stance_so : (a b : Act) (x y : Option Place) → a ≡ b → is_some x ≡ is_some y → stance_by a x ≡ stance_by b y
-stance_so a b x y e f = λ i. record { asleep = sleeps (e i); in_closure = (stance_by (e i) x).in_closure; enters = (stance_by (e i) x).enters; may_spin = f i }
+pub stance_so : (a b : Act) (x y : Option Place) → a ≡ b → is_some x ≡ is_some y → stance_by a x
+    ≡ stance_by b y
+stance_so a b x y e f = λ i. record {
+  asleep = sleeps (e i);
+  in_closure = (stance_by (e i) x).in_closure;
+  enters = (stance_by (e i) x).enters;
+  may_spin = f i;
+}
 
 -- ---------------------------------------------------------------- a mutex
 
@@ -71,7 +81,8 @@ record StaysAwake (l : ℕ) (at : MutexPlace) (r : Reply) : Type 0 where
   pub act : mutex_act l place ≡ mutex_act l at
   pub spins : is_some (mutex_looking place) ≡ is_some (mutex_looking at)
 
-either_some : (b : Bool) (x y : MutexPlace) → is_some (if b then Some x else None) ≡ is_some (if b then Some y else None)
+either_some : (b : Bool) (x y : MutexPlace) → is_some (if b then Some x else None) ≡ is_some
+    (if b then Some y else None)
 either_some true x y = refl
 either_some false x y = refl
 
@@ -79,45 +90,196 @@ mutex_stays : (l : ℕ) (at : MutexPlace) (r : Reply) → Befalls r → mutex_ac
 mutex_stays l (mutex.Lock e again lock.Asleep) r b n = absurd (n refl)
 mutex_stays l (mutex.Lock e again (lock.Taken by)) r b n = absurd (n refl)
 mutex_stays l (mutex.Lock e again (lock.Handed by)) r b n = absurd (n refl)
-mutex_stays l (mutex.Lock e again (lock.Decide seen)) (TakenBy t) b n = record { place = mutex.Lock e again (lock.Decide seen); is = refl; act = refl; spins = refl }
-mutex_stays l (mutex.Lock e again (lock.Decide seen)) (MovedTo key) b n = record { place = mutex.Lock e again (lock.Decide seen); is = refl; act = refl; spins = refl }
-mutex_stays l (mutex.Lock e again (lock.Decide seen)) (HandedBy t alone) b n = record { place = mutex.Lock e false (lock.Decide seen); is = refl; act = refl; spins = either_some (seen == 1) _ _ }
-mutex_stays l (mutex.Lock e again (lock.Decide seen)) (Woken note.Normal) b n = record { place = mutex.Lock e true (lock.Decide seen); is = refl; act = refl; spins = either_some (seen == 1) _ _ }
-mutex_stays l (mutex.Lock e again (lock.Decide seen)) (Woken note.HandOff) b n = record { place = mutex.Lock e again (lock.Decide seen); is = refl; act = refl; spins = refl }
-mutex_stays l (mutex.Lock e again at) (TakenBy t) b n = record { place = mutex.Lock e again at; is = refl; act = refl; spins = refl }
-mutex_stays l (mutex.Lock e again at) (MovedTo key) b n = record { place = mutex.Lock e again at; is = refl; act = refl; spins = refl }
-mutex_stays l (mutex.Lock e again at) (HandedBy t alone) b n = record { place = mutex.Lock e false at; is = refl; act = refl; spins = refl }
-mutex_stays l (mutex.Lock e again at) (Woken note.Normal) b n = record { place = mutex.Lock e true at; is = refl; act = refl; spins = refl }
-mutex_stays l (mutex.Lock e again at) (Woken note.HandOff) b n = record { place = mutex.Lock e again at; is = refl; act = refl; spins = refl }
-mutex_stays l mutex.TryLock (TakenBy t) b n = record { place = mutex.TryLock; is = refl; act = refl; spins = refl }
-mutex_stays l mutex.TryLock (MovedTo key) b n = record { place = mutex.TryLock; is = refl; act = refl; spins = refl }
-mutex_stays l mutex.TryLock (HandedBy t alone) b n = record { place = mutex.TryLock; is = refl; act = refl; spins = refl }
-mutex_stays l mutex.TryLock (Woken m) b n = record { place = mutex.TryLock; is = refl; act = refl; spins = refl }
-mutex_stays l (mutex.Unlock unlock.Take) (TakenBy t) b n = record { place = mutex.Unlock unlock.Take; is = refl; act = refl; spins = refl }
-mutex_stays l (mutex.Unlock at) (TakenBy t) b n = record { place = mutex.Unlock at; is = refl; act = refl; spins = refl }
-mutex_stays l (mutex.Unlock at) (MovedTo key) b n = record { place = mutex.Unlock at; is = refl; act = refl; spins = refl }
-mutex_stays l (mutex.Unlock at) (HandedBy t alone) b n = record { place = mutex.Unlock at; is = refl; act = refl; spins = refl }
-mutex_stays l (mutex.Unlock at) (Woken m) b n = record { place = mutex.Unlock at; is = refl; act = refl; spins = refl }
-mutex_stays l mutex.UnlockFair (TakenBy t) b n = record { place = mutex.UnlockFair; is = refl; act = refl; spins = refl }
-mutex_stays l mutex.UnlockFair (MovedTo key) b n = record { place = mutex.UnlockFair; is = refl; act = refl; spins = refl }
-mutex_stays l mutex.UnlockFair (HandedBy t alone) b n = record { place = mutex.UnlockFair; is = refl; act = refl; spins = refl }
-mutex_stays l mutex.UnlockFair (Woken m) b n = record { place = mutex.UnlockFair; is = refl; act = refl; spins = refl }
+mutex_stays l (mutex.Lock e again (lock.Decide seen)) (TakenBy t) b n = record {
+  place = mutex.Lock e again (lock.Decide seen);
+  is = refl;
+  act = refl;
+  spins = refl;
+}
+mutex_stays l (mutex.Lock e again (lock.Decide seen)) (MovedTo key) b n = record {
+  place = mutex.Lock e again (lock.Decide seen);
+  is = refl;
+  act = refl;
+  spins = refl;
+}
+mutex_stays l (mutex.Lock e again (lock.Decide seen)) (HandedBy t alone) b n = record {
+  place = mutex.Lock e false (lock.Decide seen);
+  is = refl;
+  act = refl;
+  spins = either_some (seen == 1) _ _;
+}
+mutex_stays l (mutex.Lock e again (lock.Decide seen)) (Woken note.Normal) b n = record {
+  place = mutex.Lock e true (lock.Decide seen);
+  is = refl;
+  act = refl;
+  spins = either_some (seen == 1) _ _;
+}
+mutex_stays l (mutex.Lock e again (lock.Decide seen)) (Woken note.HandOff) b n = record {
+  place = mutex.Lock e again (lock.Decide seen);
+  is = refl;
+  act = refl;
+  spins = refl;
+}
+mutex_stays l (mutex.Lock e again at) (TakenBy t) b n = record {
+  place = mutex.Lock e again at;
+  is = refl;
+  act = refl;
+  spins = refl;
+}
+mutex_stays l (mutex.Lock e again at) (MovedTo key) b n = record {
+  place = mutex.Lock e again at;
+  is = refl;
+  act = refl;
+  spins = refl;
+}
+mutex_stays l (mutex.Lock e again at) (HandedBy t alone) b n = record {
+  place = mutex.Lock e false at;
+  is = refl;
+  act = refl;
+  spins = refl;
+}
+mutex_stays l (mutex.Lock e again at) (Woken note.Normal) b n = record {
+  place = mutex.Lock e true at;
+  is = refl;
+  act = refl;
+  spins = refl;
+}
+mutex_stays l (mutex.Lock e again at) (Woken note.HandOff) b n = record {
+  place = mutex.Lock e again at;
+  is = refl;
+  act = refl;
+  spins = refl;
+}
+mutex_stays l mutex.TryLock (TakenBy t) b n = record {
+  place = mutex.TryLock;
+  is = refl;
+  act = refl;
+  spins = refl;
+}
+mutex_stays l mutex.TryLock (MovedTo key) b n = record {
+  place = mutex.TryLock;
+  is = refl;
+  act = refl;
+  spins = refl;
+}
+mutex_stays l mutex.TryLock (HandedBy t alone) b n = record {
+  place = mutex.TryLock;
+  is = refl;
+  act = refl;
+  spins = refl;
+}
+mutex_stays l mutex.TryLock (Woken m) b n = record {
+  place = mutex.TryLock;
+  is = refl;
+  act = refl;
+  spins = refl;
+}
+mutex_stays l (mutex.Unlock unlock.Take) (TakenBy t) b n = record {
+  place = mutex.Unlock unlock.Take;
+  is = refl;
+  act = refl;
+  spins = refl;
+}
+mutex_stays l (mutex.Unlock at) (TakenBy t) b n = record {
+  place = mutex.Unlock at;
+  is = refl;
+  act = refl;
+  spins = refl;
+}
+mutex_stays l (mutex.Unlock at) (MovedTo key) b n = record {
+  place = mutex.Unlock at;
+  is = refl;
+  act = refl;
+  spins = refl;
+}
+mutex_stays l (mutex.Unlock at) (HandedBy t alone) b n = record {
+  place = mutex.Unlock at;
+  is = refl;
+  act = refl;
+  spins = refl;
+}
+mutex_stays l (mutex.Unlock at) (Woken m) b n = record {
+  place = mutex.Unlock at;
+  is = refl;
+  act = refl;
+  spins = refl;
+}
+mutex_stays l mutex.UnlockFair (TakenBy t) b n = record {
+  place = mutex.UnlockFair;
+  is = refl;
+  act = refl;
+  spins = refl;
+}
+mutex_stays l mutex.UnlockFair (MovedTo key) b n = record {
+  place = mutex.UnlockFair;
+  is = refl;
+  act = refl;
+  spins = refl;
+}
+mutex_stays l mutex.UnlockFair (HandedBy t alone) b n = record {
+  place = mutex.UnlockFair;
+  is = refl;
+  act = refl;
+  spins = refl;
+}
+mutex_stays l mutex.UnlockFair (Woken m) b n = record {
+  place = mutex.UnlockFair;
+  is = refl;
+  act = refl;
+  spins = refl;
+}
 mutex_stays l mutex.Bump (TakenBy t) b n = record { place = mutex.Bump; is = refl; act = refl; spins = refl }
-mutex_stays l mutex.Bump (MovedTo key) b n = record { place = mutex.Bump; is = refl; act = refl; spins = refl }
-mutex_stays l mutex.Bump (HandedBy t alone) b n = record { place = mutex.Bump; is = refl; act = refl; spins = refl }
+mutex_stays l mutex.Bump (MovedTo key) b n = record {
+  place = mutex.Bump;
+  is = refl;
+  act = refl;
+  spins = refl;
+}
+mutex_stays l mutex.Bump (HandedBy t alone) b n = record {
+  place = mutex.Bump;
+  is = refl;
+  act = refl;
+  spins = refl;
+}
 mutex_stays l mutex.Bump (Woken m) b n = record { place = mutex.Bump; is = refl; act = refl; spins = refl }
-mutex_stays l (mutex.HandOff bumps hand_off.Take) (TakenBy t) b n = record { place = mutex.HandOff bumps hand_off.Take; is = refl; act = refl; spins = refl }
-mutex_stays l (mutex.HandOff bumps at) (TakenBy t) b n = record { place = mutex.HandOff bumps at; is = refl; act = refl; spins = refl }
-mutex_stays l (mutex.HandOff bumps at) (MovedTo key) b n = record { place = mutex.HandOff bumps at; is = refl; act = refl; spins = refl }
-mutex_stays l (mutex.HandOff bumps at) (HandedBy t alone) b n = record { place = mutex.HandOff bumps at; is = refl; act = refl; spins = refl }
-mutex_stays l (mutex.HandOff bumps at) (Woken m) b n = record { place = mutex.HandOff bumps at; is = refl; act = refl; spins = refl }
+mutex_stays l (mutex.HandOff bumps hand_off.Take) (TakenBy t) b n = record {
+  place = mutex.HandOff bumps hand_off.Take;
+  is = refl;
+  act = refl;
+  spins = refl;
+}
+mutex_stays l (mutex.HandOff bumps at) (TakenBy t) b n = record {
+  place = mutex.HandOff bumps at;
+  is = refl;
+  act = refl;
+  spins = refl;
+}
+mutex_stays l (mutex.HandOff bumps at) (MovedTo key) b n = record {
+  place = mutex.HandOff bumps at;
+  is = refl;
+  act = refl;
+  spins = refl;
+}
+mutex_stays l (mutex.HandOff bumps at) (HandedBy t alone) b n = record {
+  place = mutex.HandOff bumps at;
+  is = refl;
+  act = refl;
+  spins = refl;
+}
+mutex_stays l (mutex.HandOff bumps at) (Woken m) b n = record {
+  place = mutex.HandOff bumps at;
+  is = refl;
+  act = refl;
+  spins = refl;
+}
 mutex_stays l at r b n = absurd b
 
 mutex_spins : (l : ℕ) (o : Option MutexPlace) → is_some (in_mutex l o) ≡ is_some o
 mutex_spins l None = refl
 mutex_spins l (Some at) = refl
 
-lock_spins : (l m : ℕ) (timed late : Bool) (o : Option MutexPlace) → is_some (in_condvar l (in_lock m timed late o)) ≡ is_some o
+lock_spins : (l m : ℕ) (timed late : Bool) (o : Option MutexPlace)
+    → is_some (in_condvar l (in_lock m timed late o)) ≡ is_some o
 lock_spins l m timed late None = refl
 lock_spins l m timed late (Some at) = refl
 
@@ -128,14 +290,17 @@ Stands p r = stance_of (next_place p r) ≡ stance_of p
 stays_there : (p : Place) (r : Reply) → next_place p r ≡ p → Stands p r
 stays_there p r e = ap stance_of e
 
-mutex_stands : (l : ℕ) (at : MutexPlace) (r : Reply) → Befalls r → mutex_act l at ≢ Sleep → Stands (Mutex l at) r
+mutex_stands : (l : ℕ) (at : MutexPlace) (r : Reply) → Befalls r → mutex_act l at ≢ Sleep
+    → Stands (Mutex l at) r
 mutex_stands l at r b n = let stays = mutex_stays l at r b n in
     ap (λ x. stance_of (mutex_goes l x)) stays.is
-    ∙ stance_so (mutex_act l stays.place) (mutex_act l at) (in_mutex l (mutex_looking stays.place)) (in_mutex l (mutex_looking at)) stays.act (mutex_spins l _ ∙ stays.spins ∙ sym (mutex_spins l _))
+    ∙ stance_so (mutex_act l stays.place) (mutex_act l at) (in_mutex l (mutex_looking stays.place))
+    (in_mutex l (mutex_looking at)) stays.act (mutex_spins l _ ∙ stays.spins ∙ sym (mutex_spins l _))
 
 -- ---------------------------------------------------------------- a condition variable
 
-wait_stands : (l m : ℕ) (timed : Bool) (at : WaitAt) (r : Reply) → Befalls r → wait_act l m at ≢ Sleep → Stands (Condvar l (condvar.Wait m timed at)) r
+wait_stands : (l m : ℕ) (timed : Bool) (at : WaitAt) (r : Reply) → Befalls r → wait_act l m at ≢ Sleep
+    → Stands (Condvar l (condvar.Wait m timed at)) r
 wait_stands l m timed (wait.Asleep s) r b n = absurd (n refl)
 wait_stands l m timed (wait.Release s at) (TakenBy t) b n = refl
 wait_stands l m timed (wait.Release s at) (MovedTo key) b n = refl
@@ -143,7 +308,9 @@ wait_stands l m timed (wait.Release s at) (HandedBy t alone) b n = refl
 wait_stands l m timed (wait.Release s at) (Woken k) b n = refl
 wait_stands l m timed (wait.Lock late at) r b n = let stays = mutex_stays m at r b n in
     ap (λ x. stance_of (condvar_goes l (in_wait m timed (relocked timed late x)))) stays.is
-    ∙ stance_so (mutex_act m stays.place) (mutex_act m at) (in_condvar l (in_lock m timed late (mutex_looking stays.place))) (in_condvar l (in_lock m timed late (mutex_looking at))) stays.act
+    ∙ stance_so (mutex_act m stays.place) (mutex_act m at)
+    (in_condvar l (in_lock m timed late (mutex_looking stays.place)))
+    (in_condvar l (in_lock m timed late (mutex_looking at))) stays.act
     (lock_spins l m timed late _ ∙ stays.spins ∙ sym (lock_spins l m timed late _))
 wait_stands l m timed at (TakenBy t) b n = refl
 wait_stands l m timed at (MovedTo key) b n = refl
@@ -151,7 +318,8 @@ wait_stands l m timed at (HandedBy t alone) b n = refl
 wait_stands l m timed at (Woken k) b n = refl
 wait_stands l m timed at r b n = absurd b
 
-notify_stands : (l m : ℕ) (all : Bool) (at : NotifyAt) (r : Reply) → Befalls r → Stands (Condvar l (condvar.Notify all m at)) r
+notify_stands : (l m : ℕ) (all : Bool) (at : NotifyAt) (r : Reply) → Befalls r
+    → Stands (Condvar l (condvar.Notify all m at)) r
 notify_stands l m all notify.Enter (TakenBy t) b = refl
 notify_stands l m all at (TakenBy t) b = refl
 notify_stands l m all at (MovedTo key) b = refl
@@ -166,14 +334,16 @@ look_stands l all (HandedBy t alone) b = refl
 look_stands l all (Woken k) b = refl
 look_stands l all r b = absurd b
 
-condvar_stands : (l : ℕ) (at : CondvarPlace) (r : Reply) → Befalls r → condvar_act l at ≢ Sleep → Stands (Condvar l at) r
+condvar_stands : (l : ℕ) (at : CondvarPlace) (r : Reply) → Befalls r → condvar_act l at ≢ Sleep
+    → Stands (Condvar l at) r
 condvar_stands l (condvar.Wait m timed at) r b n = wait_stands l m timed at r b n
 condvar_stands l (condvar.Look all) r b n = look_stands l all r b
 condvar_stands l (condvar.Notify all m at) r b n = notify_stands l m all at r b
 
 -- ---------------------------------------------------------------- a `Once`
 
-once_spins : (l : ℕ) (b : Bool) (x y : OncePlace) → is_some (in_once l (if b then Some x else None)) ≡ is_some (in_once l (if b then Some y else None))
+once_spins : (l : ℕ) (b : Bool) (x y : OncePlace) → is_some (in_once l (if b then Some x else None))
+    ≡ is_some (in_once l (if b then Some y else None))
 once_spins l true x y = refl
 once_spins l false x y = refl
 
@@ -183,7 +353,11 @@ once_stands l (once.Look c again (look.Taken by)) r b n = absurd (n refl)
 once_stands l (once.Look c again (look.Decide seen)) (TakenBy t) b n = refl
 once_stands l (once.Look c again (look.Decide seen)) (MovedTo key) b n = refl
 once_stands l (once.Look c again (look.Decide seen)) (HandedBy t alone) b n = refl
-once_stands l (once.Look c again (look.Decide seen)) (Woken note.Normal) b n = stance_so (once_act l (once.Look c again (look.Decide seen))) (once_act l (once.Look c again (look.Decide seen))) (in_once l (once_steps.once_looking (once.Look c true (look.Decide seen)))) (in_once l (once_steps.once_looking (once.Look c again (look.Decide seen)))) refl (once_spins l _ _ _)
+once_stands l (once.Look c again (look.Decide seen)) (Woken note.Normal) b n =
+    stance_so (once_act l (once.Look c again (look.Decide seen)))
+    (once_act l (once.Look c again (look.Decide seen)))
+    (in_once l (once_steps.once_looking (once.Look c true (look.Decide seen))))
+    (in_once l (once_steps.once_looking (once.Look c again (look.Decide seen)))) refl (once_spins l _ _ _)
 once_stands l (once.Look c again (look.Decide seen)) (Woken note.HandOff) b n = refl
 once_stands l (once.Look c again at) (TakenBy t) b n = refl
 once_stands l (once.Look c again at) (MovedTo key) b n = refl
@@ -204,17 +378,25 @@ once_stands l at r b n = absurd b
 
 -- ---------------------------------------------------------------- a semaphore
 
-semaphore_spins : (l : ℕ) (b : Bool) (x y : SemaphorePlace) → is_some (in_semaphore l (if b then Some x else None)) ≡ is_some (in_semaphore l (if b then Some y else None))
+semaphore_spins : (l : ℕ) (b : Bool) (x y : SemaphorePlace)
+    → is_some (in_semaphore l (if b then Some x else None))
+    ≡ is_some (in_semaphore l (if b then Some y else None))
 semaphore_spins l true x y = refl
 semaphore_spins l false x y = refl
 
-semaphore_stands : (l : ℕ) (at : SemaphorePlace) (r : Reply) → Befalls r → semaphore_act l at ≢ Sleep → Stands (Semaphore l at) r
+semaphore_stands : (l : ℕ) (at : SemaphorePlace) (r : Reply) → Befalls r → semaphore_act l at ≢ Sleep
+    → Stands (Semaphore l at) r
 semaphore_stands l (semaphore.Acquire timed again acquire.Asleep) r b n = absurd (n refl)
 semaphore_stands l (semaphore.Acquire timed again (acquire.Taken by)) r b n = absurd (n refl)
 semaphore_stands l (semaphore.Acquire timed again (acquire.Decide seen)) (TakenBy t) b n = refl
 semaphore_stands l (semaphore.Acquire timed again (acquire.Decide seen)) (MovedTo key) b n = refl
 semaphore_stands l (semaphore.Acquire timed again (acquire.Decide seen)) (HandedBy t alone) b n = refl
-semaphore_stands l (semaphore.Acquire timed again (acquire.Decide seen)) (Woken note.Normal) b n = stance_so (semaphore_act l (semaphore.Acquire timed again (acquire.Decide seen))) (semaphore_act l (semaphore.Acquire timed again (acquire.Decide seen))) (in_semaphore l (semaphore_steps.semaphore_looking (semaphore.Acquire timed true (acquire.Decide seen)))) (in_semaphore l (semaphore_steps.semaphore_looking (semaphore.Acquire timed again (acquire.Decide seen)))) refl (semaphore_spins l _ _ _)
+semaphore_stands l (semaphore.Acquire timed again (acquire.Decide seen)) (Woken note.Normal) b n =
+    stance_so (semaphore_act l (semaphore.Acquire timed again (acquire.Decide seen)))
+    (semaphore_act l (semaphore.Acquire timed again (acquire.Decide seen)))
+    (in_semaphore l (semaphore_steps.semaphore_looking (semaphore.Acquire timed true (acquire.Decide seen))))
+    (in_semaphore l (semaphore_steps.semaphore_looking (semaphore.Acquire timed again (acquire.Decide seen))))
+    refl (semaphore_spins l _ _ _)
 semaphore_stands l (semaphore.Acquire timed again (acquire.Decide seen)) (Woken note.HandOff) b n = refl
 semaphore_stands l (semaphore.Acquire timed again at) (TakenBy t) b n = refl
 semaphore_stands l (semaphore.Acquire timed again at) (MovedTo key) b n = refl
@@ -238,21 +420,26 @@ semaphore_stands l at r b n = absurd b
 abbrev there : RwLockPurpose → Bool → RwLockAt → RwLockPlace
 there q again to = record { purpose = q; retries = again; at = to }
 
-none_given : (l : ℕ) (a : Admission) (b : Bool) (q : RwLockPurpose) (again : Bool) (to : RwLockAt) (r : Reply) → Befalls r → act_at l a (there q again to) to ≢ Sleep → given b (there q again to) r ≡ None
+none_given : (l : ℕ) (a : Admission) (b : Bool) (q : RwLockPurpose) (again : Bool) (to : RwLockAt) (r : Reply)
+    → Befalls r → act_at l a (there q again to) to ≢ Sleep → given b (there q again to) r ≡ None
 none_given l a b q again to (TakenBy t) h n = refl
 none_given l a b q again to (MovedTo key) h n = refl
 none_given l a b q again to (Woken note.Normal) h n = refl
-none_given l a b (purpose.Enter x how) again (at.Park (parking.Taken u)) (HandedBy t alone) h n = absurd (n refl)
+none_given l a b (purpose.Enter x how) again (at.Park (parking.Taken u)) (HandedBy t alone) h n =
+    absurd (n refl)
 none_given l a b (purpose.Enter x how) again (at.Park to) (HandedBy t alone) h n = refl
 none_given l a b (purpose.Enter x how) again to (HandedBy t alone) h n = refl
 none_given l a b q again to (HandedBy t alone) h n = refl
-none_given l a b (purpose.Enter x how) again (at.Park parking.Asleep) (Woken note.HandOff) h n = absurd (n refl)
+none_given l a b (purpose.Enter x how) again (at.Park parking.Asleep) (Woken note.HandOff) h n =
+    absurd (n refl)
 none_given l a b (purpose.Enter x how) again (at.Park to) (Woken note.HandOff) h n = refl
 none_given l a b (purpose.Enter x how) again to (Woken note.HandOff) h n = refl
 none_given l a b q again to (Woken note.HandOff) h n = refl
 none_given l a b q again to r h n = absurd h
 
-goes_nowhere : (l : ℕ) (a : Admission) (q : RwLockPurpose) (again : Bool) (to : RwLockAt) (r : Reply) → Befalls r → act_at l a (there q again to) to ≢ Sleep → rwlock_next a (there q again to) r ≡ At (there q again to)
+goes_nowhere : (l : ℕ) (a : Admission) (q : RwLockPurpose) (again : Bool) (to : RwLockAt) (r : Reply)
+    → Befalls r → act_at l a (there q again to) to ≢ Sleep → rwlock_next a (there q again to) r
+    ≡ At (there q again to)
 goes_nowhere l a q again (at.Park parking.Asleep) r h n = absurd (n refl)
 goes_nowhere l a q again (at.Park (parking.Taken u)) r h n = absurd (n refl)
 goes_nowhere l a q again (at.Aside parking.Asleep) r h n = absurd (n refl)
@@ -276,11 +463,14 @@ goes_nowhere l a q again to (HandedBy t alone) h n = refl
 goes_nowhere l a q again to (Woken k) h n = refl
 goes_nowhere l a q again to r h n = absurd h
 
-call_stands : (l : ℕ) (a : Admission) (c : RwLockCallPlace) (r : Reply) → Befalls r → call_act l a c ≢ Sleep → Stands (RwLock l a c) r
+call_stands : (l : ℕ) (a : Admission) (c : RwLockCallPlace) (r : Reply) → Befalls r → call_act l a c ≢ Sleep
+    → Stands (RwLock l a c) r
 call_stands l a (fair.Plain p) r h n = stays_there (RwLock l a (fair.Plain p)) r
-    (λ i. rwlock_goes l a (unless_given (none_given l a false p.purpose p.retries p.at r h n i) (plain_next (goes_nowhere l a p.purpose p.retries p.at r h n i))))
+    (λ i. rwlock_goes l a (unless_given (none_given l a false p.purpose p.retries p.at r h n i)
+    (plain_next (goes_nowhere l a p.purpose p.retries p.at r h n i))))
 call_stands l a (fair.Bump p) r h n = stays_there (RwLock l a (fair.Bump p)) r
-    (λ i. rwlock_goes l a (unless_given (none_given l a true p.purpose p.retries p.at r h n i) (bump_next p.purpose (goes_nowhere l a p.purpose p.retries p.at r h n i))))
+    (λ i. rwlock_goes l a (unless_given (none_given l a true p.purpose p.retries p.at r h n i)
+    (bump_next p.purpose (goes_nowhere l a p.purpose p.retries p.at r h n i))))
 call_stands l a (fair.Glance x) (TakenBy t) h n = refl
 call_stands l a (fair.Glance x) (MovedTo key) h n = refl
 call_stands l a (fair.Glance x) (HandedBy t alone) h n = refl
@@ -299,7 +489,8 @@ call_stands l a c r h n = absurd h
 
 -- ---------------------------------------------------------------- any place
 
-pub stance_stays : (p : Place) (r : Reply) → Befalls r → act_of p ≢ Sleep → stance_of (next_place p r) ≡ stance_of p
+pub stance_stays : (p : Place) (r : Reply) → Befalls r → act_of p ≢ Sleep → stance_of (next_place p r)
+    ≡ stance_of p
 stance_stays Idle r b n = refl
 stance_stays (Mutex l at) r b n = mutex_stands l at r b n
 stance_stays (RwLock l a c) r b n = call_stands l a c r b n
@@ -314,29 +505,38 @@ module _ (s : Status) (awake : s.asleep ≡ false) where
   As p = stance_of p ≡ s
 
   befallen : (p : Place) (r : Reply) → Befalls r → As p → As (next_place p r)
-  befallen p r b h = stance_stays p r b (λ asleep. let e : true ≡ false = sym (ap sleeps asleep) ∙ ap (λ (x : Status). x.asleep) h ∙ awake in cc) ∙ h
+  befallen p r b h = stance_stays p r b (λ asleep. let e : true ≡ false = sym (ap sleeps asleep)
+      ∙ ap (λ (x : Status). x.asleep) h ∙ awake in cc) ∙ h
 
-  act_keeps : (w : State) (u t : ℕ) (p : Place) (a : Act) → As (place_at w u) → As (place_at (state_after_act w t p a) u)
+  act_keeps : (w : State) (u t : ℕ) (p : Place) (a : Act) → As (place_at w u)
+      → As (place_at (state_after_act w t p a) u)
   act_keeps w u t p a h = acted_keeps As w u t p a (λ any r b q e. befallen q r b e) h
 
   put_keeps : (b : State) (t u : ℕ) (p : Place) → u ≢ t → As (place_at b u) → As (place_at (put b t p) u)
   put_keeps b t u p ne h = ap stance_of (get_or-set_other b.places t u p Idle ne) ∙ h
 
-  late_keeps : (w : State) (t u : ℕ) (o : Option ℕ) → u ≢ t → As (place_at w u) → As (place_at (state_after_late_on w t o) u)
+  late_keeps : (w : State) (t u : ℕ) (o : Option ℕ) → u ≢ t → As (place_at w u)
+      → As (place_at (state_after_late_on w t o) u)
   late_keeps w t u None ne h = h
   late_keeps w t u (Some key) ne h = put_keeps (state_with_sections w (One key) (Some t)) t u _ ne h
 
-  went_keeps : (w : State) (t u : ℕ) (p : Place) → u ≢ t → As (place_at w u) → As (place_at (state_after_going w t p) u)
-  went_keeps w t u p ne h = put_keeps (state_after_act w t p (act_of p)) t u _ ne (act_keeps w u t p (act_of p) h)
+  went_keeps : (w : State) (t u : ℕ) (p : Place) → u ≢ t → As (place_at w u)
+      → As (place_at (state_after_going w t p) u)
+  went_keeps w t u p ne h = put_keeps (state_after_act w t p (act_of p)) t u _ ne
+      (act_keeps w u t p (act_of p) h)
 
-  put_went_keeps : (w : State) (t u : ℕ) (q : Place) → u ≢ t → As (place_at w u) → As (place_at (state_after_go (put w t q) t) u)
-  put_went_keeps w t u q ne h = went_keeps (put w t q) t u (place_at (put w t q) t) ne (put_keeps w t u q ne h)
+  put_went_keeps : (w : State) (t u : ℕ) (q : Place) → u ≢ t → As (place_at w u)
+      → As (place_at (state_after_go (put w t q) t) u)
+  put_went_keeps w t u q ne h = went_keeps (put w t q) t u (place_at (put w t q) t) ne
+      (put_keeps w t u q ne h)
 
-  spun_keeps : (w : State) (t u : ℕ) (o : Option Place) → u ≢ t → As (place_at w u) → As (place_at (state_after_look w t o) u)
+  spun_keeps : (w : State) (t u : ℕ) (o : Option Place) → u ≢ t → As (place_at w u)
+      → As (place_at (state_after_look w t o) u)
   spun_keeps w t u None ne h = h
   spun_keeps w t u (Some q) ne h = put_went_keeps w t u q ne h
 
-  turned_keeps : (w : State) (t u : ℕ) (x : Turn) → u ≢ t → As (place_at w u) → As (place_at (state_after_turn w t x) u)
+  turned_keeps : (w : State) (t u : ℕ) (x : Turn) → u ≢ t → As (place_at w u)
+      → As (place_at (state_after_turn w t x) u)
   turned_keeps w t u (turn.TheVariants.Begin c) ne h = put_keeps w t u _ ne h
   turned_keeps w t u turn.TheVariants.Go ne h = went_keeps w t u (place_at w t) ne h
   turned_keeps w t u turn.TheVariants.Spin ne h = spun_keeps w t u (looking (place_at w t)) ne h
@@ -344,7 +544,8 @@ module _ (s : Status) (awake : s.asleep ≡ false) where
   turned_keeps w t u turn.TheVariants.Ok ne h = put_went_keeps w t u (closed_place w t true) ne h
   turned_keeps w t u turn.TheVariants.Err ne h = put_went_keeps w t u (closed_place w t false) ne h
 
-  stepped_keeps : (w : State) (x : Step) (u : ℕ) → u ≢ x.thread → As (place_at w u) → As (place_at (after w x) u)
+  stepped_keeps : (w : State) (x : Step) (u : ℕ) → u ≢ x.thread → As (place_at w u)
+      → As (place_at (after w x) u)
   stepped_keeps w x u ne h = either (is_possible w x)
     where
       either : (b : Bool) → As (place_at (if b then state_after_turn w x.thread x.turn else w) u)

@@ -1,13 +1,15 @@
 -- A mutex that each call gives up fairly is owned while a waiter is in a hand. A fair one is owned while a
 -- thread waits for it too, by the thread that has the waiter in its hand.
-use Rattle.std.proofs.Common.{ℕ, Bool, true, false, Option, Some, None, if◌then◌else◌, ◌==◌, ◌≡◌, ◌≢◌, ◌≤◌, ◌+◌, ◌⊎◌, inl, inr, refl, sym, ◌∙◌, ap, subst, arith}
+use Rattle.std.proofs.Common.{ℕ, Bool, true, false, Option, Some, None, if◌then◌else◌, ◌==◌, ◌≡◌, ◌≢◌, ◌≤◌}
+use Rattle.std.proofs.Common.{◌+◌, ◌⊎◌, inl, inr, refl, sym, ◌∙◌, ap, subst, arith}
 use Rattle.std.proofs.lemmas.Bool.{cases_lt, eqb-true}
 use Rattle.core_base.specs.declared.wants.Want.TheVariants.{Exclusive, Upgradable}
 use Rattle.spec_locks.specs.declared.kinds.Kind.{Kind}
 use Rattle.spec_locks.specs.declared.kinds.Kind.TheVariants as kinds
 use Rattle.spec_locks.specs.Bypass.{ReleasesFairly}
 use Rattle.spec_locks.specs.Kinds.{is_fair, is_plain_mutex}
-use Rattle.spec_locks.specs.Locks.{IsSomePending, LockState, Rights, Taken, one_if_some, one_if_thread, rights_of, standing, times}
+use Rattle.spec_locks.specs.Locks.{IsSomePending, LockState, Rights, Taken, one_if_some, one_if_thread}
+use Rattle.spec_locks.specs.Locks.{rights_of, standing, times}
 use Rattle.spec_locks.specs.Locks as locks
 use Rattle.spec_locks.specs.Purposes.{rules_of}
 use Rattle.spec_locks.specs.Sites.{Has, Role, has_readers, idle}

@@ -1,5 +1,6 @@
 -- A fair mutex is released fairly, is owned while somebody waits for it, and lets nobody be overtaken.
-use Rattle.std.proofs.Common.{ℕ, true, false, Option, Some, None, ◌≡◌, ◌≢◌, ◌≤◌, ◌<◌, inl, inr, List, [], ◌∷◌, length, get_or-set_other, get_or-set_same, refl, sym, ◌∙◌, ap, subst, arith}
+use Rattle.std.proofs.Common.{ℕ, true, false, Option, Some, None, ◌≡◌, ◌≢◌, ◌≤◌, ◌<◌, inl, inr, List, [], ◌∷◌}
+use Rattle.std.proofs.Common.{length, get_or-set_other, get_or-set_same, refl, sym, ◌∙◌, ap, subst, arith}
 use Rattle.std.proofs.lemmas.Bool.{cases_eq}
 use Rattle.std.proofs.lemmas.Bool.Decides.{nat_tests}
 use Rattle.spec_locks.specs.declared.calls.Step.{Step}
@@ -25,9 +26,11 @@ use Rattle.steps_rwlock_fair.specs.declared.places.RwLockCallPlace.TheVariants.{
 use Rattle.lot_laws.proofs.once.Marks.{opening_unmarked, unmarked_after}
 use Rattle.lot_laws.proofs.once.Runs.{opening_running, put_running, running_after}
 use Rattle.lot_laws.proofs.promises.Promises.{opening_is}
-use Rattle.lot_machine.specs.Machine.{State, after, kind_at, opening, place_at, put, runs_closure, step_outcome}
+use Rattle.lot_machine.specs.Machine.{State, after, kind_at, opening, place_at, put, runs_closure}
+use Rattle.lot_machine.specs.Machine.{step_outcome}
 use Rattle.lot_laws.specs.Refinement.{call_at, call_on_both, call_state, lock_state, locks_of}
-use Rattle.lot_laws.specs.SitesOf.{AreFairMutexes, IsFairMutex, IsInductive, IsSettled, IsWorld, AreCondvars, AreCounted, is_mutex, rules_in}
+use Rattle.lot_laws.specs.SitesOf.{AreFairMutexes, IsFairMutex, IsInductive, IsSettled, IsWorld, AreCondvars}
+use Rattle.lot_laws.specs.SitesOf.{AreCounted, is_mutex, rules_in}
 use Rattle.lot_laws.proofs.calls.LockSteps.{after_step}
 use Rattle.lot_laws.proofs.machine.KindsStay.{after_kinds}
 use Rattle.lot_laws.proofs.mutex.FairHands.{given_up_fairly}
@@ -57,11 +60,14 @@ module _ (w : State) (s : Step) (h : IsWorld w) (l : ℕ) (fair : kind_at w l �
 
   still_fair : IsFairMutex v l
   still_fair = record {
-    calls = fair_stays (locks_of w) (locks_of v) s (step_outcome w s) l fair (h.settled.fair l fair).calls turn_is.1;
-    owned = λ some. (let first = some_stands (lock_state v l).queue some in elim ((goes_fairly w s h l one_owner (given_up_fairly w h l fair)).owned first.0 first.1 (h.settled.fair l fair).owned) [
-      | inl owned ↦ owned
-      | inr lets ↦ absurd (hands_over w s h l one_owner (given_up_fairly w h l fair) lets)
-    ]);
+    calls = fair_stays (locks_of w) (locks_of v) s (step_outcome w s) l fair (h.settled.fair l fair).calls
+        turn_is.1;
+    owned = λ some. (let first = some_stands (lock_state v l).queue some
+        in elim ((goes_fairly w s h l one_owner (given_up_fairly w h l fair)).owned first.0 first.1
+        (h.settled.fair l fair).owned) [
+          | inl owned ↦ owned
+          | inr lets ↦ absurd (hands_over w s h l one_owner (given_up_fairly w h l fair) lets)
+        ]);
   }
 
 pub fair_after : (w : State) (s : Step) → IsWorld w → AreFairMutexes (after w s)
@@ -69,18 +75,26 @@ fair_after w s h l fair = still_fair w s h l (sym (after_kinds w s l) ∙ fair)
 
 -- ---------------------------------------------------------------- what a world keeps of them
 
-pub settled_after : (w : State) (s : Step) → IsWellFormed w → IsInductive w → AreCounted w → AreCondvars w → IsSettled w → IsSettled (after w s)
+pub settled_after : (w : State) (s : Step) → IsWellFormed w → IsInductive w → AreCounted w → AreCondvars w
+    → IsSettled w → IsSettled (after w s)
 settled_after w s shape steady counted condvars h = record {
   runs = running_after w s shape steady counted condvars h.runs;
   unmarked = unmarked_after w s shape steady h.unmarked;
-  fair = fair_after w s (record { shaped = shape; steady = steady; counted = counted; condvars = condvars; settled = h });
+  fair = fair_after w s (record {
+    shaped = shape;
+    steady = steady;
+    counted = counted;
+    condvars = condvars;
+    settled = h;
+  });
 }
 
 -- the purpose of a call hangs on its place alone
 purpose_same : (p : Place) (r q : ℕ → Rights) → (call_state p r).purpose ≡ (call_state p q).purpose
 purpose_same p r q = by_lock (beside_of p) (called_lock p)
   where
-    by_lock : (m o : Option ℕ) → (call_on_both m o (profile p) (profile_beside p) r).purpose ≡ (call_on_both m o (profile p) (profile_beside p) q).purpose
+    by_lock : (m o : Option ℕ) → (call_on_both m o (profile p) (profile_beside p) r).purpose
+        ≡ (call_on_both m o (profile p) (profile_beside p) q).purpose
     by_lock None None = refl
     by_lock None (Some l) = refl
     by_lock (Some m) None = refl
@@ -93,7 +107,8 @@ rwlock_fairly (purposes.Downgrade d) l m ne = tt
 rwlock_fairly (purposes.Upgrade how) l m ne = tt
 
 -- a thread that stands elsewhere in a call of a lock that is shared, and in no closure
-module _ (w : State) (t l : ℕ) (a : Admission) (p : RwLockPlace) (there : t < length w.places) (readers : has_readers (rules_in w l).sort ≡ true) where
+module _ (w : State) (t l : ℕ) (a : Admission) (p : RwLockPlace) (there : t < length w.places)
+    (readers : has_readers (rules_in w l).sort ≡ true) where
   abbrev q : Place
   q = RwLock l a (Plain p)
 
@@ -101,27 +116,42 @@ module _ (w : State) (t l : ℕ) (a : Admission) (p : RwLockPlace) (there : t < 
   put_fair h m fair = record { calls = each; owned = (h m fair).owned }
     where
       other : l ≢ m
-      other e = let f : true ≡ false = sym readers ∙ ap (λ k. has_readers (rules_of k).sort) (ap (kind_at w) e ∙ fair) in cc
+      other e = let f : true ≡ false = sym readers ∙ ap (λ k. has_readers (rules_of k).sort) (ap (kind_at w) e
+          ∙ fair) in cc
 
       each : (u : ℕ) → ReleasesFairly (call_at (put w t q) u).purpose m
       each u = elim (cases_eq u t) [
         | inl e ↦ subst (λ k. ReleasesFairly (call_at (put w t q) k).purpose m) (sym e)
-            (subst (λ x. ReleasesFairly (call_state x (λ k. rights_of (lock_state (put w t q) k) t)).purpose m) (sym (get_or-set_same w.places t q Idle there)) (rwlock_fairly p.purpose l m other))
-        | inr ne ↦ subst (λ x. ReleasesFairly (call_state x (λ k. rights_of (lock_state (put w t q) k) u)).purpose m) (sym (get_or-set_other w.places t u q Idle ne))
-            (subst (λ o. ReleasesFairly o m) (purpose_same (place_at w u) (λ k. rights_of (lock_state w k) u) (λ k. rights_of (lock_state (put w t q) k) u)) ((h m fair).calls u))
+            (subst (λ x. ReleasesFairly (call_state x (λ k. rights_of (lock_state (put w t q) k) t)).purpose
+            m) (sym (get_or-set_same w.places t q Idle there)) (rwlock_fairly p.purpose l m other))
+        | inr ne ↦ subst (λ x. ReleasesFairly
+            (call_state x (λ k. rights_of (lock_state (put w t q) k) u)).purpose m)
+            (sym (get_or-set_other w.places t u q Idle ne))
+            (subst (λ o. ReleasesFairly o m) (purpose_same (place_at w u) (λ k. rights_of (lock_state w k) u)
+            (λ k. rights_of (lock_state (put w t q) k) u)) ((h m fair).calls u))
       ]
 
   pub put_settled : runs_closure (act_of (place_at w t)) ≡ false → IsSettled w → IsSettled (put w t q)
-  put_settled outside h = record { runs = put_running w t q outside h.runs; unmarked = h.unmarked; fair = put_fair h.fair }
+  put_settled outside h = record {
+    runs = put_running w t q outside h.runs;
+    unmarked = h.unmarked;
+    fair = put_fair h.fair;
+  }
 
 -- ---------------------------------------------------------------- the opening state
 
 -- nobody is in a call, and nobody waits
-opening_fair : (ks : List Kind) (threads : ℕ) → IsOpening (locks_of (opening ks threads)) → AreFairMutexes (opening ks threads)
+opening_fair : (ks : List Kind) (threads : ℕ) → IsOpening (locks_of (opening ks threads))
+    → AreFairMutexes (opening ks threads)
 opening_fair ks threads opens l fair = record {
-  calls = λ t. subst (λ (c : Rattle.spec_locks.specs.Runs.CallState). Rattle.spec_locks.specs.Bypass.ReleasesFairly c.purpose l) (sym (opens.calls t)) tt;
+  calls = λ t. subst (λ (c : Rattle.spec_locks.specs.Runs.CallState).
+      Rattle.spec_locks.specs.Bypass.ReleasesFairly c.purpose l) (sym (opens.calls t)) tt;
   owned = λ some. absurd (some (ap (λ (x : LockState). x.queue) (opens.locks l)));
 }
 
 pub opening_settled : (ks : List Kind) (threads : ℕ) → IsSettled (opening ks threads)
-opening_settled ks threads = record { runs = opening_running ks threads; unmarked = opening_unmarked ks threads; fair = opening_fair ks threads (opening_is ks threads) }
+opening_settled ks threads = record {
+  runs = opening_running ks threads;
+  unmarked = opening_unmarked ks threads;
+  fair = opening_fair ks threads (opening_is ks threads);
+}

@@ -1,6 +1,7 @@
 -- A call of a mutex comes to owe a wake by the word that it sees, and by entering the section. An
 -- event that befalls a thread asleep changes nothing of that.
-use Rattle.std.proofs.Common.{ℕ, Bool, true, false, Some, None, if◌then◌else◌, ◌==◌, not, ◌≡◌, ◌*◌, inl, inr, length, drop, refl, sym, ◌∙◌, ap, subst}
+use Rattle.std.proofs.Common.{ℕ, Bool, true, false, Some, None, if◌then◌else◌, ◌==◌, not, ◌≡◌, ◌*◌, inl, inr}
+use Rattle.std.proofs.Common.{length, drop, refl, sym, ◌∙◌, ap, subst}
 use Rattle.core_base.specs.declared.notes.Note.TheVariants as note
 use Rattle.core_base.specs.Lines.{first_of}
 use Rattle.spec_locks.specs.declared.calls.MutexCall.{MutexCall}
@@ -10,7 +11,8 @@ use Rattle.spec_locks.specs.declared.outcomes.Outcome as outcome
 use Rattle.steps_base.specs.declared.acts.Reply.{Reply}
 use Rattle.steps_base.specs.declared.acts.Reply.TheVariants.{TakenBy, MovedTo, HandedBy, Woken, Late}
 use Rattle.steps_mutex.specs.declared.places.MutexPlace.{MutexPlace}
-use Rattle.steps_mutex.specs.declared.places.MutexPlace.TheVariants.{Lock, TryLock, Unlock, UnlockFair, Bump, HandOff}
+use Rattle.steps_mutex.specs.declared.places.MutexPlace.TheVariants.{Lock, TryLock, Unlock, UnlockFair, Bump}
+use Rattle.steps_mutex.specs.declared.places.MutexPlace.TheVariants.{HandOff}
 use Rattle.steps_mutex.specs.declared.lock.LockAt.{LockAt}
 use Rattle.steps_mutex.specs.declared.lock.LockAt.TheVariants as lock
 use Rattle.steps_mutex.specs.declared.unlock.UnlockAt.TheVariants as unlock
@@ -25,7 +27,8 @@ use Rattle.steps_base.specs.declared.acts.Next.TheVariants as next
 use Rattle.spec_locks.specs.declared.outcomes.Answer as answer
 use Rattle.steps_mutex.specs.declared.unlock.UnlockAt.{UnlockAt}
 use Rattle.steps_mutex.specs.declared.hand_off.HandOffAt.{HandOffAt}
-use Rattle.steps_mutex.specs.MutexSteps.{in_lock, in_unlock, is_parked, is_locked, looked, next_lock, lock_act, mutex_first}
+use Rattle.steps_mutex.specs.MutexSteps.{in_lock, in_unlock, is_parked, is_locked, looked, next_lock}
+use Rattle.steps_mutex.specs.MutexSteps.{lock_act, mutex_first}
 use Rattle.lot_steps.specs.Steps.{next_place, mutex_goes, mutex_does}
 use Rattle.lot_machine.specs.Machine.{State, place_at, word_at, queue_at, is_there, reply_to}
 use Rattle.lot_laws.specs.Refinement.{owner_at}
@@ -89,11 +92,13 @@ within word k at o q owes inside = record {
 }
 
 -- a thread that releases and sees the parked bit is to wake
-seen_parked : (word k : ℕ) (at : MutexPlace) (q : Place) → LetsIn locks.Mutex k (mutex_row at) → is_parked word ≡ true
+seen_parked : (word k : ℕ) (at : MutexPlace) (q : Place) → LetsIn locks.Mutex k (mutex_row at)
+    → is_parked word ≡ true
     → line_let_in locks.Mutex (Some ((mutex_row at).purpose k)) ≡ Main → (profile q).owes ≡ Some Main
     → RowOwesNext locks.Mutex k word (mutex_row at) outcome.TheVariants.Step (profile q)
 seen_parked word k at q lets parked main owes = record {
-  since = λ m h. inr (let e : Main ≡ m = some_same Main m (sym owes ∙ h) in ((lets, main ∙ e, subst (λ x. tells_of locks.Mutex x word ≡ true) e parked), refl));
+  since = λ m h. inr (let e : Main ≡ m = some_same Main m (sym owes ∙ h)
+      in ((lets, main ∙ e, subst (λ x. tells_of locks.Mutex x word ≡ true) e parked), refl));
   sees = λ m s step. owes ∙ ap Some (sym (main_is m word k at s));
 }
   where
@@ -110,13 +115,16 @@ entering word k e r a o q within = record {
 
 -- where the reply to its act leads it
 abbrev pub OwesNext : ℕ → ℕ → MutexPlace → Next MutexPlace → Type 0
-OwesNext k word at n = RowOwesNext locks.Mutex k word (mutex_row at) (outcome_of (mutex_does k n)) (profile (mutex_goes k n))
+OwesNext k word at n = RowOwesNext locks.Mutex k word (mutex_row at) (outcome_of (mutex_does k n))
+    (profile (mutex_goes k n))
 
 module _ (w : State) (t : ℕ) (steady : IsInductive w) (k : ℕ) where
   -- the word of an owner that isn't 1 says that somebody may wait
-  beside_owner : (at : MutexPlace) → place_at w t ≡ Mutex k at → owner_at w k ≡ Some t → (word_at w k == 1) ≡ false
+  beside_owner : (at : MutexPlace) → place_at w t ≡ Mutex k at → owner_at w k ≡ Some t → (word_at w k == 1)
+      ≡ false
       → is_parked (word_at w k) ≡ true
-  beside_owner at is own ne = by_code (subst (λ o. IsMutexWord (word_at w k) o) own (coded_for w steady t k at is))
+  beside_owner at is own ne = by_code (subst (λ o. IsMutexWord (word_at w k) o) own
+      (coded_for w steady t k at is))
     where
       by_code : IsMutexWord (word_at w k) (Some t) → is_parked (word_at w k) ≡ true
       by_code (inl e) = let f : (1 == 1) ≡ false = rw e at ne in absurd cc
@@ -129,9 +137,11 @@ module _ (w : State) (t : ℕ) (steady : IsInductive w) (k : ℕ) where
       either : (b : Bool) → is_parked (word_at w k) ≡ b
           → OwesNext k (word_at w k) (Unlock unlock.Subtract)
           (in_unlock (if b then next.At unlock.Enter else next.End answer.TheVariants.Ok))
-      either true e = seen_parked (word_at w k) k (Unlock unlock.Subtract) (Mutex k (Unlock unlock.Enter)) (inl refl) e refl refl
+      either true e = seen_parked (word_at w k) k (Unlock unlock.Subtract) (Mutex k (Unlock unlock.Enter))
+          (inl refl) e refl refl
       either false e = ended (word_at w k) k (Unlock unlock.Subtract) answer.TheVariants.Ok
-  from_unlock unlock.Enter = within (word_at w k) k (Unlock unlock.Enter) _ (Mutex k (Unlock unlock.Take)) refl refl
+  from_unlock unlock.Enter = within (word_at w k) k (Unlock unlock.Enter) _ (Mutex k (Unlock unlock.Take))
+      refl refl
   from_unlock unlock.Take = either (length (drop 1 (queue_at w (2 * k))) == 0)
     where
       any : Bool
@@ -139,43 +149,62 @@ module _ (w : State) (t : ℕ) (steady : IsInductive w) (k : ℕ) where
 
       either : (b : Bool)
           → OwesNext k (word_at w k) (Unlock unlock.Take)
-          (in_unlock (if b then next.At (unlock.Clear (is_there (first_of (queue_at w (2 * k))))) else next.At (unlock.Leave (is_there (first_of (queue_at w (2 * k)))))))
-      either true = within (word_at w k) k (Unlock unlock.Take) _ (Mutex k (Unlock (unlock.Clear any))) refl refl
-      either false = within (word_at w k) k (Unlock unlock.Take) _ (Mutex k (Unlock (unlock.Leave any))) refl refl
-  from_unlock (unlock.Clear any) = within (word_at w k) k (Unlock (unlock.Clear any)) _ (Mutex k (Unlock (unlock.Leave any))) refl refl
+          (in_unlock (if b then next.At (unlock.Clear (is_there (first_of (queue_at w (2 * k)))))
+          else next.At (unlock.Leave (is_there (first_of (queue_at w (2 * k)))))))
+      either true = within (word_at w k) k (Unlock unlock.Take) _ (Mutex k (Unlock (unlock.Clear any))) refl
+          refl
+      either false = within (word_at w k) k (Unlock unlock.Take) _ (Mutex k (Unlock (unlock.Leave any))) refl
+          refl
+  from_unlock (unlock.Clear any) = within (word_at w k) k (Unlock (unlock.Clear any)) _
+      (Mutex k (Unlock (unlock.Leave any))) refl refl
   from_unlock (unlock.Leave any) = ended (word_at w k) k (Unlock (unlock.Leave any)) answer.TheVariants.Ok
 
   from_hand_off : (b : Bool) (a : HandOffAt)
-      → OwesNext k (word_at w k) (HandOff b a) (mutex_next (HandOff b a) (reply_to w t (mutex_act k (HandOff b a))))
-  from_hand_off b hand_off.Enter = within (word_at w k) k (HandOff b hand_off.Enter) _ (Mutex k (HandOff b hand_off.Take)) refl refl
-  from_hand_off b hand_off.Take = within (word_at w k) k (HandOff b hand_off.Take) _ (Mutex k (HandOff b (hand_off.Store _ _))) refl refl
-  from_hand_off b (hand_off.Store false n) = within (word_at w k) k (HandOff b (hand_off.Store false n)) _ (Mutex k (HandOff b (hand_off.Leave false))) refl refl
-  from_hand_off b (hand_off.Store true n) = within (word_at w k) k (HandOff b (hand_off.Store true n)) _ (Mutex k (HandOff b (hand_off.Leave true))) refl refl
+      → OwesNext k (word_at w k) (HandOff b a)
+      (mutex_next (HandOff b a) (reply_to w t (mutex_act k (HandOff b a))))
+  from_hand_off b hand_off.Enter = within (word_at w k) k (HandOff b hand_off.Enter) _
+      (Mutex k (HandOff b hand_off.Take)) refl refl
+  from_hand_off b hand_off.Take = within (word_at w k) k (HandOff b hand_off.Take) _
+      (Mutex k (HandOff b (hand_off.Store _ _))) refl refl
+  from_hand_off b (hand_off.Store false n) = within (word_at w k) k (HandOff b (hand_off.Store false n)) _
+      (Mutex k (HandOff b (hand_off.Leave false))) refl refl
+  from_hand_off b (hand_off.Store true n) = within (word_at w k) k (HandOff b (hand_off.Store true n)) _
+      (Mutex k (HandOff b (hand_off.Leave true))) refl refl
   from_hand_off true (hand_off.Leave any) = record {
     since = λ m h. absurd cc;
-    sees = λ m s step. absurd (elim s.0 [ inl releases ↦ let f : true ≡ false = releases.1 in cc | inr shared ↦ let f = shared.0 in cc ]);
+    sees = λ m s step. absurd (elim s.0 [
+      | inl releases ↦ let f : true ≡ false = releases.1 in cc
+      | inr shared ↦ let f = shared.0 in cc
+    ]);
   }
-  from_hand_off false (hand_off.Leave any) = ended (word_at w k) k (HandOff false (hand_off.Leave any)) answer.TheVariants.Ok
+  from_hand_off false (hand_off.Leave any) = ended (word_at w k) k (HandOff false (hand_off.Leave any))
+      answer.TheVariants.Ok
 
   pub mutex_owes_next : (at : MutexPlace) → place_at w t ≡ Mutex k at
       → OwesNext k (word_at w k) at (mutex_next at (reply_to w t (mutex_act k at)))
-  mutex_owes_next (Lock e r a) is = entering (word_at w k) k e r a _ (mutex_goes k (in_lock e _ (next_lock e a (reply_to w t (lock_act k a))))) (locked_within k e _ (next_lock e a (reply_to w t (lock_act k a))))
+  mutex_owes_next (Lock e r a) is = entering (word_at w k) k e r a _
+      (mutex_goes k (in_lock e _ (next_lock e a (reply_to w t (lock_act k a)))))
+      (locked_within k e _ (next_lock e a (reply_to w t (lock_act k a))))
   mutex_owes_next TryLock is = either (is_locked (word_at w k))
     where
       either : (b : Bool)
-          → OwesNext k (word_at w k) TryLock (if b then next.End answer.TheVariants.No else next.End answer.TheVariants.Yes)
+          → OwesNext k (word_at w k) TryLock (if b then next.End answer.TheVariants.No else next.End
+          answer.TheVariants.Yes)
       either true = ended (word_at w k) k TryLock answer.TheVariants.No
       either false = ended (word_at w k) k TryLock answer.TheVariants.Yes
   mutex_owes_next (Unlock a) is = from_unlock a
   mutex_owes_next UnlockFair is = either (word_at w k == 1) refl
     where
-      either : (b : Bool) → (word_at w k == 1) ≡ b → OwesNext k (word_at w k) UnlockFair (looked false (not b))
+      either : (b : Bool) → (word_at w k == 1) ≡ b → OwesNext k (word_at w k) UnlockFair
+          (looked false (not b))
       either true e = ended (word_at w k) k UnlockFair answer.TheVariants.Ok
-      either false e = seen_parked (word_at w k) k UnlockFair (Mutex k (HandOff false hand_off.Enter)) (inl refl) (beside_owner UnlockFair is (owns w steady t k UnlockFair is refl) e) refl refl
+      either false e = seen_parked (word_at w k) k UnlockFair (Mutex k (HandOff false hand_off.Enter))
+          (inl refl) (beside_owner UnlockFair is (owns w steady t k UnlockFair is refl) e) refl refl
   mutex_owes_next Bump is = either (is_parked (word_at w k)) refl
     where
       either : (b : Bool) → is_parked (word_at w k) ≡ b → OwesNext k (word_at w k) Bump (looked true b)
-      either true e = seen_parked (word_at w k) k Bump (Mutex k (HandOff true hand_off.Enter)) (inl (refl, refl)) e refl refl
+      either true e = seen_parked (word_at w k) k Bump (Mutex k (HandOff true hand_off.Enter))
+          (inl (refl, refl)) e refl refl
       either false e = ended (word_at w k) k Bump answer.TheVariants.Ok
   mutex_owes_next (HandOff b a) is = from_hand_off b a
 

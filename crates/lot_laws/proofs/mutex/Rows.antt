@@ -23,7 +23,8 @@ pub mutex_acts : (l : ℕ) (at : MutexPlace) → is_acting (mutex_act l at) ≡ 
 mutex_acts l at = (mutex_promises l at).acts
 
 -- a call that enters owes just while it is inside the section
-pub lock_owes : (timed retries : Bool) (at : LockAt) → (lock_row timed retries at).role.inside ≡ (lock_row timed retries at).owes
+pub lock_owes : (timed retries : Bool) (at : LockAt) → (lock_row timed retries at).role.inside
+    ≡ (lock_row timed retries at).owes
 lock_owes timed retries lock.First = refl
 lock_owes timed retries at = refl
 
@@ -35,7 +36,8 @@ shut l entries.Bump r at (inl h) = let f : true ≡ false = h.1 in cc
 shut l e r at (inr h) = let f = h.0 in cc
 
 pub decided_awake : (l seen : ℕ) (is_owned is_one : Bool)
-    → (if not is_owned then act.Word l (op.TheVariants.Exchange seen (seen + 1)) else if is_one then act.Word l (op.TheVariants.Exchange 1 3) else act.Enter (One (2 * l)))
+    → (if not is_owned then act.Word l (op.TheVariants.Exchange seen (seen + 1)) else if is_one
+    then act.Word l (op.TheVariants.Exchange 1 3) else act.Enter (One (2 * l)))
     ≢ Sleep
 decided_awake l seen false is_one e = cc
 decided_awake l seen true true e = cc

@@ -1,6 +1,7 @@
 -- A thread in a call of a mutex goes on by its act: that is one event of the mutex, and its call goes on
 -- with it.
-use Rattle.std.proofs.Common.{inl, inr, ℕ, Bool, true, false, Option, Some, None, ◌≡◌, ◌<◌, ◌≤◌, length, get_or-set_same, get_or-set_other, refl, sym, ◌∙◌, ap, subst}
+use Rattle.std.proofs.Common.{inl, inr, ℕ, Bool, true, false, Option, Some, None, ◌≡◌, ◌<◌, ◌≤◌, length}
+use Rattle.std.proofs.Common.{get_or-set_same, get_or-set_other, refl, sym, ◌∙◌, ap, subst}
 use Rattle.core_base.specs.declared.ops.Op.TheVariants as op
 use Rattle.steps_base.specs.declared.acts.Act.TheVariants as act
 use Rattle.steps_base.specs.declared.acts.Next.{Next}
@@ -31,7 +32,8 @@ use Rattle.spec_locks.specs.Locks.{LockCase, Rights, rights_of, standing}
 use Rattle.spec_locks.specs.Locks as locks
 use Rattle.spec_locks.specs.Sites.{Line, Main}
 use Rattle.spec_locks.specs.Runs.{GoesOn, Nothing, Stays, is_closure}
-use Rattle.lot_machine.specs.Machine.{State, can_do, going_outcome, place_at, reply_to, state_after_act, state_after_going, word_at}
+use Rattle.lot_machine.specs.Machine.{State, can_do, going_outcome, place_at, reply_to, state_after_act}
+use Rattle.lot_machine.specs.Machine.{state_after_going, word_at}
 use Rattle.lot_machine.specs.Fits.{IsWellFormed}
 use Rattle.lot_machine.proofs.Closures.{mutex_runs_none}
 use Rattle.lot_machine.proofs.Shape.{performed_counts}
@@ -39,7 +41,8 @@ use Rattle.lot_laws.specs.Refinement.{call_state, lock_state, locks_of}
 use Rattle.lot_laws.specs.SitesOf.{IsInductive, carried_at, rules_in}
 use Rattle.lot_laws.specs.Locations.{location}
 use Rattle.lot_laws.proofs.machine.AtPlaces.{in_no_hand}
-use Rattle.lot_laws.proofs.calls.Events.{GoesAs, Happens, LeadsTo, OthersFollow, RunsNothing, begins_nothing, goes_by, happens, others_follow, put_is, rights, runs_nothing}
+use Rattle.lot_laws.proofs.calls.Events.{GoesAs, Happens, LeadsTo, OthersFollow, RunsNothing, begins_nothing}
+use Rattle.lot_laws.proofs.calls.Events.{goes_by, happens, others_follow, put_is, rights, runs_nothing}
 use Rattle.lot_laws.proofs.calls.Closures.{closure_told}
 use Rattle.lot_laws.proofs.calls.LockEvents.{hands_others}
 use Rattle.lot_laws.proofs.calls.OtherCalls.{WakesOwn, hands_nothing, wakes_own}
@@ -58,7 +61,8 @@ in_line e = cc
 in_hand_of : (h : Hand) → Some h ≡ None → ⊥
 in_hand_of h e = cc
 
-module _ (w : State) (t l : ℕ) (at : MutexPlace) (steady : IsInductive w) (shape : IsWellFormed w) (there : t < length w.places)
+module _ (w : State) (t l : ℕ) (at : MutexPlace) (steady : IsInductive w) (shape : IsWellFormed w)
+    (there : t < length w.places)
     (lt : l < length w.locks) (is : place_at w t ≡ Mutex l at) (can : can_do w (mutex_act l at) ≡ true) where
   abbrev told : Reply
   told = reply_to w t (mutex_act l at)
@@ -79,22 +83,33 @@ module _ (w : State) (t l : ℕ) (at : MutexPlace) (steady : IsInductive w) (sha
   case = case_of (mutex_row at).carries (mutex_deeds at kept.whom told)
 
   happened : Happens w behind t (event_by l case)
-  happened = happens w behind t l (mutex_row at).carries (mutex_deeds at kept.whom told) (claims_at at kept.whom) steady kept.goes (are_claims at kept.whom) kept.tells.one
+  happened = happens w behind t l (mutex_row at).carries (mutex_deeds at kept.whom told)
+      (claims_at at kept.whom) steady kept.goes (are_claims at kept.whom) kept.tells.one
       (λ none. in_no_hand w steady t l (λ h. none (sym carries ∙ h)))
 
   others : OthersFollow w behind t (event_by l case)
   others = elim kept.others [
-    | inl own ↦ others_follow w behind t l case happened (hands_nothing w behind t l case happened (mutex_row at).carries (mutex_act l at) case own)
-        (wakes_own w t l steady (rw is refl) (next_place (Mutex l at) told) (λ e. let both : locks.Condvar ≡ locks.Mutex = sym e ∙ sort in cc) (Mutex l at) (mutex_act l at) (takes_here l (location (Mutex l at)) (mutex_act l at) (mutex_row_facts l at).line) case (subst (λ h. WakesOwn h (mutex_act l at) case) (sym carries) own))
-    | inr on ↦ subst (λ c. OthersFollow w behind t (event_by l c)) (sym on.1) (hands_others w behind t l kept.whom (subst (λ c. Happens w behind t (event_by l c)) on.1 happened) (rules_are w t l at steady shape there lt is) on.3 on.0 on.2)
+    | inl own ↦ others_follow w behind t l case happened (hands_nothing w behind t l case happened
+        (mutex_row at).carries (mutex_act l at) case own)
+        (wakes_own w t l steady (rw is refl) (next_place (Mutex l at) told) (λ e. let both : locks.Condvar
+        ≡ locks.Mutex = sym e ∙ sort in cc) (Mutex l at) (mutex_act l at)
+        (takes_here l (location (Mutex l at)) (mutex_act l at) (mutex_row_facts l at).line) case
+        (subst (λ h. WakesOwn h (mutex_act l at) case) (sym carries) own))
+    | inr on ↦ subst (λ c. OthersFollow w behind t (event_by l c)) (sym on.1)
+        (hands_others w behind t l kept.whom (subst (λ c. Happens w behind t (event_by l c)) on.1 happened)
+        (rules_are w t l at steady shape there lt is) on.3 on.0 on.2)
   ]
 
   -- where it is then
-  waits : (q : MutexPlace) → place_at behind t ≡ Mutex l q → IsWaiting (mutex_row q) → 1 ≤ standing t (lock_state behind l)
-  waits q e h = waiting_stands behind t happened.after l (ap called_lock e) (subst (λ (x : Profile). IsWaiting x) (sym (ap profile e)) h)
+  waits : (q : MutexPlace) → place_at behind t ≡ Mutex l q → IsWaiting (mutex_row q)
+      → 1 ≤ standing t (lock_state behind l)
+  waits q e h = waiting_stands behind t happened.after l (ap called_lock e)
+      (subst (λ (x : Profile). IsWaiting x) (sym (ap profile e)) h)
 
-  rests : (q : MutexPlace) → place_at behind t ≡ Mutex l q → (mutex_row q).hand ≡ None → GoesAs behind t l (outcome_of (mutex_act l q))
-  rests (Lock entry retries lock.Asleep) e free = inr (inl (refl, waits (Lock entry retries lock.Asleep) e (inl in_line)))
+  rests : (q : MutexPlace) → place_at behind t ≡ Mutex l q → (mutex_row q).hand ≡ None
+      → GoesAs behind t l (outcome_of (mutex_act l q))
+  rests (Lock entry retries lock.Asleep) e free =
+      inr (inl (refl, waits (Lock entry retries lock.Asleep) e (inl in_line)))
   rests (Lock entry retries (lock.Taken by)) e free = absurd (in_hand_of (Of by false) free)
   rests (Lock entry retries (lock.Handed by)) e free = absurd (in_hand_of (Of by true) free)
   rests (Lock entry retries (lock.Decide seen)) e free = inl (decides l seen)
@@ -107,9 +122,12 @@ module _ (w : State) (t l : ℕ) (at : MutexPlace) (steady : IsInductive w) (sha
   rests q e free = inl refl
 
   leads : LeadsTo behind t l (next_row (mutex_next at told)) (outcome_of (mutex_does l (mutex_next at told)))
-  leads = by_next (mutex_next at told) (get_or-set_same (state_after_act w t (Mutex l at) (mutex_act l at)).places t _ Idle (rw (performed_counts w t (Mutex l at) (mutex_act l at)).0 there)) kept.unheld
+  leads = by_next (mutex_next at told)
+      (get_or-set_same (state_after_act w t (Mutex l at) (mutex_act l at)).places t _ Idle
+      (rw (performed_counts w t (Mutex l at) (mutex_act l at)).0 there)) kept.unheld
     where
-      by_next : (n : Next MutexPlace) → place_at behind t ≡ mutex_goes l n → (row_of (next_row n)).hand ≡ None → LeadsTo behind t l (next_row n) (outcome_of (mutex_does l n))
+      by_next : (n : Next MutexPlace) → place_at behind t ≡ mutex_goes l n → (row_of (next_row n)).hand ≡ None
+          → LeadsTo behind t l (next_row n) (outcome_of (mutex_does l n))
       by_next (next.At q) e free = (ap called_lock e, ap profile e, rests q e free, subst IsSingle (sym e) tt)
       by_next (next.End answer) e free = (e, refl)
 
@@ -117,7 +135,8 @@ module _ (w : State) (t l : ℕ) (at : MutexPlace) (steady : IsInductive w) (sha
   promises = mutex_promises l at
 
   runs : RunsNothing ((mutex_row at).purpose l)
-  runs = runs_nothing (λ k. (rules_in w k).sort) l ((mutex_row at).purpose l) promises.own (promises.known (λ k. (rules_in w k).sort) sort)
+  runs = runs_nothing (λ k. (rules_in w k).sort) l ((mutex_row at).purpose l) promises.own
+      (promises.known (λ k. (rules_in w k).sort) sort)
       (λ once. let both : locks.Mutex ≡ locks.Once = sym sort ∙ once in cc)
 
   tells_none : (n : Next MutexPlace) → is_closure (outcome_of (mutex_does l n)) ≡ false
@@ -125,13 +144,16 @@ module _ (w : State) (t l : ℕ) (at : MutexPlace) (steady : IsInductive w) (sha
   tells_none (next.End answer) = refl
 
   pub mutex_step : GoesOn (locks_of w) t (outcome_of (next_act (Mutex l at) told)) (locks_of behind)
-  mutex_step = goes_by w behind t l case happened (Mutex l at) is refl tt kept.tells.may (next_row (mutex_next at told)) _ kept.tells.comes leads others
-      (begins_nothing (locks_of w) l (mutex_row at) case _ runs kept.tells.may (tells_none (mutex_next at told)))
+  mutex_step = goes_by w behind t l case happened (Mutex l at) is refl tt kept.tells.may
+      (next_row (mutex_next at told)) _ kept.tells.comes leads others
+      (begins_nothing (locks_of w) l (mutex_row at) case _ runs kept.tells.may
+      (tells_none (mutex_next at told)))
 
 -- ---------------------------------------------------------------- a look at the word once more
 
 -- the thread only decides anew
-module _ (w : State) (t l : ℕ) (e : Entry) (again : Bool) (steady : IsInductive w) (shape : IsWellFormed w) (there : t < length w.places)
+module _ (w : State) (t l : ℕ) (e : Entry) (again : Bool) (steady : IsInductive w) (shape : IsWellFormed w)
+    (there : t < length w.places)
     (lt : l < length w.locks) (is : place_at w t ≡ Mutex l (Lock e again lock.Load)) where
   abbrev loading : Place
   loading = Mutex l (Lock e again lock.Load)
@@ -139,20 +161,27 @@ module _ (w : State) (t l : ℕ) (e : Entry) (again : Bool) (steady : IsInductiv
   abbrev decided : State
   decided = go_by w t loading (act.Word l op.Load)
 
-  pub load_stays : Stays (locks_of w) t (call_state (place_at w t) (rights w t)) (going_outcome w t loading) (locks_of (state_after_going w t loading))
-  load_stays = subst (λ (v : State). Stays (locks_of w) t (call_state (place_at w t) (rights w t)) (going_outcome w t loading) (locks_of v)) (sym (goes_from_there w t loading is tt)) (record {
-    told = told_from_there w t loading is tt ∙ decides l (word_at w l);
-    locks = locks_stay;
-    calls = λ u. put_is (λ x. call_state (place_at w x) (rights w x)) t (call_state (place_at w t) (rights w t)) u _
-        (λ e. rw e (λ i. place_then i (rights_stay t i)))
-        (λ ne. λ i. call_state (get_or-set_other w.places t u (next_place loading (Value (word_at w l))) Idle ne i) (rights_stay u i));
-  })
+  pub load_stays : Stays (locks_of w) t (call_state (place_at w t) (rights w t)) (going_outcome w t loading)
+      (locks_of (state_after_going w t loading))
+  load_stays = subst (λ (v : State). Stays (locks_of w) t (call_state (place_at w t) (rights w t))
+      (going_outcome w t loading) (locks_of v)) (sym (goes_from_there w t loading is tt)) (record {
+        told = told_from_there w t loading is tt ∙ decides l (word_at w l);
+        locks = locks_stay;
+        calls = λ u. put_is (λ x. call_state (place_at w x) (rights w x)) t (call_state (place_at w t)
+            (rights w t)) u _
+            (λ e. rw e (λ i. place_then i (rights_stay t i)))
+            (λ ne. λ i. call_state (get_or-set_other w.places t u (next_place loading (Value (word_at w l)))
+            Idle
+            ne i) (rights_stay u i));
+      })
     where
       locks_stay : (k : ℕ) → lock_state decided k ≡ lock_state w k
-      locks_stay k = let h : Happens w decided t Nothing = happened w t l (Lock e again lock.Load) steady shape there lt is refl in h.led k
+      locks_stay k = let h : Happens w decided t Nothing = happened w t l (Lock e again lock.Load) steady
+          shape there lt is refl in h.led k
 
       rights_stay : (u : ℕ) → rights decided u ≡ rights w u
       rights_stay u = λ i k. rights_of (locks_stay k i) u
 
       place_then : call_state (place_at decided t) ≡ call_state (place_at w t)
-      place_then = ap call_state (get_or-set_same w.places t (next_place loading (Value (word_at w l))) Idle there) ∙ ap call_state (sym is)
+      place_then = ap call_state (get_or-set_same w.places t (next_place loading (Value (word_at w l))) Idle
+          there) ∙ ap call_state (sym is)

@@ -1,5 +1,6 @@
 -- A thread in a call of a `Once` goes on: every lock is a site again.
-use Rattle.std.proofs.Common.{rules, ℕ, Bool, true, false, Some, None, ◌==◌, ◌≡◌, ◌+◌, ◌*◌, ◌<◌, List, [], ◌∷◌, length, refl, sym, ◌∙◌, ap, subst}
+use Rattle.std.proofs.Common.{rules, ℕ, Bool, true, false, Some, None, ◌==◌, ◌≡◌, ◌+◌, ◌*◌, ◌<◌, List, []}
+use Rattle.std.proofs.Common.{◌∷◌, length, refl, sym, ◌∙◌, ap, subst}
 use Rattle.std.proofs.lemmas.Bool.{eqb-true}
 use Rattle.core_base.specs.declared.notes.Note.TheVariants.{Normal}
 use Rattle.core_base.specs.declared.ops.Op.{Op}
@@ -13,7 +14,8 @@ use Rattle.steps_base.specs.declared.acts.Act.TheVariants as act
 use Rattle.steps_base.specs.declared.acts.Next.{Next}
 use Rattle.steps_base.specs.declared.acts.Next.TheVariants as next
 use Rattle.steps_base.specs.declared.acts.Reply.{Reply}
-use Rattle.steps_base.specs.declared.acts.Reply.TheVariants.{Done, Value, Parked, Took, Removed, TakenBy, Late, Woken}
+use Rattle.steps_base.specs.declared.acts.Reply.TheVariants.{Done, Value, Parked, Took, Removed, TakenBy}
+use Rattle.steps_base.specs.declared.acts.Reply.TheVariants.{Late, Woken}
 use Rattle.steps_base.specs.declared.acts.Whom.TheVariants as whom
 use Rattle.steps_base.specs.Acts.{holds}
 use Rattle.steps_base.specs.Moves.{StaysPut, RowWaits, row_of}
@@ -35,7 +37,8 @@ use Rattle.steps_once.specs.declared.run.RunAt.TheVariants as run
 use Rattle.steps_once.specs.declared.places.OncePlace.{OncePlace}
 use Rattle.steps_once.specs.declared.places.OncePlace.TheVariants.{Look, Run, GiveUp}
 use Rattle.steps_once.specs.OnceCalls.{CallFollowsBy, next_row}
-use Rattle.steps_once.specs.OnceDeeds.{Follows, IsAt, OnceSectionsFollow, MayHear, closes, role_next, exchanged_deeds, looked_deeds, once_deeds, once_role}
+use Rattle.steps_once.specs.OnceDeeds.{Follows, IsAt, OnceSectionsFollow, MayHear, closes, role_next}
+use Rattle.steps_once.specs.OnceDeeds.{exchanged_deeds, looked_deeds, once_deeds, once_role}
 use Rattle.steps_once.specs.OnceMoves.{OnceMoves, RestsBehind, TakesAll, once_hears, once_move}
 use Rattle.steps_once.specs.OnceProfiles.{once_profile}
 use Rattle.steps_once.specs.OnceSteps.{course_act, course_of, once_act, once_first, once_next, once_owners}
@@ -50,7 +53,9 @@ use Rattle.steps_mutex.specs.declared.places.MutexPlace.{MutexPlace}
 use Rattle.steps_rwlock.specs.declared.places.Admission.{Admission}
 use Rattle.steps_rwlock_fair.specs.declared.places.RwLockCallPlace.{RwLockCallPlace}
 use Rattle.lot_steps.specs.Steps.{calls, next_place, once_goes, profile}
-use Rattle.lot_machine.specs.Machine.{State, can_do, section_is_free, state_after_late_under, kind_at, owners_at, place_at, put, queue_at, reply_to, section_at, shares_at, state_after_act, word_at}
+use Rattle.lot_machine.specs.Machine.{State, can_do, section_is_free, state_after_late_under, kind_at}
+use Rattle.lot_machine.specs.Machine.{owners_at, place_at, put, queue_at, reply_to, section_at, shares_at}
+use Rattle.lot_machine.specs.Machine.{state_after_act, word_at}
 use Rattle.lot_machine.specs.Fits.{IsWellFormed}
 use Rattle.lot_laws.specs.Refinement.{taken_at}
 use Rattle.lot_laws.specs.MutexDeeds.{acts}
@@ -63,7 +68,8 @@ use Rattle.lot_laws.proofs.machine.Parts.{not_beside, IsOf, role_here, free_of, 
 use Rattle.lot_laws.proofs.sites.MovesKept.{IsFollowed, SleepsIfCalls, IsSleeper, goes_in, wakes_one}
 use Rattle.lot_laws.proofs.once.MovesKept.{all_hears, rests_or_turns, stays_unshared, takes_all, told_so}
 use Rattle.lot_laws.proofs.calls.OtherCalls.{IsCalm, WakesOwn}
-use Rattle.lot_laws.proofs.sites.ByAct.{AreCalm, GoesBy, IsBrief, calm_case, into, left, line_there, none_is, not_late, out_of, section_there, word_calm}
+use Rattle.lot_laws.proofs.sites.ByAct.{AreCalm, GoesBy, IsBrief, calm_case, into, left, line_there, none_is}
+use Rattle.lot_laws.proofs.sites.ByAct.{not_late, out_of, section_there, word_calm}
 use Rattle.lot_laws.proofs.sites.StandsMoved.{mutex_rules}
 
 -- ---------------------------------------------------------------- rows
@@ -164,8 +170,10 @@ once_sections_follow r s t (Run forced (run.Enter succeeded)) Done a h = search 
 once_sections_follow r s t (Run forced (run.Take succeeded)) (Took any none_left) a h = search rules
 once_sections_follow r s t (Run forced (run.Leave succeeded any)) Done a h = search rules
 once_sections_follow r s t (Look WaitTimed again look.Asleep) Late a h = search rules
-once_sections_follow r s t (Look (CallOnce forced) again look.Asleep) Late a h = absurd (let f : false ≡ true = h.0 in cc)
-once_sections_follow r s t (Look (Wait forced) again look.Asleep) Late a h = absurd (let f : false ≡ true = h.0 in cc)
+once_sections_follow r s t (Look (CallOnce forced) again look.Asleep) Late a h =
+    absurd (let f : false ≡ true = h.0 in cc)
+once_sections_follow r s t (Look (Wait forced) again look.Asleep) Late a h =
+    absurd (let f : false ≡ true = h.0 in cc)
 once_sections_follow r s t (GiveUp again give_up.Remove) (Removed true) a h = search rules
 once_sections_follow r s t (GiveUp again give_up.Remove) (Removed false) a h = search rules
 once_sections_follow r s t (GiveUp again give_up.Leave) Done a h = search rules
@@ -173,7 +181,8 @@ once_sections_follow r s t p told a h = absurd h
 
 -- ---------------------------------------------------------------- one thread
 
-module _ (w : State) (t l : ℕ) (at : OncePlace) (steady : IsInductive w) (shape : IsWellFormed w) (there : t < length w.places)
+module _ (w : State) (t l : ℕ) (at : OncePlace) (steady : IsInductive w) (shape : IsWellFormed w)
+    (there : t < length w.places)
     (lt : l < length w.locks) (is : place_at w t ≡ Once l at) where
   pub sort_is : (rules_in w l).sort ≡ locks.Once
   sort_is = subst (FitsItsLock w) is (steady.stands.calls t)
@@ -196,13 +205,15 @@ module _ (w : State) (t l : ℕ) (at : OncePlace) (steady : IsInductive w) (shap
   unshared : has_readers (rules_in w l).sort ≡ false
   unshared = ap has_readers sort_is
 
-  pub fits_next : (k : ℕ) (n : Next OncePlace) → (rules_in w k).sort ≡ locks.Once → FitsItsLock w (once_goes k n)
+  pub fits_next : (k : ℕ) (n : Next OncePlace) → (rules_in w k).sort ≡ locks.Once
+      → FitsItsLock w (once_goes k n)
   fits_next k (next.At p) h = h
   fits_next k (next.End answer) h = tt
 
   -- tells what its laws conclude
   abbrev Followed : Reply → Type 0
-  Followed told = IsFollowed w t l steady there own (rules_in w l) refl (once_move at) same_row None told (next_place (place_at w t) told)
+  Followed told = IsFollowed w t l steady there own (rules_in w l) refl (once_move at) same_row None told
+      (next_place (place_at w t) told)
 
   followed_by : (told : Reply) → Follows (rules_in w l) here t at told → Followed told
   followed_by told f = record {
@@ -222,28 +233,36 @@ module _ (w : State) (t l : ℕ) (at : OncePlace) (steady : IsInductive w) (shap
   many one = let both : locks.Mutex ≡ locks.Once = sym one ∙ sort_is in cc
 
   asleep : (u : ℕ) → SleepsIfCalls w t l steady there own (rules_in w l) refl (once_move at) same_row u
-  asleep u = record { apart = not_beside w (place_at w u) l (steady.stands.calls u) many; sleeper = λ h. by_place (place_at w u) refl h }
+  asleep u = record {
+    apart = not_beside w (place_at w u) l (steady.stands.calls u) many;
+    sleeper = λ h. by_place (place_at w u) refl h;
+  }
     where
       of_condvar : (k : ℕ) (c : CondvarPlace) → place_at w u ≡ Condvar k c → k ≡ l → ⊥
       of_condvar k c e same_lock =
           let fits : FitsItsLock w (Condvar k c) = subst (FitsItsLock w) e (steady.stands.calls u) in
-          let both : locks.Condvar ≡ locks.Once = sym fits.sort ∙ ap (λ j. (rules_in w j).sort) same_lock ∙ sort_is in cc
+          let both : locks.Condvar ≡ locks.Once = sym fits.sort ∙ ap (λ j. (rules_in w j).sort) same_lock
+          ∙ sort_is in cc
 
       of_mutex : (k : ℕ) (m : MutexPlace) → place_at w u ≡ Mutex k m → k ≡ l → ⊥
       of_mutex k m e same_lock =
           let fits : is_mutex (kind_at w k) ≡ true = subst (FitsItsLock w) e (steady.stands.calls u) in
-          let one : (rules_in w k).sort ≡ locks.Mutex = ap (λ (r : Rules). r.sort) (mutex_rules (kind_at w k) fits) in
-          let both : locks.Mutex ≡ locks.Once = sym one ∙ ap (λ j. (rules_in w j).sort) same_lock ∙ sort_is in cc
+          let one : (rules_in w k).sort ≡ locks.Mutex = ap (λ (r : Rules). r.sort)
+          (mutex_rules (kind_at w k) fits) in
+          let both : locks.Mutex ≡ locks.Once = sym one ∙ ap (λ j. (rules_in w j).sort) same_lock ∙ sort_is
+          in cc
 
       of_rwlock : (k : ℕ) (a : Admission) (c : RwLockCallPlace) → place_at w u ≡ RwLock k a c → k ≡ l → ⊥
       of_rwlock k a c e same_lock =
           let fits : FitsItsLock w (RwLock k a c) = subst (FitsItsLock w) e (steady.stands.calls u) in
-          let both : true ≡ false = sym fits.0.0 ∙ ap (λ j. has_readers (rules_in w j).sort) same_lock ∙ unshared in cc
+          let both : true ≡ false = sym fits.0.0 ∙ ap (λ j. has_readers (rules_in w j).sort) same_lock
+          ∙ unshared in cc
 
       of_semaphore : (k : ℕ) (p : SemaphorePlace) → place_at w u ≡ Semaphore k p → k ≡ l → ⊥
       of_semaphore k p e same_lock =
           let fits : FitsItsLock w (Semaphore k p) = subst (FitsItsLock w) e (steady.stands.calls u) in
-          let both : locks.Semaphore ≡ locks.Once = sym fits.0 ∙ ap (λ j. (rules_in w j).sort) same_lock ∙ sort_is in cc
+          let both : locks.Semaphore ≡ locks.Once = sym fits.0 ∙ ap (λ j. (rules_in w j).sort) same_lock
+          ∙ sort_is in cc
 
       by_place : (q : Place) → place_at w u ≡ q → calls q l ≡ true
           → IsSleeper w t l steady there own (rules_in w l) refl (once_move at) same_row u
@@ -259,8 +278,10 @@ module _ (w : State) (t l : ℕ) (at : OncePlace) (steady : IsInductive w) (shap
         waits = record { aside = z.aside; stands = z.stands; held = λ v h. (z.held v false h).1 };
         taken = ap (λ y. profile (next_place y (TakenBy t))) e ∙ goes_row k (once_next p (TakenBy t));
         woken = ap (λ y. profile (next_place y (Woken Normal))) e ∙ goes_row k (once_next p (Woken Normal));
-        taken_fits = subst (λ y. FitsItsLock w (next_place y (TakenBy t))) (sym e) (fits_next k (once_next p (TakenBy t)) fits_u);
-        woken_fits = subst (λ y. FitsItsLock w (next_place y (Woken Normal))) (sym e) (fits_next k (once_next p (Woken Normal)) fits_u);
+        taken_fits = subst (λ y. FitsItsLock w (next_place y (TakenBy t))) (sym e)
+            (fits_next k (once_next p (TakenBy t)) fits_u);
+        woken_fits = subst (λ y. FitsItsLock w (next_place y (Woken Normal))) (sym e)
+            (fits_next k (once_next p (Woken Normal)) fits_u);
       }
         where
           z : RowWaits (once_move p)
@@ -276,13 +297,17 @@ module _ (w : State) (t l : ℕ) (at : OncePlace) (steady : IsInductive w) (shap
     pub goes : Goes w (put (state_after_act w t (Once l at) y) t (next_place q (reply_to w t y))) l
         (acts t (once_deeds at (reply_to w t y)))
     pub tells : CallFollowsBy (rules_in w l) here t l at (reply_to w t y)
-    pub others : WakesOwn ((once_profile at).carries) y (case_of ((once_profile at).carries) (once_deeds at (reply_to w t y)))
+    pub others : WakesOwn ((once_profile at).carries) y (case_of ((once_profile at).carries)
+        (once_deeds at (reply_to w t y)))
 
-  tells_by : (told : Reply) → IsNotLate told → MayHear (rules_in w l) here t at told → CallFollowsBy (rules_in w l) here t l at told
+  tells_by : (told : Reply) → IsNotLate told → MayHear (rules_in w l) here t at told
+      → CallFollowsBy (rules_in w l) here t l at told
   tells_by told now hears = once_sections_tell (rules_in w l) here t l at told at_now hears now
 
-  calm_by : (ds : List Deed) {x : List Deed} → x ≡ ds → AreCalm ds → IsCalm (case_of ((once_profile at).carries) x)
-  calm_by ds e h = subst (λ (x : List Deed). IsCalm (case_of ((once_profile at).carries) x)) (sym e) (calm_case ((once_profile at).carries) ds h)
+  calm_by : (ds : List Deed) {x : List Deed} → x ≡ ds → AreCalm ds
+      → IsCalm (case_of ((once_profile at).carries) x)
+  calm_by ds e h = subst (λ (x : List Deed). IsCalm (case_of ((once_profile at).carries) x)) (sym e)
+      (calm_case ((once_profile at).carries) ds h)
 
   line : 2 * l < length w.queues
   line = line_there w l shape lt Main
@@ -290,29 +315,43 @@ module _ (w : State) (t l : ℕ) (at : OncePlace) (steady : IsInductive w) (shap
   brief : (told : Reply) → IsBrief told → MayHear (rules_in w l) here t at told → Followed told
   brief told now hears = followed told hears
 
-  go_on : (y : Act) → GoesBy w t l steady shape there lt own (once_move at) same_row (once_hears at) (Once l at) brief None y → GoesFrom (place_at w t) y
-  go_on y b = record { goes = b.goes; tells = tells_by (reply_to w t y) (not_late (reply_to w t y) b.brief) b.told; others = b.others }
+  go_on : (y : Act) → GoesBy w t l steady shape there lt own (once_move at) same_row (once_hears at)
+      (Once l at) brief None y → GoesFrom (place_at w t) y
+  go_on y b = record {
+    goes = b.goes;
+    tells = tells_by (reply_to w t y) (not_late (reply_to w t y) b.brief) b.told;
+    others = b.others;
+  }
 
   word_is : word_at w l ≡ code (rules_in w l) here
   word_is = steady.sites.word l
 
   -- one operation on the word
-  on_word : (op : Op) → once_act l at ≡ act.Word l op → StaysPut (once_move at) → GoesFrom (place_at w t) (act.Word l op)
+  on_word : (op : Op) → once_act l at ≡ act.Word l op → StaysPut (once_move at)
+      → GoesFrom (place_at w t) (act.Word l op)
   on_word op e g = record {
-    goes = stays_unshared w t l steady there own (rules_in w l) refl (once_move at) same_row unshared (Once l at) (next_place (place_at w t) (Value (word_at w l))) op g on.0 lt on.1 on.2 parked aside;
-    tells = subst (λ v. CallFollowsBy (rules_in w l) here t l at (Value v)) (sym word_is) (once_steps_tell (rules_in w l) here t l at op at_now e);
-    others = calm_by (once_deeds at (Value (word_at w l))) refl (word_calm (once_deeds at (Value (word_at w l))) (g.deeds (word_at w l)));
+    goes = stays_unshared w t l steady there own (rules_in w l) refl (once_move at) same_row unshared
+        (Once l at) (next_place (place_at w t) (Value (word_at w l))) op g on.0 lt on.1 on.2 parked aside;
+    tells = subst (λ v. CallFollowsBy (rules_in w l) here t l at (Value v)) (sym word_is)
+        (once_steps_tell (rules_in w l) here t l at op at_now e);
+    others = calm_by (once_deeds at (Value (word_at w l))) refl
+        (word_calm (once_deeds at (Value (word_at w l))) (g.deeds (word_at w l)));
   }
     where
       at_word : ℕ → Type 0
       at_word v = Followed (Value v)
-          × (lock_seen (shares_at w l) (once_owners at t v (owners_at w l)) (queue_at w (2 * l)) (queue_at w (2 * l + 1)) (λ u. taken_at (place_at w u) l) ≡ (laws.after_all (rules_in w l) (once_deeds at (Value v)) here t).lock)
-          × (apply op v ≡ code (rules_in w l) (laws.after_all (rules_in w l) (once_deeds at (Value v)) here t))
+          × (lock_seen (shares_at w l) (once_owners at t v (owners_at w l)) (queue_at w (2 * l))
+          (queue_at w (2 * l + 1)) (λ u. taken_at (place_at w u) l)
+          ≡ (laws.after_all (rules_in w l) (once_deeds at (Value v)) here t).lock)
+          × (apply op v ≡ code (rules_in w l) (laws.after_all (rules_in w l) (once_deeds at (Value v)) here
+          t))
 
       on : at_word (word_at w l)
       on = subst at_word (sym word_is) (
-        followed_by (Value (code (rules_in w l) here)) (once_steps_follow (rules_in w l) here t l at op at_now e),
-        once_owners_follow (rules_in w l) here t l at op (shares_at w l) (owners_at w l) (queue_at w (2 * l)) (queue_at w (2 * l + 1)) (λ u. taken_at (place_at w u) l) at_now e refl,
+        followed_by (Value (code (rules_in w l) here)) (once_steps_follow (rules_in w l) here t l at op at_now
+            e),
+        once_owners_follow (rules_in w l) here t l at op (shares_at w l) (owners_at w l) (queue_at w (2 * l))
+            (queue_at w (2 * l + 1)) (λ u. taken_at (place_at w u) l) at_now e refl,
         once_steps_code (rules_in w l) here t l at op at_now e,
       )
 
@@ -320,18 +359,29 @@ module _ (w : State) (t l : ℕ) (at : OncePlace) (steady : IsInductive w) (shap
       behind = laws.after_all (rules_in w l) (once_deeds at (Value (word_at w l))) here t
 
       parked : parked_in (rules_in w l).sort (apply op (word_at w l)) ≡ behind.parked
-      parked = ap (λ x. parked_in x (apply op (word_at w l))) sort_is ∙ ap is_marked (on.2 ∙ words.coded (rules_in w l) behind sort_is) ∙ words.marks_tell behind.parked behind.lock.phase
+      parked = ap (λ x. parked_in x (apply op (word_at w l))) sort_is
+          ∙ ap is_marked (on.2 ∙ words.coded (rules_in w l) behind sort_is)
+          ∙ words.marks_tell behind.parked behind.lock.phase
 
       aside : aside_in (rules_in w l).sort (apply op (word_at w l)) ≡ behind.aside_parked
-      aside = ap (λ x. aside_in x (apply op (word_at w l))) sort_is ∙ sym (ap (λ x. aside_in x (word_at w l)) sort_is) ∙ sym (stays_aside (rules_in w l) here t at (word_at w l))
+      aside = ap (λ x. aside_in x (apply op (word_at w l))) sort_is
+          ∙ sym (ap (λ x. aside_in x (word_at w l)) sort_is)
+          ∙ sym (stays_aside (rules_in w l) here t at (word_at w l))
 
   rested : (k key : ℕ) (check : Check) (want : Want) → k ≡ l → key ≡ key_of l Main
-      → RestsBehind (once_move at) (once_hears at) check want → GoesFrom (place_at w t) (act.Park k key check want)
-  rested k key check x ke e g = subst (λ j. GoesFrom (place_at w t) (act.Park j key check x)) (sym ke) (subst (λ j. GoesFrom (place_at w t) (act.Park l j check x)) (sym e) (record {
-    goes = rests_or_turns w t l steady there own (rules_in w l) refl (once_move at) same_row (once_hears at) check x line g (λ b h. followed (Parked b) h);
-    tells = tells_by (Parked (holds check (word_at w l))) tt (told_so w t l steady there own (rules_in w l) refl (once_move at) same_row (once_hears at) check x line g (λ b h. followed (Parked b) h) (holds check (word_at w l)) refl);
-    others = rests_calm (holds check (word_at w l));
-  }))
+      → RestsBehind (once_move at) (once_hears at) check want
+      → GoesFrom (place_at w t) (act.Park k key check want)
+  rested k key check x ke e g = subst (λ j. GoesFrom (place_at w t) (act.Park j key check x)) (sym ke)
+      (subst (λ j. GoesFrom (place_at w t) (act.Park l j check x)) (sym e) (record {
+        goes = rests_or_turns w t l steady there own (rules_in w l) refl (once_move at) same_row
+            (once_hears at)
+            check x line g (λ b h. followed (Parked b) h);
+        tells = tells_by (Parked (holds check (word_at w l))) tt (told_so w t l steady there own
+            (rules_in w l)
+            refl (once_move at) same_row (once_hears at) check x line g (λ b h. followed (Parked b) h)
+            (holds check (word_at w l)) refl);
+        others = rests_calm (holds check (word_at w l));
+      }))
     where
       rests_calm : (b : Bool) → IsCalm (case_of ((once_profile at).carries) (once_deeds at (Parked b)))
       rests_calm true = calm_by (Case (OfOnce (Rest x g.forced)) ∷ []) g.rests tt
@@ -340,47 +390,62 @@ module _ (w : State) (t l : ℕ) (at : OncePlace) (steady : IsInductive w) (shap
   took : (key : ℕ) → key ≡ key_of l Main → TakesAll (once_move at) (once_hears at)
       → GoesFrom (place_at w t) (act.Take key whom.All)
   took key e g = subst (λ j. GoesFrom (place_at w t) (act.Take j whom.All)) (sym e) (record {
-    goes = takes_all w t l steady there own (rules_in w l) refl (once_move at) same_row asleep (once_hears at) many line g follows;
-    tells = tells_by _ tt (all_hears w t l steady there own (rules_in w l) refl (once_move at) same_row asleep (once_hears at) many line g follows);
+    goes = takes_all w t l steady there own (rules_in w l) refl (once_move at) same_row asleep (once_hears at)
+        many line g follows;
+    tells = tells_by _ tt (all_hears w t l steady there own (rules_in w l) refl (once_move at) same_row asleep
+        (once_hears at) many line g follows);
     others = calm_by (Case (OfOnce TakeAll) ∷ []) (g.deeds _ _) tt;
   })
     where
-      follows : (any none_left : Bool) → MayHear (rules_in w l) here t at (Took any none_left) → Followed (Took any none_left)
+      follows : (any none_left : Bool) → MayHear (rules_in w l) here t at (Took any none_left)
+          → Followed (Took any none_left)
       follows any none_left h = followed (Took any none_left) h
 
   -- by any act but its closure, which another turn ends
-  by_act : (y : Act) → once_act l at ≡ y → IsOnceAct y → OnceMoves l (once_move at) (once_hears at) y → can_do w y ≡ true
+  by_act : (y : Act) → once_act l at ≡ y → IsOnceAct y → OnceMoves l (once_move at) (once_hears at) y
+      → can_do w y ≡ true
       → GoesFrom (place_at w t) y
-  by_act (act.Word k op) e h g can = subst (λ j. GoesFrom (place_at w t) (act.Word j op)) (sym g.0) (on_word op (e ∙ ap (λ j. act.Word j op) g.0) g.1)
-  by_act (act.Enter keys) e h g can = go_on (act.Enter keys) (into w t l steady shape there lt own (once_move at) same_row (once_hears at) (Once l at) brief g.0 keys g.1 can g.2)
+  by_act (act.Word k op) e h g can = subst (λ j. GoesFrom (place_at w t) (act.Word j op)) (sym g.0)
+      (on_word op (e ∙ ap (λ j. act.Word j op) g.0) g.1)
+  by_act (act.Enter keys) e h g can = go_on (act.Enter keys) (into w t l steady shape there lt own
+      (once_move at) same_row (once_hears at) (Once l at) brief g.0 keys g.1 can g.2)
   by_act (act.Park k key check want) e h g can = rested k key check want g.0 g.1 g.2
   by_act (act.Take key whom.All) e h g can = took key g.0 g.1
-  by_act (act.Remove key) e h g can = go_on (act.Remove key) (left w t l steady shape there lt own (once_move at) same_row (once_hears at) (Once l at) brief asleep g.0 key g.1 g.2)
-  by_act (act.Leave keys wakes) e h g can = go_on (act.Leave keys wakes) (out_of w t l steady shape there lt own (once_move at) same_row (once_hears at) (Once l at) brief g.0 keys wakes g.1 g.2 (wakes_one w t l steady there own (rules_in w l) refl (once_move at) same_row asleep g.2.any g.2.carries))
+  by_act (act.Remove key) e h g can = go_on (act.Remove key) (left w t l steady shape there lt own
+      (once_move at) same_row (once_hears at) (Once l at) brief asleep g.0 key g.1 g.2)
+  by_act (act.Leave keys wakes) e h g can =
+      go_on (act.Leave keys wakes) (out_of w t l steady shape there lt own (once_move at) same_row
+      (once_hears at) (Once l at) brief g.0 keys wakes g.1 g.2 (wakes_one w t l steady there own
+      (rules_in w l) refl (once_move at) same_row asleep g.2.any g.2.carries))
   by_act act.Sleep e h g can = absurd cc
   by_act (act.Closure state) e h g can = absurd cc
   by_act y e h g can = absurd h
 
   -- its deeds are what the place and the reply say
   pub goes_once : can_do w (once_act l at) ≡ true → GoesFrom (Once l at) (once_act l at)
-  goes_once can = subst (λ q. GoesFrom q (once_act l at)) is (by_act (once_act l at) refl (once_acts l at) (once_acts_move l at) can)
+  goes_once can = subst (λ q. GoesFrom q (once_act l at)) is (by_act (once_act l at) refl (once_acts l at)
+      (once_acts_move l at) can)
 
   -- its time is up
-  pub once_goes_late : (m : Line) → (once_profile at).late_line ≡ Some m → section_is_free w (key_of l m) ≡ true
+  pub once_goes_late : (m : Line) → (once_profile at).late_line ≡ Some m → section_is_free w (key_of l m)
+      ≡ true
       → Goes w (state_after_late_under w t (key_of l m)) l (acts t (once_deeds at Late))
-  once_goes_late m e free = goes_in w t l steady there own (rules_in w l) refl (once_move at) same_row (once_hears at) m Late (next_place (place_at w t) Late) (section_there w l shape lt m)
+  once_goes_late m e free = goes_in w t l steady there own (rules_in w l) refl (once_move at) same_row
+      (once_hears at) m Late (next_place (place_at w t) Late) (section_there w l shape lt m)
       (none_is (section_at w (key_of l m)) free) (once_late_move at m e) (λ h. followed Late h)
 
 -- ---------------------------------------------------------------- a call begins
 
-module _ (w : State) (t l : ℕ) (c : OnceCall) (steady : IsInductive w) (there : t < length w.places) (idle_now : place_at w t ≡ Idle)
+module _ (w : State) (t l : ℕ) (c : OnceCall) (steady : IsInductive w) (there : t < length w.places)
+    (idle_now : place_at w t ≡ Idle)
     (sort : (rules_in w l).sort ≡ locks.Once) where
   abbrev pub first : Place
   first = Once l (once_first c)
 
   -- it claims nothing
   pub once_begins : Goes w (put w t first) l (acts t [])
-  once_begins = place_goes w t l steady (rw idle_now tt) there (rules_in w l) refl first refl sort [] (λ h. tt)
+  once_begins = place_goes w t l steady (rw idle_now tt) there (rules_in w l) refl first refl sort []
+      (λ h. tt)
       (steps_by (rules_in w l) l (parts_at w l) (parts_at w l) (place_at w) t first [] tt tt
       (ap (λ q. taken_at q l) idle_now ∙ sym (free_of first l tt refl))
       refl refl refl refl

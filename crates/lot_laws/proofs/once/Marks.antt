@@ -1,5 +1,7 @@
 -- Nobody marks the word of a `Once` that is done.
-use Rattle.std.proofs.Common.{ℕ, Bool, true, false, Option, Some, None, if◌then◌else◌, ◌==◌, ◌≡◌, ◌≢◌, ◌<◌, ◌+◌, ◌*◌, List, [], ◌∷◌, length, length-set, get_or, map, nat_lt, refl, sym, ◌∙◌, ap, subst, arith}
+use Rattle.std.proofs.Common.{ℕ, Bool, true, false, Option, Some, None, if◌then◌else◌, ◌==◌, ◌≡◌, ◌≢◌, ◌<◌}
+use Rattle.std.proofs.Common.{◌+◌, ◌*◌, List, [], ◌∷◌, length, length-set, get_or, map, nat_lt, refl, sym}
+use Rattle.std.proofs.Common.{◌∙◌, ap, subst, arith}
 use Rattle.std.proofs.lemmas.Bool.{eqb-true, ltb-true}
 use Rattle.core_base.specs.declared.keys.Keys.TheVariants.{One, Two}
 use Rattle.core_base.specs.declared.ops.Op.TheVariants as op
@@ -43,7 +45,11 @@ use Rattle.lot_steps.specs.declared.places.Place.TheVariants.{Idle, Mutex, RwLoc
 use Rattle.lot_steps.specs.Steps.{act_of, late_key, looking}
 use Rattle.lot_machine.specs.declared.locks.Lock.{Lock}
 use Rattle.lot_machine.specs.Fits.{IsWellFormed}
-use Rattle.lot_machine.specs.Machine.{State, after, can_turn, is_possible, kind_at, opening, first_word, place_at, put, queue_at, queues_with_last, queues_without_first, state_after_act, state_after_close, state_after_go, state_after_hand_over_by, state_after_late_on, state_after_look, state_after_taking, state_after_turn, unlocked, word_at}
+use Rattle.lot_machine.specs.Machine.{State, after, can_turn, is_possible, kind_at, opening, first_word}
+use Rattle.lot_machine.specs.Machine.{place_at, put, queue_at, queues_with_last, queues_without_first}
+use Rattle.lot_machine.specs.Machine.{state_after_act, state_after_close, state_after_go}
+use Rattle.lot_machine.specs.Machine.{state_after_hand_over_by, state_after_late_on, state_after_look}
+use Rattle.lot_machine.specs.Machine.{state_after_taking, state_after_turn, unlocked, word_at}
 use Rattle.lot_machine.proofs.Closures.{IsOwn, call_own, mutex_own, semaphore_own}
 use Rattle.lot_machine.proofs.KindsStay.{set_all}
 use Rattle.lot_machine.proofs.Shape.{both}
@@ -87,13 +93,15 @@ running_9 : (parked : Bool) → word parked (InProgress 0) ≢ 9
 running_9 true = λ e. cc
 running_9 false = λ e. cc
 
-rests_9 : (c : OnceCall) (phase : Phase) → Rattle.spec_locks.specs.Onces.MayRest (want_of c) (is_forced c) phase → word true phase ≢ 9
+rests_9 : (c : OnceCall) (phase : Phase) → Rattle.spec_locks.specs.Onces.MayRest (want_of c) (is_forced c)
+    phase → word true phase ≢ 9
 rests_9 c New may = λ e. cc
 rests_9 c Poisoned may = λ e. cc
 rests_9 c (InProgress t) may = λ e. cc
 rests_9 c Done may = λ e. absurd (done (want_of c) (is_forced c) may)
   where
-    done : (x : Rattle.core_base.specs.declared.wants.Want.Want) (forced : Bool) → Rattle.spec_locks.specs.Onces.MayRest x forced Done → ⊥
+    done : (x : Rattle.core_base.specs.declared.wants.Want.Want) (forced : Bool)
+        → Rattle.spec_locks.specs.Onces.MayRest x forced Done → ⊥
     done Rattle.core_base.specs.declared.wants.Want.TheVariants.CallOnce forced h = h
     done Rattle.core_base.specs.declared.wants.Want.TheVariants.Wait true h = h
     done Rattle.core_base.specs.declared.wants.Want.TheVariants.Wait false h = h
@@ -110,30 +118,41 @@ module _ (parked : Bool) (phase : Phase) (fine : word parked phase ≢ 9) where
       either true e = goes (eqb-true now seen e)
       either false e = fine
 
-  course_fine : (l : ℕ) (c : OnceCall) (seen : ℕ) (k : Course) → course_of c seen ≡ k → (j : ℕ) (f : _) → course_act l seen k ≡ act.Word j f → apply f now ≢ 9
+  course_fine : (l : ℕ) (c : OnceCall) (seen : ℕ) (k : Course) → course_of c seen ≡ k → (j : ℕ) (f : _)
+      → course_act l seen k ≡ act.Word j f → apply f now ≢ 9
   course_fine l c seen (Ends a) e j f is = let g : op.Load ≡ f = cc in subst (λ x. apply x now ≢ 9) g fine
   course_fine l c seen Runs e j f is = let g : op.Exchange seen (started seen) ≡ f = cc in
-      subst (λ x. apply x now ≢ 9) g (exchanges seen (started seen) (λ same. subst (λ v. started v ≢ 9) same (subst (λ v. v ≢ 9) (sym (started_is parked phase 0)) (running_9 parked))))
+      subst (λ x. apply x now ≢ 9) g (exchanges seen (started seen) (λ same. subst (λ v. started v ≢ 9) same
+      (subst (λ v. v ≢ 9) (sym (started_is parked phase 0)) (running_9 parked))))
   course_fine l c seen Marks e j f is = let g : op.Exchange seen (marked seen) ≡ f = cc in
-      subst (λ x. apply x now ≢ 9) g (exchanges seen (marked seen) (λ same. subst (λ v. marked v ≢ 9) same (subst (λ v. v ≢ 9) (sym (marked_is parked phase))
-      (rests_9 c phase (let may : MayGo c parked phase (course_of c now) = may_go c parked phase in let k : course_of c now ≡ Marks = ap (course_of c) same ∙ e in subst (MayGo c parked phase) k may)))))
+      subst (λ x. apply x now ≢ 9) g (exchanges seen (marked seen) (λ same. subst (λ v. marked v ≢ 9) same
+      (subst (λ v. v ≢ 9) (sym (marked_is parked phase))
+      (rests_9 c phase (let may : MayGo c parked phase (course_of c now) = may_go c parked phase
+      in let k : course_of c now ≡ Marks = ap (course_of c) same ∙ e in subst (MayGo c parked phase) k
+      may)))))
   course_fine l c seen Parks e j f is = absurd cc
 
   place_fine : (l : ℕ) (p : OncePlace) (j : ℕ) (f : _) → once_act l p ≡ act.Word j f → apply f now ≢ 9
-  place_fine l (Look c retries (look.Decide seen)) j f is = course_fine l c seen (course_of c seen) refl j f is
-  place_fine l (Look c retries look.Load) j f is = let g : op.Load ≡ f = cc in subst (λ x. apply x now ≢ 9) g fine
+  place_fine l (Look c retries (look.Decide seen)) j f is = course_fine l c seen (course_of c seen) refl j f
+      is
+  place_fine l (Look c retries look.Load) j f is = let g : op.Load ≡ f = cc
+      in subst (λ x. apply x now ≢ 9) g fine
   place_fine l (Look c retries look.Check) j f is = absurd cc
   place_fine l (Look c retries (look.Leave b)) j f is = absurd cc
   place_fine l (Look c retries look.Asleep) j f is = absurd cc
   place_fine l (Look c retries (look.Taken by)) j f is = absurd cc
   place_fine l (Run forced (run.Closure b)) j f is = absurd cc
-  place_fine l (Run forced (run.Close true)) j f is = let g : op.Swap 1 ≡ f = cc in subst (λ x. apply x now ≢ 9) g (λ e. cc)
-  place_fine l (Run forced (run.Close false)) j f is = let g : op.Swap 2 ≡ f = cc in subst (λ x. apply x now ≢ 9) g (λ e. cc)
+  place_fine l (Run forced (run.Close true)) j f is = let g : op.Swap 1 ≡ f = cc
+      in subst (λ x. apply x now ≢ 9) g (λ e. cc)
+  place_fine l (Run forced (run.Close false)) j f is = let g : op.Swap 2 ≡ f = cc
+      in subst (λ x. apply x now ≢ 9) g (λ e. cc)
   place_fine l (Run forced (run.Enter b)) j f is = absurd cc
   place_fine l (Run forced (run.Take b)) j f is = absurd cc
   place_fine l (Run forced (run.Leave b any)) j f is = absurd cc
   place_fine l (GiveUp retries give_up.Remove) j f is = absurd cc
-  place_fine l (GiveUp retries give_up.Clear) j f is = let g : op.And NOT_PARKED ≡ f = cc in subst (λ x. apply x now ≢ 9) g (subst (λ v. v ≢ 9) (sym (unmarked_is parked phase)) (unmarked_9 phase))
+  place_fine l (GiveUp retries give_up.Clear) j f is = let g : op.And NOT_PARKED ≡ f = cc
+      in subst (λ x. apply x now ≢ 9) g (subst (λ v. v ≢ 9) (sym (unmarked_is parked phase))
+      (unmarked_9 phase))
   place_fine l (GiveUp retries give_up.Leave) j f is = absurd cc
 
 -- ---------------------------------------------------------------- an act
@@ -147,23 +166,29 @@ Leaves w a = Unit {0}
 abbrev Unmarked : Lock → Type 0
 Unmarked x = x.kind ≡ kinds.Once → x.word ≢ 9
 
-performed : (w : State) (t : ℕ) (p : Place) (a : Act) → AreUnmarked w → Leaves w a → AreUnmarked (state_after_act w t p a)
-performed w t p (act.Word k f) fine leaves l = set_all Unmarked w.locks k _ (unlocked kinds.Mutex) leaves fine l
+performed : (w : State) (t : ℕ) (p : Place) (a : Act) → AreUnmarked w → Leaves w a
+    → AreUnmarked (state_after_act w t p a)
+performed w t p (act.Word k f) fine leaves l = set_all Unmarked w.locks k _ (unlocked kinds.Mutex) leaves fine
+    l
 performed w t p (act.HandOver k f) fine leaves l = either (takes_effect f (word_at w k))
   where
-    either : (b : Bool) → Unmarked (get_or (state_after_hand_over_by b w t p k f).locks l (unlocked kinds.Mutex))
+    either : (b : Bool) → Unmarked (get_or (state_after_hand_over_by b w t p k f).locks l
+        (unlocked kinds.Mutex))
     either true = set_all Unmarked w.locks k _ (unlocked kinds.Mutex) leaves fine l
     either false = set_all Unmarked w.locks k _ (unlocked kinds.Mutex) leaves fine l
 performed w t p (act.Enter (One key)) fine leaves l = fine l
 performed w t p (act.Enter (Two first second)) fine leaves l = fine l
 performed w t p (act.Park k key check x) fine leaves l = either (holds check (word_at w k))
   where
-    either : (b : Bool) → Unmarked (get_or (if b then record w { queues = queues_with_last w.queues key t x } else w).locks l (unlocked kinds.Mutex))
+    either : (b : Bool) → Unmarked (get_or (if b then record w { queues = queues_with_last w.queues key t x }
+        else w).locks l (unlocked kinds.Mutex))
     either true = fine l
     either false = fine l
 performed w t p (act.Take key whom.TheVariants.First) fine leaves l = by_first (first_of (queue_at w key))
   where
-    by_first : (o : Option ℕ) → Unmarked (get_or (state_after_taking (record w { queues = queues_without_first w.queues key }) t o).locks l (unlocked kinds.Mutex))
+    by_first : (o : Option ℕ) → Unmarked
+        (get_or (state_after_taking (record w { queues = queues_without_first w.queues key }) t o).locks l
+        (unlocked kinds.Mutex))
     by_first None = fine l
     by_first (Some u) = fine l
 performed w t p (act.Take key (whom.TheVariants.Picked start recursive)) fine leaves l = fine l
@@ -179,7 +204,8 @@ performed w t p a fine leaves l = fine l
 -- on another lock
 elsewhere : (w : State) (l : ℕ) (a : Act) → IsOwn l a → (kind_at w l ≡ kinds.Once → ⊥) → Leaves w a
 elsewhere w l (act.Word k f) own other = λ of. absurd (other (subst (λ j. kind_at w j ≡ kinds.Once) own of))
-elsewhere w l (act.HandOver k f) own other = λ of. absurd (other (subst (λ j. kind_at w j ≡ kinds.Once) own of))
+elsewhere w l (act.HandOver k f) own other = λ of. absurd
+    (other (subst (λ j. kind_at w j ≡ kinds.Once) own of))
 elsewhere w l a own other = tt
 
 no_mutex : (k : Kind) → is_mutex k ≡ true → k ≡ kinds.Once → ⊥
@@ -193,7 +219,9 @@ module _ (w : State) (steady : IsInductive w) (fine : AreUnmarked w) where
       here = word_at w l
 
       at_once : (f : _) (j : ℕ) → once_act l p ≡ act.Word j f → apply f here ≢ 9
-      at_once f j is = subst (λ v. apply f v ≢ 9) (sym (word_is w steady l sort)) (place_fine (site_of w l).parked (lock_state w l).phase (subst (λ v. v ≢ 9) (word_is w steady l sort) (fine l (once_kind (kind_at w l) sort))) l p j f is)
+      at_once f j is = subst (λ v. apply f v ≢ 9) (sym (word_is w steady l sort))
+          (place_fine (site_of w l).parked (lock_state w l).phase
+          (subst (λ v. v ≢ 9) (word_is w steady l sort) (fine l (once_kind (kind_at w l) sort))) l p j f is)
 
       own_word : (p : OncePlace) (j : ℕ) (f : _) → once_act l p ≡ act.Word j f → l ≡ j
       own_word (Look c retries (look.Decide seen)) j f is = by_course (course_of c seen) is
@@ -240,16 +268,21 @@ module _ (w : State) (steady : IsInductive w) (fine : AreUnmarked w) where
       no_hand_over (GiveUp retries give_up.Leave) j f is = cc
 
       by_act : (a : Act) → once_act l p ≡ a → Leaves w a
-      by_act (act.Word j f) e = λ of. subst (λ k. apply f (word_at w k) ≢ 9) (own_word p j f e) (at_once f j e)
+      by_act (act.Word j f) e = λ of. subst (λ k. apply f (word_at w k) ≢ 9) (own_word p j f e)
+          (at_once f j e)
       by_act (act.HandOver j f) e = absurd (no_hand_over p j f e)
       by_act a e = tt
 
-  condvar_leaves : (c : ℕ) (at : CondvarPlace) → (kind_at w c ≡ kinds.Once → ⊥) → ((m : ℕ) → Rattle.steps_condvar.specs.CondvarSteps.mutex_beside at ≡ Some m → kind_at w m ≡ kinds.Once → ⊥)
+  condvar_leaves : (c : ℕ) (at : CondvarPlace) → (kind_at w c ≡ kinds.Once → ⊥)
+      → ((m : ℕ) → Rattle.steps_condvar.specs.CondvarSteps.mutex_beside at ≡ Some m → kind_at w m ≡ kinds.Once
+      → ⊥)
       → Leaves w (act_of (Condvar c at))
   condvar_leaves c (Wait m timed wait.Show) other beside = λ of. absurd (other of)
   condvar_leaves c (Wait m timed wait.Hide) other beside = λ of. absurd (other of)
-  condvar_leaves c (Wait m timed (wait.Release st at)) other beside = elsewhere w m (mutex_act m at) (mutex_own m at) (beside m refl)
-  condvar_leaves c (Wait m timed (wait.Lock timed_out at)) other beside = elsewhere w m (mutex_act m at) (mutex_own m at) (beside m refl)
+  condvar_leaves c (Wait m timed (wait.Release st at)) other beside = elsewhere w m (mutex_act m at)
+      (mutex_own m at) (beside m refl)
+  condvar_leaves c (Wait m timed (wait.Lock timed_out at)) other beside = elsewhere w m (mutex_act m at)
+      (mutex_own m at) (beside m refl)
   condvar_leaves c (Wait m timed at) other beside = tt
   condvar_leaves c (Glance all) other beside = λ of. absurd (other of)
   condvar_leaves c (Notify all m notify.Again) other beside = λ of. absurd (other of)
@@ -274,42 +307,54 @@ module _ (w : State) (steady : IsInductive w) (fine : AreUnmarked w) where
 
   place_leaves : (p : Place) → FitsItsLock w p → Leaves w (act_of p)
   place_leaves Idle fits = tt
-  place_leaves (Mutex l at) fits = elsewhere w l (mutex_act l at) (mutex_own l at) (no_mutex (kind_at w l) fits)
-  place_leaves (RwLock l a at) fits = elsewhere w l (call_act l a at) (call_own l a at) (no_readers l fits.0.0)
+  place_leaves (Mutex l at) fits = elsewhere w l (mutex_act l at) (mutex_own l at)
+      (no_mutex (kind_at w l) fits)
+  place_leaves (RwLock l a at) fits = elsewhere w l (call_act l a at) (call_own l a at)
+      (no_readers l fits.0.0)
   place_leaves (Once l at) fits = once_leaves l at fits
-  place_leaves (Semaphore l at) fits = elsewhere w l (semaphore_act l at) (semaphore_own l at) (other_sort l locks.Semaphore fits.0 (λ e. cc))
-  place_leaves (Condvar l at) fits = condvar_leaves l at (other_sort l locks.Condvar fits.sort (λ e. cc)) (λ m names. no_plain (kind_at w m) (fits.mutex m names))
+  place_leaves (Semaphore l at) fits = elsewhere w l (semaphore_act l at) (semaphore_own l at)
+      (other_sort l locks.Semaphore fits.0 (λ e. cc))
+  place_leaves (Condvar l at) fits = condvar_leaves l at (other_sort l locks.Condvar fits.sort (λ e. cc))
+      (λ m names. no_plain (kind_at w m) (fits.mutex m names))
 
   -- ---------------------------------------------------------------- each turn
 
   pub gone_unmarked : (t : ℕ) → AreUnmarked (state_after_go w t)
-  gone_unmarked t l = performed w t (place_at w t) (act_of (place_at w t)) fine (place_leaves (place_at w t) (steady.stands.calls t)) l
+  gone_unmarked t l = performed w t (place_at w t) (act_of (place_at w t)) fine
+      (place_leaves (place_at w t) (steady.stands.calls t)) l
 
-module _ (w : State) (t : ℕ) (steady : IsInductive w) (there : t < length w.places) (fine : AreUnmarked w) where
-  looked : (o : Option Place) → looking (place_at w t) ≡ o → AreUnmarked (state_after_look w t o)
-  looked None e = fine
-  looked (Some q) e = gone_unmarked (put w t q) (looking_steady w t there q e steady) fine t
+module _ (w : State) (t : ℕ) (steady : IsInductive w) (there : t < length w.places) (fine : AreUnmarked w)
+  where
+    looked : (o : Option Place) → looking (place_at w t) ≡ o → AreUnmarked (state_after_look w t o)
+    looked None e = fine
+    looked (Some q) e = gone_unmarked (put w t q) (looking_steady w t there q e steady) fine t
 
-  late : (o : Option ℕ) → AreUnmarked (state_after_late_on w t o)
-  late None = fine
-  late (Some key) = fine
+    late : (o : Option ℕ) → AreUnmarked (state_after_late_on w t o)
+    late None = fine
+    late (Some key) = fine
 
-  closed : (succeeded : Bool) → can_turn w t (if succeeded then turn.TheVariants.Ok else turn.TheVariants.Err) ≡ true → AreUnmarked (state_after_close w t succeeded)
-  closed true can = let one = closes_one w t true can in gone_unmarked (closing w t there true one) (closing_steady w t there true one steady) fine t
-  closed false can = let one = closes_one w t false can in gone_unmarked (closing w t there false one) (closing_steady w t there false one steady) fine t
+    closed : (succeeded : Bool) → can_turn w t (if succeeded then turn.TheVariants.Ok
+        else turn.TheVariants.Err)
+        ≡ true → AreUnmarked (state_after_close w t succeeded)
+    closed true can = let one = closes_one w t true can in gone_unmarked (closing w t there true one)
+        (closing_steady w t there true one steady) fine t
+    closed false can = let one = closes_one w t false can in gone_unmarked (closing w t there false one)
+        (closing_steady w t there false one steady) fine t
 
-  turned : (x : Turn) → can_turn w t x ≡ true → AreUnmarked (state_after_turn w t x)
-  turned (turn.TheVariants.Begin c) can = fine
-  turned turn.TheVariants.Go can = gone_unmarked w steady fine t
-  turned turn.TheVariants.Spin can = looked (looking (place_at w t)) refl
-  turned turn.TheVariants.Late can = late (late_key (place_at w t))
-  turned turn.TheVariants.Ok can = closed true can
-  turned turn.TheVariants.Err can = closed false can
+    turned : (x : Turn) → can_turn w t x ≡ true → AreUnmarked (state_after_turn w t x)
+    turned (turn.TheVariants.Begin c) can = fine
+    turned turn.TheVariants.Go can = gone_unmarked w steady fine t
+    turned turn.TheVariants.Spin can = looked (looking (place_at w t)) refl
+    turned turn.TheVariants.Late can = late (late_key (place_at w t))
+    turned turn.TheVariants.Ok can = closed true can
+    turned turn.TheVariants.Err can = closed false can
 
-pub unmarked_after : (w : State) (s : Step) → IsWellFormed w → IsInductive w → AreUnmarked w → AreUnmarked (after w s)
+pub unmarked_after : (w : State) (s : Step) → IsWellFormed w → IsInductive w → AreUnmarked w
+    → AreUnmarked (after w s)
 unmarked_after w s shape steady fine = either (is_possible w s) refl
   where
-    either : (b : Bool) → is_possible w s ≡ b → AreUnmarked (if b then state_after_turn w s.thread s.turn else w)
+    either : (b : Bool) → is_possible w s ≡ b → AreUnmarked (if b then state_after_turn w s.thread s.turn
+        else w)
     either true can = let parts = both (nat_lt s.thread (length w.places)) (can_turn w s.thread s.turn) can in
         turned w s.thread steady (ltb-true s.thread (length w.places) parts.0) fine s.turn parts.1
     either false can = fine

@@ -50,7 +50,12 @@ late_place (Run forced at) m h = absurd cc
 late_place (GiveUp again give_up.Remove) m h = absurd cc
 late_place (GiveUp again at) m h = absurd cc
 
-pub once_late : (l : ℕ) (at : OncePlace) (m : Line) → (once_profile at).late_line ≡ Some m → IsLateNext (next_place (Once l at) Late) m
+pub once_late : (l : ℕ) (at : OncePlace) (m : Line) → (once_profile at).late_line ≡ Some m
+    → IsLateNext (next_place (Once l at) Late) m
 once_late l at m h =
     let z = late_place at m h in
-    subst (λ p. IsLateNext (next_place (Once l p) Late) m) (sym z.1) (record { inside = ap Some z.2; owes = ap Some z.2; awake = λ e. cc })
+    subst (λ p. IsLateNext (next_place (Once l p) Late) m) (sym z.1) (record {
+      inside = ap Some z.2;
+      owes = ap Some z.2;
+      awake = λ e. cc;
+    })

@@ -18,9 +18,11 @@ unreleased : (timed : Bool) (wanted : Option Want) (at : LookAt) → (look_row t
 unreleased timed wanted look.Load = refl
 unreleased timed wanted at = refl
 
-pub lets_nobody : (l : ℕ) (c : OnceCall) (again : Bool) (at : LookAt) → LetsIn locks.Once l (once_profile (Look c again at)) → ⊥
+pub lets_nobody : (l : ℕ) (c : OnceCall) (again : Bool) (at : LookAt)
+    → LetsIn locks.Once l (once_profile (Look c again at)) → ⊥
 lets_nobody l c again at (inr h) = let f : false ≡ true = h.0 in cc
-lets_nobody l c again at (inl h) = by_call c (subst (λ b. IsReleasing (Some (once_purpose l c)) b l) (unreleased (is_timed c) (retried_want c again) at) h)
+lets_nobody l c again at (inl h) = by_call c (subst (λ b. IsReleasing (Some (once_purpose l c)) b l)
+    (unreleased (is_timed c) (retried_want c again) at) h)
   where
     by_call : (c : OnceCall) → IsReleasing (Some (once_purpose l c)) false l → ⊥
     by_call (CallOnce forced) g = let f : false ≡ true = g.1 in cc
@@ -28,11 +30,13 @@ lets_nobody l c again at (inl h) = by_call c (subst (λ b. IsReleasing (Some (on
     by_call WaitTimed g = g
 
 -- nor does a thread whose time is up
-pub gives_up_quietly : (l : ℕ) (again : Bool) (at : GiveUpAt) → LetsIn locks.Once l (once_profile (GiveUp again at)) → ⊥
+pub gives_up_quietly : (l : ℕ) (again : Bool) (at : GiveUpAt)
+    → LetsIn locks.Once l (once_profile (GiveUp again at)) → ⊥
 gives_up_quietly l again at (inr h) = let f : false ≡ true = h.0 in cc
 gives_up_quietly l again at (inl h) = h
 
-pub look_owes : (timed : Bool) (wanted : Option Want) (at : LookAt) (m : Line) → (look_row timed wanted at).owes ≡ Some m
+pub look_owes : (timed : Bool) (wanted : Option Want) (at : LookAt) (m : Line)
+    → (look_row timed wanted at).owes ≡ Some m
     → (look_row timed wanted at).role.inside ≡ Some m
 look_owes timed wanted look.Check m h = h
 look_owes timed wanted (look.Leave parked) m h = h

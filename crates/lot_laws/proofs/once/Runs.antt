@@ -1,6 +1,7 @@
 -- A run of a `Once` is on only while its thread is in the closure of its call.
 use Rattle.spec_locks.specs.Condvars.{moved_of}
-use Rattle.std.proofs.Common.{◌==◌, eqb-true, ℕ, Bool, true, false, Option, Some, None, if◌then◌else◌, ◌≡◌, ◌≢◌, ◌⊎◌, inl, inr, is_some, List, get_or-set_other, refl, sym, ◌∙◌, ap, subst}
+use Rattle.std.proofs.Common.{◌==◌, eqb-true, ℕ, Bool, true, false, Option, Some, None, if◌then◌else◌, ◌≡◌}
+use Rattle.std.proofs.Common.{◌≢◌, ◌⊎◌, inl, inr, is_some, List, get_or-set_other, refl, sym, ◌∙◌, ap, subst}
 use Rattle.std.proofs.lemmas.Bool.{cases_eq}
 use Rattle.spec_locks.specs.declared.calls.Step.{Step}
 use Rattle.spec_locks.specs.declared.calls.Turn.{Turn}
@@ -12,11 +13,15 @@ use Rattle.steps_base.specs.declared.acts.Next.{Next}
 use Rattle.steps_base.specs.declared.acts.Next.TheVariants as next
 use Rattle.steps_base.specs.declared.acts.Reply.{Reply}
 use Rattle.steps_base.specs.declared.acts.Reply.TheVariants.{TakenBy, MovedTo, HandedBy, Woken}
-use Rattle.spec_locks.specs.Locks.{LockCase, LockState, OfOnce, Rules, left_behind, after_case, once_after, rights_of}
+use Rattle.spec_locks.specs.Locks.{LockCase, LockState, OfOnce, Rules, left_behind, after_case, once_after}
+use Rattle.spec_locks.specs.Locks.{rights_of}
 use Rattle.spec_locks.proofs.OnceLaws.{phase_by}
 use Rattle.spec_locks.specs.Onces.{Phase, OnceCase, New, InProgress, Start, Finish, Fail, Rest, TakeAll}
-use Rattle.spec_locks.specs.Purposes.{Purpose, Enters, Releases, Converts, Bumps, CallsOnce, Awaits, Waits, Notifies}
-use Rattle.spec_locks.specs.Runs.{AtLock, Begins, CallState, Closes, Does, Event, GoesOn, LocksState, MayDo, MayHappen, MayTurn, Nothing, calls_after, is_closure, locks_after, rules_at, state_told, Moves, joined_by}
+use Rattle.spec_locks.specs.Purposes.{Purpose, Enters, Releases, Converts, Bumps, CallsOnce, Awaits, Waits}
+use Rattle.spec_locks.specs.Purposes.{Notifies}
+use Rattle.spec_locks.specs.Runs.{AtLock, Begins, CallState, Closes, Does, Event, GoesOn, LocksState, MayDo}
+use Rattle.spec_locks.specs.Runs.{MayHappen, MayTurn, Nothing, calls_after, is_closure, locks_after, rules_at}
+use Rattle.spec_locks.specs.Runs.{state_told, Moves, joined_by}
 use Rattle.spec_locks.specs.declared.calls.OnceCall.{OnceCall}
 use Rattle.steps_mutex.specs.declared.places.MutexPlace.{MutexPlace}
 use Rattle.steps_mutex.specs.MutexSteps.{mutex_next}
@@ -27,7 +32,9 @@ use Rattle.steps_once.specs.declared.give_up.GiveUpAt.TheVariants as give_up
 use Rattle.steps_once.specs.declared.run.RunAt.{RunAt}
 use Rattle.steps_once.specs.declared.run.RunAt.TheVariants as run
 use Rattle.steps_once.specs.declared.places.OncePlace.TheVariants.{Look, Run, GiveUp}
-use Rattle.steps_once.specs.OnceSteps.{begins_run, course_of, closure_begun, in_look, in_run, is_forced, next_look, next_run, still_retries, is_late_asleep, in_give_up, next_give_up}
+use Rattle.steps_once.specs.OnceSteps.{begins_run, course_of, closure_begun, in_look, in_run, is_forced}
+use Rattle.steps_once.specs.OnceSteps.{next_look, next_run, still_retries, is_late_asleep, in_give_up}
+use Rattle.steps_once.specs.OnceSteps.{next_give_up}
 use Rattle.steps_semaphore.specs.declared.places.SemaphorePlace.{SemaphorePlace}
 use Rattle.steps_semaphore.specs.SemaphoreSteps.{semaphore_next}
 use Rattle.steps_rwlock_fair.specs.declared.places.RwLockCallPlace.{RwLockCallPlace}
@@ -36,13 +43,15 @@ use Rattle.steps_condvar.specs.declared.places.CondvarPlace.{CondvarPlace}
 use Rattle.steps_condvar.specs.CondvarSteps.{condvar_next}
 use Rattle.lot_steps.specs.declared.places.Place.{Place}
 use Rattle.lot_steps.specs.declared.places.Place.TheVariants.{Idle, Mutex, RwLock, Once, Condvar, Semaphore}
-use Rattle.lot_steps.specs.Steps.{act_of, called_lock, looking, mutex_goes, next_place, once_goes, rwlock_goes, condvar_goes, semaphore_goes}
+use Rattle.lot_steps.specs.Steps.{act_of, called_lock, looking, mutex_goes, next_place, once_goes}
+use Rattle.lot_steps.specs.Steps.{rwlock_goes, condvar_goes, semaphore_goes}
 use Rattle.lot_machine.specs.Fits.{IsWellFormed}
 use Rattle.lot_machine.specs.Machine.{State, after, opening, place_at, put, runs_closure, step_outcome}
 use Rattle.lot_laws.specs.Refinement.{RunsClosure, call_at, call_state, lock_state, locks_of, sleeps}
 use Rattle.lot_laws.specs.SitesOf.{AreCondvars, AreCounted, IsInductive, RunsInClosures}
 use Rattle.lot_laws.proofs.machine.Befallen.{others_keep_it}
-use Rattle.lot_laws.proofs.calls.Closures.{call_runs_none, course_runs_none, mutex_runs_none, runs_one, condvar_runs_none, semaphore_runs_none}
+use Rattle.lot_laws.proofs.calls.Closures.{call_runs_none, course_runs_none, mutex_runs_none, runs_one}
+use Rattle.lot_laws.proofs.calls.Closures.{condvar_runs_none, semaphore_runs_none}
 use Rattle.lot_laws.proofs.machine.Parts.{put_here, put_other, same}
 use Rattle.lot_laws.proofs.calls.LockSteps.{IsTurn, after_step}
 use Rattle.lot_laws.proofs.promises.Promises.{opening_state}
@@ -62,14 +71,17 @@ begun TakeAll s u t e = inl e
 abbrev Begun : LockState → ℕ → ℕ → LockCase → Type 0
 Begun s u t case = (s.phase ≡ InProgress t) ⊎ ((forced : Bool) × (case ≡ OfOnce (Start forced)) × (t ≡ u))
 
-by_case : (r : Rules) (case : LockCase) (s : LockState) (u t : ℕ) → (after_case r case s u).phase ≡ InProgress t
+by_case : (r : Rules) (case : LockCase) (s : LockState) (u t : ℕ) → (after_case r case s u).phase
+    ≡ InProgress t
     → Begun s u t case
 by_case r case s u t e = elim (phase_by r case s u) [
   | inl same ↦ inl (sym same ∙ e)
-  | inr once ↦ subst (λ x. (after_case r x s u).phase ≡ InProgress t → Begun s u t x) (sym once.1) (λ f. told once.0 (begun once.0 s u t f)) e
+  | inr once ↦ subst (λ x. (after_case r x s u).phase ≡ InProgress t → Begun s u t x) (sym once.1)
+      (λ f. told once.0 (begun once.0 s u t f)) e
 ]
   where
-    told : (c : OnceCase) → (s.phase ≡ InProgress t) ⊎ ((forced : Bool) × (c ≡ Start forced) × (t ≡ u)) → Begun s u t (OfOnce c)
+    told : (c : OnceCase) → (s.phase ≡ InProgress t) ⊎ ((forced : Bool) × (c ≡ Start forced) × (t ≡ u))
+        → Begun s u t (OfOnce c)
     told c (inl on) = inl on
     told c (inr now) = inr (now.0, ap OfOnce now.1, now.2)
 
@@ -80,7 +92,8 @@ moves_phase w u c m all owned number l = either (l == m) (l == c) refl refl
   where
     either : (at_mutex at_condvar : Bool) → (l == m) ≡ at_mutex → (l == c) ≡ at_condvar
         → ◌≡◌ {A = Phase}
-        (if at_mutex then joined_by owned u (moved_of all (w.locks c).queue) (w.locks m) else if at_condvar then left_behind all (w.locks c) else w.locks l).phase
+        (if at_mutex then joined_by owned u (moved_of all (w.locks c).queue) (w.locks m) else if at_condvar
+        then left_behind all (w.locks c) else w.locks l).phase
         (w.locks l).phase
     either true there e f = ap (λ k. (w.locks k).phase) (sym (eqb-true l m e))
     either false true e f = ap (λ k. (w.locks k).phase) (sym (eqb-true l c f))
@@ -88,27 +101,36 @@ moves_phase w u c m all owned number l = either (l == m) (l == c) refl refl
 
 -- A `Once` that is in progress after an event is run by the thread that the event says.
 by_event : (w : LocksState) (u : ℕ) (event : Event) (l t : ℕ) → (locks_after w u event l).phase ≡ InProgress t
-    → ((w.locks l).phase ≡ InProgress t) ⊎ ((forced : Bool) × (event ≡ AtLock l (OfOnce (Start forced))) × (t ≡ u))
+    → ((w.locks l).phase ≡ InProgress t) ⊎ ((forced : Bool) × (event ≡ AtLock l (OfOnce (Start forced)))
+    × (t ≡ u))
 by_event w u Nothing l t e = inl e
 by_event w u (Moves c m all owned number) l t e = inl (sym (moves_phase w u c m all owned number l) ∙ e)
 by_event w u (AtLock k case) l t e = elim (cases_eq l k) [
-  | inl here ↦ subst (λ n. (locks_after w u (AtLock n case) l).phase ≡ InProgress t → ((w.locks l).phase ≡ InProgress t) ⊎ ((forced : Bool) × (AtLock n case ≡ AtLock l (OfOnce (Start forced))) × (t ≡ u)))
-      here (λ f. at_it (by_case (rules_at w l) case (w.locks l) u t (sym (ap (λ (s : LockState). s.phase) (put_here w.locks l (after_case (rules_at w l) case (w.locks l) u))) ∙ f))) e
-  | inr ne ↦ inl (sym (ap (λ (s : LockState). s.phase) (put_other w.locks k (after_case (rules_at w k) case (w.locks k) u) l ne)) ∙ e)
+  | inl here ↦ subst (λ n. (locks_after w u (AtLock n case) l).phase ≡ InProgress t
+      → ((w.locks l).phase ≡ InProgress t)
+      ⊎ ((forced : Bool) × (AtLock n case ≡ AtLock l (OfOnce (Start forced))) × (t ≡ u)))
+      here (λ f. at_it (by_case (rules_at w l) case (w.locks l) u t
+      (sym (ap (λ (s : LockState). s.phase)
+      (put_here w.locks l (after_case (rules_at w l) case (w.locks l) u))) ∙ f))) e
+  | inr ne ↦ inl (sym (ap (λ (s : LockState). s.phase) (put_other w.locks k
+      (after_case (rules_at w k) case (w.locks k) u) l ne)) ∙ e)
 ]
   where
     at_it : Begun (w.locks l) u t case
-        → ((w.locks l).phase ≡ InProgress t) ⊎ ((forced : Bool) × (AtLock l case ≡ AtLock l (OfOnce (Start forced))) × (t ≡ u))
+        → ((w.locks l).phase ≡ InProgress t)
+        ⊎ ((forced : Bool) × (AtLock l case ≡ AtLock l (OfOnce (Start forced))) × (t ≡ u))
     at_it (inl on) = inl on
     at_it (inr now) = inr (now.0, ap (AtLock l) now.1, now.2)
 
 -- ---------------------------------------------------------------- a thread in its closure stays there
 
-look_runs_none : (l : ℕ) (c : OnceCall) (again : Bool) (at : LookAt) → runs_closure (act_of (Once l (Look c again at))) ≡ false
+look_runs_none : (l : ℕ) (c : OnceCall) (again : Bool) (at : LookAt)
+    → runs_closure (act_of (Once l (Look c again at))) ≡ false
 look_runs_none l c again (look.Decide seen) = course_runs_none l seen (course_of c seen)
 look_runs_none l c again at = refl
 
-give_up_runs_none : (l : ℕ) (again : Bool) (at : GiveUpAt) → runs_closure (act_of (Once l (GiveUp again at))) ≡ false
+give_up_runs_none : (l : ℕ) (again : Bool) (at : GiveUpAt) → runs_closure (act_of (Once l (GiveUp again at)))
+    ≡ false
 give_up_runs_none l again give_up.Remove = refl
 give_up_runs_none l again give_up.Clear = refl
 give_up_runs_none l again give_up.Leave = refl
@@ -164,41 +186,51 @@ unmoved (RwLock l a c) r h = by_next (call_next a c r) ∙ sym (outside (RwLock 
     by_next : (n : Next RwLockCallPlace) → closure_lock (rwlock_goes l a n) ≡ None
     by_next (next.At q) = outside (RwLock l a q) (call_runs_none l a q)
     by_next (next.End answer) = refl
-unmoved (Condvar l at) r h = by_next (condvar_next at r) ∙ sym (outside (Condvar l at) (condvar_runs_none l at))
+unmoved (Condvar l at) r h = by_next (condvar_next at r)
+    ∙ sym (outside (Condvar l at) (condvar_runs_none l at))
   where
     by_next : (n : Next CondvarPlace) → closure_lock (condvar_goes l n) ≡ None
     by_next (next.At q) = outside (Condvar l q) (condvar_runs_none l q)
     by_next (next.End answer) = refl
-unmoved (Semaphore l at) r h = by_next (semaphore_next at r) ∙ sym (outside (Semaphore l at) (semaphore_runs_none l at))
+unmoved (Semaphore l at) r h = by_next (semaphore_next at r)
+    ∙ sym (outside (Semaphore l at) (semaphore_runs_none l at))
   where
     by_next : (n : Next SemaphorePlace) → closure_lock (semaphore_goes l n) ≡ None
     by_next (next.At q) = outside (Semaphore l q) (semaphore_runs_none l q)
     by_next (next.End answer) = refl
-unmoved (Once l (Run forced at)) r h = ap (λ n. closure_lock (once_goes l (in_run forced n))) (stays_running at r h)
-unmoved (Once l (GiveUp again at)) r h = by_next (next_give_up at r) ∙ sym (outside (Once l (GiveUp again at)) (give_up_runs_none l again at))
+unmoved (Once l (Run forced at)) r h = ap (λ n. closure_lock (once_goes l (in_run forced n)))
+    (stays_running at r h)
+unmoved (Once l (GiveUp again at)) r h = by_next (next_give_up at r)
+    ∙ sym (outside (Once l (GiveUp again at)) (give_up_runs_none l again at))
   where
     by_next : (n : Next GiveUpAt) → closure_lock (once_goes l (in_give_up again n)) ≡ None
     by_next (next.At q) = outside (Once l (GiveUp again q)) (give_up_runs_none l again q)
     by_next (next.End answer) = refl
-unmoved (Once l (Look c again at)) r h = looks (begins_run c at r) (is_late_asleep c at r) (begins_never c at r h) ∙ sym (outside (Once l (Look c again at)) (look_runs_none l c again at))
+unmoved (Once l (Look c again at)) r h = looks (begins_run c at r) (is_late_asleep c at r)
+    (begins_never c at r h) ∙ sym (outside (Once l (Look c again at)) (look_runs_none l c again at))
   where
     by_next : (n : Next LookAt) → closure_lock (once_goes l (in_look c (still_retries again r) n)) ≡ None
-    by_next (next.At q) = outside (Once l (Look c (still_retries again r) q)) (look_runs_none l c (still_retries again r) q)
+    by_next (next.At q) = outside (Once l (Look c (still_retries again r) q))
+        (look_runs_none l c (still_retries again r) q)
     by_next (next.End answer) = refl
 
     looks : (b late : Bool) → b ≡ false
         → closure_lock
-        (once_goes l (if b then next.At (Run (is_forced c) (closure_begun r)) else if late then next.At (GiveUp again give_up.Remove) else in_look c (still_retries again r) (next_look c at r)))
+        (once_goes l (if b then next.At (Run (is_forced c) (closure_begun r)) else if late then next.At
+        (GiveUp again give_up.Remove) else in_look c (still_retries again r) (next_look c at r)))
         ≡ None
     looks true late e = absurd cc
     looks false true e = refl
     looks false false e = by_next (next_look c at r)
 
 -- for every act of another thread
-stays_inside : (w : State) (s : Step) (t l : ℕ) → t ≢ s.thread → RunsClosure w t l → RunsClosure (after w s) t l
-stays_inside w s t l ne h = inside (place_at (after w s) t) (others_keep_it closure_lock unmoved w s t ne ∙ ap (λ b. if b then called_lock (place_at w t) else None) h.1 ∙ h.0)
+stays_inside : (w : State) (s : Step) (t l : ℕ) → t ≢ s.thread → RunsClosure w t l
+    → RunsClosure (after w s) t l
+stays_inside w s t l ne h = inside (place_at (after w s) t) (others_keep_it closure_lock unmoved w s t ne
+    ∙ ap (λ b. if b then called_lock (place_at w t) else None) h.1 ∙ h.0)
   where
-    inside : (p : Place) → closure_lock p ≡ Some l → (called_lock p ≡ Some l) × (runs_closure (act_of p) ≡ true)
+    inside : (p : Place) → closure_lock p ≡ Some l → (called_lock p ≡ Some l)
+        × (runs_closure (act_of p) ≡ true)
     inside p e = either (runs_closure (act_of p)) refl e
       where
         either : (b : Bool) → runs_closure (act_of p) ≡ b → (if b then called_lock p else None) ≡ Some l
@@ -216,25 +248,33 @@ calls_once : (w : State) (t l : ℕ) → RunsClosure w t l → IsCallOnce (call_
 calls_once w t l h =
     let one = runs_one (place_at w t) h.1 in
     let same_lock : Some one.lock ≡ Some l = sym (ap called_lock one.is) ∙ h.0 in
-    let here : one.lock ≡ l = cc in
-    (one.forced, ap (λ p. (call_state p (λ k. rights_of (lock_state w k) t)).purpose) one.is ∙ ap (λ n. Some (CallsOnce n one.forced)) here)
+    let here : one.lock ≡ l = cc in (
+      one.forced,
+      ap (λ p. (call_state p (λ k. rights_of (lock_state w k) t)).purpose) one.is
+          ∙ ap (λ n. Some (CallsOnce n one.forced)) here,
+    )
 
-runs_its_own : (w : State) (t l : ℕ) → runs_closure (act_of (place_at w t)) ≡ true → IsCallOnce (call_at w t).purpose l
+runs_its_own : (w : State) (t l : ℕ) → runs_closure (act_of (place_at w t)) ≡ true
+    → IsCallOnce (call_at w t).purpose l
     → RunsClosure w t l
 runs_its_own w t l inside call =
     let one = runs_one (place_at w t) inside in
-    let own : Some (CallsOnce one.lock one.forced) ≡ Some (CallsOnce l call.0) = sym (ap (λ p. (call_state p (λ k. rights_of (lock_state w k) t)).purpose) one.is) ∙ call.1 in
+    let own : Some (CallsOnce one.lock one.forced) ≡ Some (CallsOnce l call.0) =
+    sym (ap (λ p. (call_state p (λ k. rights_of (lock_state w k) t)).purpose) one.is) ∙ call.1 in
     let here : one.lock ≡ l = cc in
     (ap called_lock one.is ∙ ap Some here, inside)
 
 -- a call does to no lock but its own what a `Once` is for
-once_only : (w : LocksState) (t l : ℕ) (c : OnceCase) (purpose : Option Purpose) (m : ℕ) → MayDo w t l (OfOnce c) purpose
+once_only : (w : LocksState) (t l : ℕ) (c : OnceCase) (purpose : Option Purpose) (m : ℕ)
+    → MayDo w t l (OfOnce c) purpose
     → IsCallOnce purpose m → l ≡ m
 once_only w t l c None m may call = absurd may
-once_only w t l c (Some (CallsOnce k forced)) m may call = let own : Some (CallsOnce k forced) ≡ Some (CallsOnce m call.0) = call.1 in let same : k ≡ m = cc in may.0.0 ∙ same
+once_only w t l c (Some (CallsOnce k forced)) m may call = let own : Some (CallsOnce k forced)
+    ≡ Some (CallsOnce m call.0) = call.1 in let same : k ≡ m = cc in may.0.0 ∙ same
 once_only w t l c (Some purpose) m may call = absurd (let own = call.1 in cc)
 
-starts_only : (w : LocksState) (t l : ℕ) (forced : Bool) (purpose : Option Purpose) → MayDo w t l (OfOnce (Start forced)) purpose
+starts_only : (w : LocksState) (t l : ℕ) (forced : Bool) (purpose : Option Purpose)
+    → MayDo w t l (OfOnce (Start forced)) purpose
     → IsCallOnce purpose l
 starts_only w t l forced None may = absurd may
 starts_only w t l forced (Some (CallsOnce k own)) may = (own, ap (λ n. Some (CallsOnce n own)) (sym may.0.0))
@@ -242,9 +282,12 @@ starts_only w t l forced (Some (Awaits k own timed)) may = absurd (may.0.1)
 starts_only w t l forced (Some (Enters k x how)) may = absurd (may.0.1)
 starts_only w t l forced (Some (Releases k x fair)) may = absurd (may.0.1)
 starts_only w t l forced (Some (Converts k x y how)) may = absurd (may.0.1)
-starts_only w t l forced (Some (Waits k m timed)) may = absurd (elim (may.0) [ inl there ↦ there.1 | inr beside ↦ elim beside.1 [ inl a ↦ a | inr b ↦ b.1 ] ])
-starts_only w t l forced (Some (Notifies k all)) may = absurd (elim (may.0) [ inl there ↦ there.1 | inr beside ↦ beside ])
-starts_only w t l forced (Some (Bumps k x)) may = absurd (elim (may.0.1) [ inl gives ↦ gives | inr enters ↦ enters.1 ])
+starts_only w t l forced (Some (Waits k m timed)) may =
+    absurd (elim (may.0) [ inl there ↦ there.1 | inr beside ↦ elim beside.1 [ inl a ↦ a | inr b ↦ b.1 ] ])
+starts_only w t l forced (Some (Notifies k all)) may =
+    absurd (elim (may.0) [ inl there ↦ there.1 | inr beside ↦ beside ])
+starts_only w t l forced (Some (Bumps k x)) may =
+    absurd (elim (may.0.1) [ inl gives ↦ gives | inr enters ↦ enters.1 ])
 
 -- ---------------------------------------------------------------- a step
 
@@ -264,55 +307,77 @@ module _ (w : State) (s : Step) (o : Outcome) (step : IsTurn (locks_of w) s o (l
   ]
 
   -- one that begins
-  starts : (l : ℕ) (forced : Bool) (g : GoesOn (locks_of w) u o (locks_of v)) → g.event ≡ AtLock l (OfOnce (Start forced))
+  starts : (l : ℕ) (forced : Bool) (g : GoesOn (locks_of w) u o (locks_of v))
+      → g.event ≡ AtLock l (OfOnce (Start forced))
       → RunsClosure v u l
-  starts l forced g is = runs_its_own v u l inside (by_outcome o told (ap (λ (c : CallState). c.purpose) (g.calls u)))
+  starts l forced g is = runs_its_own v u l inside
+      (by_outcome o told (ap (λ (c : CallState). c.purpose) (g.calls u)))
     where
       told : o ≡ outcome.TheVariants.Closure (state_told (lock_state w l).phase)
       told = subst (λ e. Begins (locks_of w) e o) is g.begins
 
       inside : runs_closure (act_of (place_at v u)) ≡ true
-      inside = sym (step.0.runs (λ none. let f : outcome.TheVariants.Closure (state_told (lock_state w l).phase) ≡ outcome.TheVariants.NotNow = sym told ∙ none in cc)) ∙ ap is_closure told
+      inside = sym (step.0.runs (λ none. let f : outcome.TheVariants.Closure
+          (state_told (lock_state w l).phase) ≡ outcome.TheVariants.NotNow = sym told ∙ none in cc))
+          ∙ ap is_closure told
 
       may : MayDo (locks_of w) u l (OfOnce (Start forced)) (call_at w u).purpose
       may = subst (λ e. MayHappen (locks_of w) u e) is g.may
 
       by_outcome : (x : Outcome) → x ≡ outcome.TheVariants.Closure (state_told (lock_state w l).phase)
-          → (call_at v u).purpose ≡ (calls_after (locks_of w) u g.event o u).purpose → IsCallOnce (call_at v u).purpose l
-      by_outcome x e same_call = subst (λ p. IsCallOnce p l) (sym (same_call ∙ kept)) (starts_only (locks_of w) u l forced (call_at w u).purpose may)
+          → (call_at v u).purpose ≡ (calls_after (locks_of w) u g.event o u).purpose
+          → IsCallOnce (call_at v u).purpose l
+      by_outcome x e same_call = subst (λ p. IsCallOnce p l) (sym (same_call ∙ kept))
+          (starts_only (locks_of w) u l forced (call_at w u).purpose may)
         where
           kept : (calls_after (locks_of w) u g.event o u).purpose ≡ (call_at w u).purpose
-          kept = rw (is, told) (ap (λ b. (if b then record (call_at w u) { retries = None; released = true } else call_at w u).purpose) (same u))
+          kept = rw (is, told) (ap (λ b. (if b then record (call_at w u) {
+            retries = None;
+            released = true;
+          } else call_at w u).purpose) (same u))
 
-  goes : (g : GoesOn (locks_of w) u o (locks_of v)) → ((l : ℕ) → RunsClosure w u l → (lock_state v l).phase ≢ InProgress u)
+  goes : (g : GoesOn (locks_of w) u o (locks_of v)) → ((l : ℕ) → RunsClosure w u l → (lock_state v l).phase
+      ≢ InProgress u)
       → RunsInClosures v
-  goes g over t l e = elim (by_event (locks_of w) u g.event l t (sym (ap (λ (x : LockState). x.phase) (g.locks l)) ∙ e)) [
-    | inl on ↦ elim (cases_eq t u) [
-      | inl own ↦ absurd (over l (subst (λ n. RunsClosure w n l) own (running t l on)) (e ∙ ap InProgress own))
-      | inr ne ↦ stays_inside w s t l ne (running t l on)
-    ]
-    | inr start ↦ subst (λ n. RunsClosure v n l) (sym start.2) (starts l start.0 g start.1)
-  ]
+  goes g over t l e = elim (by_event (locks_of w) u g.event l t
+      (sym (ap (λ (x : LockState). x.phase) (g.locks l)) ∙ e)) [
+        | inl on ↦ elim (cases_eq t u) [
+          | inl own ↦ absurd (over l (subst (λ n. RunsClosure w n l) own (running t l on)) (e
+              ∙ ap InProgress own))
+          | inr ne ↦ stays_inside w s t l ne (running t l on)
+        ]
+        | inr start ↦ subst (λ n. RunsClosure v n l) (sym start.2) (starts l start.0 g start.1)
+      ]
 
   -- a run that its closure has ended is on no more
-  ends : (c : OnceCase) → ((x : LockState) → (once_after c x u).phase ≢ InProgress u) → Closes (locks_of w) u c o (locks_of v)
+  ends : (c : OnceCase) → ((x : LockState) → (once_after c x u).phase ≢ InProgress u)
+      → Closes (locks_of w) u c o (locks_of v)
       → (l : ℕ) → RunsClosure w u l → (lock_state v l).phase ≢ InProgress u
   ends c over closes l h e = over (lock_state w l) (sym ended ∙ e)
     where
       here : closes.lock ≡ l
-      here = once_only (locks_of w) u closes.lock c (call_at w u).purpose l (subst (λ x. MayHappen (locks_of w) u x) closes.ends closes.goes.may) (calls_once w u l h)
+      here = once_only (locks_of w) u closes.lock c (call_at w u).purpose l
+          (subst (λ x. MayHappen (locks_of w) u x) closes.ends closes.goes.may) (calls_once w u l h)
 
       ended : (lock_state v l).phase ≡ (once_after c (lock_state w l) u).phase
-      ended = ap (λ (x : LockState). x.phase) (closes.goes.locks l) ∙ ap (λ x. (locks_after (locks_of w) u x l).phase) (closes.ends ∙ ap (λ n. AtLock n (OfOnce c)) here)
+      ended = ap (λ (x : LockState). x.phase) (closes.goes.locks l)
+          ∙ ap (λ x. (locks_after (locks_of w) u x l).phase) (closes.ends ∙ ap (λ n. AtLock n (OfOnce c))
+          here)
           ∙ ap (λ (x : LockState). x.phase) (put_here (lock_state w) l (once_after c (lock_state w l) u))
 
   by_turn : (x : Turn) → MayTurn (locks_of w) u x → Does (locks_of w) u x o (locks_of v) → RunsInClosures v
-  by_turn (turn.TheVariants.Begin c) may does t l e = went_on t l (sym (ap (λ (x : LockState). x.phase) (does.locks l)) ∙ e)
-      (λ h. let call = calls_once w u l h in let f : None ≡ Some (CallsOnce l call.0) = sym may.idle ∙ call.1 in cc)
-  by_turn turn.TheVariants.Late may does t l e = went_on t l (sym (ap (λ (x : LockState). x.phase) (does.locks l)) ∙ e)
-      (λ h. let awake : false ≡ true = sym (ap (λ p. sleeps (act_of p)) (runs_one (place_at w u) h.1).is) ∙ may.asleep in cc)
-  by_turn turn.TheVariants.Go may does t l e = goes does (λ l h e. let f : true ≡ false = sym h.1 ∙ may.outside in cc) t l e
-  by_turn turn.TheVariants.Spin may does t l e = goes does.goes (λ l h e. let f : false ≡ true = sym (ap (λ p. is_some (looking p)) (runs_one (place_at w u) h.1).is) ∙ may in cc) t l e
+  by_turn (turn.TheVariants.Begin c) may does t l e =
+      went_on t l (sym (ap (λ (x : LockState). x.phase) (does.locks l)) ∙ e)
+      (λ h. let call = calls_once w u l h in let f : None ≡ Some (CallsOnce l call.0) = sym may.idle ∙ call.1
+      in cc)
+  by_turn turn.TheVariants.Late may does t l e =
+      went_on t l (sym (ap (λ (x : LockState). x.phase) (does.locks l)) ∙ e)
+      (λ h. let awake : false ≡ true = sym (ap (λ p. sleeps (act_of p)) (runs_one (place_at w u) h.1).is)
+      ∙ may.asleep in cc)
+  by_turn turn.TheVariants.Go may does t l e = goes does (λ l h e. let f : true ≡ false = sym h.1
+      ∙ may.outside in cc) t l e
+  by_turn turn.TheVariants.Spin may does t l e = goes does.goes (λ l h e. let f : false ≡ true =
+      sym (ap (λ p. is_some (looking p)) (runs_one (place_at w u) h.1).is) ∙ may in cc) t l e
   by_turn turn.TheVariants.Ok may does t l e = goes does.goes (ends Finish (λ x e. cc) does) t l e
   by_turn turn.TheVariants.Err may does t l e = goes does.goes (ends Fail (λ x e. cc) does) t l e
 
@@ -320,7 +385,8 @@ module _ (w : State) (s : Step) (o : Outcome) (step : IsTurn (locks_of w) s o (l
   unchanged same_locks t l e =
       let h = running t l (sym (ap (λ (x : LocksState). (x.locks l).phase) same_locks) ∙ e) in
       runs_its_own v t l (ap (λ (x : LocksState). (x.stances t).in_closure) same_locks ∙ h.1)
-      (subst (λ p. IsCallOnce p l) (sym (ap (λ (x : LocksState). (x.calls t).purpose) same_locks)) (calls_once w t l h))
+      (subst (λ p. IsCallOnce p l) (sym (ap (λ (x : LocksState). (x.calls t).purpose) same_locks))
+      (calls_once w t l h))
 
   runs_on : RunsInClosures v
   runs_on = elim step.1 [
@@ -328,20 +394,26 @@ module _ (w : State) (s : Step) (o : Outcome) (step : IsTurn (locks_of w) s o (l
     | inr refused ↦ unchanged refused.1.1
   ]
 
-pub running_after : (w : State) (s : Step) → IsWellFormed w → IsInductive w → AreCounted w → AreCondvars w → RunsInClosures w
+pub running_after : (w : State) (s : Step) → IsWellFormed w → IsInductive w → AreCounted w → AreCondvars w
+    → RunsInClosures w
     → RunsInClosures (after w s)
-running_after w s shape steady counted condvars running = runs_on w s (step_outcome w s) (after_step w s shape steady counted condvars) running
+running_after w s shape steady counted condvars running =
+    runs_on w s (step_outcome w s) (after_step w s shape steady counted condvars) running
 
 -- a thread that stands elsewhere in its call, and in no closure, has no run on
-pub put_running : (w : State) (t : ℕ) (q : Place) → runs_closure (act_of (place_at w t)) ≡ false → RunsInClosures w
+pub put_running : (w : State) (t : ℕ) (q : Place) → runs_closure (act_of (place_at w t)) ≡ false
+    → RunsInClosures w
     → RunsInClosures (put w t q)
 put_running w t q outside_now running u l e = elim (cases_eq u t) [
-  | inl own ↦ absurd (let f : true ≡ false = sym (running u l e).1 ∙ ap (λ n. runs_closure (act_of (place_at w n))) own ∙ outside_now in cc)
-  | inr ne ↦ subst (λ p. (called_lock p ≡ Some l) × (runs_closure (act_of p) ≡ true)) (sym (get_or-set_other w.places t u q Idle ne)) (running u l e)
+  | inl own ↦ absurd (let f : true ≡ false = sym (running u l e).1
+      ∙ ap (λ n. runs_closure (act_of (place_at w n))) own ∙ outside_now in cc)
+  | inr ne ↦ subst (λ p. (called_lock p ≡ Some l) × (runs_closure (act_of p) ≡ true))
+      (sym (get_or-set_other w.places t u q Idle ne)) (running u l e)
 ]
 
 -- ---------------------------------------------------------------- the opening state
 
 -- no run is on
 pub opening_running : (kinds : List Kind) (threads : ℕ) → RunsInClosures (opening kinds threads)
-opening_running kinds threads t l e = absurd (let none : New ≡ InProgress t = sym (ap (λ (x : LockState). x.phase) (opening_state kinds threads l)) ∙ e in cc)
+opening_running kinds threads t l e = absurd (let none : New ≡ InProgress t =
+    sym (ap (λ (x : LockState). x.phase) (opening_state kinds threads l)) ∙ e in cc)

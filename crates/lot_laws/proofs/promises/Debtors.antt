@@ -1,6 +1,7 @@
 -- A debtor of a line is inside its section or on its way into it. Each thread inside owes, and so does each
 -- one on its way but for a wait.
-use Rattle.std.proofs.Common.{ℕ, Bool, true, false, Option, Some, None, if◌then◌else◌, ◌==◌, ◌≡◌, ◌≢◌, ◌⊎◌, ◌↔◌, inl, inr, refl, sym, ◌∙◌, ap, subst}
+use Rattle.std.proofs.Common.{ℕ, Bool, true, false, Option, Some, None, if◌then◌else◌, ◌==◌, ◌≡◌, ◌≢◌, ◌⊎◌}
+use Rattle.std.proofs.Common.{◌↔◌, inl, inr, refl, sym, ◌∙◌, ap, subst}
 use Rattle.std.proofs.lemmas.Bool.{eqb-true}
 use Rattle.core_base.specs.declared.keys.Keys.TheVariants.{One}
 use Rattle.steps_base.specs.declared.acts.Act.TheVariants.{Enter}
@@ -87,7 +88,8 @@ owes_beside (Wait m timed (wait.Release s (mutex.Unlock unlock.Take))) reached =
 owes_beside (Wait m timed (wait.Release s (mutex.Unlock (unlock.Clear any)))) reached = inl refl
 owes_beside (Wait m timed (wait.Release s (mutex.Unlock (unlock.Leave any)))) reached = inl refl
 owes_beside (Wait m timed (wait.Release s at)) reached = absurd reached.0
-owes_beside (Wait m timed (wait.Lock late (mutex.Lock entry.Lock retries at))) reached = inl (locker_owes m timed late retries at reached.1)
+owes_beside (Wait m timed (wait.Lock late (mutex.Lock entry.Lock retries at))) reached =
+    inl (locker_owes m timed late retries at reached.1)
 owes_beside (Wait m timed (wait.Lock late at)) reached = absurd reached.1
 owes_beside (Wait m timed wait.RemoveMoved) reached = inl refl
 owes_beside (Wait m timed (wait.GiveUpMoved none_left)) reached = inl refl
@@ -105,18 +107,23 @@ record OwesOutside (at : CondvarPlace) : Type 0 where
   pub inside : (condvar_row at).role.inside ≡ None
 
 owes_outside : (at : CondvarPlace) → IsEntering at → OwesOutside at
-owes_outside (Wait m timed (wait.Release s (mutex.Unlock unlock.Enter))) e = record { owes = refl; inside = refl }
+owes_outside (Wait m timed (wait.Release s (mutex.Unlock unlock.Enter))) e =
+    record { owes = refl; inside = refl }
 owes_outside at e = absurd e
 
-module _ (k : ℕ) (at : CondvarPlace) (apart : (l : ℕ) → mutex_beside at ≡ Some l → k ≢ l) (reached : IsReached at) where
+module _ (k : ℕ) (at : CondvarPlace) (apart : (l : ℕ) → mutex_beside at ≡ Some l → k ≢ l)
+    (reached : IsReached at) where
   abbrev owed_by : Bool → Bool → Option Line
-  owed_by b c = or_else (if c then in_line (condvar_row at).owes_mutex Main else None) (if b then in_line (condvar_row at).owes Main else None)
+  owed_by b c = or_else (if c then in_line (condvar_row at).owes_mutex Main else None) (if b
+      then in_line (condvar_row at).owes Main else None)
 
   abbrev inside_by : Bool → Bool → Option Line
-  inside_by b c = (if b then location (Condvar k at) else if c then location_by (mutex_side at) else nowhere).inside
+  inside_by b c = (if b then location (Condvar k at) else if c then location_by (mutex_side at)
+      else nowhere).inside
 
   -- it owes where it is inside, but for the mutex whose section it enters next
-  owes_where : (l : ℕ) → (line_owed (Condvar k at) l ≡ (location_at (Condvar k at) l).inside) ⊎ EntersAt at l Main
+  owes_where : (l : ℕ) → (line_owed (Condvar k at) l ≡ (location_at (Condvar k at) l).inside)
+      ⊎ EntersAt at l Main
   owes_where l = by_lock (k == l) (is_lock l (mutex_beside at)) refl refl
     where
       names : (o : Option ℕ) → is_lock l o ≡ true → o ≡ Some l
@@ -127,7 +134,8 @@ module _ (k : ℕ) (at : CondvarPlace) (apart : (l : ℕ) → mutex_beside at �
       or_none None = refl
       or_none (Some m) = refl
 
-      by_lock : (b c : Bool) → (k == l) ≡ b → is_lock l (mutex_beside at) ≡ c → (owed_by b c ≡ inside_by b c) ⊎ EntersAt at l Main
+      by_lock : (b c : Bool) → (k == l) ≡ b → is_lock l (mutex_beside at) ≡ c → (owed_by b c ≡ inside_by b c)
+          ⊎ EntersAt at l Main
       by_lock true true e f = absurd (apart l (names (mutex_beside at) f) (eqb-true k l e))
       by_lock true false e f = inl (owes_there at)
       by_lock false false e f = inl refl
@@ -144,7 +152,8 @@ module _ (k : ℕ) (at : CondvarPlace) (apart : (l : ℕ) → mutex_beside at �
     beside = ap (is_lock l) enters.0 ∙ same l
 
     entering_owes : line_owed (Condvar k at) l ≡ Some m
-    entering_owes = (λ i. owed_by (other i) (beside i)) ∙ ap (λ b. or_else (in_line b Main) None) (owes_outside at enters.2).owes ∙ ap Some (sym enters.1)
+    entering_owes = (λ i. owed_by (other i) (beside i)) ∙ ap (λ b. or_else (in_line b Main) None)
+        (owes_outside at enters.2).owes ∙ ap Some (sym enters.1)
 
     entering_outside : (location_at (Condvar k at) l).inside ≡ None
     entering_outside = (λ i. inside_by (other i) (beside i)) ∙ (owes_outside at enters.2).inside
@@ -152,16 +161,19 @@ module _ (k : ℕ) (at : CondvarPlace) (apart : (l : ℕ) → mutex_beside at �
 -- it does so by its act, in a wait that has released its mutex
 entering_acts : (k : ℕ) (at : CondvarPlace) (l : ℕ) (m : Line) → EntersAt at l m
     → act_of (Condvar k at) ≡ Enter (One (key_of l m))
-entering_acts k (Wait n timed (wait.Release s (mutex.Unlock unlock.Enter))) l m e = let here : n ≡ l = cc in ap (λ j. Enter (One (key_of j Main))) here ∙ ap (λ x. Enter (One (key_of l x))) (sym e.1)
+entering_acts k (Wait n timed (wait.Release s (mutex.Unlock unlock.Enter))) l m e = let here : n ≡ l = cc
+    in ap (λ j. Enter (One (key_of j Main))) here ∙ ap (λ x. Enter (One (key_of l x))) (sym e.1)
 entering_acts k at l m e = absurd e.2
 
 entering_released : (k : ℕ) (at : CondvarPlace) (l : ℕ) (m : Line) → EntersAt at l m → (r : ℕ → Rights)
     → WaitHasReleased (call_state (Condvar k at) r).purpose (call_state (Condvar k at) r).released l m
-entering_released k (Wait n timed (wait.Release s (mutex.Unlock unlock.Enter))) l m e r = let here : n ≡ l = cc in subst (WaitHasReleased (Some (Waits k n timed)) true l) (sym e.1) (here, refl)
+entering_released k (Wait n timed (wait.Release s (mutex.Unlock unlock.Enter))) l m e r = let here : n ≡ l =
+    cc in subst (WaitHasReleased (Some (Waits k n timed)) true l) (sym e.1) (here, refl)
 entering_released k at l m e r = absurd e.2
 
 -- a thread that enters the section of one lock alone does so in a wait
-enters_waiting : (k : ℕ) (at : CondvarPlace) (key : ℕ) → act_of (Condvar k at) ≡ Enter (One key) → (r : ℕ → Rights)
+enters_waiting : (k : ℕ) (at : CondvarPlace) (key : ℕ) → act_of (Condvar k at) ≡ Enter (One key)
+    → (r : ℕ → Rights)
     → IsWait (call_state (Condvar k at) r).purpose
 enters_waiting k (Wait n timed at) key e r = tt
 enters_waiting k (Look all) key e r = absurd cc
@@ -195,21 +207,29 @@ module _ (w : State) (t : ℕ) (steady : IsInductive w) where
     two_owe l m = (
       (λ h. owing (subst (λ p. line_owed p l ≡ Some m) is h)),
       λ h. subst (λ p. line_owed p l ≡ Some m) (sym is) (elim h [
-        | inl i ↦ inside_owes (subst (λ p. (location_at p l).inside ≡ Some m) is ((steady.stands.sections t l m).1 i))
+        | inl i ↦ inside_owes (subst (λ p. (location_at p l).inside ≡ Some m) is
+            ((steady.stands.sections t l m).1 i))
         | inr enters ↦ entering_owes k at (condvar_apart w k at fits) fits.reached l m enters
       ]),
     )
       where
         owing : line_owed (Condvar k at) l ≡ Some m → IsInside w t l m ⊎ EntersAt at l m
         owing owed = elim (owes_where k at (condvar_apart w k at fits) fits.reached l) [
-          | inl within ↦ inl ((steady.stands.sections t l m).0 (ap (λ p. (location_at p l).inside) is ∙ sym within ∙ owed))
-          | inr enters ↦ inr (enters.0, (let main : Some m ≡ Some Main = sym owed ∙ entering_owes k at (condvar_apart w k at fits) fits.reached l Main enters in cc), enters.2)
+          | inl within ↦ inl ((steady.stands.sections t l m).0 (ap (λ p. (location_at p l).inside) is
+              ∙ sym within ∙ owed))
+          | inr enters ↦ inr (
+            enters.0,
+            (let main : Some m ≡ Some Main = sym owed
+                ∙ entering_owes k at (condvar_apart w k at fits) fits.reached l Main enters in cc),
+            enters.2,
+          )
         ]
 
         inside_owes : (location_at (Condvar k at) l).inside ≡ Some m → line_owed (Condvar k at) l ≡ Some m
         inside_owes i = elim (owes_where k at (condvar_apart w k at fits) fits.reached l) [
           | inl within ↦ within ∙ i
-          | inr enters ↦ absurd (let out : ◌≡◌ {A = Option Line} None (Some m) = sym (entering_outside k at (condvar_apart w k at fits) fits.reached l Main enters) ∙ i in cc)
+          | inr enters ↦ absurd (let out : ◌≡◌ {A = Option Line} None (Some m) =
+              sym (entering_outside k at (condvar_apart w k at fits) fits.reached l Main enters) ∙ i in cc)
         ]
 
   -- a thread that owes is inside, or on its way
@@ -219,8 +239,11 @@ module _ (w : State) (t : ℕ) (steady : IsInductive w) where
     | inr two ↦ elim ((two_owe two.lock two.at two.is l m).0 h) [
       | inl i ↦ inl i
       | inr enters ↦ inr (
-        subst (λ p. act_of p ≡ Enter (One (key_of l m))) (sym two.is) (entering_acts two.lock two.at l m enters),
-        inr (inr (subst (λ p. WaitHasReleased (call_state p (rights w t)).purpose (call_state p (rights w t)).released l m) (sym two.is) (entering_released two.lock two.at l m enters (rights w t)))),
+        subst (λ p. act_of p ≡ Enter (One (key_of l m))) (sym two.is) (entering_acts two.lock two.at l m
+            enters),
+        inr (inr (subst (λ p. WaitHasReleased (call_state p (rights w t)).purpose
+            (call_state p (rights w t)).released l m) (sym two.is) (entering_released two.lock two.at l m
+            enters (rights w t)))),
       )
     ]
   ]
@@ -236,5 +259,7 @@ module _ (w : State) (t : ℕ) (steady : IsInductive w) where
   pub going_owes_so : (l : ℕ) (m : Line) → GoesToWake w t l m → Owes w t l m ⊎ IsWait (call_at w t).purpose
   going_owes_so l m g = elim (single_or_two (place_at w t)) [
     | inl single ↦ inl ((owing_is w t steady single l m).1 (inr g))
-    | inr two ↦ inr (subst (λ p. IsWait (call_state p (rights w t)).purpose) (sym two.is) (enters_waiting two.lock two.at (key_of l m) (subst (λ p. act_of p ≡ Enter (One (key_of l m))) two.is g.0) (rights w t)))
+    | inr two ↦ inr (subst (λ p. IsWait (call_state p (rights w t)).purpose) (sym two.is)
+        (enters_waiting two.lock two.at (key_of l m) (subst (λ p. act_of p ≡ Enter (One (key_of l m))) two.is
+        g.0) (rights w t)))
   ]

@@ -1,7 +1,9 @@
 -- The exclusive owner of a mutex behind a step on its word.
-use Rattle.std.proofs.Common.{ℕ, Bool, true, false, Option, Some, None, if◌then◌else◌, ◌==◌, ◌&&◌, not, ◌≡◌, inl, inr, refl}
+use Rattle.std.proofs.Common.{ℕ, Bool, true, false, Option, Some, None, if◌then◌else◌, ◌==◌, ◌&&◌, not, ◌≡◌}
+use Rattle.std.proofs.Common.{inl, inr, refl}
 use Rattle.steps_base.specs.declared.owners.Owners.{Owners}
-use Rattle.steps_mutex.specs.declared.places.MutexPlace.TheVariants.{Lock, TryLock, Unlock, UnlockFair, Bump, HandOff}
+use Rattle.steps_mutex.specs.declared.places.MutexPlace.TheVariants.{Lock, TryLock, Unlock, UnlockFair, Bump}
+use Rattle.steps_mutex.specs.declared.places.MutexPlace.TheVariants.{HandOff}
 use Rattle.steps_mutex.specs.declared.lock.LockAt.{LockAt}
 use Rattle.steps_mutex.specs.declared.lock.LockAt.TheVariants.{First, Decide}
 use Rattle.steps_mutex.specs.declared.unlock.UnlockAt.{UnlockAt}
@@ -31,28 +33,33 @@ mutex_owner_after Bump t v o = o
 mutex_owner_after (HandOff bumps (hand_off.Store any none_left)) t v o = None
 mutex_owner_after (HandOff bumps at) t v o = o
 
-pub mutex_is : (at : MutexPlace) (t v : ℕ) (r : Owners) → (mutex_owners at t v r).exclusive ≡ mutex_owner_after at t v r.exclusive
+pub mutex_is : (at : MutexPlace) (t v : ℕ) (r : Owners) → (mutex_owners at t v r).exclusive
+    ≡ mutex_owner_after at t v r.exclusive
 mutex_is (Lock entry retries First) t v r = either (v == 0)
   where
-    either : (b : Bool) → (if b then with_exclusive r (Some t) else r).exclusive ≡ (if b then Some t else r.exclusive)
+    either : (b : Bool) → (if b then with_exclusive r (Some t) else r).exclusive
+        ≡ (if b then Some t else r.exclusive)
     either true = refl
     either false = refl
 mutex_is (Lock entry retries (Decide s)) t v r = either ((v == s) && not (is_locked v))
   where
-    either : (b : Bool) → (if b then with_exclusive r (Some t) else r).exclusive ≡ (if b then Some t else r.exclusive)
+    either : (b : Bool) → (if b then with_exclusive r (Some t) else r).exclusive
+        ≡ (if b then Some t else r.exclusive)
     either true = refl
     either false = refl
 mutex_is (Lock entry retries at) t v r = refl
 mutex_is TryLock t v r = either (is_locked v)
   where
-    either : (b : Bool) → (if b then r else with_exclusive r (Some t)).exclusive ≡ (if b then r.exclusive else Some t)
+    either : (b : Bool) → (if b then r else with_exclusive r (Some t)).exclusive
+        ≡ (if b then r.exclusive else Some t)
     either true = refl
     either false = refl
 mutex_is (Unlock unlock.Subtract) t v r = refl
 mutex_is (Unlock at) t v r = refl
 mutex_is UnlockFair t v r = either (v == 1)
   where
-    either : (b : Bool) → (if b then with_exclusive r None else r).exclusive ≡ (if b then None else r.exclusive)
+    either : (b : Bool) → (if b then with_exclusive r None else r).exclusive
+        ≡ (if b then None else r.exclusive)
     either true = refl
     either false = refl
 mutex_is Bump t v r = refl
@@ -62,7 +69,8 @@ mutex_is (HandOff bumps at) t v r = refl
 -- ---------------------------------------------------------------- words
 
 -- the four words of a mutex
-pub by_code : (P : ℕ → Option ℕ → Type 0) → P 0 None → P 2 None → ((u : ℕ) → P 1 (Some u)) → ((u : ℕ) → P 3 (Some u))
+pub by_code : (P : ℕ → Option ℕ → Type 0) → P 0 None → P 2 None → ((u : ℕ) → P 1 (Some u))
+    → ((u : ℕ) → P 3 (Some u))
     → (v : ℕ) (o : Option ℕ) → IsMutexWord v o → P v o
 by_code P a b c d v None (inl e) = rw e a
 by_code P a b c d v None (inr e) = rw e b

@@ -1,5 +1,6 @@
 -- The promises of the world say the headline: in the words of the abstract locks alone, nobody is forgotten.
-use Rattle.std.proofs.Common.{ℕ, Bool, true, false, Option, Some, None, ◌≤◌, ◌⊎◌, List, [], ◌∷◌, ◌++◌, ◌≡◌, ◌≢◌, inl, inr, refl, sym, ◌∙◌, ap, subst}
+use Rattle.std.proofs.Common.{ℕ, Bool, true, false, Option, Some, None, ◌≤◌, ◌⊎◌, List, [], ◌∷◌, ◌++◌, ◌≡◌}
+use Rattle.std.proofs.Common.{◌≢◌, inl, inr, refl, sym, ◌∙◌, ap, subst}
 use Rattle.std.proofs.lemmas.List.{length-replicate, length-map}
 use Rattle.core_base.specs.declared.keys.Line.{Line}
 use Rattle.core_base.specs.declared.keys.Line.TheVariants.{Main, Second}
@@ -10,7 +11,8 @@ use Rattle.steps_base.specs.declared.acts.Act.{Act}
 use Rattle.steps_base.specs.declared.acts.Act.TheVariants.{Sleep}
 use Rattle.lot_steps.specs.declared.places.Place.{Place}
 use Rattle.lot_steps.specs.declared.places.Place.TheVariants.{Idle, Once}
-use Rattle.lot_steps.specs.Steps.{act_of, beside_of, called_lock, line_owed, profile, profile_beside, retries_on}
+use Rattle.lot_steps.specs.Steps.{act_of, beside_of, called_lock, line_owed, profile, profile_beside}
+use Rattle.lot_steps.specs.Steps.{retries_on}
 use Rattle.steps_once.specs.declared.places.OncePlace.TheVariants.{Run}
 use Rattle.steps_once.specs.declared.run.RunAt.TheVariants as running
 use Rattle.lot_machine.proofs.Closures.{runs_one}
@@ -20,8 +22,10 @@ use Rattle.spec_locks.specs.Purposes.{CallsOnce}
 use Rattle.lot_laws.proofs.machine.Filled.{filled_after}
 use Rattle.spec_locks.specs.Headline as headline
 use Rattle.spec_locks.specs.Headline.{MayTell, Behaves, Opens}
-use Rattle.lot_machine.specs.Machine.{State, kind_at, opening, unlocked, place_at, filled_at, after, step_outcome, after_steps, step_outcomes}
-use Rattle.lot_laws.specs.Refinement.{RunsClosure, call_at, call_on_both, call_state, keys_entered, lock_state, locks_of, runs_closure, sleeps}
+use Rattle.lot_machine.specs.Machine.{State, kind_at, opening, unlocked, place_at, filled_at, after}
+use Rattle.lot_machine.specs.Machine.{step_outcome, after_steps, step_outcomes}
+use Rattle.lot_laws.specs.Refinement.{RunsClosure, call_at, call_on_both, call_state, keys_entered}
+use Rattle.lot_laws.specs.Refinement.{lock_state, locks_of, runs_closure, sleeps}
 use Rattle.lot_laws.specs.Promises.{AreLookedAfterIn, IsKept, IsDebtorOf, IsLookedAfterIn, IsHandedOverIn}
 use Rattle.lot_laws.specs.Owing.{Owes}
 use Rattle.lot_laws.specs.SitesOf.{IsWorld}
@@ -51,7 +55,8 @@ asleep_is a h = absurd cc
 in_call : (p : Place) (r : ℕ → Rights) → (p ≡ Idle → ⊥) → (call_state p r).purpose ≢ None
 in_call p r busy = by_lock (beside_of p) (called_lock p) refl
   where
-    by_lock : (m o : Option ℕ) → called_lock p ≡ o → (call_on_both m o (profile p) (profile_beside p) r).purpose ≢ None
+    by_lock : (m o : Option ℕ) → called_lock p ≡ o
+        → (call_on_both m o (profile p) (profile_beside p) r).purpose ≢ None
     by_lock None (Some l) e = λ h. cc
     by_lock (Some m) (Some l) e = λ h. cc
     by_lock m None e = absurd (busy (calls_none p e))
@@ -62,24 +67,36 @@ idle_owes l m e = absurd cc
 
 -- a thread that runs its closure tries no lock again
 closure_tries : (p : Place) (l : ℕ) → runs_closure (act_of p) ≡ true → retries_on p l ≡ true → ⊥
-closure_tries p l runs again = let one = runs_one p runs in absurd (let e : retries_on (Once one.lock (Run one.forced (running.Closure one.poisoned))) l ≡ true = subst (λ q. retries_on q l ≡ true) one.is again in cc)
+closure_tries p l runs again = let one = runs_one p runs
+    in absurd (let e : retries_on (Once one.lock (Run one.forced (running.Closure one.poisoned))) l ≡ true =
+    subst (λ q. retries_on q l ≡ true) one.is again in cc)
 
 module _ (w : State) (k : IsKept w) where
   busy : (t l : ℕ) (m : Line) → Owes w t l m → (call_at w t).purpose ≢ None
-  busy t l m owes = in_call (place_at w t) (λ l. rights_of (lock_state w l) t) (λ idle. idle_owes l m (subst (λ p. line_owed p l ≡ Some m) idle owes))
+  busy t l m owes = in_call (place_at w t) (λ l. rights_of (lock_state w l) t)
+      (λ idle. idle_owes l m (subst (λ p. line_owed p l ≡ Some m) idle owes))
 
   -- a thread that owes a wake is inside the section, or enters it next
   at_line : (t l : ℕ) (m : Line) → Owes w t l m → headline.IsAtLine (locks_of w) t l m
-  at_line t l m owes = elim (k.owing t l m owes) [ inl inside ↦ inl inside | inr goes ↦ inr (ap keys_entered goes.0) ]
+  at_line t l m owes = elim (k.owing t l m owes) [
+    | inl inside ↦ inl inside
+    | inr goes ↦
+        inr (ap keys_entered goes.0)
+  ]
 
   -- A thread that owes runs no closure.
   no_closure : (t l : ℕ) (m : Line) → Owes w t l m → runs_closure (act_of (place_at w t)) ≡ false
-  no_closure t l m owes = elim (k.owing t l m owes) [ inl inside ↦ (k.inside_goes t l m inside).1 | inr goes ↦ ap runs_closure goes.0 ]
+  no_closure t l m owes = elim (k.owing t l m owes) [
+    | inl inside ↦ (k.inside_goes t l m inside).1
+    | inr goes ↦
+        ap runs_closure goes.0
+  ]
 
   tries_open : (t l : ℕ) → (call_at w t).retries ≡ Some l → runs_closure (act_of (place_at w t)) ≡ false
   tries_open t l again = by_act (runs_closure (act_of (place_at w t))) refl
     where
-      by_act : (b : Bool) → runs_closure (act_of (place_at w t)) ≡ b → runs_closure (act_of (place_at w t)) ≡ false
+      by_act : (b : Bool) → runs_closure (act_of (place_at w t)) ≡ b → runs_closure (act_of (place_at w t))
+          ≡ false
       by_act false e = e
       by_act true e = absurd (closure_tries (place_at w t) l e ((k.retrying t l).1 again))
 
@@ -105,8 +122,13 @@ module _ (w : State) (k : IsKept w) where
     debtor = many.debtor;
     apart = many.apart;
     each = λ i lt. (let h = many.each i lt in
-        subst (λ t. headline.IsDebtor (locks_of w) t l Main × headline.IsUp ((locks_of w).stances t)) h.1
-        (debt_so h.0.debtor l Main h.0.debt, (awake_is (act_of (place_at w h.0.debtor)) h.0.awake, debt_awake h.0.debtor l Main h.0.debt)));
+        subst (λ t. headline.IsDebtor (locks_of w) t l Main × headline.IsUp ((locks_of w).stances t)) h.1 (
+          debt_so h.0.debtor l Main h.0.debt,
+          (
+            awake_is (act_of (place_at w h.0.debtor)) h.0.awake,
+            debt_awake h.0.debtor l Main h.0.debt,
+          ),
+        ));
   }
 
   handed_over : (t : ℕ) → IsHandedOverIn w t → headline.IsHandedOver (locks_of w) t
@@ -119,8 +141,13 @@ module _ (w : State) (k : IsKept w) where
     inside = h.inside;
   }
 
-  sleeps_so : (t : ℕ) → act_of (place_at w t) ≡ Sleep → ((l : ℕ) × (1 ≤ standing t (lock_state w l))) ⊎ headline.IsHandedOver (locks_of w) t
-  sleeps_so t asleep = elim (k.sleeping t asleep) [ inl some ↦ inl some | inr handed ↦ inr (handed_over t handed) ]
+  sleeps_so : (t : ℕ) → act_of (place_at w t) ≡ Sleep → ((l : ℕ) × (1 ≤ standing t (lock_state w l)))
+      ⊎ headline.IsHandedOver (locks_of w) t
+  sleeps_so t asleep = elim (k.sleeping t asleep) [
+    | inl some ↦ inl some
+    | inr handed ↦
+        inr (handed_over t handed)
+  ]
 
   pub nobody_forgotten : headline.NobodyForgotten (locks_of w) (filled_at w)
   nobody_forgotten = record {
@@ -134,19 +161,27 @@ module _ (w : State) (k : IsKept w) where
 
   -- a thread runs a closure in a call that runs a `Once`
   abbrev RunsOnce : ℕ → ℕ → Type 0
-  RunsOnce t l = (runs_closure (act_of (place_at w t)) ≡ true) × ((forced : Bool) × ((call_at w t).purpose ≡ Some (CallsOnce l forced)))
+  RunsOnce t l = (runs_closure (act_of (place_at w t)) ≡ true)
+      × ((forced : Bool) × ((call_at w t).purpose ≡ Some (CallsOnce l forced)))
 
   runs_once : (t l : ℕ) → RunsClosure w t l → RunsOnce t l
   runs_once t l h =
       let one = runs_one (place_at w t) h.1 in
       let called : Some one.lock ≡ Some l = sym (ap called_lock one.is) ∙ h.0 in
-      let same : one.lock ≡ l = cc in
-      (h.1, (one.forced, ap (λ p. (call_state p (λ k. rights_of (lock_state w k) t)).purpose) one.is ∙ ap (λ k. Some (CallsOnce k one.forced)) same))
+      let same : one.lock ≡ l = cc in (
+        h.1,
+        (
+          one.forced,
+          ap (λ p. (call_state p (λ k. rights_of (lock_state w k) t)).purpose) one.is
+              ∙ ap (λ k. Some (CallsOnce k one.forced)) same,
+        ),
+      )
 
   runs_there : (t l : ℕ) → RunsOnce t l → RunsClosure w t l
   runs_there t l h =
       let one = runs_one (place_at w t) h.0 in
-      let for : Some (CallsOnce one.lock one.forced) ≡ Some (CallsOnce l h.1.0) = sym (ap (λ p. (call_state p (λ k. rights_of (lock_state w k) t)).purpose) one.is) ∙ h.1.1 in
+      let for : Some (CallsOnce one.lock one.forced) ≡ Some (CallsOnce l h.1.0) =
+      sym (ap (λ p. (call_state p (λ k. rights_of (lock_state w k) t)).purpose) one.is) ∙ h.1.1 in
       let same : one.lock ≡ l = cc in
       (ap called_lock one.is ∙ ap Some same, h.0)
 
@@ -158,17 +193,27 @@ safe_now w h = let k = world_kept w h in record {
   waiting = k.waiting;
   let_go = k.let_go;
   keeps = sleepers_own w h.steady;
-  runs = λ t l. ((λ e. runs_once w k t l ((k.runs t l).0 e)), (λ runs. (k.runs t l).1 (runs_there w k t l runs)));
+  runs = λ t l. (
+    (λ e. runs_once w k t l ((k.runs t l).0 e)),
+    (λ runs. (k.runs t l).1 (runs_there w k t l runs)),
+  );
   fair = λ t l fair. fair_owned w h l (fair_kind (kind_at w l) fair) t;
 }
 
 -- ---------------------------------------------------------------- a run
 
-pub run_behaves : (steps : List Step) (w : State) → IsWorld w → Behaves (filled_at w) (locks_of w) steps (step_outcomes w steps) (locks_of (after_steps w steps))
+pub run_behaves : (steps : List Step) (w : State) → IsWorld w → Behaves (filled_at w) (locks_of w) steps
+    (step_outcomes w steps) (locks_of (after_steps w steps))
 run_behaves [] w h = (safe_now w h, refl)
 run_behaves (s ∷ ss) w h = (
   safe_now w h,
-  (locks_of (after w s), step_is w s h, subst (λ full. Behaves full (locks_of (after w s)) ss (step_outcomes (after w s) ss) (locks_of (after_steps (after w s) ss))) (λ i l. filled_after w s (world_after w s h) l i) (run_behaves ss (after w s) (world_after w s h))),
+  (
+    locks_of (after w s),
+    step_is w s h,
+    subst (λ full. Behaves full (locks_of (after w s)) ss (step_outcomes (after w s) ss)
+        (locks_of (after_steps (after w s) ss))) (λ i l. filled_after w s (world_after w s h) l i)
+        (run_behaves ss (after w s) (world_after w s h)),
+  ),
 )
 
 pub step_behaves : (w : State) (s : Step) → IsWorld w
@@ -183,25 +228,34 @@ opens kinds threads = record {
   kinds_there = kind_is kinds;
 }
 
-filled_first : (w : State) (kinds : List Kind) (threads : ℕ) → w ≡ opening kinds threads → (l : ℕ) → filled_at w l ≡ false
+filled_first : (w : State) (kinds : List Kind) (threads : ℕ) → w ≡ opening kinds threads → (l : ℕ)
+    → filled_at w l ≡ false
 filled_first w kinds threads is l = subst (λ u. filled_at u l ≡ false) (sym is) (unfilled_0 kinds l)
 
 -- steps from the opening state tell what they may
-pub run_tells : (kinds : List Kind) (threads : ℕ) (steps : List Step) (w : State) → w ≡ opening kinds threads → IsWorld w
+pub run_tells : (kinds : List Kind) (threads : ℕ) (steps : List Step) (w : State) → w ≡ opening kinds threads
+    → IsWorld w
     → MayTell kinds threads steps (step_outcomes w steps)
 run_tells kinds threads steps w is h = record {
   first = locks_of w;
   last = locks_of (after_steps w steps);
   opens = subst (λ u. Opens kinds threads (locks_of u)) (sym is) (opens kinds threads);
-  behaves = subst (λ full. Behaves full (locks_of w) steps (step_outcomes w steps) (locks_of (after_steps w steps))) (λ i l. filled_first w kinds threads is l i) (run_behaves steps w h);
+  behaves = subst (λ full. Behaves full (locks_of w) steps (step_outcomes w steps)
+      (locks_of (after_steps w steps))) (λ i l. filled_first w kinds threads is l i) (run_behaves steps w h);
 }
 
 -- ---------------------------------------------------------------- outcomes after those that were there
 
-module _ (w v : State) (ss : List Step) (before now : List Outcome) (h : IsWorld w) (led : v ≡ after_steps w ss)
+module _ (w v : State) (ss : List Step) (before now : List Outcome) (h : IsWorld w) (led : v
+    ≡ after_steps w ss)
     (answers : now ≡ before ++ step_outcomes w ss) where
   pub tells_behaves : Tells before now (λ told. Behaves (filled_at w) (locks_of w) ss told (locks_of v))
-  tells_behaves = (step_outcomes w ss, answers, subst (λ x. Behaves (filled_at w) (locks_of w) ss (step_outcomes w ss) (locks_of x)) (sym led) (run_behaves ss w h))
+  tells_behaves = (
+    step_outcomes w ss,
+    answers,
+    subst (λ x. Behaves (filled_at w) (locks_of w) ss (step_outcomes w ss) (locks_of x)) (sym led)
+        (run_behaves ss w h),
+  )
 
   pub tells_headline : (kinds : List Kind) (threads : ℕ) → w ≡ opening kinds threads
       → Tells before now (λ told. MayTell kinds threads ss told)
@@ -209,29 +263,36 @@ module _ (w v : State) (ss : List Step) (before now : List Outcome) (h : IsWorld
 
 -- ---------------------------------------------------------------- what follows of a state that is safe
 
-pub safe_after : (ss : List Step) (w v : State) → IsWorld w → v ≡ after_steps w ss → IsSafe (locks_of v) (filled_at v)
+pub safe_after : (ss : List Step) (w v : State) → IsWorld w → v ≡ after_steps w ss
+    → IsSafe (locks_of v) (filled_at v)
 safe_after [] w v h led = subst (λ u. IsSafe (locks_of u) (filled_at u)) (sym led) (safe_now w h)
 safe_after (s ∷ ss) w v h led = safe_after ss (after w s) v (world_after w s h) led
 
 -- a state that is led to holds what the first page promises
-pub holds_after : (ss : List Step) (w v : State) → IsWorld w → v ≡ after_steps w ss → StateHolds (locks_of v) (filled_at v)
+pub holds_after : (ss : List Step) (w v : State) → IsWorld w → v ≡ after_steps w ss
+    → StateHolds (locks_of v) (filled_at v)
 holds_after ss w v h led = safe_holds (locks_of v) (filled_at v) (safe_after ss w v h led)
 
 -- each step holds what the first page promises
-pub step_guaranteed : (w : State) (s : Step) → IsWorld w → StepHolds (locks_of w) s (step_outcome w s) (locks_of (after w s))
-step_guaranteed w s h = step_holds (locks_of w) (locks_of (after w s)) s (step_outcome w s) (filled_at w) (safe_now w h) (step_is w s h)
+pub step_guaranteed : (w : State) (s : Step) → IsWorld w → StepHolds (locks_of w) s (step_outcome w s)
+    (locks_of (after w s))
+step_guaranteed w s h = step_holds (locks_of w) (locks_of (after w s)) s (step_outcome w s) (filled_at w)
+    (safe_now w h) (step_is w s h)
 
 -- ---------------------------------------------------------------- the first page, of the world's own states
 
-all_hold : (ss : List Step) (w : State) → IsWorld w → AllHold (filled_at w) (states_of w ss) ss (step_outcomes w ss)
+all_hold : (ss : List Step) (w : State) → IsWorld w → AllHold (filled_at w) (states_of w ss) ss
+    (step_outcomes w ss)
 all_hold [] w h = safe_holds (locks_of w) (filled_at w) (safe_now w h)
 all_hold (s ∷ ss) w h = (
   safe_holds (locks_of w) (filled_at w) (safe_now w h),
   step_guaranteed w s h,
-  subst (λ full. AllHold full (states_of (after w s) ss) ss (step_outcomes (after w s) ss)) (λ i l. filled_after w s (world_after w s h) l i) (all_hold ss (after w s) (world_after w s h)),
+  subst (λ full. AllHold full (states_of (after w s) ss) ss (step_outcomes (after w s) ss))
+      (λ i l. filled_after w s (world_after w s h) l i) (all_hold ss (after w s) (world_after w s h)),
 )
 
-pub tells_guaranteed : (w v : State) (ss : List Step) (before now : List Outcome) → IsWorld w → v ≡ after_steps w ss
+pub tells_guaranteed : (w v : State) (ss : List Step) (before now : List Outcome) → IsWorld w
+    → v ≡ after_steps w ss
     → now ≡ before ++ step_outcomes w ss → (kinds : List Kind) (threads : ℕ) → w ≡ opening kinds threads
     → Tells before now (λ told. IsGuaranteed kinds threads (states_of w ss) ss told)
 tells_guaranteed w v ss before now h led answers kinds threads is = (
@@ -239,6 +300,7 @@ tells_guaranteed w v ss before now h led answers kinds threads is = (
   answers,
   record {
     opens = subst (λ u. Opens kinds threads (locks_of u)) (sym is) (opens kinds threads);
-    holds = subst (λ full. AllHold full (states_of w ss) ss (step_outcomes w ss)) (λ i l. filled_first w kinds threads is l i) (all_hold ss w h);
+    holds = subst (λ full. AllHold full (states_of w ss) ss (step_outcomes w ss))
+        (λ i l. filled_first w kinds threads is l i) (all_hold ss w h);
   },
 )

@@ -1,6 +1,8 @@
--- An act that enters a section is of a line of the lock that the thread calls, and one that leaves a section or touches a queue is of the line
+-- An act that enters a section is of a line of the lock that the thread calls, and one that leaves a section
+-- or touches a queue is of the line
 -- whose section the thread is in, as its place says.
-use Rattle.std.proofs.Common.{ℕ, zero, suc, Option, Some, None, ◌≡◌, ◌≢◌, ◌⊎◌, ◌+◌, ◌*◌, ◌<◌, inl, inr, [], map, length, get_or, refl, sym, ◌∙◌, ap, subst, arith}
+use Rattle.std.proofs.Common.{ℕ, zero, suc, Option, Some, None, ◌≡◌, ◌≢◌, ◌⊎◌, ◌+◌, ◌*◌, ◌<◌, inl, inr, []}
+use Rattle.std.proofs.Common.{map, length, get_or, refl, sym, ◌∙◌, ap, subst, arith}
 use Rattle.std.proofs.lemmas.Bool.{cases_eq}
 use Rattle.std.proofs.Math.ListN.{get_or-map}
 use Rattle.core_base.specs.Lines.{without, times}
@@ -15,7 +17,8 @@ use Rattle.lot_machine.specs.Fits.{IsWellFormed, PlaceFits}
 use Rattle.lot_laws.specs.Locations.{Location, location, location_at}
 use Rattle.lot_laws.specs.SitesOf.{IsInductive, key_of, stood_in}
 use Rattle.lot_laws.proofs.hands.Counts.{without_absent}
-use Rattle.lot_laws.proofs.machine.PlaceTest.{IsLineAct, IsOfLine, IsWithinLine, StandsThere, call_facts, mutex_row_facts, once_facts, semaphore_facts}
+use Rattle.lot_laws.proofs.machine.PlaceTest.{IsLineAct, IsOfLine, IsWithinLine, StandsThere, call_facts}
+use Rattle.lot_laws.proofs.machine.PlaceTest.{mutex_row_facts, once_facts, semaphore_facts}
 use Rattle.lot_laws.proofs.machine.Parts.{IsOf, location_here, location_elsewhere, IsSingle, single_late}
 
 -- it takes each thread of a line of the lock
@@ -30,15 +33,21 @@ takes_here l s a h = tt
 -- an act in a call of one lock is on a line of that
 pub line_act : (p : Place) (l : ℕ) → IsSingle p → called_lock p ≡ Some l → IsLineAct l (location p) (act_of p)
 line_act Idle l single h = absurd cc
-line_act (RwLock k a c) l single h = let e : k ≡ l = cc in subst (λ j. IsLineAct j (location (RwLock k a c)) (act_of (RwLock k a c))) e (call_facts k a c).line
-line_act (Once k at) l single h = let e : k ≡ l = cc in subst (λ j. IsLineAct j (location (Once k at)) (act_of (Once k at))) e (once_facts k at).line
-line_act (Semaphore k at) l single h = let e : k ≡ l = cc in subst (λ j. IsLineAct j (location (Semaphore k at)) (act_of (Semaphore k at))) e (semaphore_facts k at).line
+line_act (RwLock k a c) l single h = let e : k ≡ l = cc
+    in subst (λ j. IsLineAct j (location (RwLock k a c)) (act_of (RwLock k a c))) e (call_facts k a c).line
+line_act (Once k at) l single h = let e : k ≡ l = cc
+    in subst (λ j. IsLineAct j (location (Once k at)) (act_of (Once k at))) e (once_facts k at).line
+line_act (Semaphore k at) l single h = let e : k ≡ l = cc
+    in subst (λ j. IsLineAct j (location (Semaphore k at)) (act_of (Semaphore k at))) e
+    (semaphore_facts k at).line
 line_act (Condvar k at) l single h = absurd single
-line_act (Mutex k at) l single h = let e : k ≡ l = cc in subst (λ j. IsLineAct j (location (Mutex k at)) (act_of (Mutex k at))) e (mutex_row_facts k at).line
+line_act (Mutex k at) l single h = let e : k ≡ l = cc
+    in subst (λ j. IsLineAct j (location (Mutex k at)) (act_of (Mutex k at))) e (mutex_row_facts k at).line
 
 -- a thread that may be late sleeps in a line of its lock
 pub late_line : (p : Place) (key : ℕ) → IsSingle p → late_key p ≡ Some key
-    → (l : ℕ) × (called_lock p ≡ Some l) × ((m : Line) × ((profile p).late_line ≡ Some m) × (key ≡ key_of l m))
+    → (l : ℕ) × (called_lock p ≡ Some l) × ((m : Line) × ((profile p).late_line ≡ Some m)
+    × (key ≡ key_of l m))
 late_line p key single h = by_lock (called_lock p) (profile p).late_line (sym (single_late p single) ∙ h)
   where
     by_lock : (o : Option ℕ) (x : Option Line) → key_in o x ≡ Some key
@@ -73,20 +82,24 @@ line_of_key key = elim (parity key) [
   | inr h ↦ (h.0, Second, h.1)
 ]
 
-pub key_there : (w : State) (l : ℕ) (m : Line) → IsWellFormed w → l < length w.locks → key_of l m < length w.sections
+pub key_there : (w : State) (l : ℕ) (m : Line) → IsWellFormed w → l < length w.locks → key_of l m
+    < length w.sections
 key_there w l Main shape lt = let n : length w.sections ≡ 2 * length w.locks = shape.sections in omega arith
 key_there w l Second shape lt = let n : length w.sections ≡ 2 * length w.locks = shape.sections in omega arith
 
 module _ (w : State) (t l : ℕ) (steady : IsInductive w) (is_of : IsOf l (place_at w t)) where
   -- it holds the section of the line
   pub holds_line : (key : ℕ) → IsWithinLine l (location (place_at w t)) key → section_at w key ≡ Some t
-  holds_line key h = ap (section_at w) h.2 ∙ (steady.stands.sections t l h.0).0 (ap (λ (x : Location). x.inside) (location_here l (place_at w t) is_of) ∙ h.1)
+  holds_line key h = ap (section_at w) h.2 ∙ (steady.stands.sections t l h.0).0
+      (ap (λ (x : Location). x.inside) (location_here l (place_at w t) is_of) ∙ h.1)
 
   -- in no queue but that of its section it stands
-  stood_out : (k : ℕ) (m n : Line) → (location (place_at w t)).inside ≡ Some m → StandsThere (location (place_at w t))
+  stood_out : (k : ℕ) (m n : Line) → (location (place_at w t)).inside ≡ Some m
+      → StandsThere (location (place_at w t))
       → key_of k n ≢ key_of l m → times t (queue_at w (key_of k n)) ≡ 0
   stood_out k m n within stands ne = steady.stands.lines t k n ∙ elim (cases_eq k l) [
-    | inl e ↦ ap (λ (x : Location). stood_in x.stands n) (ap (location_at (place_at w t)) e ∙ location_here l (place_at w t) is_of) ∙ here stands (λ f. ne (λ i. key_of (e i) (f i)))
+    | inl e ↦ ap (λ (x : Location). stood_in x.stands n) (ap (location_at (place_at w t)) e
+        ∙ location_here l (place_at w t) is_of) ∙ here stands (λ f. ne (λ i. key_of (e i) (f i)))
     | inr nk ↦ ap (λ (x : Location). stood_in x.stands n) (location_elsewhere l k (place_at w t) is_of nk)
   ]
     where
@@ -101,9 +114,12 @@ module _ (w : State) (t l : ℕ) (steady : IsInductive w) (is_of : IsOf l (place
       here (inr same) f = ap (λ x. stood_in x n) (same ∙ within) ∙ other n m f
 
   -- where it leaves the queues, only that one changes
-  pub removed_at : (m : Line) → (location (place_at w t)).inside ≡ Some m → StandsThere (location (place_at w t)) → (key : ℕ)
+  pub removed_at : (m : Line) → (location (place_at w t)).inside ≡ Some m
+      → StandsThere (location (place_at w t)) → (key : ℕ)
       → (get_or (map (without t) w.queues) key [] ≡ queue_at w key) ⊎ (section_at w key ≡ Some t)
   removed_at m within stands key = let of = line_of_key key in elim (cases_eq (key_of of.0 of.1) (key_of l m)) [
     | inl e ↦ inr (holds_line key (m, within, of.2 ∙ e))
-    | inr ne ↦ inl (ap (λ k. get_or (map (without t) w.queues) k []) of.2 ∙ get_or-map (without t) w.queues (key_of of.0 of.1) [] ∙ without_absent t (queue_at w (key_of of.0 of.1)) (stood_out of.0 m of.1 within stands ne) ∙ sym (ap (queue_at w) of.2))
+    | inr ne ↦ inl (ap (λ k. get_or (map (without t) w.queues) k []) of.2 ∙ get_or-map (without t) w.queues
+        (key_of of.0 of.1) [] ∙ without_absent t (queue_at w (key_of of.0 of.1))
+        (stood_out of.0 m of.1 within stands ne) ∙ sym (ap (queue_at w) of.2))
   ]

@@ -1,6 +1,7 @@
 -- In a run of the world a mutex that each call gives up fairly has no more new owners than there were threads
 -- before one that waits.
-use Rattle.std.proofs.Common.{ℕ, zero, suc, true, false, Option, Some, None, ◌≡◌, ◌≢◌, ◌+◌, ◌≤◌, ◌<◌, ◌⊎◌, inl, inr, List, [], ◌∷◌, length, refl, sym, ◌∙◌, ap, subst, arith}
+use Rattle.std.proofs.Common.{ℕ, zero, suc, true, false, Option, Some, None, ◌≡◌, ◌≢◌, ◌+◌, ◌≤◌, ◌<◌, ◌⊎◌}
+use Rattle.std.proofs.Common.{inl, inr, List, [], ◌∷◌, length, refl, sym, ◌∙◌, ap, subst, arith}
 use Rattle.std.proofs.lemmas.Bool.{cases_lt}
 use Rattle.spec_locks.specs.declared.calls.Step.{Step}
 use Rattle.spec_locks.specs.declared.kinds.Kind.TheVariants as kinds
@@ -18,7 +19,8 @@ use Rattle.lot_laws.specs.Promises.{IsKept, WaitsFor}
 use Rattle.lot_laws.specs.Owing.{IsInside}
 use Rattle.lot_laws.specs.Refinement.{call_at, call_state, lock_state, locks_of, owner_at, taken_at}
 use Rattle.lot_laws.specs.SitesOf.{IsWorld, is_mutex, rules_in}
-use Rattle.lot_laws.specs.Overtaking.{FairlyThroughout, IsGivenUpFairly, NobodyIsOvertaken, StandsThroughout, new_owners, newly_owned}
+use Rattle.lot_laws.specs.Overtaking.{FairlyThroughout, IsGivenUpFairly, NobodyIsOvertaken, StandsThroughout}
+use Rattle.lot_laws.specs.Overtaking.{new_owners, newly_owned}
 use Rattle.lot_laws.proofs.alone.WorldRuns.{step_is, world_after, world_kept}
 use Rattle.lot_laws.proofs.machine.KindsStay.{after_kinds}
 use Rattle.lot_laws.proofs.machine.Parts.{past_all, taken_held}

@@ -17,7 +17,8 @@ use Rattle.lot_steps.specs.declared.places.Place.TheVariants.{Idle, Mutex, RwLoc
 use Rattle.steps_base.specs.Acts.{outcome_of}
 use Rattle.spec_locks.specs.declared.kinds.Kind.{Kind}
 use Rattle.spec_locks.specs.Kinds.{is_fair}
-use Rattle.lot_steps.specs.Steps.{act_of, next_act, next_place, first_place, called_lock, line_owed, profile, rwlock_does, rwlock_goes}
+use Rattle.lot_steps.specs.Steps.{act_of, next_act, next_place, first_place, called_lock, line_owed, profile}
+use Rattle.lot_steps.specs.Steps.{rwlock_does, rwlock_goes}
 use Rattle.lot_machine.specs.Machine.{State, place_at, word_at, kind_at, reply_to}
 use Rattle.spec_locks.specs.Locks as locks
 use Rattle.lot_laws.specs.Owing.{sort_at}
@@ -29,7 +30,8 @@ use Rattle.lot_laws.specs.SitesOf.{IsInductive, FitsItsLock, rules_in, site_of}
 use Rattle.lot_laws.proofs.promises.RowPromises.{Befalls, RowOwesThen, IsLateNext, owes_then, mutex_tells}
 use Rattle.lot_laws.proofs.mutex.Owing.{mutex_befallen, mutex_owes_next, mutex_first_owes, mutex_late}
 use Rattle.lot_laws.proofs.sites.StandsMoved.{mutex_rules}
-use Rattle.lot_laws.proofs.rwlock.Owing.{plain_tells, rwlock_befallen, rwlock_owes_next, rwlock_first_owes, rwlock_late}
+use Rattle.lot_laws.proofs.rwlock.Owing.{plain_tells, rwlock_befallen, rwlock_owes_next, rwlock_first_owes}
+use Rattle.lot_laws.proofs.rwlock.Owing.{rwlock_late}
 use Rattle.lot_laws.proofs.rwlock.CallOwing.{CallOwesNext, IsOwners, call_owes_next, owners_word}
 use Rattle.spec_locks.specs.declared.calls.Access.TheVariants as access
 use Rattle.steps_base.specs.declared.acts.Next.{Next}
@@ -51,7 +53,8 @@ use Rattle.lot_laws.proofs.calls.PlainCalls.{never_given, plain_acts, plain_lead
 -- ---------------------------------------------------------------- each place
 
 -- a thread owes what it owed, with all that befalls it
-pub owes_befallen : (p : Place) (r : Reply) → Befalls r → (k : ℕ) → line_owed (next_place p r) k ≡ line_owed p k
+pub owes_befallen : (p : Place) (r : Reply) → Befalls r → (k : ℕ) → line_owed (next_place p r) k
+    ≡ line_owed p k
 owes_befallen Idle r b k = refl
 owes_befallen (Mutex l at) r b k = mutex_befallen l at r b k
 owes_befallen (RwLock l a c) r b k = rwlock_befallen l a r k c b
@@ -63,21 +66,29 @@ owes_befallen (Condvar l at) r b k = condvar_befallen l at r b k
 abbrev OwesAt : State → ℕ → locks.Sort → ℕ → Place → Type 0
 OwesAt w t sort l p =
     let told = reply_to w t (act_of p) in
-    RowOwesThen sort l (word_at w l) (profile p) (outcome_of (next_act p told)) (profile (next_place p told)) (act_of (next_place p told))
+    RowOwesThen sort l (word_at w l) (profile p) (outcome_of (next_act p told)) (profile (next_place p told))
+    (act_of (next_place p told))
 
 plain_owes : (w : State) (t k : ℕ) (a : Admission) (p : RwLockPlace) → Admits (rules_in w k) a → MayStand a p
     → OwesAt w t (sort_at w k) k (RwLock k a (Plain p))
 plain_owes w t k a p admits stands =
-    let none : given false p (reply_to w t (rwlock_act k a p)) ≡ None = never_given w t false p (rwlock_act k a p) in
-    rw (plain_acts k a p (reply_to w t (rwlock_act k a p)) none, plain_leads k a p (reply_to w t (rwlock_act k a p)) none)
-    (owes_then (λ m. plain_tells (sort_at w k) k p.purpose m (word_at w k)) (rwlock_owes_next w t k a admits p stands))
+    let none : given false p (reply_to w t (rwlock_act k a p)) ≡ None = never_given w t false p
+    (rwlock_act k a p) in
+    rw (
+      plain_acts k a p (reply_to w t (rwlock_act k a p)) none,
+      plain_leads k a p (reply_to w t (rwlock_act k a p)) none,
+    )
+    (owes_then (λ m. plain_tells (sort_at w k) k p.purpose m (word_at w k))
+    (rwlock_owes_next w t k a admits p stands))
 
 -- at any place of a call of a lock that is shared
-pub call_owes : (w : State) (t k : ℕ) (a : Admission) (c : RwLockCallPlace) → Admits (rules_in w k) a → CallStands a c
+pub call_owes : (w : State) (t k : ℕ) (a : Admission) (c : RwLockCallPlace) → Admits (rules_in w k) a
+    → CallStands a c
     → ((b : Bool) (seen : ℕ) → c ≡ HandOver access.Exclusive b (handing.Free seen) → IsOwners (word_at w k))
     → OwesAt w t (sort_at w k) k (RwLock k a c)
 call_owes w t k a (Plain p) admits stands alone = plain_owes w t k a p admits stands
-call_owes w t k a c admits stands alone = leads (call_next a c (reply_to w t (call_act k a c))) (call_owes_next w t k a admits c stands tt alone)
+call_owes w t k a c admits stands alone = leads (call_next a c (reply_to w t (call_act k a c)))
+    (call_owes_next w t k a admits c stands tt alone)
   where
     leads : (n : Next RwLockCallPlace) → CallOwesNext (rules_in w k) a k (word_at w k) c n
         → RowOwesThen (sort_at w k) k (word_at w k) (call_profile a c) (outcome_of (rwlock_does k a n))
@@ -86,39 +97,50 @@ call_owes w t k a c admits stands alone = leads (call_next a c (reply_to w t (ca
     leads (next.End answer) h = record { since = h.since; sees = λ m s step looks. absurd cc }
 
 -- the reply to its act leads a thread on, in a call of one lock
-pub owes_next : (w : State) (t l : ℕ) → IsInductive w → IsSingle (place_at w t) → called_lock (place_at w t) ≡ Some l
+pub owes_next : (w : State) (t l : ℕ) → IsInductive w → IsSingle (place_at w t) → called_lock (place_at w t)
+    ≡ Some l
     → OwesAt w t (sort_at w l) l (place_at w t)
 owes_next w t l steady single own = by_place (place_at w t) refl own
   where
     -- an exclusive owner knows the word but for those that wait
-    alone : (k : ℕ) (a : Admission) (c : RwLockCallPlace) → place_at w t ≡ RwLock k a c → has_readers (rules_in w k).sort ≡ true
+    alone : (k : ℕ) (a : Admission) (c : RwLockCallPlace) → place_at w t ≡ RwLock k a c
+        → has_readers (rules_in w k).sort ≡ true
         → (b : Bool) (seen : ℕ) → c ≡ HandOver access.Exclusive b (handing.Free seen) → IsOwners (word_at w k)
-    alone k a c is readers b seen e = subst IsOwners (sym (steady.sites.word k)) (owners_word (rules_in w k) (site_of w k) t readers (steady.sites.site k) ((steady.sites.site k).held t (Has Exclusive) claims))
+    alone k a c is readers b seen e = subst IsOwners (sym (steady.sites.word k))
+        (owners_word (rules_in w k) (site_of w k) t readers (steady.sites.site k)
+        ((steady.sites.site k).held t (Has Exclusive) claims))
       where
         claims : (role_on (place_at w t) k).claims ≡ Some (Has Exclusive)
-        claims = ap (λ p. (role_on p k).claims) (is ∙ ap (RwLock k a) e) ∙ ap (λ (z : Bool). (if z then (call_profile a (HandOver access.Exclusive b (handing.Free seen))).role else idle).claims) (same k)
+        claims = ap (λ p. (role_on p k).claims) (is ∙ ap (RwLock k a) e)
+            ∙ ap (λ (z : Bool). (if z then (call_profile a
+            (HandOver access.Exclusive b (handing.Free seen))).role else idle).claims) (same k)
 
     by_place : (p : Place) → place_at w t ≡ p → called_lock p ≡ Some l → OwesAt w t (sort_at w l) l p
     by_place Idle is own = absurd cc
     by_place (Once k at) is own =
         let here : k ≡ l = cc in
         let admitted : (rules_in w k).sort ≡ locks.Once = subst (FitsItsLock w) is (steady.stands.calls t) in
-        subst (λ j. OwesAt w t (sort_at w j) j (Once k at)) here (subst (λ s. OwesAt w t s k (Once k at)) (sym admitted) (once_owes_next w t k at))
+        subst (λ j. OwesAt w t (sort_at w j) j (Once k at)) here (subst (λ s. OwesAt w t s k (Once k at))
+        (sym admitted) (once_owes_next w t k at))
     by_place (Semaphore k at) is own =
         let here : k ≡ l = cc in
         let admitted : FitsItsLock w (Semaphore k at) = subst (FitsItsLock w) is (steady.stands.calls t) in
-        subst (λ j. OwesAt w t (sort_at w j) j (Semaphore k at)) here (subst (λ s. OwesAt w t s k (Semaphore k at)) (sym admitted.0) (semaphore_owes_next w t k at))
+        subst (λ j. OwesAt w t (sort_at w j) j (Semaphore k at)) here
+        (subst (λ s. OwesAt w t s k (Semaphore k at)) (sym admitted.0) (semaphore_owes_next w t k at))
     by_place (Condvar k at) is own = absurd (subst IsSingle is single)
     by_place (Mutex k at) is own =
         let here : k ≡ l = cc in
         let admitted : FitsItsLock w (Mutex k at) = rw is at (steady.stands.calls t) in
         let sort : locks.Mutex ≡ sort_at w k = sym (ap (λ r. r.sort) (mutex_rules (kind_at w k) admitted)) in
         subst (λ j. OwesAt w t (sort_at w j) j (Mutex k at)) here
-        (subst (λ s. OwesAt w t s k (Mutex k at)) sort (owes_then (λ m. mutex_tells (Some ((profile (Mutex k at)).purpose k)) m (word_at w k)) (mutex_owes_next w t steady k at is)))
+        (subst (λ s. OwesAt w t s k (Mutex k at)) sort
+        (owes_then (λ m. mutex_tells (Some ((profile (Mutex k at)).purpose k)) m (word_at w k))
+        (mutex_owes_next w t steady k at is)))
     by_place (RwLock k a c) is own =
         let here : k ≡ l = cc in
         let admitted : FitsItsLock w (RwLock k a c) = rw is at (steady.stands.calls t) in
-        subst (λ j. OwesAt w t (sort_at w j) j (RwLock k a c)) here (call_owes w t k a c admitted.0 admitted.1 (alone k a c is admitted.0.0))
+        subst (λ j. OwesAt w t (sort_at w j) j (RwLock k a c)) here (call_owes w t k a c admitted.0 admitted.1
+        (alone k a c is admitted.0.0))
 
 pub first_owes : (k : Kind) (c : Call) → (profile (first_place k c)).owes ≡ None
 first_owes k (call.TheVariants.Mutex m c) = mutex_first_owes (is_fair k) c
@@ -131,7 +153,8 @@ first_owes k (call.TheVariants.Semaphore m semaphore_call.Release) = refl
 first_owes k (call.TheVariants.Condvar m (condvar.Wait n timed)) = refl
 first_owes k (call.TheVariants.Condvar m (condvar.Notify all)) = refl
 
-pub late_next : (p : Place) (m : Line) → IsSingle p → (profile p).late_line ≡ Some m → IsLateNext (next_place p Late) m
+pub late_next : (p : Place) (m : Line) → IsSingle p → (profile p).late_line ≡ Some m
+    → IsLateNext (next_place p Late) m
 late_next Idle m single h = absurd cc
 late_next (Mutex l at) m single h = mutex_late l at m h
 late_next (RwLock l a at) m single h = rwlock_late l a at m h

@@ -1,10 +1,12 @@
 -- One run of the world, and what its definitions refuse.
-use Rattle.std.proofs.Common.{ℕ, zero, suc, true, Some, None, ◌≡◌, inl, inr, [], ◌∷◌, refl, sym, ◌∙◌, arith, Option}
+use Rattle.std.proofs.Common.{ℕ, zero, suc, true, Some, None, ◌≡◌, inl, inr, [], ◌∷◌, refl, sym, ◌∙◌, arith}
+use Rattle.std.proofs.Common.{Option}
 use Rattle.spec_locks.specs.declared.kinds.Kind.TheVariants as kind
 use Rattle.lot_machine.specs.Machine.{after_steps}
 use Rattle.spec_locks.specs.Sites.{Line, Main}
 use Rattle.lot_laws.specs.Promises.{IsLookedAfterIn}
-use Rattle.lot_laws.specs.Laws.{FairUnlockHandsOver, NoWaiterIsForgotten, NobodyIsPassedOver, three, row, row_told, forgotten}
+use Rattle.lot_laws.specs.Laws.{FairUnlockHandsOver, NoWaiterIsForgotten, NobodyIsPassedOver, three, row}
+use Rattle.lot_laws.specs.Laws.{row_told, forgotten}
 use Rattle.lot_machine.proofs.Shape.{opening_shaped}
 use Rattle.std.proofs.lemmas.List.Elements.{All-cons, All-nil}
 use Rattle.spec_locks.specs.Kinds.{fits}
@@ -17,7 +19,8 @@ use Rattle.lot_laws.proofs.alone.WorldRuns.{world_run, run_refines}
 three_hold : IsWorld three
 three_hold = record {
   shaped = opening_shaped (kind.Mutex ∷ []) 3 (omega arith);
-  steady = opening_steady (kind.Mutex ∷ []) 3 (omega arith) (All-cons (λ k. fits k 3 ≡ true) kind.Mutex [] refl (All-nil (λ k. fits k 3 ≡ true)));
+  steady = opening_steady (kind.Mutex ∷ []) 3 (omega arith) (All-cons (λ k. fits k 3 ≡ true) kind.Mutex []
+      refl (All-nil (λ k. fits k 3 ≡ true)));
   counted = opening_counted (kind.Mutex ∷ []) 3;
   condvars = opening_condvars (kind.Mutex ∷ []) 3;
   settled = opening_settled (kind.Mutex ∷ []) 3;
@@ -47,7 +50,8 @@ nobody_looks (suc (suc u)) h e = elim h.debt [
 ]
 
 pub no_waiter_forgotten : NoWaiterIsForgotten
-no_waiter_forgotten kept = let looked = kept.nobody_forgotten.main 1 0 (omega arith) (inl refl) (λ h. absurd cc) in nobody_looks looked.debtor looked refl
+no_waiter_forgotten kept = let looked = kept.nobody_forgotten.main 1 0 (omega arith) (inl refl)
+    (λ h. absurd cc) in nobody_looks looked.debtor looked refl
 
 pub nobody_passed_over : NobodyIsPassedOver
 nobody_passed_over v free fair = elim (fair.gives 0 0 ((refl, refl), refl, refl)) [

@@ -1,5 +1,6 @@
 -- A site of a mutex promises of its word and of its waiters.
-use Rattle.std.proofs.Common.{ℕ, Bool, true, false, Option, Some, None, ◌⊎◌, ◌≡◌, ◌≢◌, ◌+◌, ◌*◌, ◌≤◌, List, [], ◌∷◌, inl, inr, sym, ◌∙◌, ap, subst, arith}
+use Rattle.std.proofs.Common.{ℕ, Bool, true, false, Option, Some, None, ◌⊎◌, ◌≡◌, ◌≢◌, ◌+◌, ◌*◌, ◌≤◌, List}
+use Rattle.std.proofs.Common.{[], ◌∷◌, inl, inr, sym, ◌∙◌, ap, subst, arith}
 use Rattle.core_base.specs.Lines as Lines
 use Rattle.steps_mutex.specs.MutexSteps.{is_parked}
 use Rattle.spec_locks.specs.Locks.{Queued, times, one_if_some}
@@ -21,8 +22,10 @@ codes_by e true w h = inr h
 codes_by e false w h = inl (omega arith)
 
 -- the word of a mutex says whether there is an owner
-pub coded_at : (w : State) → IsInductive w → (l : ℕ) → rules_in w l ≡ mutex → IsMutexWord (word_at w l) (owners_at w l).exclusive
-coded_at w s l rules = codes_by (owners_at w l).exclusive (is_parked (word_at w l)) (word_at w l) (s.sites.word l ∙ (λ i. code (rules i) (lock_by w l (rules i))))
+pub coded_at : (w : State) → IsInductive w → (l : ℕ) → rules_in w l ≡ mutex
+    → IsMutexWord (word_at w l) (owners_at w l).exclusive
+coded_at w s l rules = codes_by (owners_at w l).exclusive (is_parked (word_at w l)) (word_at w l)
+    (s.sites.word l ∙ (λ i. code (rules i) (lock_by w l (rules i))))
 
 pub not_empty : (t : ℕ) (q : List Queued) → 1 ≤ times t q → q ≢ []
 not_empty t [] h e = omega arith
@@ -32,12 +35,15 @@ module _ (w : State) (s : IsInductive w) (l : ℕ) (rules : rules_in w l ≡ mut
   -- a thread that is about to set the parked bit of a mutex is inside its section
   pub marks_inside : (u : ℕ) → IsAboutToMark w u l → section_at w (2 * l) ≡ Some u
   marks_inside u sets = elim ((s.sites.site l).setting u sets) [
-    | inl covers ↦ (s.stands.sections u l Main).0 (sym (inside_is (place_at w u) l) ∙ ((s.sites.site l).covered u covers).0)
-    | inr once ↦ absurd (let both : locks.Once ≡ locks.Mutex = sym once.0 ∙ ap (λ (r : locks.Rules). r.sort) rules in cc)
+    | inl covers ↦ (s.stands.sections u l Main).0 (sym (inside_is (place_at w u) l)
+        ∙ ((s.sites.site l).covered u covers).0)
+    | inr once ↦ absurd (let both : locks.Once ≡ locks.Mutex = sym once.0 ∙ ap (λ (r : locks.Rules). r.sort)
+        rules in cc)
   ]
 
   -- a waiter of a mutex implies its parked bit, or somebody that is about to set it
-  pub parked_or_marks : (t : ℕ) → WaitsFor w t l → (is_parked (word_at w l) ≡ true) ⊎ ((u : ℕ) × IsAboutToMark w u l)
+  pub parked_or_marks : (t : ℕ) → WaitsFor w t l → (is_parked (word_at w l) ≡ true)
+      ⊎ ((u : ℕ) × IsAboutToMark w u l)
   parked_or_marks t h = elim ((s.sites.site l).parked (not_empty t (lock_state w l).queue h)) [
     | inl g ↦ inl (subst (λ r. parked_in r.sort (word_at w l) ≡ true) rules g)
     | inr g ↦ inr g
@@ -46,7 +52,9 @@ module _ (w : State) (s : IsInductive w) (l : ℕ) (rules : rules_in w l ≡ mut
 -- a waiter implies the bit where nobody is inside the section
 pub parked_at : (w : State) → IsInductive w → (t l : ℕ) → rules_in w l ≡ mutex → section_at w (2 * l) ≡ None
     → 1 ≤ Lines.times t (queue_at w (2 * l)) → is_parked (word_at w l) ≡ true
-parked_at w s t l rules free h = elim (parked_or_marks w s l rules t (subst (λ n. 1 ≤ n) (sym (queued_times t (queue_at w (2 * l)))) h)) [
-  | inl set ↦ set
-  | inr marks ↦ absurd (let both : ◌≡◌ {A = Option ℕ} None (Some marks.0) = sym free ∙ marks_inside w s l rules marks.0 marks.1 in cc)
-]
+parked_at w s t l rules free h =
+    elim (parked_or_marks w s l rules t (subst (λ n. 1 ≤ n) (sym (queued_times t (queue_at w (2 * l)))) h)) [
+      | inl set ↦ set
+      | inr marks ↦ absurd (let both : ◌≡◌ {A = Option ℕ} None (Some marks.0) = sym free
+          ∙ marks_inside w s l rules marks.0 marks.1 in cc)
+    ]

@@ -1,6 +1,8 @@
--- Each place of a call of a reader-writer lock says of its thread what is promised of it: also of a fair release, of a bump, and of one that was
+-- Each place of a call of a reader-writer lock says of its thread what is promised of it: also of a fair
+-- release, of a bump, and of one that was
 -- handed the lock.
-use Rattle.std.proofs.Common.{ℕ, Bool, true, false, Some, None, if◌then◌else◌, ◌≡◌, ◌≢◌, ◌+◌, ◌*◌, ◌⊎◌, inl, inr, refl, sym, ◌∙◌, ap, subst, arith}
+use Rattle.std.proofs.Common.{ℕ, Bool, true, false, Some, None, if◌then◌else◌, ◌≡◌, ◌≢◌, ◌+◌, ◌*◌, ◌⊎◌, inl}
+use Rattle.std.proofs.Common.{inr, refl, sym, ◌∙◌, ap, subst, arith}
 use Rattle.core_base.specs.declared.keys.Keys.TheVariants.{One}
 use Rattle.core_base.specs.declared.keys.Line.{Line}
 use Rattle.core_base.specs.declared.keys.Line.TheVariants.{Main, Second}
@@ -30,13 +32,15 @@ use Rattle.steps_rwlock.specs.RwLockDeeds.{Admits}
 use Rattle.steps_rwlock.specs.RwLockCalls.{MayStand, WaitsIfBlocked as HasTime, ParksBy, StandsAt}
 use Rattle.steps_rwlock.specs.RwLockProfiles.{rwlock_profile, late_at, has_given_up}
 use Rattle.steps_rwlock_fair.specs.declared.places.RwLockCallPlace.{RwLockCallPlace}
-use Rattle.steps_rwlock_fair.specs.declared.places.RwLockCallPlace.TheVariants.{Plain, Glance, HandOver, Bump, Handed}
+use Rattle.steps_rwlock_fair.specs.declared.places.RwLockCallPlace.TheVariants.{Plain, Glance, HandOver, Bump}
+use Rattle.steps_rwlock_fair.specs.declared.places.RwLockCallPlace.TheVariants.{Handed}
 use Rattle.steps_rwlock_fair.specs.declared.hand_over.Taken.{Taken}
 use Rattle.steps_rwlock_fair.specs.declared.hand_over.HandOverAt.{HandOverAt}
 use Rattle.steps_rwlock_fair.specs.declared.hand_over.HandOverAt.TheVariants as handing
 use Rattle.steps_rwlock_fair.specs.declared.handed.HandedAt.{HandedAt}
 use Rattle.steps_rwlock_fair.specs.declared.handed.HandedAt.TheVariants as handed
-use Rattle.steps_rwlock_fair.specs.FairSteps.{any_taken, has_room, exchange_act, hand_over_act, handed_act, call_act}
+use Rattle.steps_rwlock_fair.specs.FairSteps.{any_taken, has_room, exchange_act, hand_over_act, handed_act}
+use Rattle.steps_rwlock_fair.specs.FairSteps.{call_act}
 use Rattle.steps_rwlock_fair.specs.FairDeeds.{claim_at}
 use Rattle.steps_rwlock_fair.specs.FairProfiles.{call_profile, carries_taken, release_purpose, entry_purpose}
 use Rattle.steps_rwlock_fair.specs.FairCalls.{CallStands, HandsOverAt, IsOfBump, WaitsWithPatience}
@@ -45,7 +49,8 @@ use Rattle.spec_locks.specs.Purposes.{Bumps, MayWait, lock_for}
 use Rattle.spec_locks.specs.Sites.{Has, has_readers}
 use Rattle.lot_laws.specs.Promises.{want_of}
 use Rattle.steps_base.specs.Rows.{KnowsRights, WakesAside}
-use Rattle.lot_laws.proofs.promises.RowPromises.{is_acting, IsWaiting, WasHanded, LetsIn, LetsInAt, IsDebtorIn, HasClaimed, HasDebt, RowLooksAfter, RowPromises}
+use Rattle.lot_laws.proofs.promises.RowPromises.{is_acting, IsWaiting, WasHanded, LetsIn, LetsInAt}
+use Rattle.lot_laws.proofs.promises.RowPromises.{IsDebtorIn, HasClaimed, HasDebt, RowLooksAfter, RowPromises}
 use Rattle.lot_laws.proofs.rwlock.Rows.{knows, no_bump, of, rwlock_promises}
 
 -- two lines have two keys
@@ -95,12 +100,15 @@ never_gives_up x again to stands = by_place to (parks x to stands)
     by_place to h = refl
 
 -- a thread that shares again never goes aside
-enters_main : (l : ℕ) (a : Admission) (again : Bool) (to : RwLockAt) → StandsAt (purpose.Enter access.Shared Patient) again to
+enters_main : (l : ℕ) (a : Admission) (again : Bool) (to : RwLockAt)
+    → StandsAt (purpose.Enter access.Shared Patient) again to
     → rwlock_act l a (of (purpose.Enter access.Shared Patient) again to) ≡ act.Enter (One (2 * l + 1)) → ⊥
 enters_main l a again at.Load stands e = cc
-enters_main l a again (at.Decide seen) stands e = by_decision (decided a (of (purpose.Enter access.Shared Patient) again (at.Decide seen)) seen) e
+enters_main l a again (at.Decide seen) stands e =
+    by_decision (decided a (of (purpose.Enter access.Shared Patient) again (at.Decide seen)) seen) e
   where
-    by_decision : (d : Decision) → decided_act l (purpose.Enter access.Shared Patient) seen d ≡ act.Enter (One (2 * l + 1)) → ⊥
+    by_decision : (d : Decision) → decided_act l (purpose.Enter access.Shared Patient) seen d
+        ≡ act.Enter (One (2 * l + 1)) → ⊥
     by_decision decisions.Park e = lines_apart l e
     by_decision decisions.Take e = cc
     by_decision decisions.Mark e = cc
@@ -114,7 +122,8 @@ module _ (r : Rules) (a : Admission) (l : ℕ) (admits : Admits r a) where
   abbrev Promised : RwLockCallPlace → Type 0
   Promised c = RowPromises r.sort l (call_profile a c) (call_act l a c)
 
-  module _ (x : Access) (again : Bool) (to : RwLockAt) (stands : MayStand a (of (purpose.Enter x Patient) again to)) where
+  module _ (x : Access) (again : Bool) (to : RwLockAt) (stands : MayStand a
+      (of (purpose.Enter x Patient) again to)) where
     abbrev p : RwLockPlace
     p = of (purpose.Enter x Patient) again to
 
@@ -134,10 +143,18 @@ module _ (r : Rules) (a : Admission) (l : ℕ) (admits : Admits r a) where
     plain_lets (inr h) = inr (h.0, elim h.1 [ inl less ↦ absurd less | inr left ↦ inr left ])
 
     owes_on : (m : Line) → row.owes ≡ Some m
-        → (row.role.inside ≡ Some m) ⊎ ((rwlock_act l a p ≡ act.Enter (One (key_of l m))) × LetsInAt r.sort l row m)
+        → (row.role.inside ≡ Some m) ⊎ ((rwlock_act l a p ≡ act.Enter (One (key_of l m)))
+        × LetsInAt r.sort l row m)
     owes_on m h = elim (plain.owing.owes m h) [
       | inl i ↦ inl i
-      | inr g ↦ inr (g.0, elim g.1 [ inl lets ↦ inl (plain_lets lets) | inr wakes ↦ absurd (no_bump l (purpose.Enter x Patient) m wakes) ])
+      | inr g ↦ inr (
+        g.0,
+        elim g.1 [
+          | inl lets ↦ inl (plain_lets lets)
+          | inr wakes ↦
+              absurd (no_bump l (purpose.Enter x Patient) m wakes)
+        ],
+      )
     ]
 
     no_wake : (y : Access) (m : Line) → StandsAt (purpose.Enter y Patient) again to
@@ -150,15 +167,18 @@ module _ (r : Rules) (a : Admission) (l : ℕ) (admits : Admits r a) where
     no_wake access.Exclusive Second fits e h = h
     no_wake access.Exclusive Main fits e h = h
 
-    entering : (m : Line) → rwlock_act l a p ≡ act.Enter (One (key_of l m)) → LetsInAt r.sort l row m → row.owes ≡ Some m
+    entering : (m : Line) → rwlock_act l a p ≡ act.Enter (One (key_of l m)) → LetsInAt r.sort l row m
+        → row.owes ≡ Some m
     entering m e lets = elim lets [
       | inl h ↦ plain.owing.entering m e (inl (lets_plain h))
       | inr h ↦ absurd (no_wake x m stands.place e h)
     ]
 
     debt : (m : Line) → HasDebt r.sort l (rwlock_profile a p) m → HasDebt r.sort l row m
-    debt Main (inl h) = absurd (let e : (if late_at has_given_up (purpose.Enter x Patient) to then Some l else None) ≡ Some l = h.1.1 in
-        let f : None ≡ Some l = sym (ap (λ b. if b then Some l else None) (never_gives_up x again to stands.place)) ∙ e in cc)
+    debt Main (inl h) = absurd (let e : (if late_at has_given_up (purpose.Enter x Patient) to then Some l
+        else None) ≡ Some l = h.1.1 in
+        let f : None ≡ Some l = sym (ap (λ b. if b then Some l else None) (never_gives_up x again to
+        stands.place)) ∙ e in cc)
     debt Main (inr h) = inr h
     debt Second h = h
 
@@ -173,11 +193,23 @@ module _ (r : Rules) (a : Admission) (l : ℕ) (admits : Admits r a) where
       waits = λ h. refl;
       known = λ sorts e. knows (sorts l) (ap has_readers e ∙ admits.0) x;
       aside = plain.aside;
-      owing = record { owes = owes_on; inside = plain.owing.inside; entering = entering; second = λ h. admits.0 };
+      owing = record {
+        owes = owes_on;
+        inside = plain.owing.inside;
+        entering = entering;
+        second = λ h. admits.0;
+      };
       debtor = λ m d free. looks_after m (plain.debtor m d free);
       asleep = λ h. elim (plain.asleep h) [
         | inl waiting ↦ inl waiting
-        | inr k ↦ inr (record { by = k.by; in_hand = k.in_hand; waited = refl; want = k.want; wants = k.wants; has = k.has })
+        | inr k ↦ inr (record {
+          by = k.by;
+          in_hand = k.in_hand;
+          waited = refl;
+          want = k.want;
+          wants = k.wants;
+          has = k.has;
+        })
       ];
       tells = plain.tells;
       late = λ m h. absurd (let e : Patient ≡ Timed = (plain.late m h).timed.1 in cc);
@@ -204,10 +236,15 @@ module _ (r : Rules) (a : Admission) (l : ℕ) (admits : Admits r a) where
     second_alone to fits m h = absurd fits
 
     owes_second : (m : Line) → its_row.owes ≡ Some m
-        → (its_row.role.inside ≡ Some m) ⊎ ((rwlock_act l a leaves ≡ act.Enter (One (key_of l m))) × LetsInAt r.sort l its_row m)
+        → (its_row.role.inside ≡ Some m) ⊎ ((rwlock_act l a leaves ≡ act.Enter (One (key_of l m)))
+        × LetsInAt r.sort l its_row m)
     owes_second m h = elim (released.owing.owes m h) [
       | inl i ↦ inl i
-      | inr g ↦ inr (g.0, inr (subst (WakesAside (Some (Bumps l (wanted access.Shared))) l) (sym (second_alone to stands.place m h)) refl))
+      | inr g ↦ inr (
+        g.0,
+        inr (subst (WakesAside (Some (Bumps l (wanted access.Shared))) l)
+            (sym (second_alone to stands.place m h)) refl),
+      )
     ]
 
     debt_second : (m : Line) → HasDebt r.sort l (rwlock_profile a leaves) m → HasDebt r.sort l its_row m
@@ -222,19 +259,35 @@ module _ (r : Rules) (a : Admission) (l : ℕ) (admits : Admits r a) where
       waits = λ h. refl;
       known = λ sorts e. knows (sorts l) (ap has_readers e ∙ admits.0) access.Shared;
       aside = released.aside;
-      owing = record { owes = owes_second; inside = released.owing.inside; entering = λ m e lets. released.owing.entering m e (inl (inl refl)); second = λ h. admits.0 };
-      debtor = λ m d free. let k = released.debtor m d free in record { debt = debt_second m k.debt; awake = k.awake; stands = k.stands; taken = k.taken };
-      asleep = λ h. elim (released.asleep h) [ inl waiting ↦ inl waiting | inr k ↦ absurd (let e : None ≡ Some k.want = k.wants in cc) ];
+      owing = record {
+        owes = owes_second;
+        inside = released.owing.inside;
+        entering = λ m e lets. released.owing.entering m e (inl (inl refl));
+        second = λ h. admits.0;
+      };
+      debtor = λ m d free. let k = released.debtor m d free in record {
+        debt = debt_second m k.debt;
+        awake = k.awake;
+        stands = k.stands;
+        taken = k.taken;
+      };
+      asleep = λ h. elim (released.asleep h) [
+        | inl waiting ↦ inl waiting
+        | inr k ↦
+            absurd (let e : None ≡ Some k.want = k.wants in cc)
+      ];
       tells = released.tells;
       late = λ m h. absurd (released.late m h).timed;
       may_be_late = λ m s sleeps timed. absurd timed;
     }
 
-  bump_promises : (q : RwLockPurpose) (again : Bool) (to : RwLockAt) → MayStand a (of q again to) → IsOfBump q again
+  bump_promises : (q : RwLockPurpose) (again : Bool) (to : RwLockAt) → MayStand a (of q again to)
+      → IsOfBump q again
       → Promised (Bump (of q again to))
   bump_promises (purpose.Enter x Patient) again to stands bump = again_promises x again to stands
   bump_promises (purpose.Release access.Shared) false to stands bump = release_promises to stands
-  bump_promises (purpose.Release access.Shared) true to stands bump = absurd (let e : true ≡ false = bump in cc)
+  bump_promises (purpose.Release access.Shared) true to stands bump = absurd (let e : true ≡ false = bump
+      in cc)
   bump_promises q again to stands bump = absurd bump
 
   -- ---------------------------------------------------------------- a bump that looks
@@ -246,7 +299,12 @@ module _ (r : Rules) (a : Admission) (l : ℕ) (admits : Admits r a) where
     waits = λ h. refl;
     known = λ sorts e. knows (sorts l) (ap has_readers e ∙ admits.0) x;
     aside = λ h. absurd cc;
-    owing = record { owes = λ m h. absurd cc; inside = λ m h. absurd cc; entering = λ m e lets. absurd cc; second = λ h. absurd cc };
+    owing = record {
+      owes = λ m h. absurd cc;
+      inside = λ m h. absurd cc;
+      entering = λ m e lets. absurd cc;
+      second = λ h. absurd cc;
+    };
     debtor = owes_none;
     asleep = λ h. absurd cc;
     tells = λ h. absurd cc;
@@ -266,7 +324,8 @@ module _ (r : Rules) (a : Admission) (l : ℕ) (admits : Admits r a) where
   exchange_acts x k seen = either (has_room a.limit k seen) _ _
     where
       either : (b : Bool) (y z : ℕ)
-          → is_acting (if b then act.HandOver l (operation.Exchange seen y) else act.Word l (operation.Exchange seen z)) ≡ true
+          → is_acting (if b then act.HandOver l (operation.Exchange seen y)
+          else act.Word l (operation.Exchange seen z)) ≡ true
       either true y z = refl
       either false y z = refl
 
@@ -281,12 +340,15 @@ module _ (r : Rules) (a : Admission) (l : ℕ) (admits : Admits r a) where
   hands_acts x (handing.Leave any told) = refl
 
   exchange_other : (x : Access) (k : Taken) (seen : ℕ)
-      → (exchange_act l a.limit x k seen ≢ Sleep) × ((m : Line) → exchange_act l a.limit x k seen ≢ act.Enter (One (key_of l m)))
+      → (exchange_act l a.limit x k seen ≢ Sleep) × ((m : Line) → exchange_act l a.limit x k seen
+      ≢ act.Enter (One (key_of l m)))
   exchange_other x k seen = either (has_room a.limit k seen) _ _
     where
       either : (b : Bool) (y z : ℕ)
-          → ((if b then act.HandOver l (operation.Exchange seen y) else act.Word l (operation.Exchange seen z)) ≢ Sleep)
-          × ((m : Line) → (if b then act.HandOver l (operation.Exchange seen y) else act.Word l (operation.Exchange seen z)) ≢ act.Enter (One (key_of l m)))
+          → ((if b then act.HandOver l (operation.Exchange seen y) else act.Word l
+          (operation.Exchange seen z)) ≢ Sleep)
+          × ((m : Line) → (if b then act.HandOver l (operation.Exchange seen y) else act.Word l
+          (operation.Exchange seen z)) ≢ act.Enter (One (key_of l m)))
       either true y z = (λ e. cc, λ m e. cc)
       either false y z = (λ e. cc, λ m e. cc)
 
@@ -327,7 +389,8 @@ module _ (r : Rules) (a : Admission) (l : ℕ) (admits : Admits r a) where
     hands_owe (handing.Exchange k seen) m h = inl h
     hands_owe (handing.Leave any told) m h = inl h
 
-    hands_inside : (to : HandOverAt) (m : Line) → (over_row to).role.inside ≡ Some m → (over_row to).owes ≡ Some m
+    hands_inside : (to : HandOverAt) (m : Line) → (over_row to).role.inside ≡ Some m → (over_row to).owes
+        ≡ Some m
     hands_inside handing.Load m h = absurd cc
     hands_inside (handing.Free seen) m h = absurd cc
     hands_inside handing.Enter m h = absurd cc
@@ -350,7 +413,8 @@ module _ (r : Rules) (a : Admission) (l : ℕ) (admits : Admits r a) where
     hands_enter (handing.Leave any told) m e = absurd cc
 
   -- an upgradable owner wakes the threads that it takes where there is no room for them
-  debt_over : (b : Bool) (to : HandOverAt) → (call_profile a (HandOver access.Upgradable b to)).owes ≡ Some Main
+  debt_over : (b : Bool) (to : HandOverAt) → (call_profile a (HandOver access.Upgradable b to)).owes
+      ≡ Some Main
       → HasDebt r.sort l (call_profile a (HandOver access.Upgradable b to)) Main
   debt_over true to owes = inl (owes, (refl, λ e. cc))
   debt_over false to owes = inl (owes, (refl, inr refl))
@@ -360,16 +424,33 @@ module _ (r : Rules) (a : Admission) (l : ℕ) (admits : Admits r a) where
       → ((call_profile a (HandOver x b to)).role.claims ≡ Some (Has Exclusive) → ⊥)
       → RowLooksAfter r.sort l (call_profile a (HandOver x b to)) (hand_over_act l a x to) m
   hands_debtor access.Shared b to fits m d free = absurd fits
-  hands_debtor access.Upgradable b (handing.Look k) fits Main d free = record { debt = debt_over b (handing.Look k) refl; awake = hands_awake access.Upgradable (handing.Look k); stands = refl; taken = refl }
-  hands_debtor access.Upgradable b (handing.Exchange k seen) fits Main d free = record { debt = debt_over b (handing.Exchange k seen) refl; awake = hands_awake access.Upgradable (handing.Exchange k seen); stands = refl; taken = refl }
-  hands_debtor access.Upgradable b (handing.Leave any false) fits Main d free = record { debt = debt_over b (handing.Leave any false) refl; awake = hands_awake access.Upgradable (handing.Leave any false); stands = refl; taken = refl }
+  hands_debtor access.Upgradable b (handing.Look k) fits Main d free = record {
+    debt = debt_over b (handing.Look k) refl;
+    awake = hands_awake access.Upgradable (handing.Look k);
+    stands = refl;
+    taken = refl;
+  }
+  hands_debtor access.Upgradable b (handing.Exchange k seen) fits Main d free = record {
+    debt = debt_over b (handing.Exchange k seen) refl;
+    awake = hands_awake access.Upgradable (handing.Exchange k seen);
+    stands = refl;
+    taken = refl;
+  }
+  hands_debtor access.Upgradable b (handing.Leave any false) fits Main d free = record {
+    debt = debt_over b (handing.Leave any false) refl;
+    awake = hands_awake access.Upgradable (handing.Leave any false);
+    stands = refl;
+    taken = refl;
+  }
   hands_debtor access.Upgradable b (handing.Store k) fits m d free = absurd fits
   hands_debtor access.Exclusive b (handing.Store k) fits Main d free = absurd (free refl)
   hands_debtor access.Exclusive b (handing.Look k) fits m d free = absurd fits
   hands_debtor access.Exclusive b (handing.Exchange k seen) fits m d free = absurd fits
   hands_debtor access.Exclusive b (handing.Leave any false) fits m d free = absurd fits
-  hands_debtor x b (handing.Leave any true) fits Main d free = absurd (elim d [ inl h ↦ cc | inr h ↦ elim h [ inl k ↦ cc | inr k ↦ cc ] ])
-  hands_debtor x b to fits Main d free = absurd (elim d [ inl h ↦ cc | inr h ↦ elim h [ inl k ↦ cc | inr k ↦ cc ] ])
+  hands_debtor x b (handing.Leave any true) fits Main d free =
+      absurd (elim d [ inl h ↦ cc | inr h ↦ elim h [ inl k ↦ cc | inr k ↦ cc ] ])
+  hands_debtor x b to fits Main d free =
+      absurd (elim d [ inl h ↦ cc | inr h ↦ elim h [ inl k ↦ cc | inr k ↦ cc ] ])
   hands_debtor x b to fits Second d free = absurd cc
 
   -- a thread that has handed the lock over leaves its section next, and tells so
@@ -380,7 +461,8 @@ module _ (r : Rules) (a : Admission) (l : ℕ) (admits : Admits r a) where
       either true e = cc
       either false e = cc
 
-  hands_tell : (x : Access) (b : Bool) (to : HandOverAt) → (call_profile a (HandOver x b to)).carries ≡ Some true
+  hands_tell : (x : Access) (b : Bool) (to : HandOverAt) → (call_profile a (HandOver x b to)).carries
+      ≡ Some true
       → (hand_over_act l a x to ≡ act.Leave (One (2 * l)) (wakes.TheVariants.All note.HandOff))
       × ((call_profile a (HandOver x b to)).role.inside ≡ Some Main)
   hands_tell x b (handing.Leave true true) h = (refl, refl)
@@ -398,7 +480,12 @@ module _ (r : Rules) (a : Admission) (l : ℕ) (admits : Admits r a) where
     waits = λ h. absurd (elim h [ inl n ↦ n refl | inr n ↦ n refl ]);
     known = λ sorts e. known b sorts (ap has_readers e ∙ admits.0);
     aside = λ h. absurd cc;
-    owing = record { owes = hands_owe x b to; inside = hands_inside x b to; entering = λ m e lets. hands_enter x b to m e; second = λ h. admits.0 };
+    owing = record {
+      owes = hands_owe x b to;
+      inside = hands_inside x b to;
+      entering = λ m e lets. hands_enter x b to m e;
+      second = λ h. admits.0;
+    };
     debtor = hands_debtor x b to fits;
     asleep = λ h. absurd (hands_awake x to h);
     tells = hands_tell x b to;
@@ -459,12 +546,14 @@ module _ (r : Rules) (a : Admission) (l : ℕ) (admits : Admits r a) where
     accepts access.Upgradable = (refl, λ e. cc, λ m e. cc)
 
     hears : (to : HandedAt)
-        → (is_acting (handed_act l x to) ≡ true) × ((m : Line) → handed_act l x to ≢ act.Enter (One (key_of l m)))
+        → (is_acting (handed_act l x to) ≡ true)
+        × ((m : Line) → handed_act l x to ≢ act.Enter (One (key_of l m)))
     hears (handed.Asleep by alone) = (refl, λ m e. cc)
     hears handed.Accept = let k = accepts x in (k.0, k.2)
 
     sleeps : (to : HandedAt) → handed_act l x to ≡ Sleep
-        → IsWaiting (call_profile a (Handed x how b to)) ⊎ WasHanded r.sort l (call_profile a (Handed x how b to))
+        → IsWaiting (call_profile a (Handed x how b to))
+        ⊎ WasHanded r.sort l (call_profile a (Handed x how b to))
     sleeps (handed.Asleep by alone) e = inr (record {
       by = by;
       in_hand = refl;
@@ -486,7 +575,12 @@ module _ (r : Rules) (a : Admission) (l : ℕ) (admits : Admits r a) where
       waits = λ h. absurd (never_waits to h);
       known = λ sorts e. known b sorts (ap has_readers e ∙ admits.0);
       aside = λ h. absurd cc;
-      owing = record { owes = λ m h. absurd cc; inside = λ m h. absurd cc; entering = λ m e lets. absurd ((hears to).1 m e); second = λ h. absurd cc };
+      owing = record {
+        owes = λ m h. absurd cc;
+        inside = λ m h. absurd cc;
+        entering = λ m e lets. absurd ((hears to).1 m e);
+        second = λ h. absurd cc;
+      };
       debtor = λ m d free. absurd (quiet to m d);
       asleep = sleeps to;
       tells = λ h. absurd cc;
@@ -508,7 +602,8 @@ module _ (r : Rules) (a : Admission) (l : ℕ) (admits : Admits r a) where
 pub call_promises : (r : Rules) (a : Admission) (l : ℕ) (c : RwLockCallPlace) → Admits r a → CallStands a c
     → RowPromises r.sort l (call_profile a c) (call_act l a c)
 call_promises r a l (Plain p) admits stands = rwlock_promises r a l p admits stands
-call_promises r a l (Bump p) admits stands = bump_promises r a l admits p.purpose p.retries p.at stands.0 stands.1
+call_promises r a l (Bump p) admits stands = bump_promises r a l admits p.purpose p.retries p.at stands.0
+    stands.1
 call_promises r a l (Glance x) admits stands = glance_promises r a l admits x
 call_promises r a l (HandOver x b to) admits stands = hands_own r a l admits x b to stands
 call_promises r a l (Handed x how b to) admits stands = handed_promises r a l admits x how b stands to

@@ -1,5 +1,7 @@
--- Each step of a thread in a call of a reader-writer lock is a step of the abstract locks, and a call begins where it has its right.
-use Rattle.std.proofs.Common.{ℕ, Bool, true, false, Option, Some, None, if◌then◌else◌, ◌==◌, not, ◌≡◌, ◌≤◌, ◌<◌, ◌⊎◌, inl, inr, length, get_or-set_same, refl, sym, ◌∙◌, ap, subst, arith}
+-- Each step of a thread in a call of a reader-writer lock is a step of the abstract locks, and a call begins
+-- where it has its right.
+use Rattle.std.proofs.Common.{ℕ, Bool, true, false, Option, Some, None, if◌then◌else◌, ◌==◌, not, ◌≡◌, ◌≤◌}
+use Rattle.std.proofs.Common.{◌<◌, ◌⊎◌, inl, inr, length, get_or-set_same, refl, sym, ◌∙◌, ap, subst, arith}
 use Rattle.lot_laws.proofs.calls.Closures.{call_runs_none, closure_told}
 use Rattle.lot_laws.proofs.rwlock.Kept.{admits, stands}
 use Rattle.spec_locks.specs.Runs.{is_closure}
@@ -32,12 +34,15 @@ use Rattle.steps_rwlock.specs.declared.purposes.RwLockPurpose.TheVariants as pur
 use Rattle.spec_locks.specs.declared.outcomes.Answer.TheVariants.{Ok}
 use Rattle.steps_base.specs.declared.acts.Reply.TheVariants.{Done, HandedBy, Picked, Value, Woken}
 use Rattle.core_base.specs.declared.notes.Note.TheVariants.{HandOff, Normal}
-use Rattle.steps_rwlock_fair.specs.declared.places.RwLockCallPlace.TheVariants.{Plain, Glance, HandOver, Bump, Handed}
+use Rattle.steps_rwlock_fair.specs.declared.places.RwLockCallPlace.TheVariants.{Plain, Glance, HandOver, Bump}
+use Rattle.steps_rwlock_fair.specs.declared.places.RwLockCallPlace.TheVariants.{Handed}
 use Rattle.steps_rwlock_fair.specs.declared.hand_over.HandOverAt.{HandOverAt}
 use Rattle.steps_rwlock_fair.specs.declared.hand_over.HandOverAt.TheVariants as handing
 use Rattle.steps_rwlock_fair.specs.declared.handed.HandedAt.TheVariants as handed
 use Rattle.steps_rwlock_fair.specs.FairMoves.{CallMoves, call_hears, call_move}
-use Rattle.steps_rwlock_fair.specs.FairSteps.{any_taken, bump_next, call_act, call_next, enters_again, freed_next, given, gives_up_at, gives_way, hand_over_next, has_room, looked, plain_next, released, took, unless_given}
+use Rattle.steps_rwlock_fair.specs.FairSteps.{any_taken, bump_next, call_act, call_next, enters_again}
+use Rattle.steps_rwlock_fair.specs.FairSteps.{freed_next, given, gives_up_at, gives_way, hand_over_next}
+use Rattle.steps_rwlock_fair.specs.FairSteps.{has_room, looked, plain_next, released, took, unless_given}
 use Rattle.steps_rwlock_fair.proofs.FairActs.{fair_acts_move}
 use Rattle.steps_rwlock_fair.proofs.FairSleepers.{never_given}
 use Rattle.steps_rwlock_fair.specs.FairBegins.{call_first, call_right}
@@ -98,7 +103,8 @@ module _ (l : ℕ) (a : Admission) (x : Access) (b : Bool) where
   goes_bare : (to : HandOverAt) → NextAwake a l (next.At (HandOver x b to))
   goes_bare to = in_no_hand_now a (HandOver x b to) refl
 
-  either_bare : (c : Bool) (to : HandOverAt) → NextAwake a l (if c then released x b else next.At (HandOver x b to))
+  either_bare : (c : Bool) (to : HandOverAt)
+      → NextAwake a l (if c then released x b else next.At (HandOver x b to))
   either_bare true to = released_awake l a x b
   either_bare false to = goes_bare to
 
@@ -111,10 +117,16 @@ module _ (l : ℕ) (a : Admission) (x : Access) (b : Bool) where
   handing_awake handing.Load (Value seen) = goes_bare (looked seen)
   handing_awake (handing.Free expected) (Value seen) = either_bare (seen == expected) (freed_next x seen)
   handing_awake handing.Enter Done = goes_bare handing.Take
-  handing_awake handing.Take (Picked n y none_left) = goes_bare (took x (record { sharers = n; successor = y; none_left = none_left }))
+  handing_awake handing.Take (Picked n y none_left) = goes_bare (took x (record {
+    sharers = n;
+    successor = y;
+    none_left = none_left;
+  }))
   handing_awake (handing.Store k) (Value seen) = goes_bare (handing.Leave (any_taken k) true)
   handing_awake (handing.Look k) (Value seen) = goes_bare (handing.Exchange k seen)
-  handing_awake (handing.Exchange k expected) (Value seen) = hands_bare (seen == expected) (handing.Leave (any_taken k) (has_room a.limit k seen)) (handing.Exchange k seen)
+  handing_awake (handing.Exchange k expected) (Value seen) =
+      hands_bare (seen == expected) (handing.Leave (any_taken k) (has_room a.limit k seen))
+      (handing.Exchange k seen)
   handing_awake (handing.Leave any given) Done = released_awake l a x b
   handing_awake to told = goes_bare to
 
@@ -130,14 +142,20 @@ not_given b p (Woken HandOff) h = absurd h
 not_given b p (Woken Normal) h = refl
 not_given b p told h = refl
 
-own_next : (l : ℕ) (a : Admission) (c : RwLockCallPlace) (told : Reply) → IsOwn told → (call_act l a c ≡ act.Sleep → ⊥)
+own_next : (l : ℕ) (a : Admission) (c : RwLockCallPlace) (told : Reply) → IsOwn told
+    → (call_act l a c ≡ act.Sleep → ⊥)
     → NextAwake a l (call_next a c told)
-own_next l a (Plain p) told own awake = subst (λ (o : Option RwLockCallPlace). NextAwake a l (unless_given o (plain_next (rwlock_next a p told)))) (sym (not_given false p told own)) (by_next (rwlock_next a p told))
+own_next l a (Plain p) told own awake =
+    subst (λ (o : Option RwLockCallPlace). NextAwake a l (unless_given o (plain_next (rwlock_next a p told))))
+    (sym (not_given false p told own)) (by_next (rwlock_next a p told))
   where
     by_next : (n : Next RwLockPlace) → NextAwake a l (plain_next n)
     by_next (next.At q) = never_given a l q.at
     by_next (next.End answer) = tt
-own_next l a (Bump p) told own awake = subst (λ (o : Option RwLockCallPlace). NextAwake a l (unless_given o (bump_next p.purpose (rwlock_next a p told)))) (sym (not_given true p told own)) (by_next p.purpose (rwlock_next a p told))
+own_next l a (Bump p) told own awake =
+    subst (λ (o : Option RwLockCallPlace). NextAwake a l
+    (unless_given o (bump_next p.purpose (rwlock_next a p told)))) (sym (not_given true p told own))
+    (by_next p.purpose (rwlock_next a p told))
   where
     by_next : (q : RwLockPurpose) (n : Next RwLockPlace) → NextAwake a l (bump_next q n)
     by_next q (next.At p2) = never_given a l p2.at
@@ -149,7 +167,8 @@ own_next l a (HandOver x b to) told own awake = handing_awake l a x b to told
 own_next l a (Handed x how b (handed.Asleep u alone)) told own awake = absurd (awake refl)
 own_next l a (Handed x how b handed.Accept) Done own awake = tt
 own_next l a (Handed x how b handed.Accept) (Value seen) own awake = tt
-own_next l a (Handed x how b handed.Accept) told own awake = in_no_hand_now a (Handed x how b handed.Accept) refl
+own_next l a (Handed x how b handed.Accept) told own awake = in_no_hand_now a (Handed x how b handed.Accept)
+    refl
 
 own_reply : (w : State) (t : ℕ) (y : Act) → IsOwn (reply_to w t y)
 own_reply w t act.Rest = tt
@@ -169,8 +188,10 @@ own_reply w t act.Accept = tt
 own_reply w t (act.Closure state) = tt
 own_reply w t (act.End answer) = tt
 
-module _ (w : State) (t l : ℕ) (a : Admission) (c : RwLockCallPlace) (steady : IsInductive w) (shape : IsWellFormed w)
-    (there : t < length w.places) (lt : l < length w.locks) (is : place_at w t ≡ RwLock l a c) (counted : AreCounted w)
+module _ (w : State) (t l : ℕ) (a : Admission) (c : RwLockCallPlace) (steady : IsInductive w)
+    (shape : IsWellFormed w)
+    (there : t < length w.places) (lt : l < length w.locks) (is : place_at w t ≡ RwLock l a c)
+    (counted : AreCounted w)
     (can : can_do w (call_act l a c) ≡ true) where
   kept : GoesOnBy w t l a c (call_act l a c)
   kept = rwlock_goes_on w t l a c steady shape there lt is counted can
@@ -185,7 +206,8 @@ module _ (w : State) (t l : ℕ) (a : Admission) (c : RwLockCallPlace) (steady :
   happened = case_by w t l a c kept.whom (call_act l a c)
 
   -- a thread that sleeps in a call stands about its lock
-  rests : (q : RwLockCallPlace) → place_at behind t ≡ RwLock l a q → CallAwake (call_profile a q) (call_act l a q)
+  rests : (q : RwLockCallPlace) → place_at behind t ≡ RwLock l a q → CallAwake (call_profile a q)
+      (call_act l a q)
       → (outcome_of (call_act l a q) ≡ outcome.Step)
       ⊎ ((outcome_of (call_act l a q) ≡ outcome.Sleep) × (1 ≤ standing t (lock_state behind l)))
   rests q e awake = by_act (call_act l a q) (fair_acts_move l a q fits.1) promises.acts promises.asleep awake
@@ -197,23 +219,31 @@ module _ (w : State) (t l : ℕ) (a : Admission) (c : RwLockCallPlace) (steady :
       promises = call_promises (rules_in behind l) a l q fits.0 fits.1
 
       by_act : (y : Act) → CallMoves l a.recursive (call_move a q) (call_hears a q) y → is_acting y ≡ true
-          → (y ≡ act.Sleep → IsWaiting (call_profile a q) ⊎ WasHanded (rules_in behind l).sort l (call_profile a q))
+          → (y ≡ act.Sleep → IsWaiting (call_profile a q) ⊎ WasHanded (rules_in behind l).sort l
+          (call_profile a q))
           → CallAwake (call_profile a q) y
-          → (outcome_of y ≡ outcome.Step) ⊎ ((outcome_of y ≡ outcome.Sleep) × (1 ≤ standing t (lock_state behind l)))
+          → (outcome_of y ≡ outcome.Step) ⊎ ((outcome_of y ≡ outcome.Sleep)
+          × (1 ≤ standing t (lock_state behind l)))
       by_act act.Sleep moves acting asleep awake = inr (
         refl,
-        waiting_stands behind t kept.happened.after l (ap called_lock e) (subst (λ (x : Profile). IsWaiting x) (sym (ap profile e)) (elim (asleep refl) [
-          | inl h ↦ h
-          | inr h ↦ absurd (awake h.by h.in_hand)
-        ])),
+        waiting_stands behind t kept.happened.after l (ap called_lock e) (subst (λ (x : Profile). IsWaiting x)
+            (sym (ap profile e)) (elim (asleep refl) [
+              | inl h ↦ h
+              | inr h ↦ absurd (awake h.by h.in_hand)
+            ])),
       )
       by_act (act.End answer) moves acting asleep awake = absurd cc
       by_act act.Rest moves acting asleep awake = absurd cc
       by_act (act.Closure state) moves acting asleep awake = absurd moves
       by_act y moves acting asleep awake = inl refl
 
-  leads : LeadsTo behind t l (next_rows a (call_next a c told)) (outcome_of (rwlock_does l a (call_next a c told)))
-  leads = by_next (call_next a c told) (get_or-set_same (state_after_act w t (RwLock l a c) (call_act l a c)).places t _ Idle (rw (performed_counts w t (RwLock l a c) (call_act l a c)).0 there)) (own_next l a c told (own_reply w t (call_act l a c)) (λ asleep. let f : true ≡ false = sym can ∙ ap (can_do w) asleep in cc))
+  leads : LeadsTo behind t l (next_rows a (call_next a c told))
+      (outcome_of (rwlock_does l a (call_next a c told)))
+  leads = by_next (call_next a c told)
+      (get_or-set_same (state_after_act w t (RwLock l a c) (call_act l a c)).places t _ Idle
+      (rw (performed_counts w t (RwLock l a c) (call_act l a c)).0 there))
+      (own_next l a c told (own_reply w t (call_act l a c)) (λ asleep. let f : true ≡ false = sym can
+      ∙ ap (can_do w) asleep in cc))
     where
       by_next : (n : Next RwLockCallPlace) → place_at behind t ≡ rwlock_goes l a n → NextAwake a l n
           → LeadsTo behind t l (next_rows a n) (outcome_of (rwlock_does l a n))
@@ -229,15 +259,20 @@ module _ (w : State) (t l : ℕ) (a : Admission) (c : RwLockCallPlace) (steady :
       by_next (next.End answer) e awake = (e, refl)
 
   pub rwlock_step : GoesOn (locks_of w) t (outcome_of (next_act (RwLock l a c) told)) (locks_of behind)
-  rwlock_step = goes_by w behind t l happened kept.happened (RwLock l a c) is refl tt kept.tells.may (next_rows a (call_next a c told)) _ kept.tells.comes leads kept.others
-      (begins_nothing (locks_of w) l (call_profile a c) happened _ runs kept.tells.may (tells_none (call_next a c told)))
+  rwlock_step = goes_by w behind t l happened kept.happened (RwLock l a c) is refl tt kept.tells.may
+      (next_rows a (call_next a c told)) _ kept.tells.comes leads kept.others
+      (begins_nothing (locks_of w) l (call_profile a c) happened _ runs kept.tells.may
+      (tells_none (call_next a c told)))
     where
       promises : RowPromises (rules_in w l).sort l (call_profile a c) (call_act l a c)
-      promises = call_promises (rules_in w l) a l c (admits w t l a c steady shape there lt is) (stands w t l a c steady shape there lt is)
+      promises = call_promises (rules_in w l) a l c (admits w t l a c steady shape there lt is)
+          (stands w t l a c steady shape there lt is)
 
       runs : RunsNothing ((call_profile a c).purpose l)
-      runs = runs_nothing (λ k. (rules_in w k).sort) l ((call_profile a c).purpose l) promises.own (promises.known (λ k. (rules_in w k).sort) refl)
-          (λ once. let both : false ≡ true = sym (ap has_readers once) ∙ (admits w t l a c steady shape there lt is).0 in cc)
+      runs = runs_nothing (λ k. (rules_in w k).sort) l ((call_profile a c).purpose l) promises.own
+          (promises.known (λ k. (rules_in w k).sort) refl)
+          (λ once. let both : false ≡ true = sym (ap has_readers once)
+          ∙ (admits w t l a c steady shape there lt is).0 in cc)
 
       tells_none : (n : Next RwLockCallPlace) → is_closure (outcome_of (rwlock_does l a n)) ≡ false
       tells_none (next.At q) = closure_told (call_act l a q) ∙ call_runs_none l a q
@@ -259,12 +294,14 @@ module _ (w : State) (t l : ℕ) where
   shared_some : (n : ℕ) → 1 ≤ n → not (n == 0) ≡ true
   shared_some n h = grind (arith, nat_tests)
 
-  owns : (x : Access) → has_access x t (owners_at w l) (share_at w l t) ≡ true → Owns (lock_state w l) t (wanted x)
+  owns : (x : Access) → has_access x t (owners_at w l) (share_at w l t) ≡ true
+      → Owns (lock_state w l) t (wanted x)
   owns access.Shared h = some_shared (share_at w l t) h
   owns access.Upgradable h = thread_is t (owners_at w l).upgradable h
   owns access.Exclusive h = thread_is t (owners_at w l).exclusive h
 
-  owned : (x : Access) → Owns (lock_state w l) t (wanted x) → has_access x t (owners_at w l) (share_at w l t) ≡ true
+  owned : (x : Access) → Owns (lock_state w l) t (wanted x) → has_access x t (owners_at w l) (share_at w l t)
+      ≡ true
   owned access.Shared h = shared_some (share_at w l t) h
   owned access.Upgradable h = is_owner t (owners_at w l).upgradable h
   owned access.Exclusive h = is_owner t (owners_at w l).exclusive h
@@ -292,7 +329,8 @@ module _ (l : ℕ) (a : Admission) (c : RwLockCall) where
   opens : CallOpens a c
   opens = calls_open a c
 
-  pub rwlock_begins_with : (r : ℕ → Rights) → call_state (RwLock l a (call_first c)) r ≡ new_call (Some (rwlock_purpose l c)) r
+  pub rwlock_begins_with : (r : ℕ → Rights) → call_state (RwLock l a (call_first c)) r ≡ new_call
+      (Some (rwlock_purpose l c)) r
   rwlock_begins_with r = λ i. record {
     purpose = Some (opens.purpose l i);
     former = opens.opening.former l r i;
@@ -305,4 +343,5 @@ module _ (l : ℕ) (a : Admission) (c : RwLockCall) where
   }
 
   pub rwlock_untaken_first : (k : ℕ) → taken_at (RwLock l a (call_first c)) k ≡ None
-  rwlock_untaken_first k = ap (λ (h : Option Hand). taken_from h (call_profile a (call_first c)).wants (calls (RwLock l a (call_first c)) k)) (ap (λ (y : Location). y.hand) opens.opening.location)
+  rwlock_untaken_first k = ap (λ (h : Option Hand). taken_from h (call_profile a (call_first c)).wants
+      (calls (RwLock l a (call_first c)) k)) (ap (λ (y : Location). y.hand) opens.opening.location)

@@ -10,20 +10,33 @@ use Rattle.steps_rwlock.specs.declared.places.RwLockPlace.{RwLockPlace}
 use Rattle.steps_rwlock.specs.RwLockProfiles.{rwlock_late_line, late_line_at, parked_hand as rwlock_hand}
 use Rattle.steps_base.specs.declared.acts.Reply.TheVariants as reply
 use Rattle.steps_rwlock_fair.specs.declared.places.RwLockCallPlace.{RwLockCallPlace}
-use Rattle.steps_rwlock_fair.specs.declared.places.RwLockCallPlace.TheVariants.{Plain, Glance, HandOver, Bump as BumpCall, Handed}
+use Rattle.steps_rwlock_fair.specs.declared.places.RwLockCallPlace.TheVariants.{Plain, Glance, HandOver}
+use Rattle.steps_rwlock_fair.specs.declared.places.RwLockCallPlace.TheVariants.{Bump as BumpCall, Handed}
 use Rattle.steps_rwlock_fair.specs.FairProfiles.{call_late_line, call_profile}
 use Rattle.steps_rwlock_fair.specs.FairSteps.{bump_next, call_next, plain_next}
 use Rattle.steps_base.specs.declared.acts.Next.TheVariants as next
 
 -- it sleeps in a line, and stands there still
 late_place : (a : Admission) (p : RwLockPlace) (m : Line) → rwlock_late_line p ≡ Some m
-    → (p2 : RwLockPlace) × (rwlock_next a p reply.Late ≡ next.At p2) × (rwlock_hand p.at ≡ None) × (rwlock_hand p2.at ≡ None)
+    → (p2 : RwLockPlace) × (rwlock_next a p reply.Late ≡ next.At p2) × (rwlock_hand p.at ≡ None)
+    × (rwlock_hand p2.at ≡ None)
 late_place a p m h = by_place p.at refl h
   where
     by_place : (to : RwLockAt) → p.at ≡ to → late_line_at (patience_of p.purpose) to ≡ Some m
-        → (p2 : RwLockPlace) × (rwlock_next a p reply.Late ≡ next.At p2) × (rwlock_hand p.at ≡ None) × (rwlock_hand p2.at ≡ None)
-    by_place (at.Park parking.Asleep) e h = (record p { at = at.Park parking.Remove }, ap (λ x. next_at a p x reply.Late) e, ap rwlock_hand e, refl)
-    by_place (at.Aside parking.Asleep) e h = (record p { at = at.Aside parking.Remove }, ap (λ x. next_at a p x reply.Late) e, ap rwlock_hand e, refl)
+        → (p2 : RwLockPlace) × (rwlock_next a p reply.Late ≡ next.At p2) × (rwlock_hand p.at ≡ None)
+        × (rwlock_hand p2.at ≡ None)
+    by_place (at.Park parking.Asleep) e h = (
+      record p { at = at.Park parking.Remove },
+      ap (λ x. next_at a p x reply.Late) e,
+      ap rwlock_hand e,
+      refl,
+    )
+    by_place (at.Aside parking.Asleep) e h = (
+      record p { at = at.Aside parking.Remove },
+      ap (λ x. next_at a p x reply.Late) e,
+      ap rwlock_hand e,
+      refl,
+    )
     by_place (at.Park to) e h = absurd cc
     by_place (at.Aside to) e h = absurd cc
     by_place to e h = absurd cc
@@ -32,7 +45,12 @@ pub call_late : (a : Admission) (c : RwLockCallPlace) (m : Line) → call_late_l
     → (d : RwLockCallPlace) × (call_next a c reply.Late ≡ next.At d) × ((call_profile a c).hand ≡ None)
     × ((call_profile a d).hand ≡ None)
 call_late a (Plain p) m h = let z = late_place a p m h in (Plain z.0, ap plain_next z.1, z.2, z.3)
-call_late a (BumpCall p) m h = let z = late_place a p m h in (BumpCall z.0, ap (bump_next p.purpose) z.1, z.2, z.3)
+call_late a (BumpCall p) m h = let z = late_place a p m h in (
+  BumpCall z.0,
+  ap (bump_next p.purpose) z.1,
+  z.2,
+  z.3,
+)
 call_late a (Glance x) m h = absurd cc
 call_late a (HandOver x b to) m h = absurd cc
 call_late a (Handed x how b to) m h = absurd cc

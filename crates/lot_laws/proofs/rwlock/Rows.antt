@@ -1,5 +1,6 @@
 -- Each place of a reader-writer lock says of its thread what is promised of it.
-use Rattle.std.proofs.Common.{ℕ, Bool, true, false, Option, Some, None, if◌then◌else◌, ◌≡◌, ◌≢◌, ◌+◌, ◌*◌, ◌⊎◌, inl, inr, refl, sym, ◌∙◌, ap, arith}
+use Rattle.std.proofs.Common.{ℕ, Bool, true, false, Option, Some, None, if◌then◌else◌, ◌≡◌, ◌≢◌, ◌+◌, ◌*◌}
+use Rattle.std.proofs.Common.{◌⊎◌, inl, inr, refl, sym, ◌∙◌, ap, arith}
 use Rattle.core_base.specs.declared.keys.Keys.TheVariants.{One}
 use Rattle.core_base.specs.declared.keys.Line.{Line}
 use Rattle.core_base.specs.declared.keys.Line.TheVariants.{Main, Second}
@@ -26,10 +27,14 @@ use Rattle.steps_rwlock.specs.declared.park.ParkAt.{ParkAt}
 use Rattle.steps_rwlock.specs.declared.park.ParkAt.TheVariants as parking
 use Rattle.steps_rwlock.specs.declared.release.WakeAt.{WakeAt}
 use Rattle.steps_rwlock.specs.declared.release.WakeAt.TheVariants as waking
-use Rattle.steps_rwlock.specs.RwLockSteps.{wanted, to_of, start_of, patience_of, want_at, decided, decided_act, park_act, act_at, rwlock_act, exchange, plus}
-use Rattle.steps_rwlock.specs.RwLockDeeds.{Admits, parking_role, waking_role, role_at, retried_want, rwlock_role, falls_back, pends, claimed}
+use Rattle.steps_rwlock.specs.RwLockSteps.{wanted, to_of, start_of, patience_of, want_at, decided}
+use Rattle.steps_rwlock.specs.RwLockSteps.{decided_act, park_act, act_at, rwlock_act, exchange, plus}
+use Rattle.steps_rwlock.specs.RwLockDeeds.{Admits, parking_role, waking_role, role_at, retried_want}
+use Rattle.steps_rwlock.specs.RwLockDeeds.{rwlock_role, falls_back, pends, claimed}
 use Rattle.steps_rwlock.specs.RwLockCalls.{ParksBy, StandsAt, IsNoRefusal, IsDecided, MayStand}
-use Rattle.steps_rwlock.specs.RwLockProfiles.{rwlock_profile, is_inside, is_timed, owes_at, stands_at, parked_hand, carries_at, late_line_at, late_at, has_given_up, purpose_by, wants_for}
+use Rattle.steps_rwlock.specs.RwLockProfiles.{rwlock_profile, is_inside, is_timed, owes_at, stands_at}
+use Rattle.steps_rwlock.specs.RwLockProfiles.{parked_hand, carries_at, late_line_at, late_at, has_given_up}
+use Rattle.steps_rwlock.specs.RwLockProfiles.{purpose_by, wants_for}
 use Rattle.steps_base.specs.Profiles.{Profile, hand, in_line, taken_from}
 use Rattle.spec_locks.specs.Codes.{has_aside}
 use Rattle.spec_locks.specs.Locks.{Rules, Sort, Knows}
@@ -38,7 +43,8 @@ use Rattle.spec_locks.specs.Purposes.{MayWait, lock_for, Blank}
 use Rattle.spec_locks.specs.Runs.{IsTimed}
 use Rattle.spec_locks.specs.Sites.{Pends, Claim, counts_some, has_readers, idle}
 use Rattle.steps_base.specs.Rows.{KnowsRights, WakesAside}
-use Rattle.lot_laws.proofs.promises.RowPromises.{is_acting, LetsIn, IsDebtorIn, HasDebt, RowLooksAfter, RowIsLate, RowPromises}
+use Rattle.lot_laws.proofs.promises.RowPromises.{is_acting, LetsIn, IsDebtorIn, HasDebt, RowLooksAfter}
+use Rattle.lot_laws.proofs.promises.RowPromises.{RowIsLate, RowPromises}
 
 -- ---------------------------------------------------------------- the call
 
@@ -62,10 +68,20 @@ rwlock_known : (l : ℕ) (q : RwLockPurpose) (sort_of : ℕ → Sort) → has_re
     → KnowsRights sort_of (Some (purpose_by q l))
 rwlock_known l (purpose.Enter x how) sort_of e = knows (sort_of l) e x
 rwlock_known l (purpose.Release x) sort_of e = knows (sort_of l) e x
-rwlock_known l (purpose.Downgrade downgrade.ToShared) sort_of e = (knows (sort_of l) e access.Exclusive, knows (sort_of l) e access.Shared)
-rwlock_known l (purpose.Downgrade downgrade.ToUpgradable) sort_of e = (knows (sort_of l) e access.Exclusive, knows (sort_of l) e access.Upgradable)
-rwlock_known l (purpose.Downgrade downgrade.UpgradableToShared) sort_of e = (knows (sort_of l) e access.Upgradable, knows (sort_of l) e access.Shared)
-rwlock_known l (purpose.Upgrade how) sort_of e = (knows (sort_of l) e access.Upgradable, knows (sort_of l) e access.Exclusive)
+rwlock_known l (purpose.Downgrade downgrade.ToShared) sort_of e = (
+  knows (sort_of l) e access.Exclusive,
+  knows (sort_of l) e access.Shared,
+)
+rwlock_known l (purpose.Downgrade downgrade.ToUpgradable) sort_of e = (
+  knows (sort_of l) e access.Exclusive,
+  knows (sort_of l) e access.Upgradable,
+)
+rwlock_known l (purpose.Downgrade downgrade.UpgradableToShared) sort_of e =
+    (knows (sort_of l) e access.Upgradable, knows (sort_of l) e access.Shared)
+rwlock_known l (purpose.Upgrade how) sort_of e = (
+  knows (sort_of l) e access.Upgradable,
+  knows (sort_of l) e access.Exclusive,
+)
 
 -- it is no bump
 pub no_bump : (l : ℕ) (q : RwLockPurpose) (m : Line) → WakesAside (Some (purpose_by q l)) l m → ⊥
@@ -94,7 +110,8 @@ IsBefore at.GiveWay = ⊥
 IsBefore (at.Wake m to) = ⊥
 IsBefore to = Unit {0}
 
-pub before_waits : (q : RwLockPurpose) (again : Bool) (to : RwLockAt) → StandsAt q again to → IsBefore to → Waits q
+pub before_waits : (q : RwLockPurpose) (again : Bool) (to : RwLockAt) → StandsAt q again to → IsBefore to
+    → Waits q
 before_waits (purpose.Enter x how) again to stands before = tt
 before_waits (purpose.Upgrade how) again to stands before = tt
 before_waits (purpose.Release access.Shared) again at.GiveWay stands before = before
@@ -112,13 +129,15 @@ before_waits (purpose.Downgrade d) again to stands before = stands
 
 -- ---------------------------------------------------------------- acts
 
-decided_acts : (l : ℕ) (q : RwLockPurpose) (seen : ℕ) (d : Decision) → IsNoRefusal d → is_acting (decided_act l q seen d) ≡ true
+decided_acts : (l : ℕ) (q : RwLockPurpose) (seen : ℕ) (d : Decision) → IsNoRefusal d
+    → is_acting (decided_act l q seen d) ≡ true
 decided_acts l q seen decisions.Take h = refl
 decided_acts l q seen decisions.Mark h = refl
 decided_acts l q seen decisions.Park h = refl
 decided_acts l q seen (decisions.Refuse answer) h = absurd h
 
-park_acts : (l : ℕ) (a : Admission) (x : Want) (m : Line) (to : ParkAt) → is_acting (park_act l a x m to) ≡ true
+park_acts : (l : ℕ) (a : Admission) (x : Want) (m : Line) (to : ParkAt) → is_acting (park_act l a x m to)
+    ≡ true
 park_acts l a x m parking.Check = refl
 park_acts l a x m (parking.Leave parked) = refl
 park_acts l a x m to = refl
@@ -132,7 +151,8 @@ acts_at l a p (at.Park to) h = park_acts l a (want_at p) Main to
 acts_at l a p at.Look h = refl
 acts_at l a p (at.Count seen) h = either (has_aside seen)
   where
-    either : (b : Bool) → is_acting (if b then act.Enter (One (2 * l + 1)) else exchange l seen (plus seen 2)) ≡ true
+    either : (b : Bool) → is_acting (if b then act.Enter (One (2 * l + 1)) else exchange l seen (plus seen 2))
+        ≡ true
     either true = refl
     either false = refl
 acts_at l a p at.Marked h = refl
@@ -156,7 +176,8 @@ IsAwakeAt (at.Park to) = IsAwakeParking to
 IsAwakeAt (at.Aside to) = IsAwakeParking to
 IsAwakeAt to = Unit {0}
 
-park_awake : (l : ℕ) (a : Admission) (x : Want) (m : Line) (to : ParkAt) → IsAwakeParking to → park_act l a x m to ≢ Sleep
+park_awake : (l : ℕ) (a : Admission) (x : Want) (m : Line) (to : ParkAt) → IsAwakeParking to
+    → park_act l a x m to ≢ Sleep
 park_awake l a x m parking.Asleep h e = h
 park_awake l a x m (parking.Taken by) h e = h
 park_awake l a x m parking.Check h e = cc
@@ -169,7 +190,8 @@ decided_awake l q seen decisions.Mark e = cc
 decided_awake l q seen decisions.Park e = cc
 decided_awake l q seen (decisions.Refuse answer) e = cc
 
-pub awake_at : (l : ℕ) (a : Admission) (p : RwLockPlace) (to : RwLockAt) → IsAwakeAt to → act_at l a p to ≢ Sleep
+pub awake_at : (l : ℕ) (a : Admission) (p : RwLockPlace) (to : RwLockAt) → IsAwakeAt to → act_at l a p to
+    ≢ Sleep
 awake_at l a p at.First h e = cc
 awake_at l a p at.Load h e = cc
 awake_at l a p (at.Decide seen) h e = decided_awake l p.purpose seen (decided a p seen) e
@@ -177,7 +199,8 @@ awake_at l a p (at.Park to) h e = park_awake l a (want_at p) Main to h e
 awake_at l a p at.Look h e = cc
 awake_at l a p (at.Count seen) h e = either (has_aside seen) e
   where
-    either : (b : Bool) → (if b then act.Enter (One (2 * l + 1)) else exchange l seen (plus seen 2)) ≡ Sleep → ⊥
+    either : (b : Bool) → (if b then act.Enter (One (2 * l + 1)) else exchange l seen (plus seen 2)) ≡ Sleep
+        → ⊥
     either true e = cc
     either false e = cc
 awake_at l a p at.Marked h e = cc
@@ -208,8 +231,10 @@ waits_at : (l : ℕ) (q : RwLockPurpose) (again : Bool) (to : RwLockAt) → Stan
     → MayWait (Some (purpose_by q l)) l
 waits_at l (purpose.Enter access.Exclusive how) again (at.Park to) stands h = (refl, parks_wait how to stands)
 waits_at l (purpose.Enter access.Shared how) again (at.Park to) stands h = (refl, parks_wait how to stands)
-waits_at l (purpose.Enter access.Upgradable how) again (at.Park to) stands h = (refl, parks_wait how to stands)
-waits_at l (purpose.Enter access.Exclusive how) again (at.Aside to) stands h = (refl, parks_wait how to stands)
+waits_at l (purpose.Enter access.Upgradable how) again (at.Park to) stands h =
+    (refl, parks_wait how to stands)
+waits_at l (purpose.Enter access.Exclusive how) again (at.Aside to) stands h =
+    (refl, parks_wait how to stands)
 waits_at l (purpose.Enter access.Shared how) again (at.Aside to) stands h = absurd stands
 waits_at l (purpose.Enter access.Upgradable how) again (at.Aside to) stands h = absurd stands
 waits_at l (purpose.Upgrade Patient) again (at.Aside to) stands h = (refl, parks_wait Patient to stands)
@@ -218,8 +243,10 @@ waits_at l (purpose.Upgrade Try) again (at.Aside to) stands h = absurd stands
 waits_at l (purpose.Upgrade Patient) again (at.Park to) stands h = absurd stands
 waits_at l (purpose.Upgrade Timed) again (at.Park to) stands h = absurd stands
 waits_at l (purpose.Upgrade Try) again (at.Park to) stands h = absurd stands
-waits_at l (purpose.Release x) again (at.Park to) stands h = absurd (before_waits (purpose.Release x) again (at.Park to) stands tt)
-waits_at l (purpose.Release x) again (at.Aside to) stands h = absurd (before_waits (purpose.Release x) again (at.Aside to) stands tt)
+waits_at l (purpose.Release x) again (at.Park to) stands h =
+    absurd (before_waits (purpose.Release x) again (at.Park to) stands tt)
+waits_at l (purpose.Release x) again (at.Aside to) stands h =
+    absurd (before_waits (purpose.Release x) again (at.Aside to) stands tt)
 waits_at l (purpose.Downgrade d) again (at.Park to) stands h = absurd stands
 waits_at l (purpose.Downgrade d) again (at.Aside to) stands h = absurd stands
 waits_at l q again to stands h = absurd h
@@ -250,12 +277,15 @@ wants_some (purpose.Upgrade how) u h e = cc
 wants_some (purpose.Release x) u h e = h
 wants_some (purpose.Downgrade d) u h e = h
 
-asleep_at : (l : ℕ) (a : Admission) (p : RwLockPlace) (to : RwLockAt) → StandsAt p.purpose p.retries to → act_at l a p to ≡ Sleep
+asleep_at : (l : ℕ) (a : Admission) (p : RwLockPlace) (to : RwLockAt) → StandsAt p.purpose p.retries to
+    → act_at l a p to ≡ Sleep
     → (stands_at to ≢ None) ⊎ (taken_from (parked_hand to) (wants_for p.purpose) true ≢ None)
 asleep_at l a p (at.Park parking.Asleep) stands h = inl (λ n. cc)
 asleep_at l a p (at.Aside parking.Asleep) stands h = inl (λ n. cc)
-asleep_at l a p (at.Park (parking.Taken by)) stands h = inr (wants_some p.purpose by (before_waits p.purpose p.retries (at.Park (parking.Taken by)) stands tt))
-asleep_at l a p (at.Aside (parking.Taken by)) stands h = inr (wants_some p.purpose by (before_waits p.purpose p.retries (at.Aside (parking.Taken by)) stands tt))
+asleep_at l a p (at.Park (parking.Taken by)) stands h =
+    inr (wants_some p.purpose by (before_waits p.purpose p.retries (at.Park (parking.Taken by)) stands tt))
+asleep_at l a p (at.Aside (parking.Taken by)) stands h =
+    inr (wants_some p.purpose by (before_waits p.purpose p.retries (at.Aside (parking.Taken by)) stands tt))
 asleep_at l a p (at.Park to) stands h = absurd (awake_at l a p (at.Park to) tt h)
 asleep_at l a p (at.Aside to) stands h = absurd (awake_at l a p (at.Aside to) tt h)
 asleep_at l a p to stands h = absurd (awake_at l a p to tt h)
@@ -270,7 +300,8 @@ hands_nothing (at.Wake m to) h = cc
 hands_nothing to h = cc
 
 -- a thread whose call has a deadline
-timed_is : (q : RwLockPurpose) (l : ℕ) → IsTimed (Some (purpose_by q l)) Blank l → is_timed (patience_of q) ≡ true
+timed_is : (q : RwLockPurpose) (l : ℕ) → IsTimed (Some (purpose_by q l)) Blank l → is_timed (patience_of q)
+    ≡ true
 timed_is (purpose.Enter x how) l h = ap is_timed h.1
 timed_is (purpose.Upgrade how) l h = ap is_timed h.1
 timed_is (purpose.Release x) l h = absurd h
@@ -325,18 +356,28 @@ module _ (r : Rules) (readers : has_readers r.sort ≡ true) (a : Admission) (l 
       → LetsIn r.sort l (row_of a q again to) → ⊥
   shut (purpose.Enter x how) again to waits still (inl h) = h
   shut (purpose.Upgrade how) again to waits still (inl h) = h
-  shut (purpose.Enter x how) again to waits still (inr h) = elim h.1 [ inl less ↦ less | inr left ↦ still left.0 left.1 ]
-  shut (purpose.Upgrade how) again to waits still (inr h) = elim h.1 [ inl less ↦ less.1 refl | inr left ↦ still left.0 left.1 ]
+  shut (purpose.Enter x how) again to waits still (inr h) = elim h.1 [
+    | inl less ↦ less
+    | inr left ↦
+        still left.0 left.1
+  ]
+  shut (purpose.Upgrade how) again to waits still (inr h) = elim h.1 [
+    | inl less ↦ less.1 refl
+    | inr left ↦
+        still left.0 left.1
+  ]
   shut (purpose.Release x) again to waits still h = waits
   shut (purpose.Downgrade d) again to waits still h = waits
 
   -- before it gives up or gives way a call lets nobody in
   pub shut_before : (q : RwLockPurpose) (again : Bool) (to : RwLockAt) → StandsAt q again to → IsBefore to
       → LetsIn r.sort l (row_of a q again to) → ⊥
-  shut_before q again to stands before lets = shut q again to (before_waits q again to stands before) (before_shut q again to before) lets
+  shut_before q again to stands before lets = shut q again to (before_waits q again to stands before)
+      (before_shut q again to before) lets
 
   -- A thread that wakes others lets them in.
-  pub lets_waking : (q : RwLockPurpose) (again : Bool) (m : Line) → LetsIn r.sort l (row_of a q again (at.Wake m waking.Enter))
+  pub lets_waking : (q : RwLockPurpose) (again : Bool) (m : Line)
+      → LetsIn r.sort l (row_of a q again (at.Wake m waking.Enter))
   lets_waking (purpose.Enter x how) again m = inr (readers, inr (refl, refl))
   lets_waking (purpose.Upgrade how) again m = inr (readers, inr (refl, refl))
   lets_waking (purpose.Release x) again m = inl refl
@@ -344,16 +385,19 @@ module _ (r : Rules) (readers : has_readers r.sort ≡ true) (a : Admission) (l 
 
   owes_is : (q : RwLockPurpose) (again : Bool) (to : RwLockAt) (m : Line) → owes_at to ≡ Some m
       → ((rwlock_role (of q again to)).inside ≡ Some m)
-      ⊎ ((act_at l a (of q again to) to ≡ act.Enter (One (key_of l m))) × LetsIn r.sort l (row_of a q again to))
+      ⊎ ((act_at l a (of q again to) to ≡ act.Enter (One (key_of l m)))
+      × LetsIn r.sort l (row_of a q again to))
   owes_is q again (at.Park to) m h = inl (parking_inside Main _ None to ∙ h)
   owes_is q again (at.Aside to) m h = inl (parking_inside Second _ (pends q) to ∙ h)
-  owes_is q again (at.Wake n waking.Enter) m h = inr (ap (λ x. act.Enter (One (key_of l x))) (some_line n m h), lets_waking q again n)
+  owes_is q again (at.Wake n waking.Enter) m h =
+      inr (ap (λ x. act.Enter (One (key_of l x))) (some_line n m h), lets_waking q again n)
   owes_is q again (at.Wake n waking.Take) m h = inl h
   owes_is q again (at.Wake n (waking.Clear any)) m h = inl h
   owes_is q again (at.Wake n (waking.Leave any)) m h = inl h
   owes_is q again to m h = absurd cc
 
-  inside_owes : (q : RwLockPurpose) (again : Bool) (to : RwLockAt) (m : Line) → (rwlock_role (of q again to)).inside ≡ Some m
+  inside_owes : (q : RwLockPurpose) (again : Bool) (to : RwLockAt) (m : Line)
+      → (rwlock_role (of q again to)).inside ≡ Some m
       → owes_at to ≡ Some m
   inside_owes q again (at.Park to) m h = sym (parking_inside Main _ None to) ∙ h
   inside_owes q again (at.Aside to) m h = sym (parking_inside Second _ (pends q) to) ∙ h
@@ -364,7 +408,8 @@ module _ (r : Rules) (readers : has_readers r.sort ≡ true) (a : Admission) (l 
   inside_owes q again to m h = absurd cc
 
   entering_owes : (q : RwLockPurpose) (again : Bool) (to : RwLockAt) → StandsAt q again to → (m : Line)
-      → act_at l a (of q again to) to ≡ act.Enter (One (key_of l m)) → LetsIn r.sort l (row_of a q again to) → owes_at to ≡ Some m
+      → act_at l a (of q again to) to ≡ act.Enter (One (key_of l m)) → LetsIn r.sort l (row_of a q again to)
+      → owes_at to ≡ Some m
   entering_owes q again (at.Wake n waking.Enter) stands m h lets = ap Some (line_one n m h)
     where
       line_one : (n m : Line) → act.Enter (One (key_of l n)) ≡ act.Enter (One (key_of l m)) → n ≡ m
@@ -381,7 +426,8 @@ module _ (r : Rules) (readers : has_readers r.sort ≡ true) (a : Admission) (l 
 
   -- ---------------------------------------------------------------- the thread that looks after the waiters
 
-  again_debt : (q : RwLockPurpose) (again : Bool) (to : RwLockAt) → Waits q → counts_some r.sort (retried_want (of q again to)) ≡ true
+  again_debt : (q : RwLockPurpose) (again : Bool) (to : RwLockAt) → Waits q
+      → counts_some r.sort (retried_want (of q again to)) ≡ true
       → HasDebt r.sort l (row_of a q again to) Main
   again_debt (purpose.Enter x how) true to waits h = inr (refl, h)
   again_debt (purpose.Upgrade how) true to waits h = inr (refl, h)
@@ -390,9 +436,17 @@ module _ (r : Rules) (readers : has_readers r.sort ≡ true) (a : Admission) (l 
   again_debt q false to waits h = absurd cc
 
   -- it does nothing but try again
-  tries : (q : RwLockPurpose) (again : Bool) (to : RwLockAt) → Waits q → IsAwakeAt to → stands_at to ≡ None → parked_hand to ≡ None → (m : Line) (claims : Option Claim) → IsDebtorIn r.sort (record idle { retries = retried_want (of q again to); claims = claims }) m → RowLooksAfter r.sort l (row_of a q again to) (act_at l a (of q again to) to) m
+  tries : (q : RwLockPurpose) (again : Bool) (to : RwLockAt) → Waits q → IsAwakeAt to → stands_at to ≡ None
+      → parked_hand to ≡ None → (m : Line) (claims : Option Claim) → IsDebtorIn r.sort (record idle {
+        retries = retried_want (of q again to);
+        claims = claims;
+      }) m → RowLooksAfter r.sort l (row_of a q again to) (act_at l a (of q again to) to) m
   tries q again to waits awake stands hand Main claims d = record {
-    debt = again_debt q again to waits (elim d [ inl h ↦ absurd cc | inr h ↦ elim h [ inl k ↦ absurd cc | inr k ↦ k ] ]);
+    debt = again_debt q again to waits (elim d [
+      | inl h ↦ absurd cc
+      | inr h ↦
+          elim h [ inl k ↦ absurd cc | inr k ↦ k ]
+    ]);
     awake = awake_at l a (of q again to) to awake;
     stands = stands;
     taken = ap (λ h. taken_from h (wants_for q) true) hand;
@@ -402,8 +456,14 @@ module _ (r : Rules) (readers : has_readers r.sort ≡ true) (a : Admission) (l 
   -- it wakes others
   wakes_on : (q : RwLockPurpose) (again : Bool) (n m : Line) (to : WakeAt) → n ≡ m
       → act_at l a (of q again (at.Wake n to)) (at.Wake n to) ≢ Sleep
-      → RowLooksAfter r.sort l (row_of a q again (at.Wake n to)) (act_at l a (of q again (at.Wake n to)) (at.Wake n to)) m
-  wakes_on q again n m to same awake = record { debt = debt q m same; awake = awake; stands = refl; taken = refl }
+      → RowLooksAfter r.sort l (row_of a q again (at.Wake n to)) (act_at l a (of q again (at.Wake n to))
+      (at.Wake n to)) m
+  wakes_on q again n m to same awake = record {
+    debt = debt q m same;
+    awake = awake;
+    stands = refl;
+    taken = refl;
+  }
     where
       debt : (q : RwLockPurpose) (m : Line) → n ≡ m → HasDebt r.sort l (row_of a q again (at.Wake n to)) m
       debt (purpose.Enter x how) Main e = inl (ap Some e, (refl, refl, readers))
@@ -415,65 +475,135 @@ module _ (r : Rules) (readers : has_readers r.sort ≡ true) (a : Admission) (l 
   debtor : (q : RwLockPurpose) (again : Bool) (to : RwLockAt) → StandsAt q again to → (m : Line)
       → IsDebtorIn r.sort (rwlock_role (of q again to)) m
       → RowLooksAfter r.sort l (row_of a q again to) (act_at l a (of q again to) to) m
-  debtor q again at.First stands m d = tries q again at.First (before_waits q again at.First stands tt) tt refl refl m None d
-  debtor q again at.Load stands m d = tries q again at.Load (before_waits q again at.Load stands tt) tt refl refl m (claimed q) d
-  debtor q again (at.Decide seen) stands m d = tries q again (at.Decide seen) (before_waits q again (at.Decide seen) stands tt) tt refl refl m (claimed q) d
-  debtor q again at.Look stands m d = tries q again at.Look (before_waits q again at.Look stands tt) tt refl refl m (pends q) d
-  debtor q again (at.Count seen) stands m d = tries q again (at.Count seen) (before_waits q again (at.Count seen) stands tt) tt refl refl m (pends q) d
-  debtor q again at.Marked stands m d = tries q again at.Marked (before_waits q again at.Marked stands tt) tt refl refl m (pends q) d
-  debtor q again (at.Park parking.Check) stands m d = tries q again (at.Park parking.Check) (before_waits q again (at.Park parking.Check) stands tt) tt refl refl m None (bare m d)
+  debtor q again at.First stands m d = tries q again at.First (before_waits q again at.First stands tt) tt
+      refl refl m None d
+  debtor q again at.Load stands m d = tries q again at.Load (before_waits q again at.Load stands tt) tt refl
+      refl m (claimed q) d
+  debtor q again (at.Decide seen) stands m d = tries q again (at.Decide seen)
+      (before_waits q again (at.Decide seen) stands tt) tt refl refl m (claimed q) d
+  debtor q again at.Look stands m d = tries q again at.Look (before_waits q again at.Look stands tt) tt refl
+      refl m (pends q) d
+  debtor q again (at.Count seen) stands m d = tries q again (at.Count seen)
+      (before_waits q again (at.Count seen) stands tt) tt refl refl m (pends q) d
+  debtor q again at.Marked stands m d = tries q again at.Marked (before_waits q again at.Marked stands tt) tt
+      refl refl m (pends q) d
+  debtor q again (at.Park parking.Check) stands m d = tries q again (at.Park parking.Check)
+      (before_waits q again (at.Park parking.Check) stands tt) tt refl refl m None (bare m d)
     where
-      bare : (m : Line) → IsDebtorIn r.sort (rwlock_role (of q again (at.Park parking.Check))) m → IsDebtorIn r.sort (record idle { retries = retried_want (of q again (at.Park parking.Check)); claims = None }) m
+      bare : (m : Line) → IsDebtorIn r.sort (rwlock_role (of q again (at.Park parking.Check))) m
+          → IsDebtorIn r.sort (record idle {
+            retries = retried_want (of q again (at.Park parking.Check));
+            claims = None;
+          }) m
       bare Main d = d
       bare Second d = d
-  debtor q again (at.Park (parking.Leave false)) stands m d = tries q again (at.Park (parking.Leave false)) (before_waits q again (at.Park (parking.Leave false)) stands tt) tt refl refl m None (bare m d)
+  debtor q again (at.Park (parking.Leave false)) stands m d = tries q again (at.Park (parking.Leave false))
+      (before_waits q again (at.Park (parking.Leave false)) stands tt) tt refl refl m None (bare m d)
     where
-      bare : (m : Line) → IsDebtorIn r.sort (rwlock_role (of q again (at.Park (parking.Leave false)))) m → IsDebtorIn r.sort (record idle { retries = retried_want (of q again (at.Park (parking.Leave false))); claims = None }) m
+      bare : (m : Line) → IsDebtorIn r.sort (rwlock_role (of q again (at.Park (parking.Leave false)))) m
+          → IsDebtorIn r.sort (record idle {
+            retries = retried_want (of q again (at.Park (parking.Leave false)));
+            claims = None;
+          }) m
       bare Main d = d
       bare Second d = d
-  debtor q again (at.Aside parking.Check) stands m d = tries q again (at.Aside parking.Check) (before_waits q again (at.Aside parking.Check) stands tt) tt refl refl m (pends q) (bare m d)
+  debtor q again (at.Aside parking.Check) stands m d = tries q again (at.Aside parking.Check)
+      (before_waits q again (at.Aside parking.Check) stands tt) tt refl refl m (pends q) (bare m d)
     where
-      bare : (m : Line) → IsDebtorIn r.sort (rwlock_role (of q again (at.Aside parking.Check))) m → IsDebtorIn r.sort (record idle { retries = retried_want (of q again (at.Aside parking.Check)); claims = pends q }) m
+      bare : (m : Line) → IsDebtorIn r.sort (rwlock_role (of q again (at.Aside parking.Check))) m
+          → IsDebtorIn r.sort (record idle {
+            retries = retried_want (of q again (at.Aside parking.Check));
+            claims = pends q;
+          }) m
       bare Main d = d
       bare Second d = d
-  debtor q again (at.Aside (parking.Leave false)) stands m d = tries q again (at.Aside (parking.Leave false)) (before_waits q again (at.Aside (parking.Leave false)) stands tt) tt refl refl m (pends q) (bare m d)
+  debtor q again (at.Aside (parking.Leave false)) stands m d = tries q again (at.Aside (parking.Leave false))
+      (before_waits q again (at.Aside (parking.Leave false)) stands tt) tt refl refl m (pends q) (bare m d)
     where
-      bare : (m : Line) → IsDebtorIn r.sort (rwlock_role (of q again (at.Aside (parking.Leave false)))) m → IsDebtorIn r.sort (record idle { retries = retried_want (of q again (at.Aside (parking.Leave false))); claims = pends q }) m
+      bare : (m : Line) → IsDebtorIn r.sort (rwlock_role (of q again (at.Aside (parking.Leave false)))) m
+          → IsDebtorIn r.sort (record idle {
+            retries = retried_want (of q again (at.Aside (parking.Leave false)));
+            claims = pends q;
+          }) m
       bare Main d = d
       bare Second d = d
-  debtor q again (at.Wake n waking.Enter) stands m d = wakes_on q again n m waking.Enter (wakes_line n m (start_of q) d) (λ h. cc)
+  debtor q again (at.Wake n waking.Enter) stands m d = wakes_on q again n m waking.Enter
+      (wakes_line n m (start_of q) d) (λ h. cc)
     where
-      wakes_line : (n m : Line) (start : Option Want) → IsDebtorIn r.sort (waking_role start n waking.Enter) m → n ≡ m
-      wakes_line n Main start d = elim d [ inl h ↦ some_line n Main h | inr h ↦ absurd (elim h [ inl k ↦ cc | inr k ↦ cc ]) ]
+      wakes_line : (n m : Line) (start : Option Want) → IsDebtorIn r.sort (waking_role start n waking.Enter) m
+          → n ≡ m
+      wakes_line n Main start d = elim d [
+        | inl h ↦ some_line n Main h
+        | inr h ↦
+            absurd (elim h [ inl k ↦ cc | inr k ↦ cc ])
+      ]
       wakes_line n Second start d = some_line n Second d
-  debtor q again (at.Wake n waking.Take) stands m d = wakes_on q again n m waking.Take (wakes_line n m (start_of q) d) (λ h. cc)
+  debtor q again (at.Wake n waking.Take) stands m d = wakes_on q again n m waking.Take
+      (wakes_line n m (start_of q) d) (λ h. cc)
     where
-      wakes_line : (n m : Line) (start : Option Want) → IsDebtorIn r.sort (waking_role start n waking.Take) m → n ≡ m
-      wakes_line n Main start d = elim d [ inl h ↦ some_line n Main h | inr h ↦ absurd (elim h [ inl k ↦ cc | inr k ↦ cc ]) ]
+      wakes_line : (n m : Line) (start : Option Want) → IsDebtorIn r.sort (waking_role start n waking.Take) m
+          → n ≡ m
+      wakes_line n Main start d = elim d [
+        | inl h ↦ some_line n Main h
+        | inr h ↦
+            absurd (elim h [ inl k ↦ cc | inr k ↦ cc ])
+      ]
       wakes_line n Second start d = some_line n Second d
-  debtor q again (at.Wake n (waking.Clear any)) stands m d = wakes_on q again n m (waking.Clear any) (covers_only n m (start_of q) d) (λ h. cc)
+  debtor q again (at.Wake n (waking.Clear any)) stands m d = wakes_on q again n m (waking.Clear any)
+      (covers_only n m (start_of q) d) (λ h. cc)
     where
-      covers_only : (n m : Line) (start : Option Want) → IsDebtorIn r.sort (waking_role start n (waking.Clear any)) m → n ≡ m
+      covers_only : (n m : Line) (start : Option Want) → IsDebtorIn r.sort
+          (waking_role start n (waking.Clear any)) m → n ≡ m
       covers_only Main Main start d = refl
-      covers_only Second Main start d = absurd (elim d [ inl h ↦ cc | inr h ↦ elim h [ inl k ↦ cc | inr k ↦ cc ] ])
+      covers_only Second Main start d =
+          absurd (elim d [ inl h ↦ cc | inr h ↦ elim h [ inl k ↦ cc | inr k ↦ cc ] ])
       covers_only n Second start d = absurd cc
-  debtor q again (at.Wake n (waking.Leave any)) stands m d = wakes_on q again n m (waking.Leave any) (covers_only n m (start_of q) d) (λ h. cc)
+  debtor q again (at.Wake n (waking.Leave any)) stands m d = wakes_on q again n m (waking.Leave any)
+      (covers_only n m (start_of q) d) (λ h. cc)
     where
-      covers_only : (n m : Line) (start : Option Want) → IsDebtorIn r.sort (waking_role start n (waking.Leave any)) m → n ≡ m
+      covers_only : (n m : Line) (start : Option Want) → IsDebtorIn r.sort
+          (waking_role start n (waking.Leave any)) m → n ≡ m
       covers_only Main Main start d = refl
-      covers_only Second Main start d = absurd (elim d [ inl h ↦ cc | inr h ↦ elim h [ inl k ↦ cc | inr k ↦ cc ] ])
+      covers_only Second Main start d =
+          absurd (elim d [ inl h ↦ cc | inr h ↦ elim h [ inl k ↦ cc | inr k ↦ cc ] ])
       covers_only n Second start d = absurd cc
-  debtor q again to stands Main d = absurd (elim d [ inl h ↦ cc | inr h ↦ elim h [ inl k ↦ cc | inr k ↦ cc ] ])
+  debtor q again to stands Main d =
+      absurd (elim d [ inl h ↦ cc | inr h ↦ elim h [ inl k ↦ cc | inr k ↦ cc ] ])
   debtor q again to stands Second d = absurd cc
 
   -- ---------------------------------------------------------------- being late
 
   late_by : (q : RwLockPurpose) (again : Bool) (to : RwLockAt) → StandsAt q again to → (m : Line)
-      → late_line_at (patience_of q) to ≡ Some m → RowIsLate r.sort l (row_of a q again to) (act_at l a (of q again to) to) m
-  late_by (purpose.Enter x Timed) again (at.Park parking.Asleep) stands m h = record { stands = h; asleep = refl; timed = (refl, refl); shut = shut (purpose.Enter x Timed) again (at.Park parking.Asleep) tt (before_shut (purpose.Enter x Timed) again (at.Park parking.Asleep) tt) }
-  late_by (purpose.Enter x Timed) again (at.Aside parking.Asleep) stands m h = record { stands = h; asleep = refl; timed = (refl, refl); shut = shut (purpose.Enter x Timed) again (at.Aside parking.Asleep) tt (before_shut (purpose.Enter x Timed) again (at.Aside parking.Asleep) tt) }
-  late_by (purpose.Upgrade Timed) again (at.Park parking.Asleep) stands m h = record { stands = h; asleep = refl; timed = (refl, refl); shut = shut (purpose.Upgrade Timed) again (at.Park parking.Asleep) tt (before_shut (purpose.Upgrade Timed) again (at.Park parking.Asleep) tt) }
-  late_by (purpose.Upgrade Timed) again (at.Aside parking.Asleep) stands m h = record { stands = h; asleep = refl; timed = (refl, refl); shut = shut (purpose.Upgrade Timed) again (at.Aside parking.Asleep) tt (before_shut (purpose.Upgrade Timed) again (at.Aside parking.Asleep) tt) }
+      → late_line_at (patience_of q) to ≡ Some m → RowIsLate r.sort l (row_of a q again to)
+      (act_at l a (of q again to) to) m
+  late_by (purpose.Enter x Timed) again (at.Park parking.Asleep) stands m h = record {
+    stands = h;
+    asleep = refl;
+    timed = (refl, refl);
+    shut = shut (purpose.Enter x Timed) again (at.Park parking.Asleep) tt (before_shut (purpose.Enter x Timed)
+        again (at.Park parking.Asleep) tt);
+  }
+  late_by (purpose.Enter x Timed) again (at.Aside parking.Asleep) stands m h = record {
+    stands = h;
+    asleep = refl;
+    timed = (refl, refl);
+    shut = shut (purpose.Enter x Timed) again (at.Aside parking.Asleep) tt
+        (before_shut (purpose.Enter x Timed) again (at.Aside parking.Asleep) tt);
+  }
+  late_by (purpose.Upgrade Timed) again (at.Park parking.Asleep) stands m h = record {
+    stands = h;
+    asleep = refl;
+    timed = (refl, refl);
+    shut = shut (purpose.Upgrade Timed) again (at.Park parking.Asleep) tt (before_shut (purpose.Upgrade Timed)
+        again (at.Park parking.Asleep) tt);
+  }
+  late_by (purpose.Upgrade Timed) again (at.Aside parking.Asleep) stands m h = record {
+    stands = h;
+    asleep = refl;
+    timed = (refl, refl);
+    shut = shut (purpose.Upgrade Timed) again (at.Aside parking.Asleep) tt
+        (before_shut (purpose.Upgrade Timed) again (at.Aside parking.Asleep) tt);
+  }
   late_by (purpose.Enter x Patient) again (at.Park parking.Asleep) stands m h = absurd cc
   late_by (purpose.Enter x Patient) again (at.Aside parking.Asleep) stands m h = absurd cc
   late_by (purpose.Enter x Try) again (at.Park parking.Asleep) stands m h = absurd cc
@@ -491,13 +621,18 @@ module _ (r : Rules) (readers : has_readers r.sort ≡ true) (a : Admission) (l 
   late_by q again to stands m h = absurd cc
 
   may_be_late : (q : RwLockPurpose) (again : Bool) (to : RwLockAt) (m : Line) → stands_at to ≡ Some m
-      → act_at l a (of q again to) to ≡ Sleep → IsTimed (Some (purpose_by q l)) Blank l → late_line_at (patience_of q) to ≡ Some m
-  may_be_late q again (at.Park parking.Asleep) m h sleeps timed = ap (λ b. in_line b Main) (timed_is q l timed) ∙ h
-  may_be_late q again (at.Aside parking.Asleep) m h sleeps timed = ap (λ b. in_line b Second) (timed_is q l timed) ∙ h
+      → act_at l a (of q again to) to ≡ Sleep → IsTimed (Some (purpose_by q l)) Blank l
+      → late_line_at (patience_of q) to ≡ Some m
+  may_be_late q again (at.Park parking.Asleep) m h sleeps timed =
+      ap (λ b. in_line b Main) (timed_is q l timed) ∙ h
+  may_be_late q again (at.Aside parking.Asleep) m h sleeps timed = ap (λ b. in_line b Second)
+      (timed_is q l timed) ∙ h
   may_be_late q again (at.Park (parking.Taken by)) m h sleeps timed = absurd cc
   may_be_late q again (at.Aside (parking.Taken by)) m h sleeps timed = absurd cc
-  may_be_late q again (at.Park to) m h sleeps timed = absurd (awake_at l a (of q again (at.Park to)) (at.Park to) tt sleeps)
-  may_be_late q again (at.Aside to) m h sleeps timed = absurd (awake_at l a (of q again (at.Aside to)) (at.Aside to) tt sleeps)
+  may_be_late q again (at.Park to) m h sleeps timed =
+      absurd (awake_at l a (of q again (at.Park to)) (at.Park to) tt sleeps)
+  may_be_late q again (at.Aside to) m h sleeps timed =
+      absurd (awake_at l a (of q again (at.Aside to)) (at.Aside to) tt sleeps)
   may_be_late q again to m h sleeps timed = absurd cc
 
   by_parts : (q : RwLockPurpose) (again : Bool) (to : RwLockAt) → MayStand a (of q again to)
@@ -511,7 +646,11 @@ module _ (r : Rules) (readers : has_readers r.sort ≡ true) (a : Admission) (l 
     owing = record {
       owes = λ m h. elim (owes_is q again to m h) [ inl i ↦ inl i | inr g ↦ inr (g.0, inl g.1) ];
       inside = inside_owes q again to;
-      entering = λ m h lets. elim lets [ inl k ↦ entering_owes q again to stands.place m h k | inr k ↦ absurd (no_bump l q m k) ];
+      entering = λ m h lets. elim lets [
+        | inl k ↦ entering_owes q again to stands.place m h k
+        | inr k ↦
+            absurd (no_bump l q m k)
+      ];
       second = λ h. readers;
     };
     debtor = λ m d free. debtor q again to stands.place m d;

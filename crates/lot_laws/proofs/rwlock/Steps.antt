@@ -1,6 +1,7 @@
 -- A thread in a call of a reader-writer lock goes on by its act: for itself alone, or handing its right over
 -- to those that it has in hand.
-use Rattle.std.proofs.Common.{ℕ, Bool, true, false, Option, Some, ◌≡◌, ◌≢◌, ◌<◌, List, [], length, refl, sym, ◌∙◌, ap, subst, append-nil}
+use Rattle.std.proofs.Common.{ℕ, Bool, true, false, Option, Some, ◌≡◌, ◌≢◌, ◌<◌, List, [], length, refl, sym}
+use Rattle.std.proofs.Common.{◌∙◌, ap, subst, append-nil}
 use Rattle.core_base.specs.declared.ops.Op.{Op}
 use Rattle.spec_locks.specs.declared.calls.Access.TheVariants as access
 use Rattle.steps_base.specs.declared.acts.Act.{Act}
@@ -16,7 +17,8 @@ use Rattle.steps_rwlock.specs.RwLockSteps.{rwlock_act}
 use Rattle.steps_rwlock.proofs.RwLockMoves.{rwlock_acts_move}
 use Rattle.steps_base.specs.Moves.{MovesByAct}
 use Rattle.steps_rwlock_fair.specs.declared.places.RwLockCallPlace.{RwLockCallPlace}
-use Rattle.steps_rwlock_fair.specs.declared.places.RwLockCallPlace.TheVariants.{Plain, Glance, HandOver, Bump, Handed}
+use Rattle.steps_rwlock_fair.specs.declared.places.RwLockCallPlace.TheVariants.{Plain, Glance, HandOver, Bump}
+use Rattle.steps_rwlock_fair.specs.declared.places.RwLockCallPlace.TheVariants.{Handed}
 use Rattle.steps_rwlock_fair.specs.declared.hand_over.Taken.{Taken as Counted}
 use Rattle.steps_rwlock_fair.specs.declared.hand_over.HandOverAt.TheVariants as handing
 use Rattle.steps_rwlock_fair.specs.declared.handed.HandedAt.TheVariants as handed
@@ -32,7 +34,8 @@ use Rattle.lot_steps.specs.Steps.{called_lock, next_place}
 use Rattle.spec_locks.specs.Deeds.{case_of, event_by}
 use Rattle.spec_locks.specs.Locks.{LockCase}
 use Rattle.spec_locks.specs.Sites.{Deed}
-use Rattle.lot_machine.specs.Machine.{State, can_do, place_at, put, reply_to, state_after_hand_over_by, word_at}
+use Rattle.lot_machine.specs.Machine.{State, can_do, place_at, put, reply_to, state_after_hand_over_by}
+use Rattle.lot_machine.specs.Machine.{word_at}
 use Rattle.lot_machine.specs.Fits.{IsWellFormed}
 use Rattle.lot_laws.specs.MutexDeeds.{acts}
 use Rattle.lot_laws.specs.SitesOf.{AreCounted, Goes, IsInductive, carried_at, rules_in}
@@ -46,7 +49,8 @@ use Rattle.spec_locks.specs.Sites.{has_readers}
 use Rattle.lot_laws.proofs.rwlock.Kept.{admits}
 use Rattle.lot_laws.proofs.promises.LineActs.{TakesHere, takes_here}
 use Rattle.lot_laws.proofs.machine.PlaceTest.{call_facts}
-use Rattle.lot_laws.proofs.calls.OtherCalls.{Stay, IsCalm, WakesOwn, calm, hands_nothing, lonely, no_hand_off, wakes_own}
+use Rattle.lot_laws.proofs.calls.OtherCalls.{Stay, IsCalm, WakesOwn, calm, hands_nothing, lonely, no_hand_off}
+use Rattle.lot_laws.proofs.calls.OtherCalls.{wakes_own}
 use Rattle.lot_laws.proofs.promises.PlacePromises.{location_own}
 use Rattle.lot_laws.proofs.rwlock.Kept.{GoesFrom, goes_unhanded, stands}
 use Rattle.lot_laws.proofs.sites.SitesKept.{go_by}
@@ -54,8 +58,10 @@ use Rattle.lot_laws.proofs.sites.SitesKept.{go_by}
 -- ---------------------------------------------------------------- a thread that hands over
 
 -- a call that only enters and releases hands nothing over
-plain_gives : (l k : ℕ) (a : Admission) (p : RwLockPlace) (op : Op) → MayStand a p → rwlock_act l a p ≡ act.HandOver k op → ⊥
-plain_gives l k a p op may e = subst (λ x. MovesByAct l a.recursive (rwlock_move a p) (rwlock_hears a p) x) e (rwlock_acts_move l a p may)
+plain_gives : (l k : ℕ) (a : Admission) (p : RwLockPlace) (op : Op) → MayStand a p → rwlock_act l a p
+    ≡ act.HandOver k op → ⊥
+plain_gives l k a p op may e = subst (λ x. MovesByAct l a.recursive (rwlock_move a p) (rwlock_hears a p) x) e
+    (rwlock_acts_move l a p may)
 
 -- a thread that hands over says which threads it has in hand
 pub gives_counted : (l k : ℕ) (a : Admission) (c : RwLockCallPlace) (op : Op) → CallStands a c
@@ -86,21 +92,24 @@ module _ (w : State) (t l : ℕ) (a : Admission) (c : RwLockCallPlace) where
   abbrev pub case_by : Option ℕ → Act → Option LockCase
   case_by whom y = case_of (call_profile a c).carries (deeds_by whom y)
 
-  -- its deeds are one event of the lock, which its call allows, and by which it goes on with those of the others
+  -- its deeds are one event of the lock, which its call allows, and by which it goes on with those of the
+  -- others
   pub record GoesOnBy (y : Act) : Type 0 where
     pub whom : Option ℕ
     pub tells : CallTells (rules_in w l) a (lock_by w l (rules_in w l)) t l c whom (reply_to w t y)
     pub happened : Happens w (then_by y) t (event_by l (case_by whom y))
     pub others : OthersFollow w (then_by y) t (event_by l (case_by whom y))
 
-module _ (w : State) (t l : ℕ) (a : Admission) (c : RwLockCallPlace) (steady : IsInductive w) (shape : IsWellFormed w)
+module _ (w : State) (t l : ℕ) (a : Admission) (c : RwLockCallPlace) (steady : IsInductive w)
+    (shape : IsWellFormed w)
     (there : t < length w.places) (lt : l < length w.locks) (is : place_at w t ≡ RwLock l a c) where
   of : called_lock (place_at w t) ≡ Some l
   of = ap called_lock is
 
   -- a thread that it has in hand, by its place
   pub carries : carried_at (place_at w t) l ≡ (call_profile a c).carries
-  carries = ap (λ (y : Location). y.carries) (location_own (place_at w t) l of) ∙ ap (λ q. (location q).carries) is
+  carries = ap (λ (y : Location). y.carries) (location_own (place_at w t) l of)
+      ∙ ap (λ q. (location q).carries) is
 
   abbrev goes : Option ℕ → Act → Type 0
   goes whom y = Goes w (then_by w t l a c y) l (acts t (deeds_by w t l a c whom y))
@@ -111,11 +120,14 @@ module _ (w : State) (t l : ℕ) (a : Admission) (c : RwLockCallPlace) (steady :
   -- nobody else claims anything
   happens_by : (y : Act) (whom : Option ℕ) → goes whom y → tells whom y
       → Happens w (then_by w t l a c y) t (event_by l (case_by w t l a c whom y))
-  happens_by y whom went told = happens w (then_by w t l a c y) t l (call_profile a c).carries (deeds_by w t l a c whom y) [] steady (subst (Goes w (then_by w t l a c y) l) (sym (append-nil (acts t (deeds_by w t l a c whom y)))) went) tt told.one
+  happens_by y whom went told = happens w (then_by w t l a c y) t l (call_profile a c).carries
+      (deeds_by w t l a c whom y) [] steady (subst (Goes w (then_by w t l a c y) l)
+      (sym (append-nil (acts t (deeds_by w t l a c whom y)))) went) tt told.one
       (λ none. in_no_hand w steady t l (λ h. none (sym carries ∙ h)))
 
   -- for itself alone
-  module _ (y : Act) (here : TakesHere l y) (from : GoesFrom w t l a c steady shape there lt is (RwLock l a c) y) where
+  module _ (y : Act) (here : TakesHere l y) (from : GoesFrom w t l a c steady shape there lt is (RwLock l a c)
+      y) where
     abbrev own_case : Option LockCase
     own_case = case_by w t l a c from.whom y
 
@@ -124,8 +136,14 @@ module _ (w : State) (t l : ℕ) (a : Admission) (c : RwLockCallPlace) (steady :
 
     -- those in its hand are woken, and nobody else's call changes
     own_others : OthersFollow w (then_by w t l a c y) t (event_by l own_case)
-    own_others = others_follow w (then_by w t l a c y) t l own_case own_happened (hands_nothing w (then_by w t l a c y) t l own_case own_happened (call_profile a c).carries y own_case from.others)
-        (wakes_own w t l steady (rw is refl) (next_place (RwLock l a c) (reply_to w t y)) (λ e. let some : has_readers (rules_in w l).sort ≡ true = (admits w t l a c steady shape there lt is).0 in let none : has_readers (rules_in w l).sort ≡ false = ap has_readers e in cc) (RwLock l a c) y here own_case (subst (λ h. WakesOwn h y own_case) (sym carries) from.others))
+    own_others = others_follow w (then_by w t l a c y) t l own_case own_happened
+        (hands_nothing w (then_by w t l a c y) t l own_case own_happened (call_profile a c).carries y own_case
+        from.others)
+        (wakes_own w t l steady (rw is refl) (next_place (RwLock l a c) (reply_to w t y))
+        (λ e. let some : has_readers (rules_in w l).sort ≡ true =
+        (admits w t l a c steady shape there lt is).0 in let none : has_readers (rules_in w l).sort
+        ≡ false = ap has_readers e in cc) (RwLock l a c) y here own_case
+        (subst (λ h. WakesOwn h y own_case) (sym carries) from.others))
 
     by_own : GoesOnBy w t l a c y
     by_own = record { whom = from.whom; tells = from.tells; happened = own_happened; others = own_others }
@@ -143,7 +161,8 @@ module _ (w : State) (t l : ℕ) (a : Admission) (c : RwLockCallPlace) (steady :
     hands takes = record {
       whom = heir;
       tells = told_so;
-      happened = hands_happen w t l a c steady shape there lt is k is_k (counted t l a c k is is_k) op e takes;
+      happened = hands_happen w t l a c steady shape there lt is k is_k (counted t l a c k is is_k) op e
+          takes;
       others = hands_others w t l a c steady shape there lt is k is_k (counted t l a c k is is_k) op e takes;
     }
 
@@ -156,18 +175,27 @@ module _ (w : State) (t l : ℕ) (a : Admission) (c : RwLockCallPlace) (steady :
       case = case_by w t l a c heir (act.HandOver l op)
 
       happened : Happens w behind t (event_by l case)
-      happened = happens_by (act.HandOver l op) heir (subst (λ q. Goes w (put (state_after_hand_over_by (takes_effect op (word_at w l)) w t (RwLock l a c) l op) t (next_place q (Value (word_at w l)))) l (acts t (deeds_by w t l a c heir (act.HandOver l op)))) is
-          (hands_fails w t l a c steady shape there lt is k is_k (counted t l a c k is is_k) op e fails)) told_so
+      happened = happens_by (act.HandOver l op) heir
+          (subst (λ q. Goes w (put (state_after_hand_over_by (takes_effect op (word_at w l)) w t
+          (RwLock l a c) l op) t (next_place q (Value (word_at w l)))) l
+          (acts t (deeds_by w t l a c heir (act.HandOver l op)))) is
+          (hands_fails w t l a c steady shape there lt is k is_k (counted t l a c k is is_k) op e fails))
+          told_so
 
       calmly : IsCalm case
-      calmly = subst (λ ds. IsCalm (case_of (call_profile a c).carries ds)) (sym ((g w t l a c steady shape there lt is k is_k (counted t l a c k is is_k) op e).fails heir (word_at w l) fails)) tt
+      calmly = subst (λ ds. IsCalm (case_of (call_profile a c).carries ds))
+          (sym ((g w t l a c steady shape there lt is k is_k (counted t l a c k is is_k) op e).fails heir
+          (word_at w l) fails)) tt
 
       stay : Stay w t (next_place (RwLock l a c) (Value (word_at w l))) behind
-      stay = subst (λ b. Stay w t (next_place (RwLock l a c) (Value (word_at w l))) (put (state_after_hand_over_by b w t (RwLock l a c) l op) t (next_place (RwLock l a c) (Value (word_at w l))))) (sym fails)
+      stay = subst (λ b. Stay w t (next_place (RwLock l a c) (Value (word_at w l)))
+          (put (state_after_hand_over_by b w t (RwLock l a c) l op) t (next_place (RwLock l a c)
+          (Value (word_at w l))))) (sym fails)
           (lonely w t (next_place (RwLock l a c) (Value (word_at w l))) (RwLock l a c) (act.Word l op) tt)
 
       others : OthersFollow w behind t (event_by l case)
-      others = others_follow w behind t l case happened (no_hand_off w behind t l case happened case calmly) (calm w t (next_place (RwLock l a c) (Value (word_at w l))) behind l case calmly stay)
+      others = others_follow w behind t l case happened (no_hand_off w behind t l case happened case calmly)
+          (calm w t (next_place (RwLock l a c) (Value (word_at w l))) behind l case calmly stay)
 
       looks : GoesOnBy w t l a c (act.HandOver l op)
       looks = record { whom = heir; tells = told_so; happened = happened; others = others }
@@ -189,12 +217,15 @@ module _ (w : State) (t l : ℕ) (a : Admission) (c : RwLockCallPlace) (steady :
       may = stands w t l a c steady shape there lt is
 
       alone : ((k : ℕ) (op : Op) → call_act l a c ≢ act.HandOver k op) → GoesOnBy w t l a c (call_act l a c)
-      alone plain = by_own (call_act l a c) (takes_here l (location (RwLock l a c)) (call_act l a c) (call_facts l a c).line) (goes_unhanded w t l a c steady shape there lt is plain can)
+      alone plain = by_own (call_act l a c) (takes_here l (location (RwLock l a c)) (call_act l a c)
+          (call_facts l a c).line) (goes_unhanded w t l a c steady shape there lt is plain can)
 
       by_act : (y : Act) → call_act l a c ≡ y → GoesOnBy w t l a c (call_act l a c)
       by_act (act.HandOver k op) e =
           let n = gives_counted l k a c op may e in
-          let same_lock : k ≡ l = (subst (CallMoves l a.recursive (call_move a c) (call_hears a c)) e (fair_acts_move l a c may)).0 in
+          let same_lock : k ≡ l = (subst (CallMoves l a.recursive (call_move a c) (call_hears a c)) e
+          (fair_acts_move l a c may)).0 in
           let here : call_act l a c ≡ act.HandOver l op = e ∙ ap (λ j. act.HandOver j op) same_lock in
-          subst (GoesOnBy w t l a c) (sym here) (by_effect n.0 n.1 counted op here (takes_effect op (word_at w l)) refl)
+          subst (GoesOnBy w t l a c) (sym here) (by_effect n.0 n.1 counted op here
+          (takes_effect op (word_at w l)) refl)
       by_act y e = alone (λ k op f. let g : y ≡ act.HandOver k op = sym e ∙ f in cc)

@@ -1,5 +1,7 @@
--- Each step of a semaphore takes its thread in the machine where its act says, and so does what befalls it asleep.
-use Rattle.std.proofs.Common.{ℕ, Bool, true, false, Option, Some, None, if◌then◌else◌, ◌==◌, ◌≡◌, ◌-◌, ◌*◌, [], ◌∷◌, inl, inr, refl, sym, ap, ◌∙◌, subst, not}
+-- Each step of a semaphore takes its thread in the machine where its act says, and so does what befalls it
+-- asleep.
+use Rattle.std.proofs.Common.{ℕ, Bool, true, false, Option, Some, None, if◌then◌else◌, ◌==◌, ◌≡◌, ◌-◌, ◌*◌}
+use Rattle.std.proofs.Common.{[], ◌∷◌, inl, inr, refl, sym, ap, ◌∙◌, subst, not}
 use Rattle.std.specs.Prelude.{◌&&◌}
 use Rattle.core_base.specs.declared.keys.Keys.TheVariants.{One}
 use Rattle.core_base.specs.declared.ops.Op.TheVariants as op
@@ -12,7 +14,8 @@ use Rattle.steps_base.specs.declared.acts.Next.TheVariants.{At, End as Over}
 use Rattle.steps_base.specs.declared.acts.Reply.TheVariants as reply
 use Rattle.steps_base.specs.declared.acts.Whom.TheVariants.{First}
 use Rattle.spec_locks.specs.declared.outcomes.Answer.TheVariants as answer
-use Rattle.steps_base.specs.Moves.{AreOfWord, GoesIn, Hears, IsHeld, Move, MovesByAct, Sleeps, StaysPut, RowWaits, inside_of, row_of, location_then}
+use Rattle.steps_base.specs.Moves.{AreOfWord, GoesIn, Hears, IsHeld, Move, MovesByAct, Sleeps, StaysPut}
+use Rattle.steps_base.specs.Moves.{RowWaits, inside_of, row_of, location_then}
 use Rattle.steps_base.specs.Profiles.{Hand, hand, in_hand}
 use Rattle.steps_base.specs.Locations.{Location, nowhere, location_by}
 use Rattle.spec_locks.specs.Codes.{has_parked}
@@ -30,7 +33,8 @@ use Rattle.steps_semaphore.specs.declared.places.SemaphorePlace.TheVariants.{Acq
 use Rattle.steps_semaphore.specs.SemaphoreDeeds.{enter_deeds, semaphore_deeds, take_deeds}
 use Rattle.steps_semaphore.specs.SemaphoreLaws.{MayHear, next_row}
 use Rattle.steps_semaphore.specs.SemaphoreProfiles.{semaphore_late_line, semaphore_profile}
-use Rattle.steps_semaphore.specs.SemaphoreSteps.{acquired, in_acquire, in_release, in_try, is_free, next_release, next_try, semaphore_act, semaphore_next}
+use Rattle.steps_semaphore.specs.SemaphoreSteps.{acquired, in_acquire, in_release, in_try, is_free}
+use Rattle.steps_semaphore.specs.SemaphoreSteps.{next_release, next_try, semaphore_act, semaphore_next}
 use Rattle.lot_laws.specs.SitesOf.{LateIsTimed}
 use Rattle.lot_laws.proofs.sites.FirstTaken.{TakesFirst}
 
@@ -56,13 +60,15 @@ location_next n = location_by (row_of (next_row n))
 -- ---------------------------------------------------------------- the word
 
 -- an exchange took a permit, set the bit, or found another word
-exchanged_word : (other free : Bool) → AreOfWord (if other then [] else if free then enter_deeds else Mark Main ∷ [])
+exchanged_word : (other free : Bool) → AreOfWord (if other then [] else if free then enter_deeds
+    else Mark Main ∷ [])
 exchanged_word true free = tt
 exchanged_word false true = tt
 exchanged_word false false = tt
 
 exchanged_rest : (timed again other free : Bool) (seen : ℕ)
-    → location_next (in_acquire timed again (if other then At (acquire.Decide seen) else if free then Over (acquired timed) else At (acquire.Decide 1))) ≡ nowhere
+    → location_next (in_acquire timed again (if other then At (acquire.Decide seen) else if free
+    then Over (acquired timed) else At (acquire.Decide 1))) ≡ nowhere
 exchanged_rest timed again true free seen = refl
 exchanged_rest timed again false true seen = refl
 exchanged_rest timed again false false seen = refl
@@ -71,7 +77,8 @@ looked_word : (free : Bool) → AreOfWord (if free then [] else End ∷ [])
 looked_word true = tt
 looked_word false = tt
 
-looked_rest : (free : Bool) (seen : ℕ) → location_next (in_try (if free then At (tries.Decide seen) else Over answer.No)) ≡ nowhere
+looked_rest : (free : Bool) (seen : ℕ)
+    → location_next (in_try (if free then At (tries.Decide seen) else Over answer.No)) ≡ nowhere
 looked_rest true seen = refl
 looked_rest false seen = refl
 
@@ -81,7 +88,8 @@ attempted_word false true = tt
 attempted_word false false = tt
 
 attempted_rest : (won free : Bool) (seen : ℕ)
-    → location_next (in_try (if won then Over answer.Yes else if free then At (tries.Decide seen) else Over answer.No)) ≡ nowhere
+    → location_next (in_try (if won then Over answer.Yes else if free then At (tries.Decide seen)
+    else Over answer.No)) ≡ nowhere
 attempted_rest true free seen = refl
 attempted_rest false free seen = looked_rest free seen
 
@@ -89,13 +97,15 @@ given_word : (parked : Bool) → AreOfWord (Case (GivesBack Shared) ∷ (if park
 given_word true = tt
 given_word false = tt
 
-given_rest : (parked : Bool) → location_next (in_release (if parked then At release.Enter else Over answer.Ok)) ≡ nowhere
+given_rest : (parked : Bool) → location_next
+    (in_release (if parked then At release.Enter else Over answer.Ok)) ≡ nowhere
 given_rest true = refl
 given_rest false = refl
 
 -- ---------------------------------------------------------------- each place
 
-decides_put : (timed again : Bool) (was : ℕ) → StaysPut (semaphore_move (Acquire timed again (acquire.Decide was)))
+decides_put : (timed again : Bool) (was : ℕ)
+    → StaysPut (semaphore_move (Acquire timed again (acquire.Decide was)))
 decides_put timed again was = record {
   out = refl;
   free = refl;
@@ -104,11 +114,23 @@ decides_put timed again was = record {
 }
 
 decides : (l : ℕ) (timed again : Bool) (was : ℕ) (free empty : Bool)
-    → SemaphoreMoves l (semaphore_move (Acquire timed again (acquire.Decide was))) (semaphore_hears (Acquire timed again (acquire.Decide was)))
-    (if free then act.Word l (op.Exchange was (was - 2)) else if empty then act.Word l (op.Exchange 0 1) else act.Enter (One (2 * l)))
+    → SemaphoreMoves l (semaphore_move (Acquire timed again (acquire.Decide was)))
+    (semaphore_hears (Acquire timed again (acquire.Decide was)))
+    (if free then act.Word l (op.Exchange was (was - 2)) else if empty then act.Word l (op.Exchange 0 1)
+    else act.Enter (One (2 * l)))
 decides l timed again was true empty = (refl, decides_put timed again was)
 decides l timed again was false true = (refl, decides_put timed again was)
-decides l timed again was false false = (Main, refl, record { out = refl; free = refl; deeds = refl; goes = refl; may = λ r s t free. free })
+decides l timed again was false false = (
+  Main,
+  refl,
+  record {
+    out = refl;
+    free = refl;
+    deeds = refl;
+    goes = refl;
+    may = λ r s t free. free;
+  },
+)
 
 attempts_put : (was : ℕ) → StaysPut (semaphore_move (Try (tries.Decide was)))
 attempts_put was = record {
@@ -124,44 +146,189 @@ attempts : (l was : ℕ) (free : Bool)
 attempts l was true = (refl, attempts_put was)
 attempts l was false = (refl, attempts_put was)
 
-pub semaphore_acts_move : (l : ℕ) (p : SemaphorePlace) → LateIsTimed p → SemaphoreMoves l (semaphore_move p) (semaphore_hears p) (semaphore_act l p)
-semaphore_acts_move l (Acquire timed again acquire.Load) h = (refl, record { out = refl; free = refl; deeds = λ seen. tt; goes = λ seen. refl })
-semaphore_acts_move l (Acquire timed again (acquire.Decide was)) h = decides l timed again was (is_free was) (was == 0)
-semaphore_acts_move l (Acquire timed again acquire.Check) h = (Main, refl, refl, record { was = refl; parks = refl; parked = refl; turns = refl; turned = refl; may = λ r s t b e out. (e, out) })
-semaphore_acts_move l (Acquire timed again (acquire.Leave true)) h = (Main, refl, record { any = false; notes = refl; inside = refl; carries = refl; free = refl; deeds = tt; goes = refl; may = λ r s t out. out })
-semaphore_acts_move l (Acquire timed again (acquire.Leave false)) h = (Main, refl, record { any = false; notes = refl; inside = refl; carries = refl; free = refl; deeds = tt; goes = refl; may = λ r s t out. out })
+pub semaphore_acts_move : (l : ℕ) (p : SemaphorePlace) → LateIsTimed p → SemaphoreMoves l (semaphore_move p)
+    (semaphore_hears p) (semaphore_act l p)
+semaphore_acts_move l (Acquire timed again acquire.Load) h = (
+  refl,
+  record {
+    out = refl;
+    free = refl;
+    deeds = λ seen. tt;
+    goes = λ seen. refl;
+  },
+)
+semaphore_acts_move l (Acquire timed again (acquire.Decide was)) h = decides l timed again was (is_free was)
+    (was == 0)
+semaphore_acts_move l (Acquire timed again acquire.Check) h = (
+  Main,
+  refl,
+  refl,
+  record {
+    was = refl;
+    parks = refl;
+    parked = refl;
+    turns = refl;
+    turned = refl;
+    may = λ r s t b e out. (e, out);
+  },
+)
+semaphore_acts_move l (Acquire timed again (acquire.Leave true)) h = (
+  Main,
+  refl,
+  record {
+    any = false;
+    notes = refl;
+    inside = refl;
+    carries = refl;
+    free = refl;
+    deeds = tt;
+    goes = refl;
+    may = λ r s t out. out;
+  },
+)
+semaphore_acts_move l (Acquire timed again (acquire.Leave false)) h = (
+  Main,
+  refl,
+  record {
+    any = false;
+    notes = refl;
+    inside = refl;
+    carries = refl;
+    free = refl;
+    deeds = tt;
+    goes = refl;
+    may = λ r s t out. out;
+  },
+)
 semaphore_acts_move l (Acquire timed again acquire.Asleep) h = tt
 semaphore_acts_move l (Acquire timed again (acquire.Taken by)) h = tt
-semaphore_acts_move l (Acquire timed again acquire.Remove) h = (Main, refl, record { want = Shared; was = refl; deeds = λ none_left. refl; goes = removed; may = λ r s t none_left stands. (h refl, stands) })
+semaphore_acts_move l (Acquire timed again acquire.Remove) h = (
+  Main,
+  refl,
+  record {
+    want = Shared;
+    was = refl;
+    deeds = λ none_left. refl;
+    goes = removed;
+    may = λ r s t none_left stands. (h refl, stands);
+  },
+)
   where
-    removed : (none_left : Bool) → location_then (semaphore_move (Acquire timed again acquire.Remove)) (reply.Removed none_left) ≡ inside_of Main
+    removed : (none_left : Bool) → location_then (semaphore_move (Acquire timed again acquire.Remove))
+        (reply.Removed none_left) ≡ inside_of Main
     removed true = refl
     removed false = refl
-semaphore_acts_move l (Acquire timed again acquire.Clear) h = (refl, record { out = refl; free = refl; deeds = λ seen. tt; goes = λ seen. refl })
-semaphore_acts_move l (Acquire timed again acquire.GiveUp) h = (Main, refl, record { any = false; notes = refl; inside = refl; carries = refl; free = refl; deeds = tt; goes = refl; may = λ r s t out. (h refl, out) })
-semaphore_acts_move l (Try tries.Load) h = (refl, record { out = refl; free = refl; deeds = λ seen. looked_word (is_free seen); goes = λ seen. looked_rest (is_free seen) seen })
+semaphore_acts_move l (Acquire timed again acquire.Clear) h = (
+  refl,
+  record {
+    out = refl;
+    free = refl;
+    deeds = λ seen. tt;
+    goes = λ seen. refl;
+  },
+)
+semaphore_acts_move l (Acquire timed again acquire.GiveUp) h = (
+  Main,
+  refl,
+  record {
+    any = false;
+    notes = refl;
+    inside = refl;
+    carries = refl;
+    free = refl;
+    deeds = tt;
+    goes = refl;
+    may = λ r s t out. (h refl, out);
+  },
+)
+semaphore_acts_move l (Try tries.Load) h = (
+  refl,
+  record {
+    out = refl;
+    free = refl;
+    deeds = λ seen. looked_word (is_free seen);
+    goes = λ seen. looked_rest (is_free seen) seen;
+  },
+)
 semaphore_acts_move l (Try (tries.Decide was)) h = attempts l was (is_free was)
-semaphore_acts_move l (Release release.Add) h = (refl, record { out = refl; free = refl; deeds = λ seen. given_word (has_parked seen); goes = λ seen. given_rest (has_parked seen) })
-semaphore_acts_move l (Release release.Enter) h = (Main, refl, record { out = refl; free = refl; deeds = refl; goes = refl; may = λ r s t free. free })
-semaphore_acts_move l (Release release.Take) h = (refl, record { was = refl; deeds = λ whom any none_left. refl; goes = took; may = λ r s t whom any none_left first some left nobody. (record { first = first; some = some; left = left }, nobody) })
+semaphore_acts_move l (Release release.Add) h = (
+  refl,
+  record {
+    out = refl;
+    free = refl;
+    deeds = λ seen. given_word (has_parked seen);
+    goes = λ seen. given_rest (has_parked seen);
+  },
+)
+semaphore_acts_move l (Release release.Enter) h = (
+  Main,
+  refl,
+  record {
+    out = refl;
+    free = refl;
+    deeds = refl;
+    goes = refl;
+    may = λ r s t free. free;
+  },
+)
+semaphore_acts_move l (Release release.Take) h = (
+  refl,
+  record {
+    was = refl;
+    deeds = λ whom any none_left. refl;
+    goes = took;
+    may = λ r s t whom any none_left first some left nobody. (
+      record {
+        first = first;
+        some = some;
+        left = left;
+      },
+      nobody,
+    );
+  },
+)
   where
-    took : (any none_left : Bool) → location_then (semaphore_move (Release release.Take)) (reply.Took any none_left) ≡ record (inside_of Main) { carries = in_hand any false }
+    took : (any none_left : Bool) → location_then (semaphore_move (Release release.Take))
+        (reply.Took any none_left) ≡ record (inside_of Main) { carries = in_hand any false }
     took any true = refl
     took any false = refl
-semaphore_acts_move l (Release (release.Clear any)) h = (refl, record { out = refl; free = refl; deeds = λ seen. tt; goes = λ seen. refl })
-semaphore_acts_move l (Release (release.Leave any)) h = (Main, refl, record { any = any; notes = refl; inside = refl; carries = refl; free = refl; deeds = tt; goes = refl; may = λ r s t out. out })
+semaphore_acts_move l (Release (release.Clear any)) h = (
+  refl,
+  record {
+    out = refl;
+    free = refl;
+    deeds = λ seen. tt;
+    goes = λ seen. refl;
+  },
+)
+semaphore_acts_move l (Release (release.Leave any)) h = (
+  Main,
+  refl,
+  record {
+    any = any;
+    notes = refl;
+    inside = refl;
+    carries = refl;
+    free = refl;
+    deeds = tt;
+    goes = refl;
+    may = λ r s t out. out;
+  },
+)
 
 -- ---------------------------------------------------------------- threads asleep
 
 -- it stands in no line, and is in nobody's hand
-awake : (p : SemaphorePlace) → (semaphore_profile p).stands ≡ None → (semaphore_profile p).hand ≡ None → RowWaits (semaphore_move p)
+awake : (p : SemaphorePlace) → (semaphore_profile p).stands ≡ None → (semaphore_profile p).hand ≡ None
+    → RowWaits (semaphore_move p)
 awake p out free = record {
   aside = λ h. absurd (let e : ◌≡◌ {A = Option Line} None (Some Second) = sym out ∙ h in cc);
   stands = λ m h. absurd (let e : ◌≡◌ {A = Option Line} None (Some m) = sym out ∙ h in cc);
   held = λ u handed h. absurd (let e : ◌≡◌ {A = Option Hand} None (hand u handed) = sym free ∙ h in cc);
 }
 
-asleep_in : (timed again : Bool) (m : Line) → m ≡ Main → Sleeps (semaphore_move (Acquire timed again acquire.Asleep)) m
+asleep_in : (timed again : Bool) (m : Line) → m ≡ Main
+    → Sleeps (semaphore_move (Acquire timed again acquire.Asleep)) m
 asleep_in timed again m e = record {
   want = Shared;
   was = ap (λ (n : Line). record nowhere { stands = Some n; waits = Some Shared }) (sym e);
@@ -182,7 +349,8 @@ semaphore_sleepers_move (Acquire timed again (acquire.Taken by)) = record {
   held = λ u handed h. held u handed (let e : by ≡ u = cc in e) (let e : handed ≡ false = cc in e);
 }
   where
-    held : (u : ℕ) (handed : Bool) → by ≡ u → handed ≡ false → (handed ≡ false) × IsHeld (semaphore_move (Acquire timed again (acquire.Taken by))) u
+    held : (u : ℕ) (handed : Bool) → by ≡ u → handed ≡ false → (handed ≡ false)
+        × IsHeld (semaphore_move (Acquire timed again (acquire.Taken by))) u
     held u handed whose fresh = (
       fresh,
       record {
@@ -198,7 +366,8 @@ semaphore_sleepers_move (Acquire timed again (acquire.Leave true)) = record {
   stands = λ m h. inl (let e : m ≡ Main = cc in ap Some (sym e));
   held = λ u handed h. absurd cc;
 }
-semaphore_sleepers_move (Acquire timed again (acquire.Leave false)) = awake (Acquire timed again (acquire.Leave false)) refl refl
+semaphore_sleepers_move (Acquire timed again (acquire.Leave false)) =
+    awake (Acquire timed again (acquire.Leave false)) refl refl
 semaphore_sleepers_move (Acquire timed again acquire.Remove) = record {
   aside = λ h. absurd cc;
   stands = λ m h. inl (let e : m ≡ Main = cc in ap Some (sym e));
@@ -211,13 +380,23 @@ semaphore_sleepers_move (Release at) = awake (Release at) refl refl
 
 -- ---------------------------------------------------------------- giving up
 
-goes_late : (again : Bool) → GoesIn (semaphore_move (Acquire true again acquire.Asleep)) (semaphore_hears (Acquire true again acquire.Asleep)) Main reply.Late
-goes_late again = record { out = refl; free = refl; deeds = refl; goes = refl; may = λ r s t free. (refl, free) }
+goes_late : (again : Bool) → GoesIn (semaphore_move (Acquire true again acquire.Asleep))
+    (semaphore_hears (Acquire true again acquire.Asleep)) Main reply.Late
+goes_late again = record {
+  out = refl;
+  free = refl;
+  deeds = refl;
+  goes = refl;
+  may = λ r s t free. (refl, free);
+}
 
 -- a thread that gives up goes into the section of the line in which it sleeps
-pub semaphore_late_move : (p : SemaphorePlace) (m : Line) → semaphore_late_line p ≡ Some m → GoesIn (semaphore_move p) (semaphore_hears p) m reply.Late
+pub semaphore_late_move : (p : SemaphorePlace) (m : Line) → semaphore_late_line p ≡ Some m
+    → GoesIn (semaphore_move p) (semaphore_hears p) m reply.Late
 semaphore_late_move (Acquire true again acquire.Asleep) m h =
-    subst (λ n. GoesIn (semaphore_move (Acquire true again acquire.Asleep)) (semaphore_hears (Acquire true again acquire.Asleep)) n reply.Late) (let e : Main ≡ m = cc in e) (goes_late again)
+    subst (λ n. GoesIn (semaphore_move (Acquire true again acquire.Asleep))
+    (semaphore_hears (Acquire true again acquire.Asleep)) n reply.Late) (let e : Main ≡ m = cc in e)
+    (goes_late again)
 semaphore_late_move (Acquire false again acquire.Asleep) m h = absurd cc
 semaphore_late_move (Acquire timed again at) m h = absurd cc
 semaphore_late_move (Try at) m h = absurd cc
@@ -231,7 +410,8 @@ NextTimed (At p) = LateIsTimed p
 NextTimed (Over answer) = Unit {0}
 
 exchanged_timed : (timed again other free : Bool) (seen : ℕ)
-    → NextTimed (in_acquire timed again (if other then At (acquire.Decide seen) else if free then Over (acquired timed) else At (acquire.Decide 1)))
+    → NextTimed (in_acquire timed again (if other then At (acquire.Decide seen) else if free
+    then Over (acquired timed) else At (acquire.Decide 1)))
 exchanged_timed timed again true free seen = λ e. absurd cc
 exchanged_timed timed again false true seen = tt
 exchanged_timed timed again false false seen = λ e. absurd cc
@@ -248,9 +428,11 @@ releasing_timed (At (release.Clear any)) = λ e. absurd cc
 releasing_timed (At (release.Leave any)) = λ e. absurd cc
 releasing_timed (Over answer) = tt
 
-pub next_timed : (p : SemaphorePlace) (told : Reply) → LateIsTimed p → (told ≡ reply.Late → (semaphore_profile p).timed ≡ true) → NextTimed (semaphore_next p told)
+pub next_timed : (p : SemaphorePlace) (told : Reply) → LateIsTimed p
+    → (told ≡ reply.Late → (semaphore_profile p).timed ≡ true) → NextTimed (semaphore_next p told)
 next_timed (Acquire timed again acquire.Load) (reply.Value seen) h late = λ e. absurd cc
-next_timed (Acquire timed again (acquire.Decide was)) (reply.Value seen) h late = exchanged_timed timed again (not (seen == was)) (is_free seen) seen
+next_timed (Acquire timed again (acquire.Decide was)) (reply.Value seen) h late =
+    exchanged_timed timed again (not (seen == was)) (is_free seen) seen
 next_timed (Acquire timed again (acquire.Decide was)) reply.Done h late = λ e. absurd cc
 next_timed (Acquire timed again acquire.Check) (reply.Parked parked) h late = λ e. absurd cc
 next_timed (Acquire timed again (acquire.Leave true)) reply.Done h late = λ e. absurd cc

@@ -1,5 +1,7 @@
--- A thread in a call of a semaphore owes a wake from the step that gave its permit back on, where that saw waiters, or from entering the section, until it leaves it.
-use Rattle.std.proofs.Common.{ℕ, Bool, true, false, Some, if◌then◌else◌, ◌≡◌, inl, inr, refl, sym, ◌∙◌, ap, subst}
+-- A thread in a call of a semaphore owes a wake from the step that gave its permit back on, where that saw
+-- waiters, or from entering the section, until it leaves it.
+use Rattle.std.proofs.Common.{ℕ, Bool, true, false, Some, if◌then◌else◌, ◌≡◌, inl, inr, refl, sym, ◌∙◌, ap}
+use Rattle.std.proofs.Common.{subst}
 use Rattle.steps_base.specs.declared.acts.Next.{Next}
 use Rattle.steps_base.specs.declared.acts.Next.TheVariants as next
 use Rattle.steps_base.specs.declared.acts.Reply.{Reply}
@@ -17,7 +19,9 @@ use Rattle.steps_semaphore.specs.declared.release.ReleaseAt.TheVariants as relea
 use Rattle.steps_semaphore.specs.declared.places.SemaphorePlace.{SemaphorePlace}
 use Rattle.steps_semaphore.specs.declared.places.SemaphorePlace.TheVariants.{Acquire, Try, Release}
 use Rattle.steps_semaphore.specs.SemaphoreProfiles.{semaphore_profile}
-use Rattle.steps_semaphore.specs.SemaphoreSteps.{acquire_act, in_acquire, in_release, in_try, next_acquire, next_release, next_try, release_act, semaphore_act, semaphore_next, still_retries, try_act}
+use Rattle.steps_semaphore.specs.SemaphoreSteps.{acquire_act, in_acquire, in_release, in_try, next_acquire}
+use Rattle.steps_semaphore.specs.SemaphoreSteps.{next_release, next_try, release_act, semaphore_act}
+use Rattle.steps_semaphore.specs.SemaphoreSteps.{semaphore_next, still_retries, try_act}
 use Rattle.lot_steps.specs.Steps.{act_of, profile, semaphore_does, semaphore_goes}
 use Rattle.lot_machine.specs.Machine.{State, reply_to, word_at}
 use Rattle.lot_laws.specs.Owing.{tells_by, tells_of}
@@ -31,7 +35,8 @@ tells_so l (Try at) m v = refl
 tells_so l (Release at) m v = refl
 
 -- a thread that waits for a permit, or tries to take one, lets nobody in
-acquires_quietly : (l : ℕ) (timed retries : Bool) (at : AcquireAt) → LetsIn locks.Semaphore l (semaphore_profile (Acquire timed retries at)) → ⊥
+acquires_quietly : (l : ℕ) (timed retries : Bool) (at : AcquireAt) → LetsIn locks.Semaphore l
+    (semaphore_profile (Acquire timed retries at)) → ⊥
 acquires_quietly l timed retries at (inr h) = let f : false ≡ true = h.0 in cc
 acquires_quietly l timed retries at (inl h) = h
 
@@ -61,13 +66,15 @@ try_since l (next.End answer) m h = absurd cc
 
 abbrev ReleaseOwes : ℕ → ℕ → ReleaseAt → Next ReleaseAt → Type 0
 ReleaseOwes l word at n =
-    RowOwesNext locks.Semaphore l word (semaphore_profile (Release at)) (outcome_of (semaphore_does l (in_release n))) (profile (semaphore_goes l (in_release n)))
+    RowOwesNext locks.Semaphore l word (semaphore_profile (Release at))
+    (outcome_of (semaphore_does l (in_release n))) (profile (semaphore_goes l (in_release n)))
 
 -- it saw whether somebody may wait
 adds_owing : (l word : ℕ) (b : Bool) → has_parked word ≡ b
     → ReleaseOwes l word release.Add (if b then next.At release.Enter else next.End answer.Ok)
 adds_owing l word true parked = record {
-  since = λ m h. let e : Main ≡ m = cc in inr ((inl refl, e, subst (λ n. tells_of locks.Semaphore n word ≡ true) e parked), refl);
+  since = λ m h. let e : Main ≡ m = cc
+      in inr ((inl refl, e, subst (λ n. tells_of locks.Semaphore n word ≡ true) e parked), refl);
   sees = λ m s step. ap Some s.1;
 }
 adds_owing l word false parked = record { since = λ m h. absurd cc; sees = λ m s step. absurd cc }
@@ -81,7 +88,8 @@ inside_owing l word at to owes within = record {
 }
 
 takes_owing : (l word : ℕ) (any none_left : Bool)
-    → ReleaseOwes l word release.Take (if none_left then next.At (release.Clear any) else next.At (release.Leave any))
+    → ReleaseOwes l word release.Take (if none_left then next.At (release.Clear any) else next.At
+    (release.Leave any))
 takes_owing l word any true = inside_owing l word release.Take (release.Clear any) refl refl
 takes_owing l word any false = inside_owing l word release.Take (release.Leave any) refl refl
 
@@ -90,25 +98,29 @@ release_owing : (w : State) (t l : ℕ) (at : ReleaseAt)
 release_owing w t l release.Add = adds_owing l (word_at w l) (has_parked (word_at w l)) refl
 release_owing w t l release.Enter = inside_owing l (word_at w l) release.Enter release.Take refl refl
 release_owing w t l release.Take = takes_owing l (word_at w l) _ _
-release_owing w t l (release.Clear any) = inside_owing l (word_at w l) (release.Clear any) (release.Leave any) refl refl
+release_owing w t l (release.Clear any) = inside_owing l (word_at w l) (release.Clear any) (release.Leave any)
+    refl refl
 release_owing w t l (release.Leave any) = record { since = λ m h. absurd cc; sees = λ m s step. absurd cc }
 
 -- ---------------------------------------------------------------- every place
 
 -- the reply to its act leads a thread on
 pub semaphore_owes_next : (w : State) (t l : ℕ) (at : SemaphorePlace) →
-    RowOwesThen locks.Semaphore l (word_at w l) (semaphore_profile at) (outcome_of (semaphore_does l (semaphore_next at (reply_to w t (semaphore_act l at)))))
+    RowOwesThen locks.Semaphore l (word_at w l) (semaphore_profile at)
+    (outcome_of (semaphore_does l (semaphore_next at (reply_to w t (semaphore_act l at)))))
     (profile (semaphore_goes l (semaphore_next at (reply_to w t (semaphore_act l at)))))
     (act_of (semaphore_goes l (semaphore_next at (reply_to w t (semaphore_act l at)))))
-semaphore_owes_next w t l (Release at) = owes_then (λ m. tells_so l (Release at) m (word_at w l)) (release_owing w t l at)
+semaphore_owes_next w t l (Release at) = owes_then (λ m. tells_so l (Release at) m (word_at w l))
+    (release_owing w t l at)
 semaphore_owes_next w t l (Try at) = owes_then (λ m. tells_so l (Try at) m (word_at w l)) (record {
   since = λ m h. inl (try_since l (next_try at (reply_to w t (try_act l at))) m h);
   sees = λ m s step. absurd (tries_quietly l at s.0);
 })
-semaphore_owes_next w t l (Acquire timed retries at) = owes_then (λ m. tells_so l (Acquire timed retries at) m (word_at w l)) (record {
-  since = λ m h. inl (acquire_since l timed (still_retries retries r) (next_acquire timed at r) m h);
-  sees = λ m s step. absurd (acquires_quietly l timed retries at s.0);
-})
+semaphore_owes_next w t l (Acquire timed retries at) =
+    owes_then (λ m. tells_so l (Acquire timed retries at) m (word_at w l)) (record {
+      since = λ m h. inl (acquire_since l timed (still_retries retries r) (next_acquire timed at r) m h);
+      sees = λ m s step. absurd (acquires_quietly l timed retries at s.0);
+    })
   where
     r : Reply
     r = reply_to w t (acquire_act l at)

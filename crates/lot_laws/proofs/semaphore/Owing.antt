@@ -47,7 +47,12 @@ late_place (Try at) m h = absurd cc
 late_place (Release release.Add) m h = absurd cc
 late_place (Release at) m h = absurd cc
 
-pub semaphore_late : (l : ℕ) (at : SemaphorePlace) (m : Line) → (semaphore_profile at).late_line ≡ Some m → IsLateNext (next_place (Semaphore l at) Late) m
+pub semaphore_late : (l : ℕ) (at : SemaphorePlace) (m : Line) → (semaphore_profile at).late_line ≡ Some m
+    → IsLateNext (next_place (Semaphore l at) Late) m
 semaphore_late l at m h =
     let z = late_place at m h in
-    subst (λ p. IsLateNext (next_place (Semaphore l p) Late) m) (sym z.1) (record { inside = ap Some z.2; owes = ap Some z.2; awake = λ e. cc })
+    subst (λ p. IsLateNext (next_place (Semaphore l p) Late) m) (sym z.1) (record {
+      inside = ap Some z.2;
+      owes = ap Some z.2;
+      awake = λ e. cc;
+    })

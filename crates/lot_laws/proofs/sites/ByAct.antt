@@ -1,7 +1,8 @@
 -- A thread in a call of one lock goes on by an act that is no step on the word: every lock is a site
 -- again, where the row of its place says where the act takes it. Beside that stands its reply, and what
 -- becomes of the calls of the others.
-use Rattle.std.proofs.Common.{ℕ, Bool, true, false, Option, Some, None, ◌==◌, ◌≡◌, ◌≢◌, ◌*◌, ◌<◌, List, [], ◌∷◌, length, is_none, inl, inr, refl, sym, ◌∙◌, ap, subst, arith}
+use Rattle.std.proofs.Common.{ℕ, Bool, true, false, Option, Some, None, ◌==◌, ◌≡◌, ◌≢◌, ◌*◌, ◌<◌, List, []}
+use Rattle.std.proofs.Common.{◌∷◌, length, is_none, inl, inr, refl, sym, ◌∙◌, ap, subst, arith}
 use Rattle.core_base.specs.declared.keys.Keys.{Keys}
 use Rattle.core_base.specs.declared.keys.Keys.TheVariants.{One}
 use Rattle.core_base.specs.declared.notes.Note.TheVariants.{HandOff, Normal}
@@ -18,15 +19,18 @@ use Rattle.steps_base.specs.declared.acts.Whom.TheVariants as whom
 use Rattle.steps_base.specs.Acts.{holds, wakes_taken}
 use Rattle.steps_base.specs.Calls.{IsNotLate}
 use Rattle.steps_base.specs.Locations.{Location}
-use Rattle.steps_base.specs.Moves.{Accepts, AreLeaving, AreOfWord, GoesIn, GoesOut, Hears, LeavesLine, Move, Parks, TellsHanded, location_then, parks_in}
+use Rattle.steps_base.specs.Moves.{Accepts, AreLeaving, AreOfWord, GoesIn, GoesOut, Hears, LeavesLine, Move}
+use Rattle.steps_base.specs.Moves.{Parks, TellsHanded, location_then, parks_in}
 use Rattle.steps_base.specs.Profiles.{in_hand}
 use Rattle.spec_locks.specs.Deeds.{case_of}
 use Rattle.spec_locks.specs.Locks as locks
 use Rattle.spec_locks.specs.Locks.{Rules}
-use Rattle.spec_locks.specs.Sites.{Case, Clear, Deed, End, FindNobody, In, LeaveLine, Line, Main, Mark, Out, Site}
+use Rattle.spec_locks.specs.Sites.{Case, Clear, Deed, End, FindNobody, In, LeaveLine, Line, Main, Mark, Out}
+use Rattle.spec_locks.specs.Sites.{Site}
 use Rattle.lot_steps.specs.declared.places.Place.{Place}
 use Rattle.lot_steps.specs.Steps.{next_place, profile}
-use Rattle.lot_machine.specs.Machine.{State, are_free, place_at, put, queue_at, reply_to, section_at, state_after_act, word_at}
+use Rattle.lot_machine.specs.Machine.{State, are_free, place_at, put, queue_at, reply_to, section_at}
+use Rattle.lot_machine.specs.Machine.{state_after_act, word_at}
 use Rattle.lot_machine.specs.Fits.{IsWellFormed}
 use Rattle.lot_machine.proofs.Shape.{main_key_there}
 use Rattle.lot_laws.specs.MutexDeeds.{acts}
@@ -38,7 +42,9 @@ use Rattle.lot_laws.proofs.machine.Parts.{IsOf}
 use Rattle.lot_laws.proofs.sites.ActsKept.{lock_by}
 use Rattle.lot_laws.proofs.sites.FirstTaken.{TakesFirst}
 use Rattle.lot_laws.proofs.sites.FirstTaken as first
-use Rattle.lot_laws.proofs.sites.MovesKept.{IsFollowed, SleepsIfCalls, entered_hears, goes_in, goes_out, leaves_line, leaves_main, left_hears, parked_hears, parks_or_turns, removed_hears, removed_main}
+use Rattle.lot_laws.proofs.sites.MovesKept.{IsFollowed, SleepsIfCalls, entered_hears, goes_in, goes_out}
+use Rattle.lot_laws.proofs.sites.MovesKept.{leaves_line, leaves_main, left_hears, parked_hears}
+use Rattle.lot_laws.proofs.sites.MovesKept.{parks_or_turns, removed_hears, removed_main}
 use Rattle.lot_laws.proofs.sites.WakesAt.{IsWokenAt}
 
 -- ---------------------------------------------------------------- deeds that leave the others as they are
@@ -116,11 +122,16 @@ module _ (w : State) (l : ℕ) (shape : IsWellFormed w) (lt : l < length w.locks
   section_there m = let e : length w.sections ≡ 2 * length w.locks = shape.sections in omega arith
 
   pub line_there : (m : Line) → key_of l m < length w.queues
-  line_there m = let e : length w.queues ≡ length w.sections = shape.queues in let h : key_of l m < length w.sections = section_there m in omega arith
+  line_there m = let e : length w.queues ≡ length w.sections = shape.queues in let h : key_of l m
+      < length w.sections = section_there m in omega arith
 
-module _ (w : State) (t l : ℕ) (steady : IsInductive w) (shape : IsWellFormed w) (there : t < length w.places) (lt : l < length w.locks)
-    (own : IsOf l (place_at w t)) (x : Move) (same_row : profile (place_at w t) ≡ x.row) (hears : Hears) (p : Place)
-    (followed : (told : Reply) → IsBrief told → hears (rules_in w l) (lock_by w l (rules_in w l)) t None told → IsFollowed w t l steady there own (rules_in w l) refl x same_row None told (next_place (place_at w t) told)) where
+module _ (w : State) (t l : ℕ) (steady : IsInductive w) (shape : IsWellFormed w) (there : t < length w.places)
+    (lt : l < length w.locks)
+    (own : IsOf l (place_at w t)) (x : Move) (same_row : profile (place_at w t) ≡ x.row) (hears : Hears)
+    (p : Place)
+    (followed : (told : Reply) → IsBrief told → hears (rules_in w l) (lock_by w l (rules_in w l)) t None told
+    → IsFollowed w t l steady there own (rules_in w l) refl x same_row None told
+    (next_place (place_at w t) told)) where
   abbrev r : Rules
   r = rules_in w l
 
@@ -128,7 +139,8 @@ module _ (w : State) (t l : ℕ) (steady : IsInductive w) (shape : IsWellFormed 
   here = lock_by w l r
 
   pub record GoesBy (who : Option ℕ) (y : Act) : Type 0 where
-    pub goes : Goes w (put (state_after_act w t p y) t (next_place (place_at w t) (reply_to w t y))) l (acts t (x.deeds who (reply_to w t y)))
+    pub goes : Goes w (put (state_after_act w t p y) t (next_place (place_at w t) (reply_to w t y))) l
+        (acts t (x.deeds who (reply_to w t y)))
     pub told : hears r here t who (reply_to w t y)
     pub brief : IsBrief (reply_to w t y)
     pub others : WakesOwn x.row.carries y (case_of x.row.carries (x.deeds who (reply_to w t y)))
@@ -136,11 +148,14 @@ module _ (w : State) (t l : ℕ) (steady : IsInductive w) (shape : IsWellFormed 
     pub free : (location_then x (reply_to w t y)).hand ≡ None
 
   calm_by : (ds : List Deed) {more : List Deed} → more ≡ ds → AreCalm ds → IsCalm (case_of x.row.carries more)
-  calm_by ds e h = subst (λ (ds : List Deed). IsCalm (case_of x.row.carries ds)) (sym e) (calm_case x.row.carries ds h)
+  calm_by ds e h = subst (λ (ds : List Deed). IsCalm (case_of x.row.carries ds)) (sym e)
+      (calm_case x.row.carries ds h)
 
-  pub into : (m : Line) (keys : Keys) → keys ≡ One (key_of l m) → are_free w keys ≡ true → GoesIn x hears m Done → GoesBy None (act.Enter keys)
+  pub into : (m : Line) (keys : Keys) → keys ≡ One (key_of l m) → are_free w keys ≡ true
+      → GoesIn x hears m Done → GoesBy None (act.Enter keys)
   into m keys e free g = subst (λ k. GoesBy None (act.Enter k)) (sym e) (record {
-    goes = goes_in w t l steady there own r refl x same_row hears m Done (next_place (place_at w t) Done) (section_there w l shape lt m) is_free g (λ h. followed Done tt h);
+    goes = goes_in w t l steady there own r refl x same_row hears m Done (next_place (place_at w t) Done)
+        (section_there w l shape lt m) is_free g (λ h. followed Done tt h);
     told = entered_hears w t l steady there own r refl x same_row hears m Done is_free g;
     brief = tt;
     others = calm_by (In m ∷ []) g.deeds tt;
@@ -151,55 +166,88 @@ module _ (w : State) (t l : ℕ) (steady : IsInductive w) (shape : IsWellFormed 
       is_free = none_is (section_at w (key_of l m)) (subst (λ k. are_free w k ≡ true) e free)
 
   -- each that it has in hand is woken
-  pub out_of : (m : Line) (keys : Keys) (wakes : Wakes) → keys ≡ One (key_of l m) → (g : GoesOut x hears m wakes)
-      → ((u : ℕ) (b : Bool) → hand_at (place_at w u) l ≡ hand t b → IsWokenAt w t l Normal (place_at w u)) → GoesBy None (act.Leave keys wakes)
+  pub out_of : (m : Line) (keys : Keys) (wakes : Wakes) → keys ≡ One (key_of l m)
+      → (g : GoesOut x hears m wakes)
+      → ((u : ℕ) (b : Bool) → hand_at (place_at w u) l ≡ hand t b → IsWokenAt w t l Normal (place_at w u))
+      → GoesBy None (act.Leave keys wakes)
   out_of m keys wakes e g woken = subst (λ k. GoesBy None (act.Leave k wakes)) (sym e) (record {
-    goes = goes_out w t l steady there own r refl x same_row hears m wakes (next_place (place_at w t) Done) (section_there w l shape lt m) g (λ h. followed Done tt h) woken;
+    goes = goes_out w t l steady there own r refl x same_row hears m wakes (next_place (place_at w t) Done)
+        (section_there w l shape lt m) g (λ h. followed Done tt h) woken;
     told = left_hears w t l steady there own r refl x same_row hears m wakes g;
     brief = tt;
-    others = subst (λ y. WakesOwn x.row.carries (act.Leave (One (key_of l m)) y) (case_of x.row.carries (x.deeds None Done))) (sym g.notes) (either g.any g.carries);
+    others = subst (λ y. WakesOwn x.row.carries (act.Leave (One (key_of l m)) y)
+        (case_of x.row.carries (x.deeds None Done))) (sym g.notes) (either g.any g.carries);
     free = ap (λ (y : Location). y.hand) g.goes ∙ g.free;
   })
     where
-      either : (any : Bool) → x.row.carries ≡ in_hand any false → WakesOwn x.row.carries (act.Leave (One (key_of l m)) (wakes_taken any Normal)) (case_of x.row.carries (x.deeds None Done))
-      either false f = subst (λ y. IsCalm (case_of y (x.deeds None Done))) (sym f) (left_calm (x.deeds None Done) g.deeds)
-      either true f = inl (f, (refl, ap (λ y. case_of y (x.deeds None Done)) f ∙ left_wakes (x.deeds None Done) g.deeds))
+      either : (any : Bool) → x.row.carries ≡ in_hand any false
+          → WakesOwn x.row.carries (act.Leave (One (key_of l m)) (wakes_taken any Normal))
+          (case_of x.row.carries (x.deeds None Done))
+      either false f = subst (λ y. IsCalm (case_of y (x.deeds None Done))) (sym f)
+          (left_calm (x.deeds None Done) g.deeds)
+      either true f = inl (
+        f,
+        (
+          refl,
+          ap (λ y. case_of y (x.deeds None Done)) f
+              ∙ left_wakes (x.deeds None Done) g.deeds,
+        ),
+      )
 
   -- A thread that was handed the lock is told so.
   pub tells_all : (keys : Keys) (wakes : Wakes) → keys ≡ One (key_of l Main) → (g : TellsHanded x hears wakes)
-      → ((u : ℕ) (b : Bool) → hand_at (place_at w u) l ≡ hand t b → IsWokenAt w t l HandOff (place_at w u)) → GoesBy None (act.Leave keys wakes)
+      → ((u : ℕ) (b : Bool) → hand_at (place_at w u) l ≡ hand t b → IsWokenAt w t l HandOff (place_at w u))
+      → GoesBy None (act.Leave keys wakes)
   tells_all keys wakes e g woken = subst (λ k. GoesBy None (act.Leave k wakes)) (sym e) (record {
-    goes = tells_handed w t l steady there own r refl x same_row hears wakes g (next_place (place_at w t) Done) (section_there w l shape lt Main) (followed Done tt done) woken;
+    goes = tells_handed w t l steady there own r refl x same_row hears wakes g
+        (next_place (place_at w t) Done) (section_there w l shape lt Main) (followed Done tt done) woken;
     told = done;
     brief = tt;
-    others = subst (λ y. WakesOwn x.row.carries (act.Leave (One (key_of l Main)) y) (case_of x.row.carries (x.deeds None Done))) (sym g.notes) (either g.any (ap (λ (y : Location). y.carries) g.was));
+    others = subst (λ y. WakesOwn x.row.carries (act.Leave (One (key_of l Main)) y)
+        (case_of x.row.carries (x.deeds None Done))) (sym g.notes)
+        (either g.any (ap (λ (y : Location). y.carries) g.was));
     free = ap (λ (y : Location). y.hand) g.goes;
   })
     where
       done : hears r here t None Done
       done = told_hears w t l steady there own r refl x same_row hears wakes g
 
-      either : (any : Bool) → x.row.carries ≡ in_hand any true → WakesOwn x.row.carries (act.Leave (One (key_of l Main)) (wakes_taken any HandOff)) (case_of x.row.carries (x.deeds None Done))
-      either false f = subst (λ y. IsCalm (case_of y (x.deeds None Done))) (sym f) (left_calm (x.deeds None Done) g.deeds)
-      either true f = inr (f, (refl, subst (λ y. IsCalm (case_of y (x.deeds None Done))) (sym f) (handed_calm (x.deeds None Done) g.deeds)))
+      either : (any : Bool) → x.row.carries ≡ in_hand any true
+          → WakesOwn x.row.carries (act.Leave (One (key_of l Main)) (wakes_taken any HandOff))
+          (case_of x.row.carries (x.deeds None Done))
+      either false f = subst (λ y. IsCalm (case_of y (x.deeds None Done))) (sym f)
+          (left_calm (x.deeds None Done) g.deeds)
+      either true f = inr (
+        f,
+        (
+          refl,
+          subst (λ y. IsCalm (case_of y (x.deeds None Done))) (sym f)
+              (handed_calm (x.deeds None Done) g.deeds),
+        ),
+      )
 
   pub accepted : Accepts x hears → GoesBy None act.Accept
   accepted g = record {
-    goes = accepts w t l steady there own r refl x same_row hears g (next_place (place_at w t) Done) (λ h. followed Done tt h);
+    goes = accepts w t l steady there own r refl x same_row hears g (next_place (place_at w t) Done)
+        (λ h. followed Done tt h);
     told = g.may r here t;
     brief = tt;
     others = calm_by (End ∷ []) g.deeds tt;
     free = ap (λ (y : Location). y.hand) g.goes;
   }
 
-  pub parked : (m : Line) (k key : ℕ) (check : Check) (want : Want) → k ≡ l → key ≡ key_of l m → Parks x hears m check want → GoesBy None (act.Park k key check want)
-  parked m k key check want ke e g = subst (λ j. GoesBy None (act.Park j key check want)) (sym ke) (subst (λ j. GoesBy None (act.Park l j check want)) (sym e) (record {
-    goes = parks_or_turns w t l steady there own r refl x same_row hears m check want (line_there w l shape lt m) g (λ b h. followed (Parked b) tt h);
-    told = parked_hears w t l steady there own r refl x same_row hears m check want g (holds check (word_at w l)) refl;
-    brief = tt;
-    others = calmly (holds check (word_at w l));
-    free = out (holds check (word_at w l));
-  }))
+  pub parked : (m : Line) (k key : ℕ) (check : Check) (want : Want) → k ≡ l → key ≡ key_of l m
+      → Parks x hears m check want → GoesBy None (act.Park k key check want)
+  parked m k key check want ke e g = subst (λ j. GoesBy None (act.Park j key check want)) (sym ke)
+      (subst (λ j. GoesBy None (act.Park l j check want)) (sym e) (record {
+        goes = parks_or_turns w t l steady there own r refl x same_row hears m check want
+            (line_there w l shape lt m) g (λ b h. followed (Parked b) tt h);
+        told = parked_hears w t l steady there own r refl x same_row hears m check want g
+            (holds check (word_at w l)) refl;
+        brief = tt;
+        others = calmly (holds check (word_at w l));
+        free = out (holds check (word_at w l));
+      }))
     where
       calmly : (b : Bool) → IsCalm (case_of x.row.carries (x.deeds None (Parked b)))
       calmly true = calm_by (parks_in m want ∷ []) g.parks (in_line_calm m want)
@@ -220,9 +268,11 @@ module _ (w : State) (t l : ℕ) (steady : IsInductive w) (shape : IsWellFormed 
   })
 
   -- A thread that is late leaves any line.
-  pub left : ((u : ℕ) → SleepsIfCalls w t l steady there own r refl x same_row u) → (m : Line) (key : ℕ) → key ≡ key_of l m → LeavesLine x hears m → GoesBy None (act.Remove key)
+  pub left : ((u : ℕ) → SleepsIfCalls w t l steady there own r refl x same_row u) → (m : Line) (key : ℕ)
+      → key ≡ key_of l m → LeavesLine x hears m → GoesBy None (act.Remove key)
   left asleep m key e g = subst (λ j. GoesBy None (act.Remove j)) (sym e) (record {
-    goes = leaves_line w t l steady there own r refl x same_row asleep hears m g (λ b h. followed (Removed b) tt h);
+    goes = leaves_line w t l steady there own r refl x same_row asleep hears m g
+        (λ b h. followed (Removed b) tt h);
     told = removed_hears w t l steady there own r refl x same_row asleep hears m g;
     brief = tt;
     others = calm_by (Case locks.Late ∷ []) (g.deeds _) tt;
@@ -230,17 +280,29 @@ module _ (w : State) (t l : ℕ) (steady : IsInductive w) (shape : IsWellFormed 
   })
 
   -- the first of the main line comes into its hand, if there is one
-  module _ (takes : Option ℕ → List Deed) (g : TakesFirst takes x hears) (none : takes None ≡ FindNobody Main ∷ []) (calm : (who : Option ℕ) → AreCalm (takes who))
-      (taking : (who : Option ℕ) (any none_left : Bool) → hears r here t who (Took any none_left) → first.Followed w t l steady there own r refl x same_row hears takes (line_there w l shape lt Main) g who (Took any none_left)) where
+  module _ (takes : Option ℕ → List Deed) (g : TakesFirst takes x hears) (none : takes None ≡ FindNobody Main
+      ∷ []) (calm : (who : Option ℕ) → AreCalm (takes who))
+      (taking : (who : Option ℕ) (any none_left : Bool) → hears r here t who (Took any none_left)
+      → first.Followed w t l steady there own r refl x same_row hears takes (line_there w l shape lt Main)
+      g who (Took any none_left)) where
     abbrev Takes : Type 0
-    Takes = (y : Waiter) (rest : List Waiter) → queue_at w (2 * l) ≡ y ∷ rest → first.Followed w t l steady there own r refl x same_row hears takes (line_there w l shape lt Main) g (Some y.thread) (Took true (length rest == 0))
-        → first.KeptBy w t l steady there own r refl x same_row hears takes (line_there w l shape lt Main) g (y ∷ rest)
+    Takes = (y : Waiter) (rest : List Waiter) → queue_at w (2 * l) ≡ y ∷ rest
+        → first.Followed w t l steady there own r refl x same_row hears takes (line_there w l shape lt Main) g
+        (Some y.thread) (Took true (length rest == 0))
+        → first.KeptBy w t l steady there own r refl x same_row hears takes (line_there w l shape lt Main) g
+        (y ∷ rest)
 
-    pub took_first : Takes → (key : ℕ) → key ≡ key_of l Main → GoesBy (first_of (queue_at w key)) (act.Take key whom.First)
-    took_first one key e = subst (λ j. GoesBy (first_of (queue_at w j)) (act.Take j whom.First)) (sym e) (record {
-      goes = first.takes_first w t l steady there own r refl x same_row hears takes (line_there w l shape lt Main) g none taking one;
-      told = first.hears_of w t l steady there own r refl x same_row hears takes (line_there w l shape lt Main) g (queue_at w (2 * l)) refl;
-      brief = tt;
-      others = calm_by (takes (first_of (queue_at w (2 * l)))) (g.deeds (first_of (queue_at w (2 * l))) _ _) (calm (first_of (queue_at w (2 * l))));
-      free = ap (λ (y : Location). y.hand) (g.goes _ _);
-    })
+    pub took_first : Takes → (key : ℕ) → key ≡ key_of l Main → GoesBy (first_of (queue_at w key))
+        (act.Take key whom.First)
+    took_first one key e = subst (λ j. GoesBy (first_of (queue_at w j)) (act.Take j whom.First)) (sym e)
+        (record {
+          goes = first.takes_first w t l steady there own r refl x same_row hears takes
+              (line_there w l shape lt Main) g none taking one;
+          told = first.hears_of w t l steady there own r refl x same_row hears takes
+              (line_there w l shape lt Main) g (queue_at w (2 * l)) refl;
+          brief = tt;
+          others = calm_by (takes (first_of (queue_at w (2 * l)))) (g.deeds (first_of (queue_at w (2 * l))) _
+              _)
+              (calm (first_of (queue_at w (2 * l))));
+          free = ap (λ (y : Location). y.hand) (g.goes _ _);
+        })

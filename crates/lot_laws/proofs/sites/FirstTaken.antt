@@ -1,6 +1,7 @@
 -- The first waiter in the line of a lock, if there is one, comes into the hand of a thread inside its
 -- section, for the sorts of lock whose waiters are taken one at a time.
-use Rattle.std.proofs.Common.{ℕ, Bool, true, false, Option, Some, None, ◌==◌, ◌≡◌, ◌*◌, ◌<◌, List, [], ◌∷◌, length, map, drop, is_none, not, refl, sym, ◌∙◌, ap, subst}
+use Rattle.std.proofs.Common.{ℕ, Bool, true, false, Option, Some, None, ◌==◌, ◌≡◌, ◌*◌, ◌<◌, List, [], ◌∷◌}
+use Rattle.std.proofs.Common.{length, map, drop, is_none, not, refl, sym, ◌∙◌, ap, subst}
 use Rattle.core_base.specs.declared.wants.Waiter.{Waiter}
 use Rattle.core_base.specs.Lines.{first_of}
 use Rattle.steps_base.specs.declared.acts.Reply.{Reply}
@@ -13,7 +14,8 @@ use Rattle.spec_locks.specs.Picks.{queued_of}
 use Rattle.spec_locks.specs.Sites.{Deed, FindNobody, Main, Site, idle, is_empty}
 use Rattle.lot_steps.specs.declared.places.Place.{Place}
 use Rattle.lot_steps.specs.Steps.{next_place, profile}
-use Rattle.lot_machine.specs.Machine.{State, is_there, place_at, put, queue_at, queues_without_first, state_after_taking}
+use Rattle.lot_machine.specs.Machine.{State, is_there, place_at, put, queue_at, queues_without_first}
+use Rattle.lot_machine.specs.Machine.{state_after_taking}
 use Rattle.lot_laws.specs.Refinement.{lock_state, taken_at}
 use Rattle.lot_laws.specs.MutexDeeds.{acts}
 use Rattle.lot_laws.specs.Locations.{location}
@@ -30,15 +32,19 @@ pub record TakesFirst (takes : Option ℕ → List Deed) (x : Move) (hears : Hea
   pub deeds : (whom : Option ℕ) (any none_left : Bool) → x.deeds whom (Took any none_left) ≡ takes whom
   pub goes : (any none_left : Bool)
       → location_then x (Took any none_left) ≡ record (inside_of Main) { carries = in_hand any false }
-  pub may : (r : Rules) (s : Site) (t : ℕ) (whom : Option ℕ) (any none_left : Bool) → whom ≡ first_thread s.lock.queue
+  pub may : (r : Rules) (s : Site) (t : ℕ) (whom : Option ℕ) (any none_left : Bool)
+      → whom ≡ first_thread s.lock.queue
       → any ≡ not (is_none whom) → none_left ≡ is_empty (drop 1 s.lock.queue) → HasTakenNobody s.lock t
       → hears r s t whom (Took any none_left)
 
-module _ (w : State) (t l : ℕ) (steady : IsInductive w) (there : t < length w.places) (own : IsOf l (place_at w t)) (r : Rules)
-    (rules : rules_in w l ≡ r) (x : Move) (same_row : profile (place_at w t) ≡ x.row) (hears : Hears) (takes : Option ℕ → List Deed)
+module _ (w : State) (t l : ℕ) (steady : IsInductive w) (there : t < length w.places)
+    (own : IsOf l (place_at w t)) (r : Rules)
+    (rules : rules_in w l ≡ r) (x : Move) (same_row : profile (place_at w t) ≡ x.row) (hears : Hears)
+    (takes : Option ℕ → List Deed)
     (line : 2 * l < length w.queues) (g : TakesFirst takes x hears) where
   abbrev pub Followed : Option ℕ → Reply → Type 0
-  Followed who told = IsFollowed w t l steady there own r rules x same_row who told (next_place (place_at w t) told)
+  Followed who told = IsFollowed w t l steady there own r rules x same_row who told
+      (next_place (place_at w t) told)
 
   abbrev now : Site
   now = lock_by w l r
@@ -47,7 +53,8 @@ module _ (w : State) (t l : ℕ) (steady : IsInductive w) (there : t < length w.
   is_now = location_is w t l steady there own r rules x same_row ∙ g.was
 
   pub bare : carried_at (place_at w t) l ≡ None
-  bare = nothing_at (place_at w t) l (of_single l (place_at w t) own) (λ y. y.carries) refl (ap (λ (y : Location). y.carries) is_now)
+  bare = nothing_at (place_at w t) l (of_single l (place_at w t) own) (λ y. y.carries) refl
+      (ap (λ (y : Location). y.carries) is_now)
 
   nobody : HasTakenNobody (lock_state w l) t
   nobody = in_no_hand w steady t l (λ h. let e : ◌≡◌ {A = Option Bool} None (Some false) = sym bare ∙ h in cc)
@@ -57,29 +64,44 @@ module _ (w : State) (t l : ℕ) (steady : IsInductive w) (there : t < length w.
 
   -- where it is then
   module _ (who : Option ℕ) (any none_left : Bool) (f : Followed who (Took any none_left)) where
-    pub is_then : location (next_place (place_at w t) (Took any none_left)) ≡ record (inside_of Main) { carries = in_hand any false }
-    is_then = there_is w t l steady there own r rules x same_row who (Took any none_left) (next_place (place_at w t) (Took any none_left)) f ∙ g.goes any none_left
+    pub is_then : location (next_place (place_at w t) (Took any none_left)) ≡ record (inside_of Main)
+        { carries = in_hand any false }
+    is_then = there_is w t l steady there own r rules x same_row who (Took any none_left)
+        (next_place (place_at w t) (Took any none_left)) f ∙ g.goes any none_left
 
     pub hand_then : taken_at (next_place (place_at w t) (Took any none_left)) l ≡ None
-    hand_then = free_of (next_place (place_at w t) (Took any none_left)) l (of_single l (next_place (place_at w t) (Took any none_left)) f.of) (ap (λ (y : Location). y.hand) is_then)
+    hand_then = free_of (next_place (place_at w t) (Took any none_left)) l
+        (of_single l (next_place (place_at w t) (Took any none_left)) f.of)
+        (ap (λ (y : Location). y.hand) is_then)
 
   -- by the waiters
   abbrev pub told_of : List Waiter → Reply
   told_of q = Took (is_there (first_of q)) (length (drop 1 q) == 0)
 
   pub hears_of : (q : List Waiter) → queue_at w (2 * l) ≡ q → hears r now t (first_of q) (told_of q)
-  hears_of [] e = g.may r now t None false true (sym (ap (λ (q : List Waiter). first_thread (map queued_of q)) e)) refl (sym (ap (λ (q : List Waiter). is_empty (drop 1 (map queued_of q))) e)) nobody
-  hears_of (y ∷ rest) e = g.may r now t (Some y.thread) true (length rest == 0) (sym (ap (λ (q : List Waiter). first_thread (map queued_of q)) e)) refl
+  hears_of [] e = g.may r now t None false true
+      (sym (ap (λ (q : List Waiter). first_thread (map queued_of q)) e)) refl
+      (sym (ap (λ (q : List Waiter). is_empty (drop 1 (map queued_of q))) e)) nobody
+  hears_of (y ∷ rest) e = g.may r now t (Some y.thread) true (length rest == 0)
+      (sym (ap (λ (q : List Waiter). first_thread (map queued_of q)) e)) refl
       (sym (empty_line rest) ∙ sym (ap (λ (q : List Waiter). is_empty (drop 1 (map queued_of q))) e)) nobody
 
   abbrev pub KeptBy : List Waiter → Type 0
-  KeptBy q = Goes w (put (state_after_taking (record w { queues = queues_without_first w.queues (2 * l) }) t (first_of q)) t (next_place (place_at w t) (told_of q))) l (acts t (x.deeds (first_of q) (told_of q)))
+  KeptBy q = Goes w (put (state_after_taking (record w { queues = queues_without_first w.queues (2 * l) }) t
+      (first_of q)) t (next_place (place_at w t) (told_of q))) l (acts t (x.deeds (first_of q) (told_of q)))
 
-  module _ (none : takes None ≡ FindNobody Main ∷ []) (followed : (who : Option ℕ) (any none_left : Bool) → hears r now t who (Took any none_left) → Followed who (Took any none_left)) where
+  module _ (none : takes None ≡ FindNobody Main ∷ []) (followed : (who : Option ℕ) (any none_left : Bool)
+      → hears r now t who (Took any none_left) → Followed who (Took any none_left)) where
     finds_nobody : queue_at w (2 * l) ≡ [] → KeptBy []
-    finds_nobody empty = subst (λ ds. Goes w (put (record w { queues = queues_without_first w.queues (2 * l) }) t p2) l (acts t ds)) (sym does)
-        (nobody_goes w t l steady own there r rules p2 f.of f.fits Main (FindNobody Main ∷ []) (λ h. tt) line empty
-        (finds_none w t l steady own there r rules p2 f.of f.fits (hand_now ∙ sym (hand_then None false true f)) Main idle (needed_by w t l steady there own r rules x same_row None (Took false true) p2 f (FindNobody Main ∷ []) does) (own_by w t l steady there own r rules x same_row None (Took false true) p2 f (FindNobody Main ∷ []) does))
+    finds_nobody empty = subst (λ ds. Goes w
+        (put (record w { queues = queues_without_first w.queues (2 * l) }) t p2) l (acts t ds)) (sym does)
+        (nobody_goes w t l steady own there r rules p2 f.of f.fits Main (FindNobody Main ∷ []) (λ h. tt) line
+        empty
+        (finds_none w t l steady own there r rules p2 f.of f.fits (hand_now
+        ∙ sym (hand_then None false true f)) Main idle (needed_by w t l steady there own r rules x
+        same_row None (Took false true) p2 f (FindNobody Main ∷ []) does)
+        (own_by w t l steady there own r rules x same_row None (Took false true) p2 f (FindNobody Main
+        ∷ []) does))
         (is_then None false true f ∙ sym is_now))
       where
         p2 : Place
@@ -92,10 +114,12 @@ module _ (w : State) (t l : ℕ) (steady : IsInductive w) (there : t < length w.
         does = g.deeds None false true ∙ none
 
     -- the first, if there is one
-    pub takes_first : ((y : Waiter) (rest : List Waiter) → queue_at w (2 * l) ≡ y ∷ rest → Followed (Some y.thread) (Took true (length rest == 0)) → KeptBy (y ∷ rest))
+    pub takes_first : ((y : Waiter) (rest : List Waiter) → queue_at w (2 * l) ≡ y ∷ rest
+        → Followed (Some y.thread) (Took true (length rest == 0)) → KeptBy (y ∷ rest))
         → KeptBy (queue_at w (2 * l))
     takes_first one = by_line (queue_at w (2 * l)) refl
       where
         by_line : (q : List Waiter) → queue_at w (2 * l) ≡ q → KeptBy q
         by_line [] e = finds_nobody e
-        by_line (y ∷ rest) e = one y rest e (followed (Some y.thread) true (length rest == 0) (hears_of (y ∷ rest) e))
+        by_line (y ∷ rest) e = one y rest e (followed (Some y.thread) true (length rest == 0)
+            (hears_of (y ∷ rest) e))

@@ -1,5 +1,7 @@
--- A thread that stands at a lock is by its place in the hand of the one that has taken it, and of nobody while it stands in a line.
-use Rattle.std.proofs.Common.{ℕ, Bool, true, false, Option, Some, None, if◌then◌else◌, ◌≡◌, ◌≢◌, ◌≤◌, inl, inr, refl, sym, ◌∙◌, ap, subst}
+-- A thread that stands at a lock is by its place in the hand of the one that has taken it, and of nobody
+-- while it stands in a line.
+use Rattle.std.proofs.Common.{ℕ, Bool, true, false, Option, Some, None, if◌then◌else◌, ◌≡◌, ◌≢◌, ◌≤◌, inl}
+use Rattle.std.proofs.Common.{inr, refl, sym, ◌∙◌, ap, subst}
 use Rattle.std.proofs.lemmas.Bool.{eqb-true}
 use Rattle.steps_base.specs.Owners.{is_thread}
 use Rattle.steps_base.specs.Profiles.{Profile, hand_owner}
@@ -23,7 +25,8 @@ use Rattle.lot_laws.specs.Refinement.{lock_state, taken_at}
 use Rattle.lot_laws.specs.Locations.{Location, location, location_at}
 use Rattle.lot_laws.specs.SitesOf.{IsInductive}
 use Rattle.lot_laws.specs.Promises.{holder}
-use Rattle.lot_laws.proofs.machine.Parts.{blank_beside, held_tells, single_or_two, single_location, taken_held}
+use Rattle.lot_laws.proofs.machine.Parts.{blank_beside, held_tells, single_or_two, single_location}
+use Rattle.lot_laws.proofs.machine.Parts.{taken_held}
 use Rattle.lot_laws.proofs.machine.PlaceTest.{beside_facts, row_facts}
 use Rattle.lot_laws.proofs.promises.PlacePromises.{stands_there}
 
@@ -55,18 +58,26 @@ in_some false m h = absurd cc
 
 stands_free : (p : Place) (l : ℕ) (m : Line) → (location_at p l).stands ≡ Some m → taker p ≡ None
 stands_free p l m = elim (single_or_two p) [
-  | inl single ↦ λ h. ap (λ (row : Profile). hand_owner (or_else row.hand (profile p).hand)) (blank_beside p single) ∙ own (calls p l) (ap (λ (s : Location). s.stands) (sym (single_location p l single)) ∙ h)
-  | inr two ↦ subst (λ q. (location_at q l).stands ≡ Some m → taker q ≡ None) (sym two.is) (beside two.lock two.at (calls (Condvar two.lock two.at) l) (is_lock l (beside_of (Condvar two.lock two.at))))
+  | inl single ↦ λ h. ap (λ (row : Profile). hand_owner (or_else row.hand (profile p).hand))
+      (blank_beside p single) ∙ own (calls p l) (ap (λ (s : Location). s.stands)
+      (sym (single_location p l single)) ∙ h)
+  | inr two ↦ subst (λ q. (location_at q l).stands ≡ Some m → taker q ≡ None) (sym two.is)
+      (beside two.lock two.at (calls (Condvar two.lock two.at) l)
+      (is_lock l (beside_of (Condvar two.lock two.at))))
 ]
   where
-    own : (b : Bool) → (if b then location p else nowhere).stands ≡ Some m → hand_owner (or_else None (profile p).hand) ≡ None
+    own : (b : Bool) → (if b then location p else nowhere).stands ≡ Some m
+        → hand_owner (or_else None (profile p).hand) ≡ None
     own true h = ap hand_owner ((row_facts p).unheld m h)
     own false h = absurd cc
 
-    beside : (k : ℕ) (to : CondvarPlace) (b c : Bool) → (if b then location (Condvar k to) else if c then location_by (profile_beside (Condvar k to)) else nowhere).stands ≡ Some m
+    beside : (k : ℕ) (to : CondvarPlace) (b c : Bool) → (if b then location (Condvar k to) else if c
+        then location_by (profile_beside (Condvar k to)) else nowhere).stands ≡ Some m
         → taker (Condvar k to) ≡ None
-    beside k to true c h = ap (λ x. hand_owner (or_else x None)) (row_listed to (in_some (condvar_row to).listed m h))
-    beside k to false true h = ap (λ x. hand_owner (or_else x None)) ((beside_facts (Condvar k to)).unheld m h)
+    beside k to true c h = ap (λ x. hand_owner (or_else x None))
+        (row_listed to (in_some (condvar_row to).listed m h))
+    beside k to false true h = ap (λ x. hand_owner (or_else x None)) ((beside_facts (Condvar k to)).unheld m
+        h)
     beside k to false false h = absurd cc
 
 owner_is : (t : ℕ) (o : Option ℕ) → is_thread t o ≡ true → o ≡ Some t
@@ -74,17 +85,21 @@ owner_is t None h = absurd cc
 owner_is t (Some u) h = ap Some (eqb-true u t h)
 
 module _ (w : State) (steady : IsInductive w) where
-  pub held : (t l : ℕ) → 1 ≤ standing t (lock_state w l) → taker (place_at w t) ≡ holder ((lock_state w l).taken t)
+  pub held : (t l : ℕ) → 1 ≤ standing t (lock_state w l) → taker (place_at w t)
+      ≡ holder ((lock_state w l).taken t)
   held t l stands = by_taken (taken_at (place_at w t) l) refl
     where
-      by_taken : (o : Option Taken) → taken_at (place_at w t) l ≡ o → taker (place_at w t) ≡ holder (taken_at (place_at w t) l)
-      by_taken (Some h) e = owner_is h.by (taker (place_at w t)) (held_tells (place_at w t) h.by l false (taken_held (place_at w t) h.by l h.want e)) ∙ sym (ap holder e)
+      by_taken : (o : Option Taken) → taken_at (place_at w t) l ≡ o → taker (place_at w t) ≡ holder
+          (taken_at (place_at w t) l)
+      by_taken (Some h) e = owner_is h.by (taker (place_at w t)) (held_tells (place_at w t) h.by l false
+          (taken_held (place_at w t) h.by l h.want e)) ∙ sym (ap holder e)
       by_taken None e = elim (stands_there w t steady l stands) [
         | inl in_line ↦ by_line (location_at (place_at w t) l).stands refl in_line
         | inr taken ↦ absurd (taken e)
       ]
         where
-          by_line : (o : Option Line) → (location_at (place_at w t) l).stands ≡ o → (location_at (place_at w t) l).stands ≢ None
+          by_line : (o : Option Line) → (location_at (place_at w t) l).stands ≡ o
+              → (location_at (place_at w t) l).stands ≢ None
               → taker (place_at w t) ≡ holder (taken_at (place_at w t) l)
           by_line (Some m) f some = stands_free (place_at w t) l m f ∙ sym (ap holder e)
           by_line None f some = absurd (some f)

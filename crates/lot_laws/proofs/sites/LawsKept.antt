@@ -1,4 +1,5 @@
--- A step on the word of a lock that is shared, by what the laws of its sort conclude of it: that its deeds may be done, what its thread does then, the owners
+-- A step on the word of a lock that is shared, by what the laws of its sort conclude of it: that its deeds
+-- may be done, what its thread does then, the owners
 -- and the word behind it.
 use Rattle.std.proofs.Common.{ℕ, true, ◌||◌, ◌≡◌, ◌<◌, List, [], ◌∷◌, length, refl, sym, ◌∙◌, ap}
 use Rattle.core_base.specs.declared.ops.Op.{Op}
@@ -15,15 +16,18 @@ use Rattle.lot_laws.specs.MutexDeeds.{acts}
 use Rattle.lot_laws.specs.Locations.{location, role_on}
 use Rattle.lot_laws.specs.SitesOf.{ActsNeeded, IsInductive, Goes, FitsItsLock, after_acts, rules_in}
 use Rattle.lot_laws.proofs.machine.Parts.{parts_at, lock_in, IsOf}
-use Rattle.lot_laws.proofs.sites.OneStep.{AreSingle, HasOneCase, Steps, steps_by, acts_keep, full_then, fills_by}
+use Rattle.lot_laws.proofs.sites.OneStep.{AreSingle, HasOneCase, Steps, steps_by, acts_keep, full_then}
+use Rattle.lot_laws.proofs.sites.OneStep.{fills_by}
 use Rattle.lot_laws.proofs.sites.ActsKept.{NoHandOff, lock_by, operated, site_by, word_goes}
 
 -- deeds of one thread are acts of it
-pub after_same : (r : Rules) (ds : List Deed) (s : Site) (t : ℕ) → after_acts r (acts t ds) s ≡ laws.after_all r ds s t
+pub after_same : (r : Rules) (ds : List Deed) (s : Site) (t : ℕ) → after_acts r (acts t ds) s
+    ≡ laws.after_all r ds s t
 after_same r [] s t = refl
 after_same r (d ∷ ds) s t = after_same r ds (after_deed r d s t) t
 
-pub needed_same : (r : Rules) (ds : List Deed) (s : Site) (t : ℕ) → laws.AllNeeded r ds s t → ActsNeeded r (acts t ds) s
+pub needed_same : (r : Rules) (ds : List Deed) (s : Site) (t : ℕ) → laws.AllNeeded r ds s t
+    → ActsNeeded r (acts t ds) s
 needed_same r [] s t h = tt
 needed_same r (d ∷ ds) s t h = (h.0, needed_same r ds (after_deed r d s t) t h.1)
 
@@ -43,8 +47,10 @@ aside_read Semaphore v h = absurd cc
 aside_read Once v h = absurd cc
 aside_read Condvar v h = absurd cc
 
-module _ (w : State) (t l : ℕ) (steady : IsInductive w) (own : IsOf l (place_at w t)) (there : t < length w.places) (r : Rules)
-    (rules : rules_in w l ≡ r) (p2 : Place) (of : IsOf l p2) (fits : FitsItsLock w p2) (readers : has_readers r.sort ≡ true)
+module _ (w : State) (t l : ℕ) (steady : IsInductive w) (own : IsOf l (place_at w t)) (there : t
+    < length w.places) (r : Rules)
+    (rules : rules_in w l ≡ r) (p2 : Place) (of : IsOf l p2) (fits : FitsItsLock w p2)
+    (readers : has_readers r.sort ≡ true)
     (p : Place) (f : Op) (ds : List Deed) where
   -- the site behind the deeds
   abbrev behind : Site
@@ -54,7 +60,8 @@ module _ (w : State) (t l : ℕ) (steady : IsInductive w) (own : IsOf l (place_a
   pub record IsLawful : Type 0 where
     pub needed : laws.AllNeeded r ds (lock_by w l r) t
     pub role : (laws.after_all r ds (lock_by w l r) t).role t ≡ role_on p2 l
-    pub owners : lock_in (operated w t p l f) (λ u. taken_at (place_at w u) l) ≡ (laws.after_all r ds (lock_by w l r) t).lock
+    pub owners : lock_in (operated w t p l f) (λ u. taken_at (place_at w u) l)
+        ≡ (laws.after_all r ds (lock_by w l r) t).lock
     pub word : apply f (word_at w l) ≡ code r (laws.after_all r ds (lock_by w l r) t)
 
   module _ (law : IsLawful) (single : AreSingle ds) (one : HasOneCase ds) where
@@ -62,7 +69,8 @@ module _ (w : State) (t l : ℕ) (steady : IsInductive w) (own : IsOf l (place_a
     needed = needed_same r ds (lock_by w l r) t law.needed
 
     site_behind : IsSite r behind
-    site_behind = acts_keep r (acts t ds) (lock_by w l r) (site_by w t l steady own there r rules p2 of fits) needed
+    site_behind = acts_keep r (acts t ds) (lock_by w l r) (site_by w t l steady own there r rules p2 of fits)
+        needed
 
     coded : apply f (word_at w l) ≡ code r behind
     coded = law.word ∙ sym (ap (code r) (after_same r ds (lock_by w l r) t))
@@ -71,10 +79,12 @@ module _ (w : State) (t l : ℕ) (steady : IsInductive w) (own : IsOf l (place_a
     told = words_tell_true r behind readers site_behind
 
     full : (operated w t p l f).base.filled ≡ behind.filled
-    full = ap (λ (x : Rules). filled_at w l || fills x (apply f (word_at w l))) rules ∙ ap (λ b. filled_at w l || b) (fills_by r behind (apply f (word_at w l)) site_behind coded)
+    full = ap (λ (x : Rules). filled_at w l || fills x (apply f (word_at w l))) rules
+        ∙ ap (λ b. filled_at w l || b) (fills_by r behind (apply f (word_at w l)) site_behind coded)
         ∙ sym (full_then r ds (lock_by w l r) t one (site_by w t l steady own there r rules p2 of fits))
 
-    steps : taken_at (place_at w t) l ≡ taken_at p2 l → Steps r l (parts_at w l) (operated w t p l f) (place_at w) t p2 ds
+    steps : taken_at (place_at w t) l ≡ taken_at p2 l → Steps r l (parts_at w l) (operated w t p l f)
+        (place_at w) t p2 ds
     steps hand = steps_by r l (parts_at w l) (operated w t p l f) (place_at w) t p2 ds needed single hand
         (law.owners ∙ sym (ap (λ (s : Site). s.lock) (after_same r ds (lock_by w l r) t)))
         (parked_read r.sort (apply f (word_at w l)) readers ∙ ap has_parked coded ∙ told.parked)
@@ -84,6 +94,8 @@ module _ (w : State) (t l : ℕ) (steady : IsInductive w) (own : IsOf l (place_a
 
     -- every lock is a site again
     pub lawful_goes : l < length w.locks → NoHandOff ds → taken_at (place_at w t) l ≡ taken_at p2 l
-        → location p2 ≡ location (place_at w t) → Goes w (put (state_after_operation w t p l f) t p2) l (acts t ds)
-    lawful_goes lt plain hand e = word_goes w t l steady own there r rules p2 of fits p lt (rw steady.numbers.locks lt) f ds (λ h. plain) (steps hand)
+        → location p2 ≡ location (place_at w t) → Goes w (put (state_after_operation w t p l f) t p2) l
+        (acts t ds)
+    lawful_goes lt plain hand e = word_goes w t l steady own there r rules p2 of fits p lt
+        (rw steady.numbers.locks lt) f ds (λ h. plain) (steps hand)
         (coded ∙ sym (ap (code r) (steps hand).site)) e

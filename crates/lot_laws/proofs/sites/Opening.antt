@@ -1,5 +1,7 @@
 -- In the opening state each lock is a site, and nobody stands anywhere.
-use Rattle.std.proofs.Common.{subst, ℕ, zero, suc, true, false, None, ◌&&◌, ◌≡◌, ◌+◌, ◌-◌, ◌*◌, ◌^◌, ◌≤◌, ◌<◌, List, [], ◌∷◌, length, get_or, map, replicate, sum, nat_le, All, inl, inr, refl, sym, ◌∙◌, ap, arith}
+use Rattle.std.proofs.Common.{subst, ℕ, zero, suc, true, false, None, ◌&&◌, ◌≡◌, ◌+◌, ◌-◌, ◌*◌, ◌^◌, ◌≤◌, ◌<◌}
+use Rattle.std.proofs.Common.{List, [], ◌∷◌, length, get_or, map, replicate, sum, nat_le, All, inl, inr, refl}
+use Rattle.std.proofs.Common.{sym, ◌∙◌, ap, arith}
 use Rattle.std.proofs.lemmas.Bool.{cases_lt, leb-true}
 use Rattle.std.proofs.lemmas.List.{length-replicate, length-map}
 use Rattle.spec_locks.specs.declared.kinds.Kind.{Kind}
@@ -19,7 +21,8 @@ use Rattle.lot_laws.specs.Locations.{nowhere, location_at}
 use Rattle.spec_locks.specs.Condvars.{IsCondvar, opening_condvar}
 use Rattle.spec_locks.specs.Picks.{queued_of}
 use Rattle.lot_steps.specs.Steps.{profile_at}
-use Rattle.lot_laws.specs.SitesOf.{AreCondvars, condvar_of, inside_as, IsInductive, LimitHasRoom, site_of, rules_in, key_of, carried_at, hand_at}
+use Rattle.lot_laws.specs.SitesOf.{AreCondvars, condvar_of, inside_as, IsInductive, LimitHasRoom, site_of}
+use Rattle.lot_laws.specs.SitesOf.{rules_in, key_of, carried_at, hand_at}
 use Rattle.lot_laws.proofs.machine.Parts.{past_all, seen_by}
 use Rattle.lot_machine.proofs.Opening.{idle_at, none_at, empty_at, nobody_owns, no_readers, opening_shares}
 use Rattle.lot_machine.proofs.Shape.{both}
@@ -27,7 +30,8 @@ use Rattle.lot_machine.proofs.NewLocks.{few_permits, new_words}
 use Rattle.lot_machine.specs.NewLocks.{new_site}
 
 -- where the limit leaves room for a reader
-opening_is_site : (k : Kind) (n : ℕ) → (is_full (rules_of k) (opening_lock n) ≡ true → ⊥) → IsSite (rules_of k) (new_site k n)
+opening_is_site : (k : Kind) (n : ℕ) → (is_full (rules_of k) (opening_lock n) ≡ true → ⊥)
+    → IsSite (rules_of k) (new_site k n)
 opening_is_site k n room = record {
   state = opening_is_state (rules_of k) n;
   alone = λ t u m h k. absurd cc;
@@ -58,7 +62,8 @@ limit_fits : (n limit : ℕ) → 1 ≤ n → (nat_le n limit && nat_le limit MOS
     → (1 ≤ limit) × (limit < 2 ^ 60 - 1) × (n ≤ limit)
 limit_fits n limit some h =
     let a : n ≤ limit = leb-true n limit (both (nat_le n limit) (nat_le limit MOST_READERS) h).0 in
-    let b : limit ≤ MOST_READERS = leb-true limit MOST_READERS (both (nat_le n limit) (nat_le limit MOST_READERS) h).1 in
+    let b : limit ≤ MOST_READERS = leb-true limit MOST_READERS
+    (both (nat_le n limit) (nat_le limit MOST_READERS) h).1 in
     (omega arith, omega arith, a)
 
 room : (k : Kind) (n : ℕ) → 1 ≤ n → fits k n ≡ true → is_full (rules_of k) (opening_lock n) ≡ true → ⊥
@@ -68,14 +73,16 @@ room kind.TheVariants.Mutex n some h full = cc
 room kind.TheVariants.Fair n some h full = cc
 room k n some h full = cc
 
-first_there : (kinds : List Kind) (l : ℕ) → (get_or (map unlocked kinds) l (unlocked kind.TheVariants.Mutex)).word
+first_there : (kinds : List Kind) (l : ℕ)
+    → (get_or (map unlocked kinds) l (unlocked kind.TheVariants.Mutex)).word
     ≡ first_word (get_or (map unlocked kinds) l (unlocked kind.TheVariants.Mutex)).kind
 first_there [] l = refl
 first_there (x ∷ xs) zero = refl
 first_there (x ∷ xs) (suc l) = first_there xs l
 
 -- The permits of a new semaphore can be counted.
-countable : (k : Kind) (n : ℕ) → fits k n ≡ true → (rules_of k).sort ≡ sorts.Semaphore → (rules_of k).limit ≤ 2 ^ 62
+countable : (k : Kind) (n : ℕ) → fits k n ≡ true → (rules_of k).sort ≡ sorts.Semaphore → (rules_of k).limit
+    ≤ 2 ^ 62
 countable (kind.TheVariants.Semaphore permits) n h e = few_permits permits h
 countable kind.TheVariants.Mutex n h e = absurd cc
 countable kind.TheVariants.Fair n h e = absurd cc
@@ -85,21 +92,28 @@ countable kind.TheVariants.Condvar n h e = absurd cc
 countable kind.TheVariants.Once n h e = absurd cc
 
 opening_permits : (k : Kind) (n : ℕ) → HasPermits (rules_of k) (new_site k n)
-opening_permits k n = record { enough = λ left. absurd (left refl); unset = λ t. refl; known = λ u one. absurd (omega arith) }
+opening_permits k n = record {
+  enough = λ left. absurd (left refl);
+  unset = λ t. refl;
+  known = λ u one. absurd (omega arith);
+}
 
 pub kind_is : (kinds : List Kind) (l : ℕ)
-    → (get_or (map unlocked kinds) l (unlocked kind.TheVariants.Mutex)).kind ≡ get_or kinds l kind.TheVariants.Mutex
+    → (get_or (map unlocked kinds) l (unlocked kind.TheVariants.Mutex)).kind ≡ get_or kinds l
+    kind.TheVariants.Mutex
 kind_is [] l = refl
 kind_is (x ∷ xs) zero = refl
 kind_is (x ∷ xs) (suc l) = kind_is xs l
 
-pub unfilled_0 : (kinds : List Kind) (l : ℕ) → (get_or (map unlocked kinds) l (unlocked kind.TheVariants.Mutex)).filled ≡ false
+pub unfilled_0 : (kinds : List Kind) (l : ℕ)
+    → (get_or (map unlocked kinds) l (unlocked kind.TheVariants.Mutex)).filled ≡ false
 unfilled_0 [] l = refl
 unfilled_0 (x ∷ xs) zero = refl
 unfilled_0 (x ∷ xs) (suc l) = unfilled_0 xs l
 
 -- a number of readers that a word can count
-roomy : (k : Kind) (n : ℕ) → 1 ≤ n → fits k n ≡ true → has_readers (rules_of k).sort ≡ true → LimitHasRoom n (rules_of k)
+roomy : (k : Kind) (n : ℕ) → 1 ≤ n → fits k n ≡ true → has_readers (rules_of k).sort ≡ true
+    → LimitHasRoom n (rules_of k)
 roomy (kind.TheVariants.RwLock limit) n some h r = limit_fits n limit some h
 roomy (kind.TheVariants.Recursive limit) n some h r = limit_fits n limit some h
 roomy kind.TheVariants.Mutex n some h r = absurd cc
@@ -126,7 +140,11 @@ module _ (kinds : List Kind) (threads : ℕ) where
   ])
 
   opening_seen : (l : ℕ) → site_of first l ≡ new_site (kind_at first l) (length first.places)
-  opening_seen l = λ i. seen_by (rules_in first l) l (record { shared = opening_shares kinds threads l i; filled = unfilled_0 kinds l i }) (first_there kinds l i) (nobody_owns kinds l i) (empty_at (2 * length kinds) (2 * l) i) (empty_at (2 * length kinds) (2 * l + 1) i) (λ u. idle_at threads u i)
+  opening_seen l = λ i. seen_by (rules_in first l) l (record {
+    shared = opening_shares kinds threads l i;
+    filled = unfilled_0 kinds l i;
+  }) (first_there kinds l i) (nobody_owns kinds l i) (empty_at (2 * length kinds) (2 * l) i)
+      (empty_at (2 * length kinds) (2 * l + 1) i) (λ u. idle_at threads u i)
 
   stands_nowhere : (t l : ℕ) → location_at (place_at first t) l ≡ nowhere
   stands_nowhere t l = ap (λ p. location_at p l) (idle_at threads t)
@@ -142,31 +160,52 @@ module _ (kinds : List Kind) (threads : ℕ) where
       seen = λ i. record {
         shown = (nobody_owns kinds l i).shown;
         waiters = map queued_of (empty_at (2 * length kinds) (2 * l) i);
-        inside = inside_as (none_at (2 * length kinds) (key_of l Main) i) (λ t. (profile_at (idle_at threads t i) l).stage);
+        inside = inside_as (none_at (2 * length kinds) (key_of l Main) i)
+            (λ t. (profile_at (idle_at threads t i) l).stage);
         waits_with = λ t. (profile_at (idle_at threads t i) l).names;
       }
 
   pub opening_steady : 1 ≤ threads → All (λ k. fits k threads ≡ true) kinds → IsInductive first
   opening_steady some fit = record {
     sites = record {
-      site = λ l. rw (opening_seen l) (rw size (opening_is_site (kind_at first l) threads (room (kind_at first l) threads some (kinds_fit fit l))));
-      word = λ l. first_there kinds l ∙ sym (ap (code (rules_in first l)) (opening_seen l) ∙ new_words (kind_at first l) threads (length first.places) (kinds_fit fit l));
+      site = λ l. rw (opening_seen l)
+          (rw size (opening_is_site (kind_at first l) threads (room (kind_at first l) threads some
+          (kinds_fit fit l))));
+      word = λ l. first_there kinds l ∙ sym (ap (code (rules_in first l)) (opening_seen l)
+          ∙ new_words (kind_at first l) threads (length first.places) (kinds_fit fit l));
       unfilled = λ l h. unfilled_0 kinds l;
-      limits = λ l h. (subst (λ n. LimitHasRoom n (rules_in first l)) (sym size) (roomy (kind_at first l) threads some (kinds_fit fit l) h), rw (ap (λ (s : Site). s.lock) (opening_seen l)) (rw size (opening_limit (rules_in first l) threads)));
-      permits = λ l sort. (subst (HasPermits (rules_in first l)) (sym (opening_seen l)) (opening_permits (kind_at first l) (length first.places)), countable (kind_at first l) threads (kinds_fit fit l) sort);
+      limits = λ l h. (
+        subst (λ n. LimitHasRoom n (rules_in first l)) (sym size)
+            (roomy (kind_at first l) threads some (kinds_fit fit l) h),
+        rw (ap (λ (s : Site). s.lock) (opening_seen l))
+            (rw size (opening_limit (rules_in first l) threads)),
+      );
+      permits = λ l sort. (
+        subst (HasPermits (rules_in first l)) (sym (opening_seen l))
+            (opening_permits (kind_at first l) (length first.places)),
+        countable (kind_at first l) threads
+            (kinds_fit fit l) sort,
+      );
     };
     numbers = record {
       locks = length-replicate (length kinds) (replicate threads 0) ∙ sym (length-map kinds unlocked);
-      threads = λ l. ap (λ (ns : List ℕ). length ns) (opening_shares kinds threads l) ∙ length-replicate (length first.places) 0;
+      threads = λ l. ap (λ (ns : List ℕ). length ns) (opening_shares kinds threads l)
+          ∙ length-replicate (length first.places) 0;
     };
     stands = record {
-      sections = λ t l m. rw (stands_nowhere t l, none_at (2 * length kinds) (key_of l m)) (λ h. absurd cc, λ h. absurd cc);
+      sections = λ t l m. rw (stands_nowhere t l, none_at (2 * length kinds) (key_of l m)) (
+        λ h. absurd cc,
+        λ h. absurd cc,
+      );
       lines = λ t l m. rw (stands_nowhere t l, empty_at (2 * length kinds) (key_of l m)) refl;
       waits = λ l m. rw (empty_at (2 * length kinds) (key_of l m)) tt;
       hands = record {
-        carried = λ t l b h. absurd (let a : carried_at (place_at first t) l ≡ None = ap (λ s. s.carries) (stands_nowhere t l) in cc);
-        alone = λ t l u v b c o h. absurd (let a : hand_at (place_at first u) l ≡ None = ap (λ s. s.hand) (stands_nowhere u l) in cc);
-        taken = λ t u l b h. absurd (let a : hand_at (place_at first u) l ≡ None = ap (λ s. s.hand) (stands_nowhere u l) in cc);
+        carried = λ t l b h. absurd (let a : carried_at (place_at first t) l ≡ None =
+            ap (λ s. s.carries) (stands_nowhere t l) in cc);
+        alone = λ t l u v b c o h. absurd (let a : hand_at (place_at first u) l ≡ None =
+            ap (λ s. s.hand) (stands_nowhere u l) in cc);
+        taken = λ t u l b h. absurd (let a : hand_at (place_at first u) l ≡ None =
+            ap (λ s. s.hand) (stands_nowhere u l) in cc);
       };
       calls = λ t. rw (idle_at threads t) tt;
     };

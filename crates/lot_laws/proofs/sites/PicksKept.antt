@@ -1,6 +1,8 @@
 -- A thread takes those that are picked of the main queue of a reader-writer lock, the writer aside, or all
 -- that wait for a `Once`: what the machine does is the case of the lock.
-use Rattle.std.proofs.Common.{ℕ, Bool, true, false, Option, Some, None, if◌then◌else◌, ◌==◌, ◌||◌, ◌≡◌, ◌+◌, ◌*◌, ◌≤◌, ◌<◌, List, [], ◌∷◌, length, map, drop, refl, sym, ◌∙◌, ap, subst, arith, length-set, get_or-set_same, get_or-set_other}
+use Rattle.std.proofs.Common.{ℕ, Bool, true, false, Option, Some, None, if◌then◌else◌, ◌==◌, ◌||◌, ◌≡◌, ◌+◌}
+use Rattle.std.proofs.Common.{◌*◌, ◌≤◌, ◌<◌, List, [], ◌∷◌, length, map, drop, refl, sym, ◌∙◌, ap, subst}
+use Rattle.std.proofs.Common.{arith, length-set, get_or-set_same, get_or-set_other}
 use Rattle.std.proofs.lemmas.Bool.Decides.{nat_tests}
 use Rattle.core_base.specs.declared.lock_picker.LockPicker.{LockPicker}
 use Rattle.core_base.specs.declared.picks.Pick.{Pick}
@@ -9,7 +11,8 @@ use Rattle.core_base.specs.declared.wants.Waiter.{Waiter}
 use Rattle.core_base.specs.declared.wants.Want.{Want}
 use Rattle.core_base.specs.declared.wants.Want.TheVariants.{Exclusive}
 use Rattle.core_base.specs.Lines.{line, times, threads_of}
-use Rattle.core_base.specs.Picks.{picked, without_picked, lock_answer, next_picker, lock_picker, lock_picked, without_lock_picked}
+use Rattle.core_base.specs.Picks.{picked, without_picked, lock_answer, next_picker, lock_picker, lock_picked}
+use Rattle.core_base.specs.Picks.{without_lock_picked}
 use Rattle.lot_steps.specs.declared.places.Place.{Place}
 use Rattle.lot_steps.specs.declared.places.Place.TheVariants.{Idle}
 use Rattle.steps_base.specs.declared.acts.Reply.TheVariants.{TakenBy}
@@ -21,12 +24,14 @@ use Rattle.spec_locks.specs.Locks as locks
 use Rattle.spec_locks.specs.Picks.{queued_of}
 use Rattle.spec_locks.specs.Sites.{Line, Main, Second, Case}
 use Rattle.spec_locks.proofs.Picks.{pickers_pick}
-use Rattle.lot_machine.specs.Machine.{State, place_at, queue_at, put, state_after_take, state_after_reply, queues_without_first, places_told}
+use Rattle.lot_machine.specs.Machine.{State, place_at, queue_at, put, state_after_take, state_after_reply}
+use Rattle.lot_machine.specs.Machine.{queues_without_first, places_told}
 use Rattle.lot_machine.proofs.QueueLemmas.{told_count}
 use Rattle.lot_laws.specs.Refinement.{taken_at}
 use Rattle.lot_laws.specs.MutexDeeds.{acts}
 use Rattle.lot_laws.specs.Locations.{Location, location, role_on}
-use Rattle.lot_laws.specs.SitesOf.{locations_of, ActsNeeded, AreWaiting, TakesOne, IsInductive, Goes, FitsItsLock, after_acts, rules_in, key_of}
+use Rattle.lot_laws.specs.SitesOf.{locations_of, ActsNeeded, AreWaiting, TakesOne, IsInductive, Goes}
+use Rattle.lot_laws.specs.SitesOf.{FitsItsLock, after_acts, rules_in, key_of}
 use Rattle.lot_laws.proofs.machine.Parts.{put_places, same, location_here, IsOf}
 use Rattle.lot_laws.proofs.sites.OneStep.{noted}
 use Rattle.lot_laws.proofs.sites.ActsKept.{lock_by, site_by}
@@ -48,22 +53,30 @@ under_left key picker [] h = tt
 under_left key picker (x ∷ xs) h = grind (arith, nat_tests, under_left key (next_picker picker x.want) xs h.1)
 
 pub picked_counts : (u key : ℕ) (picker : LockPicker) (xs : List Waiter) → AllUnder key xs
-    → times u (picked lock_answer next_picker picker xs) + times u (without_picked lock_answer next_picker picker key xs)
+    → times u (picked lock_answer next_picker picker xs)
+    + times u (without_picked lock_answer next_picker picker key xs)
     ≡ times u xs
 picked_counts u key picker [] h = refl
-picked_counts u key picker (x ∷ xs) h = grind (arith, nat_tests, picked_counts u key (next_picker picker x.want) xs h.1)
+picked_counts u key picker (x ∷ xs) h =
+    grind (arith, nat_tests, picked_counts u key (next_picker picker x.want) xs h.1)
 
 -- a thread that stands in a line does so under its key
-pub under_of : (p : ℕ → ℕ → Location) (l : ℕ) (m : Line) (xs : List Waiter) → AreWaiting p l m xs → AllUnder (key_of l m) xs
+pub under_of : (p : ℕ → ℕ → Location) (l : ℕ) (m : Line) (xs : List Waiter) → AreWaiting p l m xs
+    → AllUnder (key_of l m) xs
 under_of p l m [] h = tt
 under_of p l m (x ∷ xs) h = (h.0.0, under_of p l m xs h.1)
 
-waiting_left : (p : ℕ → ℕ → Location) (l : ℕ) (m : Line) (picker : LockPicker) (xs : List Waiter) → AreWaiting p l m xs
+waiting_left : (p : ℕ → ℕ → Location) (l : ℕ) (m : Line) (picker : LockPicker) (xs : List Waiter)
+    → AreWaiting p l m xs
     → AreWaiting p l m (without_picked lock_answer next_picker picker (key_of l m) xs)
 waiting_left p l m picker [] h = tt
-waiting_left p l m picker (x ∷ xs) h = either (x.key == key_of l m) (lock_answer picker x.want) (waiting_left p l m (next_picker picker x.want) xs h.1) (waiting_left p l m picker xs h.1)
+waiting_left p l m picker (x ∷ xs) h = either (x.key == key_of l m) (lock_answer picker x.want)
+    (waiting_left p l m (next_picker picker x.want) xs h.1) (waiting_left p l m picker xs h.1)
   where
-    either : (b : Bool) (answer : Pick) → AreWaiting p l m (without_picked lock_answer next_picker (next_picker picker x.want) (key_of l m) xs) → AreWaiting p l m (without_picked lock_answer next_picker picker (key_of l m) xs) → AreWaiting p l m (if b
+    either : (b : Bool) (answer : Pick)
+        → AreWaiting p l m (without_picked lock_answer next_picker (next_picker picker x.want) (key_of l m)
+        xs) → AreWaiting p l m (without_picked lock_answer next_picker picker (key_of l m) xs)
+        → AreWaiting p l m (if b
         then (elim answer [
           | Unpark ↦ without_picked lock_answer next_picker (next_picker picker x.want) (key_of l m) xs
           | Skip ↦ x ∷ without_picked lock_answer next_picker (next_picker picker x.want) (key_of l m) xs
@@ -75,27 +88,33 @@ waiting_left p l m picker (x ∷ xs) h = either (x.key == key_of l m) (lock_answ
     either true Stop more same_ones = h
     either false answer more same_ones = (h.0, same_ones)
 
-waiting_picked : (p : ℕ → ℕ → Location) (l : ℕ) (m : Line) (picker : LockPicker) (xs : List Waiter) → AreWaiting p l m xs
+waiting_picked : (p : ℕ → ℕ → Location) (l : ℕ) (m : Line) (picker : LockPicker) (xs : List Waiter)
+    → AreWaiting p l m xs
     → AreWaiting p l m (picked lock_answer next_picker picker xs)
 waiting_picked p l m picker [] h = tt
-waiting_picked p l m picker (x ∷ xs) h = either (lock_answer picker x.want) (waiting_picked p l m (next_picker picker x.want) xs h.1)
+waiting_picked p l m picker (x ∷ xs) h = either (lock_answer picker x.want)
+    (waiting_picked p l m (next_picker picker x.want) xs h.1)
   where
-    either : (answer : Pick) → AreWaiting p l m (picked lock_answer next_picker (next_picker picker x.want) xs) → AreWaiting p l m (elim answer [
-      | Unpark ↦ x ∷ picked lock_answer next_picker (next_picker picker x.want) xs
-      | Skip ↦ picked lock_answer next_picker (next_picker picker x.want) xs
-      | Stop ↦ []
-    ])
+    either : (answer : Pick) → AreWaiting p l m (picked lock_answer next_picker (next_picker picker x.want)
+        xs) → AreWaiting p l m (elim answer [
+          | Unpark ↦ x ∷ picked lock_answer next_picker (next_picker picker x.want) xs
+          | Skip ↦ picked lock_answer next_picker (next_picker picker x.want) xs
+          | Stop ↦ []
+        ])
     either Unpark more = (h.0, more)
     either Skip more = more
     either Stop more = tt
 
 -- each thread that is taken is so for what it waits for
-wants_held : (w : State) (t l : ℕ) (m : Line) (xs : List Waiter) → AreWaiting (locations_of (place_at w)) l m xs
+wants_held : (w : State) (t l : ℕ) (m : Line) (xs : List Waiter) → AreWaiting (locations_of (place_at w)) l m
+    xs
     → ((u : ℕ) → member u xs ≡ true → IsTakenFrom w t l m (place_at w u))
     → AllAre t (λ u. taken_at (next_place (place_at w u) (TakenBy t)) l) xs
 wants_held w t l m [] h sleeps = tt
 wants_held w t l m (x ∷ xs) h sleeps = (
-  (sleeps x.thread here).held x.want (sym (ap (λ (y : Location). y.waits) (location_here l (place_at w x.thread) (sleeps x.thread here).calls ∙ (sleeps x.thread here).was)) ∙ h.0.1),
+  (sleeps x.thread here).held x.want
+      (sym (ap (λ (y : Location). y.waits) (location_here l (place_at w x.thread) (sleeps x.thread here).calls
+      ∙ (sleeps x.thread here).was)) ∙ h.0.1),
   wants_held w t l m xs h.1 (λ u g. sleeps u (more u g)),
 )
   where
@@ -111,17 +130,27 @@ wants_held w t l m (x ∷ xs) h sleeps = (
 
 -- the picker picks as the lock says
 module _ (sort : Sort) (start : Option Want) (key : ℕ) (q : List Waiter) (under : AllUnder key q) where
-  pub picks_tied : map queued_of (lock_picked start (is_recursive sort) q) ≡ locks.picked sort start (map queued_of q)
-  picks_tied = ap (λ y. map queued_of (lock_picked start (is_recursive sort) y)) (sym (line_all key q under)) ∙ (pickers_pick sort start key q).taken ∙ ap (λ y. locks.picked sort start (map queued_of y)) (line_all key q under)
+  pub picks_tied : map queued_of (lock_picked start (is_recursive sort) q) ≡ locks.picked sort start
+      (map queued_of q)
+  picks_tied = ap (λ y. map queued_of (lock_picked start (is_recursive sort) y)) (sym (line_all key q under))
+      ∙ (pickers_pick sort start key q).taken ∙ ap (λ y. locks.picked sort start (map queued_of y))
+      (line_all key q under)
 
   pub left_tied : map queued_of (without_lock_picked start (is_recursive sort) key q)
       ≡ locks.unpicked sort start (map queued_of q)
-  left_tied = ap (map queued_of) (sym (line_all key _ (under_left key (lock_picker start (is_recursive sort)) q under))) ∙ (pickers_pick sort start key q).left ∙ ap (λ y. locks.unpicked sort start (map queued_of y)) (line_all key q under)
+  left_tied = ap (map queued_of)
+      (sym (line_all key _ (under_left key (lock_picker start (is_recursive sort)) q under)))
+      ∙ (pickers_pick sort start key q).left ∙ ap (λ y. locks.unpicked sort start (map queued_of y))
+      (line_all key q under)
 
-module _ (w : State) (t l : ℕ) (steady : IsInductive w) (own : IsOf l (place_at w t)) (there : t < length w.places) (p2 : Place)
+module _ (w : State) (t l : ℕ) (steady : IsInductive w) (own : IsOf l (place_at w t)) (there : t
+    < length w.places) (p2 : Place)
     (of : IsOf l p2) (fits : FitsItsLock w p2) (many : TakesOne w l → ⊥)
-    (out : (location (place_at w t)).stands ≡ None) (free : (location (place_at w t)).hand ≡ None) (bare : (location (place_at w t)).carries ≡ None) (r : Rules) (rules : rules_in w l ≡ r) (none : taken_at (place_at w t) l ≡ None) (none2 : taken_at p2 l ≡ None)
-    (inside : (location p2).inside ≡ (location (place_at w t)).inside) (stands : (location p2).stands ≡ None) (unheld : (location p2).hand ≡ None) where
+    (out : (location (place_at w t)).stands ≡ None) (free : (location (place_at w t)).hand ≡ None)
+    (bare : (location (place_at w t)).carries ≡ None) (r : Rules) (rules : rules_in w l ≡ r)
+    (none : taken_at (place_at w t) l ≡ None) (none2 : taken_at p2 l ≡ None)
+    (inside : (location p2).inside ≡ (location (place_at w t)).inside) (stands : (location p2).stands ≡ None)
+    (unheld : (location p2).hand ≡ None) where
   past : (n : ℕ) → n ≡ length w.places → n ≤ t → p2 ≡ Idle
   past n e h = absurd (omega arith)
 
@@ -141,36 +170,66 @@ module _ (w : State) (t l : ℕ) (steady : IsInductive w) (own : IsOf l (place_a
         → ((u : ℕ) → member u picks ≡ true → (location p2).carries ≡ Some false)
         → ActsNeeded r (acts t (Case (TakePicked start) ∷ [])) (lock_by w l r)
         → role_on p2 l ≡ (after_acts r (acts t (Case (TakePicked start) ∷ [])) (lock_by w l r)).role t
-        → Goes w (put (state_after_take w t (2 * l) (whom.TheVariants.Picked start (is_recursive r.sort))) t p2) l
+        → Goes w (put (state_after_take w t (2 * l) (whom.TheVariants.Picked start (is_recursive r.sort))) t
+        p2) l
         (acts t (Case (TakePicked start) ∷ []))
-    picked_goes sleeps some full needed own_is = take_goes w t l steady own there p2 of fits many Main picks rest
-        (record { counts = λ u. picked_counts u (2 * l) (lock_picker start (is_recursive r.sort)) (queue_at w (2 * l)) under; sleeps = sleeps; lefts = waiting_left (locations_of (place_at w)) l Main (lock_picker start (is_recursive r.sort)) (queue_at w (2 * l)) (steady.stands.waits l Main); wants = wants_held w t l Main picks (waiting_picked (locations_of (place_at w)) l Main (lock_picker start (is_recursive r.sort)) (queue_at w (2 * l)) (steady.stands.waits l Main)) sleeps }) out free bare r rules none none2 v refl refl refl threads places
-        (get_or-set_same w.queues (2 * l) rest [] some_line) (λ key ne. get_or-set_other w.queues (2 * l) key rest [] ne) inside stands unheld some full
+    picked_goes sleeps some full needed own_is = take_goes w t l steady own there p2 of fits many Main picks
+        rest
+        (record {
+          counts = λ u. picked_counts u (2 * l) (lock_picker start (is_recursive r.sort)) (queue_at w (2 * l))
+              under;
+          sleeps = sleeps;
+          lefts = waiting_left (locations_of (place_at w)) l Main (lock_picker start (is_recursive r.sort))
+              (queue_at w (2 * l)) (steady.stands.waits l Main);
+          wants = wants_held w t l Main picks (waiting_picked (locations_of (place_at w)) l Main
+              (lock_picker start (is_recursive r.sort)) (queue_at w (2 * l)) (steady.stands.waits l Main))
+              sleeps;
+        }) out free bare r rules none none2 v refl refl refl threads places
+        (get_or-set_same w.queues (2 * l) rest [] some_line) (λ key ne. get_or-set_other w.queues (2 * l) key
+        rest [] ne) inside stands unheld some full
         (Case (TakePicked start)) (tt, tt) ((λ h. h), tt) needed
-        (λ i. record (lock_by w l r).lock { queue = left_tied r.sort start (2 * l) (queue_at w (2 * l)) under i; taken = locks.taking t (picks_tied r.sort start (2 * l) (queue_at w (2 * l)) under i) (λ u. taken_at (place_at w u) l) })
+        (λ i. record (lock_by w l r).lock {
+          queue = left_tied r.sort start (2 * l) (queue_at w (2 * l)) under
+              i;
+          taken = locks.taking t (picks_tied r.sort start (2 * l) (queue_at w (2 * l)) under i)
+              (λ u. taken_at (place_at w u) l);
+        })
         refl refl (noted r (lock_by w l r) (site_by w t l steady own there r rules p2 of fits)) own_is
       where
         v : State
         v = put (state_after_take w t (2 * l) (whom.TheVariants.Picked start (is_recursive r.sort))) t p2
 
         threads : length v.places ≡ length w.places
-        threads = length-set (places_told (TakenBy t) (threads_of picks) w.places) t p2 ∙ told_count (TakenBy t) (threads_of picks) w.places
+        threads = length-set (places_told (TakenBy t) (threads_of picks) w.places) t p2
+            ∙ told_count (TakenBy t) (threads_of picks) w.places
 
         places : place_at v ≡ putting (told_by (TakenBy t) picks (place_at w)) t p2
-        places = put_places (state_after_take w t (2 * l) (whom.TheVariants.Picked start (is_recursive r.sort))) t p2 (past (length (places_told (TakenBy t) (threads_of picks) w.places)) (told_count (TakenBy t) (threads_of picks) w.places))
+        places = put_places (state_after_take w t (2 * l)
+            (whom.TheVariants.Picked start (is_recursive r.sort))) t p2
+            (past (length (places_told (TakenBy t) (threads_of picks) w.places))
+            (told_count (TakenBy t) (threads_of picks) w.places))
             ∙ ap (λ (f : ℕ → Place). putting f t p2) (told_places (TakenBy t) picks w.places)
 
   -- all of the main queue
   module _ (some_line : 2 * l < length w.queues) where
     pub all_goes : ((u : ℕ) → member u (queue_at w (2 * l)) ≡ true → IsTakenFrom w t l Main (place_at w u))
-        → ((b : Bool) → (location p2).carries ≡ Some b → (b ≡ false) × ((u : ℕ) × (member u (queue_at w (2 * l)) ≡ true)))
+        → ((b : Bool) → (location p2).carries ≡ Some b → (b ≡ false)
+        × ((u : ℕ) × (member u (queue_at w (2 * l)) ≡ true)))
         → ((u : ℕ) → member u (queue_at w (2 * l)) ≡ true → (location p2).carries ≡ Some false)
         → ActsNeeded r (acts t (Case (OfOnce TakeAll) ∷ [])) (lock_by w l r)
         → role_on p2 l ≡ (after_acts r (acts t (Case (OfOnce TakeAll) ∷ [])) (lock_by w l r)).role t
-        → Goes w (put (state_after_take w t (2 * l) whom.TheVariants.All) t p2) l (acts t (Case (OfOnce TakeAll) ∷ []))
-    all_goes sleeps some full needed own_is = take_goes w t l steady own there p2 of fits many Main (queue_at w (2 * l)) []
-        (record { counts = λ u. omega arith; sleeps = sleeps; lefts = tt; wants = wants_held w t l Main (queue_at w (2 * l)) (steady.stands.waits l Main) sleeps }) out free bare r rules none none2 v refl refl refl threads places
-        (get_or-set_same w.queues (2 * l) [] [] some_line) (λ key ne. get_or-set_other w.queues (2 * l) key [] [] ne) inside stands unheld some full
+        → Goes w (put (state_after_take w t (2 * l) whom.TheVariants.All) t p2) l
+        (acts t (Case (OfOnce TakeAll) ∷ []))
+    all_goes sleeps some full needed own_is = take_goes w t l steady own there p2 of fits many Main
+        (queue_at w (2 * l)) []
+        (record {
+          counts = λ u. omega arith;
+          sleeps = sleeps;
+          lefts = tt;
+          wants = wants_held w t l Main (queue_at w (2 * l)) (steady.stands.waits l Main) sleeps;
+        }) out free bare r rules none none2 v refl refl refl threads places
+        (get_or-set_same w.queues (2 * l) [] [] some_line) (λ key ne. get_or-set_other w.queues (2 * l) key []
+        [] ne) inside stands unheld some full
         (Case (OfOnce TakeAll)) (tt, tt) ((λ h. h), tt) needed
         refl refl refl (noted r (lock_by w l r) (site_by w t l steady own there r rules p2 of fits)) own_is
       where
@@ -178,10 +237,13 @@ module _ (w : State) (t l : ℕ) (steady : IsInductive w) (own : IsOf l (place_a
         v = put (state_after_take w t (2 * l) whom.TheVariants.All) t p2
 
         threads : length v.places ≡ length w.places
-        threads = length-set (places_told (TakenBy t) (threads_of (queue_at w (2 * l))) w.places) t p2 ∙ told_count (TakenBy t) (threads_of (queue_at w (2 * l))) w.places
+        threads = length-set (places_told (TakenBy t) (threads_of (queue_at w (2 * l))) w.places) t p2
+            ∙ told_count (TakenBy t) (threads_of (queue_at w (2 * l))) w.places
 
         places : place_at v ≡ putting (told_by (TakenBy t) (queue_at w (2 * l)) (place_at w)) t p2
-        places = put_places (state_after_take w t (2 * l) whom.TheVariants.All) t p2 (past (length (places_told (TakenBy t) (threads_of (queue_at w (2 * l))) w.places)) (told_count (TakenBy t) (threads_of (queue_at w (2 * l))) w.places))
+        places = put_places (state_after_take w t (2 * l) whom.TheVariants.All) t p2
+            (past (length (places_told (TakenBy t) (threads_of (queue_at w (2 * l))) w.places))
+            (told_count (TakenBy t) (threads_of (queue_at w (2 * l))) w.places))
             ∙ ap (λ (f : ℕ → Place). putting f t p2) (told_places (TakenBy t) (queue_at w (2 * l)) w.places)
 
   -- the writer aside
@@ -191,28 +253,50 @@ module _ (w : State) (t l : ℕ) (steady : IsInductive w) (own : IsOf l (place_a
         → ActsNeeded r (acts t (Case (TakeAside x.thread) ∷ [])) (lock_by w l r)
         → role_on p2 l ≡ (after_acts r (acts t (Case (TakeAside x.thread) ∷ [])) (lock_by w l r)).role t
         → Goes w
-        (put (state_after_reply (record w { queues = queues_without_first w.queues (2 * l + 1) }) x.thread (TakenBy t)) t p2) l
+        (put (state_after_reply (record w { queues = queues_without_first w.queues (2 * l + 1) }) x.thread
+        (TakenBy t)) t p2) l
         (acts t (Case (TakeAside x.thread) ∷ []))
-    aside_goes sleeps carries needed own_is = take_goes w t l steady own there p2 of fits many Second (x ∷ []) []
-        (record { counts = λ u. let a : times u (queue_at w (2 * l + 1)) ≡ times u (x ∷ []) = ap (times u) first in omega arith; sleeps = λ u h. one_sleeps u (x.thread == u) refl h; lefts = tt; wants = wants_held w t l Second (x ∷ []) (subst (AreWaiting (locations_of (place_at w)) l Second) first (steady.stands.waits l Second)) (λ u h. one_sleeps u (x.thread == u) refl h) }) out free bare r rules none none2 v refl refl refl threads places
-        (get_or-set_same w.queues (2 * l + 1) (drop 1 (queue_at w (2 * l + 1))) [] some_line ∙ ap (drop 1) first) (λ key ne. get_or-set_other w.queues (2 * l + 1) key (drop 1 (queue_at w (2 * l + 1))) [] ne) inside stands unheld
-        (λ b e. let f : Some false ≡ Some b = sym carries ∙ e in let g : false ≡ b = cc in (sym g, (x.thread, same_one))) (λ u h. carries)
+    aside_goes sleeps carries needed own_is = take_goes w t l steady own there p2 of fits many Second (x ∷ [])
+        []
+        (record {
+          counts = λ u. let a : times u (queue_at w (2 * l + 1)) ≡ times u (x ∷ []) = ap (times u) first
+              in omega arith;
+          sleeps = λ u h. one_sleeps u (x.thread == u) refl h;
+          lefts = tt;
+          wants = wants_held w t l Second (x ∷ []) (subst (AreWaiting (locations_of (place_at w)) l Second)
+              first (steady.stands.waits l Second)) (λ u h. one_sleeps u (x.thread == u) refl h);
+        }) out free bare r rules none none2 v refl refl refl threads places
+        (get_or-set_same w.queues (2 * l + 1) (drop 1 (queue_at w (2 * l + 1))) [] some_line
+        ∙ ap (drop 1) first) (λ key ne. get_or-set_other w.queues (2 * l + 1) key
+        (drop 1 (queue_at w (2 * l + 1))) [] ne) inside stands unheld
+        (λ b e. let f : Some false ≡ Some b = sym carries ∙ e in let g : false ≡ b = cc
+        in (sym g, (x.thread, same_one))) (λ u h. carries)
         (Case (TakeAside x.thread)) (tt, tt) ((λ h. h), tt) needed
-        (λ i. record (lock_by w l r).lock { aside = None; taken = putting (λ u. taken_at (place_at w u) l) x.thread (Some (record { by = t; want = writes i })) })
+        (λ i. record (lock_by w l r).lock {
+          aside = None;
+          taken = putting (λ u. taken_at (place_at w u) l)
+              x.thread (Some (record { by = t; want = writes i }));
+        })
         refl refl (noted r (lock_by w l r) (site_by w t l steady own there r rules p2 of fits)) own_is
       where
         v : State
-        v = put (state_after_reply (record w { queues = queues_without_first w.queues (2 * l + 1) }) x.thread (TakenBy t)) t p2
+        v = put (state_after_reply (record w { queues = queues_without_first w.queues (2 * l + 1) }) x.thread
+            (TakenBy t)) t p2
 
         same_one : member x.thread (x ∷ []) ≡ true
         same_one = rw (same x.thread) refl
 
-        one_sleeps : (u : ℕ) (b : Bool) → (x.thread == u) ≡ b → member u (x ∷ []) ≡ true → IsTakenFrom w t l Second (place_at w u)
+        one_sleeps : (u : ℕ) (b : Bool) → (x.thread == u) ≡ b → member u (x ∷ []) ≡ true
+            → IsTakenFrom w t l Second (place_at w u)
         one_sleeps u b e h = subst (λ j. IsTakenFrom w t l Second (place_at w j)) (only_member x u h) sleeps
 
         threads : length v.places ≡ length w.places
-        threads = length-set (places_told (TakenBy t) (threads_of (x ∷ [])) w.places) t p2 ∙ told_count (TakenBy t) (threads_of (x ∷ [])) w.places
+        threads = length-set (places_told (TakenBy t) (threads_of (x ∷ [])) w.places) t p2
+            ∙ told_count (TakenBy t) (threads_of (x ∷ [])) w.places
 
         places : place_at v ≡ putting (told_by (TakenBy t) (x ∷ []) (place_at w)) t p2
-        places = put_places (state_after_reply (record w { queues = queues_without_first w.queues (2 * l + 1) }) x.thread (TakenBy t)) t p2 (past (length (places_told (TakenBy t) (threads_of (x ∷ [])) w.places)) (told_count (TakenBy t) (threads_of (x ∷ [])) w.places))
+        places = put_places (state_after_reply
+            (record w { queues = queues_without_first w.queues (2 * l + 1) }) x.thread (TakenBy t)) t p2
+            (past (length (places_told (TakenBy t) (threads_of (x ∷ [])) w.places))
+            (told_count (TakenBy t) (threads_of (x ∷ [])) w.places))
             ∙ ap (λ (f : ℕ → Place). putting f t p2) (told_places (TakenBy t) (x ∷ []) w.places)

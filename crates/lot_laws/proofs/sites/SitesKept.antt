@@ -1,5 +1,7 @@
 -- A mutex that is handed over, and every other lock, is a site again, whose word says so.
-use Rattle.std.proofs.Common.{ℕ, Bool, true, false, Option, Some, None, if◌then◌else◌, ◌==◌, ◌&&◌, ◌≡◌, ◌≢◌, ◌+◌, ◌*◌, ◌<◌, ◌⊎◌, List, ◌++◌, length, replicate, get_or, set, inl, inr, refl, sym, ◌∙◌, ap, subst, arith, length-set, get_or-set_same, get_or-set_other}
+use Rattle.std.proofs.Common.{ℕ, Bool, true, false, Option, Some, None, if◌then◌else◌, ◌==◌, ◌&&◌, ◌≡◌, ◌≢◌}
+use Rattle.std.proofs.Common.{◌+◌, ◌*◌, ◌<◌, ◌⊎◌, List, ◌++◌, length, replicate, get_or, set, inl, inr, refl}
+use Rattle.std.proofs.Common.{sym, ◌∙◌, ap, subst, arith, length-set, get_or-set_same, get_or-set_other}
 use Rattle.core_base.specs.declared.ops.Op.TheVariants as op
 use Rattle.core_base.specs.declared.wants.Waiter.{Waiter}
 use Rattle.spec_locks.specs.declared.kinds.Kind as kind
@@ -24,15 +26,21 @@ use Rattle.lot_laws.proofs.sites.ToldAt as told_at
 use Rattle.lot_laws.proofs.sites.ToldAt.{IsToldAt, HeldHere, same_hands}
 use Rattle.lot_laws.proofs.sites.ActsKept.{AlikeAt, follows_by, lock_by}
 use Rattle.std.specs.Prelude.{sum}
-use Rattle.lot_machine.specs.Machine.{unshared_then, State, hand_over_told, shares_handed_over, unlocked, place_at, word_at, owners_at, shares_at, kind_at, queue_at, put, section_at, state_after_reply, state_after_telling, state_after_hand_over, state_after_act, reply_to}
+use Rattle.lot_machine.specs.Machine.{unshared_then, State, hand_over_told, shares_handed_over, unlocked}
+use Rattle.lot_machine.specs.Machine.{place_at, word_at, owners_at, shares_at, kind_at, queue_at, put}
+use Rattle.lot_machine.specs.Machine.{section_at, state_after_reply, state_after_telling}
+use Rattle.lot_machine.specs.Machine.{state_after_hand_over, state_after_act, reply_to}
 use Rattle.lot_laws.specs.Refinement.{lock_state}
 use Rattle.lot_laws.specs.MutexDeeds.{mutex_role, mutex_deeds, mutex_location, acts, queued}
 use Rattle.lot_laws.specs.Locations.{Location, hand, location_at, role_on}
 use Rattle.lot_laws.specs.MutexDeeds as deeds
-use Rattle.lot_laws.specs.SitesOf.{SameNumbers, TakesOne, rules_in, ActsNeeded, IsInductive, SiteFollows, Goes, FitsItsLock, carried_at, hand_at, after_acts}
-use Rattle.lot_laws.proofs.machine.Parts.{base_at, seen, goes_from, put_places, put_other, IsOf, own_stance, none_given, WantsAlone, aparts}
+use Rattle.lot_laws.specs.SitesOf.{SameNumbers, TakesOne, rules_in, ActsNeeded, IsInductive, SiteFollows}
+use Rattle.lot_laws.specs.SitesOf.{Goes, FitsItsLock, carried_at, hand_at, after_acts}
+use Rattle.lot_laws.proofs.machine.Parts.{base_at, seen, goes_from, put_places, put_other, IsOf, own_stance}
+use Rattle.lot_laws.proofs.machine.Parts.{none_given, WantsAlone, aparts}
 use Rattle.lot_laws.proofs.hands.Handed.{told_one, successor_one, of_carries}
-use Rattle.lot_laws.proofs.mutex.Waiters.{CallsMutex, IsHeldThere, calls_mutex_at, held_alone, held_there, holds_here}
+use Rattle.lot_laws.proofs.mutex.Waiters.{CallsMutex, IsHeldThere, calls_mutex_at, held_alone, held_there}
+use Rattle.lot_laws.proofs.mutex.Waiters.{holds_here}
 use Rattle.lot_laws.proofs.sites.Following as following
 use Rattle.lot_laws.proofs.sites.ToldAt.{HoldsHere, SameHands}
 use Rattle.std.proofs.lemmas.Bool.{cases_eq}
@@ -42,7 +50,8 @@ use Rattle.lot_laws.proofs.mutex.Hands.{handing, hands_acts}
 use Rattle.lot_laws.proofs.machine.Parts.{mutex, own_role}
 use Rattle.lot_laws.proofs.machine.KindsStay.{given_kinds, given_filled, given_shares}
 use Rattle.lot_laws.specs.SitesOf.{is_mutex}
-use Rattle.lot_laws.proofs.sites.StandsKept.{AlikeBeside, own_alike, calls_in, sections_same, lines_same, waits_same, hands_given}
+use Rattle.lot_laws.proofs.sites.StandsKept.{AlikeBeside, own_alike, calls_in, sections_same, lines_same}
+use Rattle.lot_laws.proofs.sites.StandsKept.{waits_same, hands_given}
 use Rattle.lot_laws.proofs.sites.StandsMoved.{mutex_rules, takes_one, stands_by}
 
 -- g is f, but for x at i
@@ -52,7 +61,10 @@ pub record Changed {A : Type 0} (f g : ℕ → A) (i : ℕ) (x : A) : Type 0 whe
 
 pub changed_set : {A B : Type 0} (f : A → B) (xs : List A) (i : ℕ) (x d : A) → i < length xs
     → Changed (λ k. f (get_or xs k d)) (λ k. f (get_or (set xs i x) k d)) i (f x)
-changed_set f xs i x d lt = record { here = ap f (get_or-set_same xs i x d lt); other = λ j ne. ap f (get_or-set_other xs i j x d ne) }
+changed_set f xs i x d lt = record {
+  here = ap f (get_or-set_same xs i x d lt);
+  other = λ j ne. ap f (get_or-set_other xs i j x d ne);
+}
 
 pub unchanged : {A : Type 0} (f : ℕ → A) (l : ℕ) → Changed f f l (f l)
 unchanged f l = record { here = refl; other = λ j ne. refl }
@@ -61,7 +73,8 @@ pub alike_both : (l k : ℕ) (p : ℕ → Place) (v : ℕ) (pv : Place) (t : ℕ
     → AlikeBeside l (p t) p2 → v ≢ t → k ≢ l → (u : ℕ) → AlikeAt k (p u) (putting (putting p v pv) t p2 u)
 alike_both l k p v pv t p2 hv h apart ne u =
     let a = following.alike_put l k p v pv hv ne u in
-    let b = following.alike_put l k (putting p v pv) t p2 (rw (put_other p v pv t (λ e. apart (sym e))) h) ne u in
+    let b = following.alike_put l k (putting p v pv) t p2 (rw (put_other p v pv t (λ e. apart (sym e))) h) ne
+    u in
     (b.0 ∙ a.0, b.1 ∙ a.1)
 
 -- the word of a mutex with this owner
@@ -71,17 +84,32 @@ IsCode v o = v ≡ one_if_some o + 2 * bit (is_parked v)
 abbrev pub mutex_at : State → ℕ → Site
 mutex_at w l = lock_by w l mutex
 
-module _ (w v : State) (l : ℕ) (rules : rules_in w l ≡ mutex) (q : ℕ → Place) (word : ℕ) (o : Owners) (m : List Waiter)
-    (places : place_at v ≡ q) (numbers : SameNumbers w v) (bases : (k : ℕ) → base_at v k ≡ base_at w k) (words : Changed (word_at w) (word_at v) l word) (owners : Changed (owners_at w) (owners_at v) l o)
-    (mains : Changed (λ k. queue_at w (2 * k)) (λ k. queue_at v (2 * k)) l m) (seconds : (k : ℕ) → queue_at v (2 * k + 1) ≡ queue_at w (2 * k + 1)) (kinds : (k : ℕ) → kind_at v k ≡ kind_at w k)
+module _ (w v : State) (l : ℕ) (rules : rules_in w l ≡ mutex) (q : ℕ → Place) (word : ℕ) (o : Owners)
+    (m : List Waiter)
+    (places : place_at v ≡ q) (numbers : SameNumbers w v) (bases : (k : ℕ) → base_at v k ≡ base_at w k)
+    (words : Changed (word_at w) (word_at v) l word) (owners : Changed (owners_at w) (owners_at v) l o)
+    (mains : Changed (λ k. queue_at w (2 * k)) (λ k. queue_at v (2 * k)) l m) (seconds : (k : ℕ)
+    → queue_at v (2 * k + 1) ≡ queue_at w (2 * k + 1)) (kinds : (k : ℕ) → kind_at v k ≡ kind_at w k)
     (elsewhere : (k : ℕ) → k ≢ l → (u : ℕ) → AlikeAt k (place_at w u) (q u)) where
   -- tells what one mutex has been through
   pub follow : (ds : List deeds.Act)
       → seen l (base_at w l) word o m (queue_at w (2 * l + 1)) q ≡ after_acts mutex ds (mutex_at w l)
       → ActsNeeded mutex ds (mutex_at w l) → IsCode word o.exclusive → SiteFollows w v l ds
   follow ds led needed coded = follows_by w v l _ q (record {
-    here = λ i. record { base = bases l i; word = words.here i; owners = owners.here i; main = mains.here i; second = seconds l i };
-    others = λ k ne i. record { base = bases k i; word = words.other k ne i; owners = owners.other k ne i; main = mains.other k ne i; second = seconds k i };
+    here = λ i. record {
+      base = bases l i;
+      word = words.here i;
+      owners = owners.here i;
+      main = mains.here i;
+      second = seconds l i;
+    };
+    others = λ k ne i. record {
+      base = bases k i;
+      word = words.other k ne i;
+      owners = owners.other k ne i;
+      main = mains.other k ne i;
+      second = seconds k i;
+    };
     places = places;
     kinds = kinds;
     alike = elsewhere;
@@ -91,25 +119,32 @@ module _ (w v : State) (l : ℕ) (rules : rules_in w l ≡ mutex) (q : ℕ → P
 
 -- nobody shares a mutex
 pub mutex_unshared : (w : State) (l : ℕ) → IsInductive w → rules_in w l ≡ mutex → sum (shares_at w l) ≡ 0
-mutex_unshared w l steady rules = (subst (λ r. IsSite r (lock_by w l r)) rules (steady.sites.site l)).state.unshared (λ h. h)
+mutex_unshared w l steady rules =
+    (subst (λ r. IsSite r (lock_by w l r)) rules (steady.sites.site l)).state.unshared (λ h. h)
 
 -- a lock that a thread calls is taken from so
-pub unshared_at : (w : State) (t l : ℕ) (at : MutexPlace) → IsInductive w → place_at w t ≡ Mutex l at → sum (shares_at w l) ≡ 0
-unshared_at w t l at steady is = mutex_unshared w l steady (mutex_rules (kind_at w l) (let c : FitsItsLock w (Mutex l at) = rw is at (steady.stands.calls t) in c))
+pub unshared_at : (w : State) (t l : ℕ) (at : MutexPlace) → IsInductive w → place_at w t ≡ Mutex l at
+    → sum (shares_at w l) ≡ 0
+unshared_at w t l at steady is = mutex_unshared w l steady
+    (mutex_rules (kind_at w l) (let c : FitsItsLock w (Mutex l at) = rw is at (steady.stands.calls t) in c))
 
 -- A mutex is taken from one by one.
-pub single_at : (w : State) (t l : ℕ) (at : MutexPlace) → IsInductive w → place_at w t ≡ Mutex l at → TakesOne w l
-single_at w t l at steady is = takes_one w l (mutex_rules (kind_at w l) (let c : FitsItsLock w (Mutex l at) = rw is at (steady.stands.calls t) in c))
+pub single_at : (w : State) (t l : ℕ) (at : MutexPlace) → IsInductive w → place_at w t ≡ Mutex l at
+    → TakesOne w l
+single_at w t l at steady is = takes_one w l (mutex_rules (kind_at w l) (let c : FitsItsLock w (Mutex l at) =
+    rw is at (steady.stands.calls t) in c))
 
 -- a thread that calls it calls a mutex
 pub mutexes_at : (w : State) (t l : ℕ) (at : MutexPlace) → IsInductive w → place_at w t ≡ Mutex l at → (u : ℕ)
     → CallsMutex l (place_at w u)
-mutexes_at w t l at steady is u = calls_mutex_at w l (place_at w u) (steady.stands.calls u) (mutex_rules (kind_at w l) (let c : FitsItsLock w (Mutex l at) = rw is at (steady.stands.calls t) in c))
+mutexes_at w t l at steady is u = calls_mutex_at w l (place_at w u) (steady.stands.calls u)
+    (mutex_rules (kind_at w l) (let c : FitsItsLock w (Mutex l at) = rw is at (steady.stands.calls t) in c))
 
 -- the thread that it has in hand wants to own alone
 pub alone_at : (w : State) (t l : ℕ) (at : MutexPlace) → IsInductive w → place_at w t ≡ Mutex l at → (u : ℕ)
     → WantsAlone t (place_at w u)
-alone_at w t l at steady is = held_alone (place_at w) (aparts w steady) steady.stands.hands t l (of_carries l (place_at w t) (rw is refl)) (mutexes_at w t l at steady is)
+alone_at w t l at steady is = held_alone (place_at w) (aparts w steady) steady.stands.hands t l
+    (of_carries l (place_at w t) (rw is refl)) (mutexes_at w t l at steady is)
 
 -- ---------------------------------------------------------------- the effects of the acts
 
@@ -129,21 +164,27 @@ module _ (w : State) (t l : ℕ) (at : MutexPlace) (steady : IsInductive w) (is 
   single = takes_one w l rules
 
   pub site_l : IsSite mutex
-      (seen l (base_at w l) (word_at w l) (owners_at w l) (queue_at w (2 * l)) (queue_at w (2 * l + 1)) (place_at w))
+      (seen l (base_at w l) (word_at w l) (owners_at w l) (queue_at w (2 * l)) (queue_at w (2 * l + 1))
+      (place_at w))
   site_l = subst (λ r. IsSite r (lock_by w l r)) rules (steady.sites.site l)
 
   pub own : IsOf l (place_at w t)
   own = rw is refl
 
   -- it is in nobody's hand itself
-  pub not_own : (mutex_location at).hand ≡ None → (u : ℕ) (b : Bool) → hand_at (place_at w u) l ≡ hand t b → u ≢ t
-  not_own free u b held e = let a : hand_at (place_at w t) l ≡ hand t b = subst (λ j. hand_at (place_at w j) l ≡ hand t b) e held in let none : hand_at (place_at w t) l ≡ None = ap (λ (y : Location). y.hand) (own_stance l (place_at w t) at is) ∙ free in cc
+  pub not_own : (mutex_location at).hand ≡ None → (u : ℕ) (b : Bool) → hand_at (place_at w u) l ≡ hand t b
+      → u ≢ t
+  not_own free u b held e = let a : hand_at (place_at w t) l ≡ hand t b =
+      subst (λ j. hand_at (place_at w j) l ≡ hand t b) e held in let none : hand_at (place_at w t) l ≡ None =
+      ap (λ (y : Location). y.hand) (own_stance l (place_at w t) at is) ∙ free in cc
 
 module _ (w : State) (t l : ℕ) (steady : IsInductive w) (there : t < length w.places) where
   -- a thread that it has in hand
-  module _ (at : MutexPlace) (is : place_at w t ≡ Mutex l at) (b : Bool) (carries : (mutex_location at).carries ≡ Some b) where
+  module _ (at : MutexPlace) (is : place_at w t ≡ Mutex l at) (b : Bool)
+      (carries : (mutex_location at).carries ≡ Some b) where
     pub one_held : (u : ℕ) × (hand_at (place_at w u) l ≡ hand t b)
-    one_held = steady.stands.hands.carried t l b (ap (λ (x : Location). x.carries) (own_stance l (place_at w t) at is) ∙ carries)
+    one_held = steady.stands.hands.carried t l b (ap (λ (x : Location). x.carries)
+        (own_stance l (place_at w t) at is) ∙ carries)
 
   module _ (lt : l < length w.locks) (bumps none_left : Bool) (u : ℕ)
       (is : place_at w t ≡ Mutex l (HandOff bumps (hand_off.Store true none_left)))
@@ -186,27 +227,38 @@ module _ (w : State) (t l : ℕ) (steady : IsInductive w) (there : t < length w.
     now_t = own_stance l p2 (HandOff bumps (hand_off.Leave true)) refl
 
     fresh : (x : ℕ) (b : Bool) → hand_at (place_at w x) l ≡ hand t b → b ≡ false
-    fresh x b h = let a : carried_at (place_at w t) l ≡ Some b = steady.stands.hands.taken t x l b h in let c : carried_at (place_at w t) l ≡ Some false = ap (λ (y : Location). y.carries) before_t in let e : Some b ≡ Some false = sym a ∙ c in cc
+    fresh x b h = let a : carried_at (place_at w t) l ≡ Some b = steady.stands.hands.taken t x l b h
+        in let c : carried_at (place_at w t) l ≡ Some false = ap (λ (y : Location). y.carries) before_t
+        in let e : Some b ≡ Some false = sym a ∙ c in cc
 
     -- only its owner claims the mutex
     unclaimed : (x : ℕ) → x ≢ t
-        → (((role_on (place_at w x) l).claims ≡ None) ⊎ ((role_on (place_at w x) l).claims ≡ Some (Has Exclusive)))
+        → (((role_on (place_at w x) l).claims ≡ None)
+        ⊎ ((role_on (place_at w x) l).claims ≡ Some (Has Exclusive)))
         → (role_on (place_at w x) l).claims ≡ None
     unclaimed x ne (inl none) = none
     unclaimed x ne (inr claims) = absurd (
         let site = site_l w t l at steady is there in
         let its : (owners_at w l).exclusive ≡ Some x = site.held x (Has Exclusive) claims in
-        let own : (owners_at w l).exclusive ≡ Some t = site.held t (Has Exclusive) (ap (λ (d : Role). d.claims) (own_role l (place_at w t) at is)) in
+        let own : (owners_at w l).exclusive ≡ Some t = site.held t (Has Exclusive)
+        (ap (λ (d : Role). d.claims) (own_role l (place_at w t) at is)) in
         ne (let both : Some x ≡ Some t = sym its ∙ own in cc))
 
     all_told : (x : ℕ) (b : Bool) → hand_at (place_at w x) l ≡ hand t b
         → IsToldAt w t l b (hand t true) (hand_over_told w t l) (place_at w x)
     all_told x b h =
-        let k : IsHeldThere l t (place_at w x) = held_there (place_at w x) t l (mutexes_at w t l at steady is x) (h ∙ ap (hand t) (fresh x b h)) in
-        let z = k.handed (unshared_then w t l) in record { goes = z.location; alike = z.others; fits = z.fits (unclaimed x (not_own w t l at steady is there refl x b h) k.claims) w (steady.stands.calls x) }
+        let k : IsHeldThere l t (place_at w x) = held_there (place_at w x) t l
+        (mutexes_at w t l at steady is x) (h ∙ ap (hand t) (fresh x b h)) in
+        let z = k.handed (unshared_then w t l) in record {
+          goes = z.location;
+          alike = z.others;
+          fits = z.fits (unclaimed x (not_own w t l at steady is there refl x b h) k.claims) w
+              (steady.stands.calls x);
+        }
 
     abbrev behind : ℕ → Place
-    behind = told_at.places_then w t l steady p2 beside fits_2 holds (hand_over_told w t l) (hand t true) all_told
+    behind = told_at.places_then w t l steady p2 beside fits_2 holds (hand_over_told w t l) (hand t true)
+        all_told
 
     abbrev is_told : ℕ → Bool
     is_told = told_at.has w t l steady p2 beside fits_2 holds (hand_over_told w t l) (hand t true) all_told
@@ -222,35 +274,59 @@ module _ (w : State) (t l : ℕ) (steady : IsInductive w) (there : t < length w.
       where
         by_test : (b : Bool) → is_told t ≡ b → b ≡ false
         by_test false h = refl
-        by_test true h = absurd (let k : HeldHere w t l steady p2 beside fits_2 holds (hand_over_told w t l) (hand t true) all_told t = told_at.held_here w t l steady p2 beside fits_2 holds (hand_over_told w t l) (hand t true) all_told t h in not_own w t l at steady is there refl t k.handed k.hand refl)
+        by_test true h = absurd (let k : HeldHere w t l steady p2 beside fits_2 holds (hand_over_told w t l)
+            (hand t true) all_told t = told_at.held_here w t l steady p2 beside fits_2 holds
+            (hand_over_told w t l) (hand t true) all_told t h in not_own w t l at steady is there refl t
+            k.handed k.hand refl)
 
-    parts_kept : {A : Type 0} (g : Location → A) → ((x : Location) (h : Option Hand) → g (record x { hand = h }) ≡ g x) → g (mutex_location (HandOff bumps (hand_off.Leave true))) ≡ g (mutex_location at) → (x k : ℕ) → g (location_at (behind x) k) ≡ g (location_at (place_at w x) k)
-    parts_kept g part e = told_at.all_parts w t l steady p2 beside fits_2 holds (hand_over_told w t l) (hand t true) all_told g part (λ k. elim (cases_eq k l) [
-      | inl f ↦ rw f (ap g now_t ∙ e ∙ sym (ap g before_t))
-      | inr ne ↦ ap g (own_alike l (place_at w t) p2 own_t refl k ne).location
-    ])
+    parts_kept : {A : Type 0} (g : Location → A) → ((x : Location) (h : Option Hand)
+        → g (record x { hand = h }) ≡ g x) → g (mutex_location (HandOff bumps (hand_off.Leave true)))
+        ≡ g (mutex_location at) → (x k : ℕ) → g (location_at (behind x) k) ≡ g (location_at (place_at w x) k)
+    parts_kept g part e = told_at.all_parts w t l steady p2 beside fits_2 holds (hand_over_told w t l)
+        (hand t true) all_told g part (λ k. elim (cases_eq k l) [
+          | inl f ↦ rw f (ap g now_t ∙ e ∙ sym (ap g before_t))
+          | inr ne ↦ ap g (own_alike l (place_at w t) p2 own_t refl k ne).location
+        ])
 
     hands_then : Hands (TakesOne w) behind
-    hands_then = hands_given (TakesOne w) (locations_of (place_at w)) (locations_of behind) steady.stands.hands t l is_told (Some true)
-        (told_at.in_hand w t l steady p2 beside fits_2 holds (hand_over_told w t l) (hand t true) all_told (ap (λ (y : Location). y.hand) now_t ∙ sym (ap (λ c. if c then hand t true else (location_at (place_at w t) l).hand) not_told ∙ ap (λ (y : Location). y.hand) before_t)))
-        (λ i k. told_at.carries w t l steady p2 beside fits_2 holds (hand_over_told w t l) (hand t true) all_told i k ∙ ap (λ c. if (i == t) && (k == l) then c else carried_at (place_at w i) k) (ap (λ (y : Location). y.carries) now_t))
-        (λ x h. let k : HeldHere w t l steady p2 beside fits_2 holds (hand_over_told w t l) (hand t true) all_told x = told_at.held_here w t l steady p2 beside fits_2 holds (hand_over_told w t l) (hand t true) all_told x h in (k.handed, k.hand))
-        (λ x b h. holds.taker x b h) (λ b e. (let g : true ≡ b = cc in sym g, (u, holds.taker u false held))) (λ x h. refl)
+    hands_then = hands_given (TakesOne w) (locations_of (place_at w)) (locations_of behind)
+        steady.stands.hands t l is_told (Some true)
+        (told_at.in_hand w t l steady p2 beside fits_2 holds (hand_over_told w t l) (hand t true) all_told
+        (ap (λ (y : Location). y.hand) now_t
+        ∙ sym (ap (λ c. if c then hand t true else (location_at (place_at w t) l).hand) not_told
+        ∙ ap (λ (y : Location). y.hand) before_t)))
+        (λ i k. told_at.carries w t l steady p2 beside fits_2 holds (hand_over_told w t l) (hand t true)
+        all_told i k ∙ ap (λ c. if (i == t) && (k == l) then c else carried_at (place_at w i) k)
+        (ap (λ (y : Location). y.carries) now_t))
+        (λ x h. let k : HeldHere w t l steady p2 beside fits_2 holds (hand_over_told w t l) (hand t true)
+        all_told x = told_at.held_here w t l steady p2 beside fits_2 holds (hand_over_told w t l)
+        (hand t true) all_told x h in (k.handed, k.hand))
+        (λ x b h. holds.taker x b h) (λ b e. (let g : true ≡ b = cc in sym g, (u, holds.taker u false held)))
+        (λ x h. refl)
 
     abbrev after : State
     after = put (state_after_reply before u (hand_over_told w t l)) t p2
 
-    told : state_after_telling before t (hand_over_told w t l) ≡ state_after_reply before u (hand_over_told w t l)
-    told = told_one before t l u false (hand_over_told w t l) (aparts w steady) steady.stands.hands (single w t l at steady is there) (of_carries l (place_at w t) own_t) held
+    told : state_after_telling before t (hand_over_told w t l) ≡ state_after_reply before u
+        (hand_over_told w t l)
+    told = told_one before t l u false (hand_over_told w t l) (aparts w steady) steady.stands.hands
+        (single w t l at steady is there) (of_carries l (place_at w t) own_t) held
 
     owners_given : Changed (owners_at w) (owners_at after) l (with_exclusive (owners_at w l) (Some u))
     owners_given = record {
-      here = ap (λ x. x.owners) (get_or-set_same w.locks l _ (unlocked kind.TheVariants.Mutex) lt) ∙ successor_one w t l u false (aparts w steady) steady.stands.hands (single w t l at steady is there) (of_carries l (place_at w t) own_t) held (alone_at w t l at steady is) (unshared_at w t l at steady is) (with_exclusive (owners_at w l) None);
-      other = λ k ne. ap (λ x. x.owners) (get_or-set_other w.locks l k _ (unlocked kind.TheVariants.Mutex) ne);
+      here = ap (λ x. x.owners) (get_or-set_same w.locks l _ (unlocked kind.TheVariants.Mutex) lt)
+          ∙ successor_one w t l u false (aparts w steady) steady.stands.hands
+          (single w t l at steady is there) (of_carries l (place_at w t) own_t) held
+          (alone_at w t l at steady is) (unshared_at w t l at steady is) (with_exclusive (owners_at w l)
+          None);
+      other = λ k ne. ap (λ x. x.owners) (get_or-set_other w.locks l k _ (unlocked kind.TheVariants.Mutex)
+          ne);
     }
 
     places : place_at after ≡ putting (putting (place_at w) u pu) t p2
-    places = put_places (state_after_reply before u (hand_over_told w t l)) t p2 (λ h. absurd (let a : length (set w.places u pu) ≡ length w.places = length-set w.places u pu in omega arith))
+    places = put_places (state_after_reply before u (hand_over_told w t l)) t p2
+        (λ h. absurd (let a : length (set w.places u pu) ≡ length w.places = length-set w.places u pu
+        in omega arith))
         ∙ ap (λ (f : ℕ → Place). putting f t p2) (goes_from w u (hand_over_told w t l))
 
     state : IsLockState mutex (lock_state w l)
@@ -264,27 +340,55 @@ module _ (w : State) (t l : ℕ) (steady : IsInductive w) (there : t < length w.
     same_kinds k = given_kinds w t (Mutex l at) l (op.Store (hand_off_word true none_left)) k
 
     -- the store that hands the lock over
-    pub hands_over : ActsNeeded mutex (acts t (deeds.handing_deeds (Some u) none_left) ++ deeds.claims_of (Some u)) (mutex_at w l)
+    pub hands_over : ActsNeeded mutex (acts t (deeds.handing_deeds (Some u) none_left) ++ deeds.claims_of
+        (Some u)) (mutex_at w l)
         → Goes w
-        (go_by w t (Mutex l (HandOff bumps (hand_off.Store true none_left))) (act.TheVariants.HandOver l (op.Store (hand_off_word true none_left)))) l
+        (go_by w t (Mutex l (HandOff bumps (hand_off.Store true none_left)))
+        (act.TheVariants.HandOver l (op.Store (hand_off_word true none_left)))) l
         (acts t (deeds.handing_deeds (Some u) none_left) ++ deeds.claims_of (Some u))
     hands_over needed = record {
-      follows = subst (λ (z : State). SiteFollows w (put z t p2) l (acts t (deeds.handing_deeds (Some u) none_left) ++ deeds.claims_of (Some u))) (sym told) (follow w after l (rules w t l at steady is there) (putting (putting (place_at w) u pu) t p2) (if none_left then 1 else 3) (with_exclusive (owners_at w l) (Some u)) (queue_at w (2 * l)) places
-          (record { threads = length-set (set w.places u pu) t p2 ∙ length-set w.places u pu; locks = length-set w.locks l _; shares = length-set w.shares l (shares_handed_over w t l) })
-          (λ k i. record { shared = ((λ j. get_or (set w.shares l (shares_handed_over w t l)) k (replicate ((length-set (set w.places u pu) t p2 ∙ length-set w.places u pu) j) 0)) ∙ given_shares w t l (none_given t w.places (shares_at w l) (alone_at w t l at steady is)) k) i; filled = given_filled w t (Mutex l at) l (op.Store (hand_off_word true none_left)) (rules w t l at steady is there) k i })
+      follows = subst (λ (z : State). SiteFollows w (put z t p2) l
+          (acts t (deeds.handing_deeds (Some u) none_left) ++ deeds.claims_of (Some u))) (sym told)
+          (follow w after l (rules w t l at steady is there) (putting (putting (place_at w) u pu) t p2)
+          (if none_left then 1 else 3) (with_exclusive (owners_at w l) (Some u)) (queue_at w (2 * l)) places
+          (record {
+            threads = length-set (set w.places u pu) t p2 ∙ length-set w.places u pu;
+            locks = length-set w.locks l _;
+            shares = length-set w.shares l (shares_handed_over w t l);
+          })
+          (λ k i. record {
+            shared = ((λ j. get_or (set w.shares l (shares_handed_over w t l)) k
+                (replicate ((length-set (set w.places u pu) t p2 ∙ length-set w.places u pu) j) 0))
+                ∙ given_shares w t l (none_given t w.places (shares_at w l) (alone_at w t l at steady is)) k)
+                i;
+            filled = given_filled w t (Mutex l at) l (op.Store (hand_off_word true none_left))
+                (rules w t l at steady is there) k i;
+          })
           (changed_set (λ x. x.word) w.locks l _ (unlocked kind.TheVariants.Mutex) lt) owners_given
           (unchanged (λ k. queue_at w (2 * k)) l) (λ k. refl) same_kinds
-          (λ k ne x. alike_both l k (place_at w) u pu t p2 (there_u.handed (unshared_then w t l)).others (own_alike l (place_at w t) p2 own_t refl) apart ne x)
-          (hands_acts mutex l (base_at w l) (word_at w l) (owners_at w l) (queue_at w (2 * l)) (queue_at w (2 * l + 1)) (place_at w) (TakesOne w) steady.stands.hands (single w t l at steady is there) (mutexes_at w t l at steady is) t u (unshared_then w t l) bumps none_left refl state is held none_left)
-          (handing mutex l (base_at w l) (word_at w l) (owners_at w l) (queue_at w (2 * l)) (queue_at w (2 * l + 1)) (place_at w) (TakesOne w) steady.stands.hands (single w t l at steady is there) (mutexes_at w t l at steady is) t u (unshared_then w t l) bumps none_left refl state is held none_left refl)
+          (λ k ne x. alike_both l k (place_at w) u pu t p2 (there_u.handed (unshared_then w t l)).others
+          (own_alike l (place_at w t) p2 own_t refl) apart ne x)
+          (hands_acts mutex l (base_at w l) (word_at w l) (owners_at w l) (queue_at w (2 * l))
+          (queue_at w (2 * l + 1)) (place_at w) (TakesOne w) steady.stands.hands
+          (single w t l at steady is there) (mutexes_at w t l at steady is) t u (unshared_then w t l)
+          bumps none_left refl state is held none_left)
+          (handing mutex l (base_at w l) (word_at w l) (owners_at w l) (queue_at w (2 * l))
+          (queue_at w (2 * l + 1)) (place_at w) (TakesOne w) steady.stands.hands
+          (single w t l at steady is there) (mutexes_at w t l at steady is) t u (unshared_then w t l)
+          bumps none_left refl state is held none_left refl)
           needed
           (coded none_left));
-      stands = stands_by w then_state behind (told_at.places_are w t l steady p2 beside fits_2 holds (hand_over_told w t l) (hand t true) all_told before refl there) same_kinds_then
+      stands = stands_by w then_state behind (told_at.places_are w t l steady p2 beside fits_2 holds
+          (hand_over_told w t l) (hand t true) all_told before refl there) same_kinds_then
           (record {
-            sections = sections_same (locations_of (place_at w)) (locations_of behind) (section_at w) steady.stands.sections (parts_kept (λ y. y.inside) (λ y h. refl) refl);
-            lines = lines_same (locations_of (place_at w)) (locations_of behind) (queue_at w) (queue_at w) steady.stands.lines (parts_kept (λ y. y.stands) (λ y h. refl) refl) (λ key. refl);
-            waits = waits_same (locations_of (place_at w)) (locations_of behind) (queue_at w) (queue_at w) steady.stands.waits (parts_kept (λ y. y.waits) (λ y h. refl) refl) (λ key. refl);
+            sections = sections_same (locations_of (place_at w)) (locations_of behind) (section_at w)
+                steady.stands.sections (parts_kept (λ y. y.inside) (λ y h. refl) refl);
+            lines = lines_same (locations_of (place_at w)) (locations_of behind) (queue_at w) (queue_at w)
+                steady.stands.lines (parts_kept (λ y. y.stands) (λ y h. refl) refl) (λ key. refl);
+            waits = waits_same (locations_of (place_at w)) (locations_of behind) (queue_at w) (queue_at w)
+                steady.stands.waits (parts_kept (λ y. y.waits) (λ y h. refl) refl) (λ key. refl);
             hands = hands_then;
           })
-          (λ x. calls_in w then_state (behind x) same_kinds_then (told_at.calls_then w t l steady p2 beside fits_2 holds (hand_over_told w t l) (hand t true) all_told x));
+          (λ x. calls_in w then_state (behind x) same_kinds_then (told_at.calls_then w t l steady p2 beside
+          fits_2 holds (hand_over_told w t l) (hand t true) all_told x));
     }

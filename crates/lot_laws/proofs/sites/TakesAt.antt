@@ -1,6 +1,9 @@
--- A thread takes waiters of a line of a lock, as many as it is to, where each may be in a call of another lock too, and the thread itself among them:
+-- A thread takes waiters of a line of a lock, as many as it is to, where each may be in a call of another
+-- lock too, and the thread itself among them:
 -- every lock is a site again.
-use Rattle.std.proofs.Common.{ℕ, Bool, true, false, Option, Some, None, if◌then◌else◌, ◌==◌, ◌&&◌, ◌||◌, ◌≡◌, ◌≢◌, ◌+◌, ◌*◌, ◌≤◌, ◌<◌, ◌⊎◌, replicate, List, [], ◌∷◌, length, get_or, set, map, inl, inr, refl, sym, ◌∙◌, ap, subst, arith}
+use Rattle.std.proofs.Common.{ℕ, Bool, true, false, Option, Some, None, if◌then◌else◌, ◌==◌, ◌&&◌, ◌||◌, ◌≡◌}
+use Rattle.std.proofs.Common.{◌≢◌, ◌+◌, ◌*◌, ◌≤◌, ◌<◌, ◌⊎◌, replicate, List, [], ◌∷◌, length, get_or, set}
+use Rattle.std.proofs.Common.{map, inl, inr, refl, sym, ◌∙◌, ap, subst, arith}
 use Rattle.std.proofs.lemmas.Bool.{cases_eq}
 use Rattle.std.proofs.lemmas.Bool.Decides.{nat_tests}
 use Rattle.std.proofs.Math.Bool.{and-true, and-false}
@@ -17,17 +20,23 @@ use Rattle.spec_locks.specs.Picks.{queued_of}
 use Rattle.spec_locks.specs.Sites.{Site, Deed, Line, Main, Second}
 use Rattle.spec_locks.specs.Codes.{code}
 use Rattle.spec_locks.specs.declared.kinds.Kind as kind
-use Rattle.lot_machine.specs.Machine.{State, unlocked, shares_at, place_at, section_at, queue_at, kind_at, places_told}
+use Rattle.lot_machine.specs.Machine.{State, unlocked, shares_at, place_at, section_at, queue_at, kind_at}
+use Rattle.lot_machine.specs.Machine.{places_told}
 use Rattle.lot_laws.specs.Refinement.{taken_at}
 use Rattle.lot_laws.specs.MutexDeeds.{acts}
 use Rattle.lot_laws.specs.Locations.{Location, hand, location_at, role_on}
-use Rattle.lot_laws.specs.SitesOf.{ActsNeeded, TakesOne, Hands, IsInductive, Goes, FitsItsLock, Lines, AllAreWaiting, AreWaiting, Sections, after_acts, rules_in, key_of, stood_in, carried_at, hand_at, locations_of}
+use Rattle.lot_laws.specs.SitesOf.{ActsNeeded, TakesOne, Hands, IsInductive, Goes, FitsItsLock, Lines}
+use Rattle.lot_laws.specs.SitesOf.{AllAreWaiting, AreWaiting, Sections, after_acts, rules_in, key_of}
+use Rattle.lot_laws.specs.SitesOf.{stood_in, carried_at, hand_at, locations_of}
 use Rattle.lot_laws.proofs.semaphore.Permits.{all_by}
-use Rattle.lot_laws.proofs.machine.Parts.{parts_at, base_at, lock_in, seen_in, same, differ, put_here, put_other, set_puts, past_all}
+use Rattle.lot_laws.proofs.machine.Parts.{parts_at, base_at, lock_in, seen_in, same, differ, put_here}
+use Rattle.lot_laws.proofs.machine.Parts.{put_other, set_puts, past_all}
 use Rattle.lot_laws.proofs.sites.OneStep.{AreSingle, others_same}
 use Rattle.lot_laws.proofs.sites.ActsAt.{word_by_lines}
-use Rattle.lot_laws.proofs.sites.Following.{AlikeAt, Moves, NoHandOff, ordinary_by, limited, with_line, stood_other, follows_by, lock_by}
-use Rattle.lot_laws.proofs.sites.StandsKept.{AlikeBeside, same_line, other_key, other_line, sections_same, waiting_same, hands_taken, calls_in}
+use Rattle.lot_laws.proofs.sites.Following.{AlikeAt, Moves, NoHandOff, ordinary_by, limited, with_line}
+use Rattle.lot_laws.proofs.sites.Following.{stood_other, follows_by, lock_by}
+use Rattle.lot_laws.proofs.sites.StandsKept.{AlikeBeside, same_line, other_key, other_line, sections_same}
+use Rattle.lot_laws.proofs.sites.StandsKept.{waiting_same, hands_taken, calls_in}
 use Rattle.lot_laws.proofs.sites.StandsMoved.{stands_by}
 
 -- ---------------------------------------------------------------- lists of waiters
@@ -59,8 +68,10 @@ told_by reply (x ∷ xs) p = told_by reply xs (putting p x.thread (next_place (p
 pub told_places : (reply : Reply) (xs : List Waiter) (ps : List Place)
     → (λ u. get_or (places_told reply (threads_of xs) ps) u Idle) ≡ told_by reply xs (λ u. get_or ps u Idle)
 told_places reply [] ps = refl
-told_places reply (x ∷ xs) ps = told_places reply xs (set ps x.thread (next_place (get_or ps x.thread Idle) reply))
-    ∙ ap (told_by reply xs) (λ i u. set_puts ps x.thread (next_place (get_or ps x.thread Idle) reply) Idle (λ h. ap (λ p. next_place p reply) (past_all ps x.thread Idle h)) u i)
+told_places reply (x ∷ xs) ps =
+    told_places reply xs (set ps x.thread (next_place (get_or ps x.thread Idle) reply))
+    ∙ ap (told_by reply xs) (λ i u. set_puts ps x.thread (next_place (get_or ps x.thread Idle) reply) Idle
+    (λ h. ap (λ p. next_place p reply) (past_all ps x.thread Idle h)) u i)
 
 -- each is told once
 pub told_once : (reply : Reply) (xs : List Waiter) (p : ℕ → Place) (u : ℕ) → times u xs ≤ 1
@@ -72,10 +83,15 @@ told_once reply (x ∷ xs) p u h = told_once reply xs now u (omega arith) ∙ ei
     now = putting p x.thread (next_place (p x.thread) reply)
 
     either : ((x.thread ≡ u) ⊎ (x.thread ≢ u))
-        → (if member u xs then next_place (now u) reply else now u) ≡ (if member u (x ∷ xs) then next_place (p u) reply else p u)
+        → (if member u xs then next_place (now u) reply else now u)
+        ≡ (if member u (x ∷ xs) then next_place (p u) reply else p u)
     either (inl e) = let one : times u (x ∷ xs) ≡ 1 + times u xs = rw (e, same u) refl in
         rw (no_member u xs (omega arith), e, same u) refl
-    either (inr ne) = rw (differ x.thread u ne, put_other p x.thread (next_place (p x.thread) reply) u (λ e. ne (sym e))) refl
+    either (inr ne) = rw (
+      differ x.thread u ne,
+      put_other p x.thread (next_place (p x.thread) reply) u
+          (λ e. ne (sym e)),
+    ) refl
 
 -- each that is taken is so by t, for what it wants
 abbrev pub AllAre : ℕ → (ℕ → Option Taken) → List Waiter → Type 0
@@ -94,7 +110,8 @@ taking_is t (x ∷ xs) was v u h = taking_is t xs now v u h.1 ∙ either (member
         → (if b then v u else now u) ≡ (if (x.thread == u) || b then v u else was u)
     either true (inl e) = rw (e, same u) refl
     either true (inr ne) = rw (differ x.thread u ne) refl
-    either false (inl e) = rw (e, same u) (sym (subst (λ j. v j ≡ Some (record { by = t; want = x.want })) e h.0))
+    either false (inl e) = rw (e, same u)
+        (sym (subst (λ j. v j ≡ Some (record { by = t; want = x.want })) e h.0))
     either false (inr ne) = rw (differ x.thread u ne, differ u x.thread (λ e. ne (sym e))) refl
 
 -- ---------------------------------------------------------------- some are taken
@@ -131,7 +148,8 @@ inside_of_take : (t : ℕ) (b : Bool) (x : Location) → (behind_take t b x).ins
 inside_of_take t true x = refl
 inside_of_take t false x = refl
 
-stands_of_take : (t : ℕ) (b : Bool) (x : Location) → (behind_take t b x).stands ≡ (if b then None else x.stands)
+stands_of_take : (t : ℕ) (b : Bool) (x : Location) → (behind_take t b x).stands
+    ≡ (if b then None else x.stands)
 stands_of_take t true x = refl
 stands_of_take t false x = refl
 
@@ -139,14 +157,17 @@ waits_of_take : (t : ℕ) (x : Location) → (b : Bool) → b ≡ false → (beh
 waits_of_take t x true e = absurd cc
 waits_of_take t x false e = refl
 
-hand_of_take : (t : ℕ) (b : Bool) (x : Location) → (behind_take t b x).hand ≡ (if b then hand t false else x.hand)
+hand_of_take : (t : ℕ) (b : Bool) (x : Location) → (behind_take t b x).hand
+    ≡ (if b then hand t false else x.hand)
 hand_of_take t true x = refl
 hand_of_take t false x = refl
 
 module _ (w : State) (t l : ℕ) (steady : IsInductive w) (there : t < length w.places) (p2 : Place)
     (beside : AlikeBeside l (place_at w t) p2) (fits : FitsItsLock w p2)
-    (m : Line) (taken left : List Waiter) (splits : SplitsAt w t l m taken left) (single : TakesOne w l → (u v : ℕ) → member u taken ≡ true → member v taken ≡ true → u ≡ v)
-    (bare : (location_at (place_at w t) l).carries ≡ None) (c : Option Bool) (now : location_at p2 l ≡ record (behind_take t (member t taken) (location_at (place_at w t) l)) { carries = c }) where
+    (m : Line) (taken left : List Waiter) (splits : SplitsAt w t l m taken left) (single : TakesOne w l
+    → (u v : ℕ) → member u taken ≡ true → member v taken ≡ true → u ≡ v)
+    (bare : (location_at (place_at w t) l).carries ≡ None) (c : Option Bool) (now : location_at p2 l
+    ≡ record (behind_take t (member t taken) (location_at (place_at w t) l)) { carries = c }) where
   abbrev has : ℕ → Bool
   has u = member u taken
 
@@ -163,16 +184,20 @@ module _ (w : State) (t l : ℕ) (steady : IsInductive w) (there : t < length w.
   stood u = splits.counts u ∙ steady.stands.lines u l m
 
   once : (u : ℕ) → times u taken ≤ 1
-  once u = let a : times u taken + times u left ≡ stood_in (was u).stands m = stood u in let b : stood_in (was u).stands m ≤ 1 = at_most_one (was u).stands m in omega arith
+  once u = let a : times u taken + times u left ≡ stood_in (was u).stands m = stood u
+      in let b : stood_in (was u).stands m ≤ 1 = at_most_one (was u).stands m in omega arith
 
   told_on : (u : ℕ) → has u ≡ true → told u ≡ next_place (place_at w u) (TakenBy t)
-  told_on u h = told_once (TakenBy t) taken (place_at w) u (once u) ∙ ap (λ b. if b then next_place (place_at w u) (TakenBy t) else place_at w u) h
+  told_on u h = told_once (TakenBy t) taken (place_at w) u (once u)
+      ∙ ap (λ b. if b then next_place (place_at w u) (TakenBy t) else place_at w u) h
 
   told_off : (u : ℕ) → has u ≡ false → told u ≡ place_at w u
-  told_off u h = told_once (TakenBy t) taken (place_at w) u (once u) ∙ ap (λ b. if b then next_place (place_at w u) (TakenBy t) else place_at w u) h
+  told_off u h = told_once (TakenBy t) taken (place_at w) u (once u)
+      ∙ ap (λ b. if b then next_place (place_at w u) (TakenBy t) else place_at w u) h
 
   -- by the thread that is looked at
-  by_thread : (P : ℕ → Place → Type 0) → P t p2 → ((u : ℕ) → u ≢ t → has u ≡ true → P u (next_place (place_at w u) (TakenBy t)))
+  by_thread : (P : ℕ → Place → Type 0) → P t p2 → ((u : ℕ) → u ≢ t → has u ≡ true
+      → P u (next_place (place_at w u) (TakenBy t)))
       → ((u : ℕ) → u ≢ t → has u ≡ false → P u (place_at w u)) → (u : ℕ) → P u (places_now u)
   by_thread P here on off u = elim (cases_eq u t) [
     | inl e ↦ rw (e, put_here told t p2) here
@@ -184,7 +209,9 @@ module _ (w : State) (t l : ℕ) (steady : IsInductive w) (there : t < length w.
       either ne false h = subst (P u) (sym (told_off u h)) (off u ne h)
 
   -- a part of a location at the lock, but for the threads that t carries
-  part_here : {A : Type 0} (g : Location → A) → ((x : Location) (b : Option Bool) → g (record x { carries = b }) ≡ g x) → (u : ℕ) → g (location_at (places_now u) l) ≡ g (behind_take t (has u) (was u))
+  part_here : {A : Type 0} (g : Location → A) → ((x : Location) (b : Option Bool)
+      → g (record x { carries = b }) ≡ g x) → (u : ℕ) → g (location_at (places_now u) l) ≡ g
+      (behind_take t (has u) (was u))
   part_here g same_part = by_thread (λ u p. g (location_at p l) ≡ g (behind_take t (has u) (was u)))
       (ap g now ∙ same_part (behind_take t (has t) (was t)) c)
       (λ u nu h. ap g ((splits.sleeps u h).goes) ∙ sym (ap (λ b. g (behind_take t b (was u))) h))
@@ -192,10 +219,13 @@ module _ (w : State) (t l : ℕ) (steady : IsInductive w) (there : t < length w.
 
   -- At other locks all locations are as they were.
   location_there : (u k : ℕ) → k ≢ l → location_at (places_now u) k ≡ location_at (place_at w u) k
-  location_there u k ne = by_thread (λ u p. location_at p k ≡ location_at (place_at w u) k) (beside k ne).location (λ u nu h. ((splits.sleeps u h).alike k ne).location) (λ u nu h. refl) u
+  location_there u k ne = by_thread (λ u p. location_at p k ≡ location_at (place_at w u) k)
+      (beside k ne).location (λ u nu h. ((splits.sleeps u h).alike k ne).location) (λ u nu h. refl) u
 
   pub alike : (k : ℕ) → k ≢ l → (u : ℕ) → AlikeAt k (place_at w u) (places_now u)
-  alike k ne = by_thread (λ u p. AlikeAt k (place_at w u) p) ((beside k ne).taken, (beside k ne).role) (λ u nu h. let s = splits.sleeps u h in ((s.alike k ne).taken, (s.alike k ne).role)) (λ u nu h. (refl, refl))
+  alike k ne = by_thread (λ u p. AlikeAt k (place_at w u) p) ((beside k ne).taken, (beside k ne).role)
+      (λ u nu h. let s = splits.sleeps u h in ((s.alike k ne).taken, (s.alike k ne).role))
+      (λ u nu h. (refl, refl))
 
   inside_now : (u k : ℕ) → (location_at (places_now u) k).inside ≡ (location_at (place_at w u) k).inside
   inside_now u k = elim (cases_eq k l) [
@@ -205,65 +235,90 @@ module _ (w : State) (t l : ℕ) (steady : IsInductive w) (there : t < length w.
 
   -- ---------------------------------------------------------------- hands
 
-  in_hand : (u k : ℕ) → hand_at (places_now u) k ≡ (if has u && (k == l) then hand t false else hand_at (place_at w u) k)
+  in_hand : (u k : ℕ) → hand_at (places_now u) k ≡ (if has u && (k == l) then hand t false else hand_at
+      (place_at w u) k)
   in_hand u k = elim (cases_eq k l) [
-    | inl e ↦ rw (e, same l, and-true (has u)) (part_here (λ y. y.hand) (λ x b. refl) u ∙ hand_of_take t (has u) (was u))
+    | inl e ↦ rw (e, same l, and-true (has u)) (part_here (λ y. y.hand) (λ x b. refl) u
+        ∙ hand_of_take t (has u) (was u))
     | inr ne ↦ rw (differ k l ne, and-false (has u)) (ap (λ (y : Location). y.hand) (location_there u k ne))
   ]
 
-  carries : (i k : ℕ) → carried_at (places_now i) k ≡ (if (i == t) && (k == l) then c else carried_at (place_at w i) k)
+  carries : (i k : ℕ) → carried_at (places_now i) k ≡ (if (i == t) && (k == l) then c else carried_at
+      (place_at w i) k)
   carries i k = elim (cases_eq k l) [
-    | inl e ↦ rw (e, same l, and-true (i == t)) (by_thread (λ u p. carried_at p l ≡ (if u == t then c else carried_at (place_at w u) l))
+    | inl e ↦ rw (e, same l, and-true (i == t))
+        (by_thread (λ u p. carried_at p l ≡ (if u == t then c else carried_at (place_at w u) l))
         (rw (same t) (ap (λ (y : Location). y.carries) now))
         (λ u nu h. rw (differ u t nu) (ap (λ (y : Location). y.carries) (splits.sleeps u h).goes))
         (λ u nu h. rw (differ u t nu) refl) i)
-    | inr ne ↦ rw (differ k l ne, and-false (i == t)) (ap (λ (y : Location). y.carries) (location_there i k ne))
+    | inr ne ↦ rw (differ k l ne, and-false (i == t)) (ap (λ (y : Location). y.carries)
+        (location_there i k ne))
   ]
 
-  hands_now : ((b : Bool) → c ≡ Some b → (b ≡ false) × ((u : ℕ) × (has u ≡ true))) → ((u : ℕ) → has u ≡ true → c ≡ Some false)
+  hands_now : ((b : Bool) → c ≡ Some b → (b ≡ false) × ((u : ℕ) × (has u ≡ true)))
+      → ((u : ℕ) → has u ≡ true → c ≡ Some false)
       → Hands (TakesOne w) places_now
-  hands_now some full = hands_taken (TakesOne w) (locations_of (place_at w)) (locations_of places_now) steady.stands.hands t l has single c in_hand carries bare (λ u h. (splits.sleeps u h).unheld) some full
+  hands_now some full = hands_taken (TakesOne w) (locations_of (place_at w)) (locations_of places_now)
+      steady.stands.hands t l has single c in_hand carries bare (λ u h. (splits.sleeps u h).unheld) some full
 
   calls_now : (u : ℕ) → FitsItsLock w (places_now u)
-  calls_now = by_thread (λ u p. FitsItsLock w p) fits (λ u nu h. (splits.sleeps u h).fits) (λ u nu h. steady.stands.calls u)
+  calls_now = by_thread (λ u p. FitsItsLock w p) fits (λ u nu h. (splits.sleeps u h).fits)
+      (λ u nu h. steady.stands.calls u)
 
   -- ---------------------------------------------------------------- lines
 
   left_times : (u : ℕ) → has u ≡ false → times u left ≡ stood_in (was u).stands m
-  left_times u h = let a : times u taken + times u left ≡ stood_in (was u).stands m = stood u in let b : times u taken ≡ 0 = stranger_times u taken h in omega arith
+  left_times u h = let a : times u taken + times u left ≡ stood_in (was u).stands m = stood u
+      in let b : times u taken ≡ 0 = stranger_times u taken h in omega arith
 
   none_left : (u : ℕ) → has u ≡ true → times u left ≡ 0
-  none_left u h = let a : times u taken + times u left ≡ stood_in (was u).stands m = stood u in let b : 1 ≤ times u taken = member_times u taken h in let d : stood_in (was u).stands m ≤ 1 = at_most_one (was u).stands m in omega arith
+  none_left u h = let a : times u taken + times u left ≡ stood_in (was u).stands m = stood u
+      in let b : 1 ≤ times u taken = member_times u taken h in let d : stood_in (was u).stands m ≤ 1 =
+      at_most_one (was u).stands m in omega arith
 
   -- a thread that is taken stood in no other line of the lock
   stood_there : (u : ℕ) (n : Line) → has u ≡ true → n ≢ m → times u (queue_at w (key_of l n)) ≡ 0
-  stood_there u n h ng = steady.stands.lines u l n ∙ ap (λ o. stood_in o n) (splits.sleeps u h).stands ∙ stood_other m n ng
+  stood_there u n h ng = steady.stands.lines u l n ∙ ap (λ o. stood_in o n) (splits.sleeps u h).stands
+      ∙ stood_other m n ng
 
   -- those that are left stand in the line
-  lines_now : (queue : ℕ → List Waiter) → queue (key_of l m) ≡ left → ((key : ℕ) → key ≢ key_of l m → queue key ≡ queue_at w key)
+  lines_now : (queue : ℕ → List Waiter) → queue (key_of l m) ≡ left → ((key : ℕ) → key ≢ key_of l m
+      → queue key ≡ queue_at w key)
       → Lines (locations_of places_now) queue
   lines_now queue here others u k n = elim (cases_eq k l) [
-    | inl f ↦ rw f (at_line (has u) refl (same_line n m) ∙ sym (ap (λ o. stood_in o n) (part_here (λ y. y.stands) (λ x b. refl) u ∙ stands_of_take t (has u) (was u))))
-    | inr ne ↦ ap (times u) (others (key_of k n) (other_key l k m n ne)) ∙ steady.stands.lines u k n ∙ sym (ap (λ (y : Location). stood_in y.stands n) (location_there u k ne))
+    | inl f ↦ rw f (at_line (has u) refl (same_line n m)
+        ∙ sym (ap (λ o. stood_in o n) (part_here (λ y. y.stands) (λ x b. refl) u
+        ∙ stands_of_take t (has u) (was u))))
+    | inr ne ↦ ap (times u) (others (key_of k n) (other_key l k m n ne)) ∙ steady.stands.lines u k n
+        ∙ sym (ap (λ (y : Location). stood_in y.stands n) (location_there u k ne))
   ]
     where
       at_line : (b : Bool) → has u ≡ b → ((n ≡ m) ⊎ (n ≢ m))
           → times u (queue (key_of l n)) ≡ stood_in (if has u then None else (was u).stands) n
       at_line true h (inl g) = rw (g, h, here) (none_left u h)
       at_line false h (inl g) = rw (g, h, here) (left_times u h)
-      at_line true h (inr ng) = rw h (ap (times u) (others (key_of l n) (other_line l m n ng)) ∙ stood_there u n h ng)
-      at_line false h (inr ng) = rw h (ap (times u) (others (key_of l n) (other_line l m n ng)) ∙ steady.stands.lines u l n)
+      at_line true h (inr ng) = rw h (ap (times u) (others (key_of l n) (other_line l m n ng))
+          ∙ stood_there u n h ng)
+      at_line false h (inr ng) = rw h (ap (times u) (others (key_of l n) (other_line l m n ng))
+          ∙ steady.stands.lines u l n)
 
   -- Those that are left wait as before.
-  waits_now : (queue : ℕ → List Waiter) → queue (key_of l m) ≡ left → ((key : ℕ) → key ≢ key_of l m → queue key ≡ queue_at w key)
+  waits_now : (queue : ℕ → List Waiter) → queue (key_of l m) ≡ left → ((key : ℕ) → key ≢ key_of l m
+      → queue key ≡ queue_at w key)
       → AllAreWaiting (locations_of places_now) queue
   waits_now queue here others k n = elim (cases_eq k l) [
     | inl f ↦ rw f (elim (same_line n m) [
-      | inl g ↦ rw (g, here) (waiting_same (locations_of (place_at w)) (locations_of places_now) l m left splits.lefts (λ u g. stays u (untaken_left u g)))
-      | inr ng ↦ waiting_same (locations_of (place_at w)) (locations_of places_now) l n (queue (key_of l n)) (subst (AreWaiting (locations_of (place_at w)) l n) (sym (others (key_of l n) (other_line l m n ng))) (steady.stands.waits l n))
-          (λ u g. stays u (untaken_there u n ng (subst (λ (q : List Waiter). 1 ≤ times u q) (others (key_of l n) (other_line l m n ng)) g)))
+      | inl g ↦ rw (g, here) (waiting_same (locations_of (place_at w)) (locations_of places_now) l m left
+          splits.lefts (λ u g. stays u (untaken_left u g)))
+      | inr ng ↦ waiting_same (locations_of (place_at w)) (locations_of places_now) l n (queue (key_of l n))
+          (subst (AreWaiting (locations_of (place_at w)) l n)
+          (sym (others (key_of l n) (other_line l m n ng))) (steady.stands.waits l n))
+          (λ u g. stays u (untaken_there u n ng (subst (λ (q : List Waiter). 1 ≤ times u q)
+          (others (key_of l n) (other_line l m n ng)) g)))
     ])
-    | inr ne ↦ waiting_same (locations_of (place_at w)) (locations_of places_now) k n (queue (key_of k n)) (subst (AreWaiting (locations_of (place_at w)) k n) (sym (others (key_of k n) (other_key l k m n ne))) (steady.stands.waits k n)) (λ u g. ap (λ (y : Location). y.waits) (location_there u k ne))
+    | inr ne ↦ waiting_same (locations_of (place_at w)) (locations_of places_now) k n (queue (key_of k n))
+        (subst (AreWaiting (locations_of (place_at w)) k n) (sym (others (key_of k n) (other_key l k m n ne)))
+        (steady.stands.waits k n)) (λ u g. ap (λ (y : Location). y.waits) (location_there u k ne))
   ]
     where
       stays : (u : ℕ) → has u ≡ false → (location_at (places_now u) l).waits ≡ (was u).waits
@@ -281,33 +336,44 @@ module _ (w : State) (t l : ℕ) (steady : IsInductive w) (there : t < length w.
         where
           either : (b : Bool) → has u ≡ b → b ≡ false
           either false h = refl
-          either true h = absurd (let a : times u (queue_at w (key_of l n)) ≡ 0 = stood_there u n h ng in omega arith)
+          either true h = absurd (let a : times u (queue_at w (key_of l n)) ≡ 0 = stood_there u n h ng
+              in omega arith)
 
   -- the lock, by those that t has in hand then
   module _ (r : Rules) (rules : rules_in w l ≡ r)
-      (own_taken : taken_at p2 l ≡ (if has t then taken_at (next_place (place_at w t) (TakenBy t)) l else taken_at (place_at w t) l)) where
+      (own_taken : taken_at p2 l ≡ (if has t then taken_at (next_place (place_at w t) (TakenBy t)) l
+      else taken_at (place_at w t) l)) where
     abbrev pub lock_taken : Site
     lock_taken = record (seen_in r l (with_line (parts_at w l) m left) (place_at w)) {
-      lock = lock_in (with_line (parts_at w l) m left) (locks.taking t (map queued_of taken) (λ u. taken_at (place_at w u) l));
+      lock = lock_in (with_line (parts_at w l) m left) (locks.taking t (map queued_of taken)
+          (λ u. taken_at (place_at w u) l));
     }
 
-    taken_now : (u : ℕ) → taken_at (places_now u) l ≡ locks.taking t (map queued_of taken) (λ u. taken_at (place_at w u) l) u
-    taken_now = by_thread (λ u p. taken_at p l ≡ locks.taking t (map queued_of taken) (λ u. taken_at (place_at w u) l) u)
+    taken_now : (u : ℕ) → taken_at (places_now u) l ≡ locks.taking t (map queued_of taken)
+        (λ u. taken_at (place_at w u) l) u
+    taken_now = by_thread (λ u p. taken_at p l ≡ locks.taking t (map queued_of taken)
+        (λ u. taken_at (place_at w u) l) u)
         (own_taken ∙ sym (in_hand_by t))
-        (λ u nu h. sym (in_hand_by u ∙ ap (λ b. if b then taken_at (next_place (place_at w u) (TakenBy t)) l else taken_at (place_at w u) l) h))
-        (λ u nu h. sym (in_hand_by u ∙ ap (λ b. if b then taken_at (next_place (place_at w u) (TakenBy t)) l else taken_at (place_at w u) l) h))
+        (λ u nu h. sym (in_hand_by u ∙ ap (λ b. if b then taken_at (next_place (place_at w u) (TakenBy t)) l
+        else taken_at (place_at w u) l) h))
+        (λ u nu h. sym (in_hand_by u ∙ ap (λ b. if b then taken_at (next_place (place_at w u) (TakenBy t)) l
+        else taken_at (place_at w u) l) h))
       where
         in_hand_by : (u : ℕ)
             → locks.taking t (map queued_of taken) (λ u. taken_at (place_at w u) l) u
-            ≡ (if member u taken then taken_at (next_place (place_at w u) (TakenBy t)) l else taken_at (place_at w u) l)
-        in_hand_by u = taking_is t taken (λ u. taken_at (place_at w u) l) (λ u. taken_at (next_place (place_at w u) (TakenBy t)) l) u splits.wants
+            ≡ (if member u taken then taken_at (next_place (place_at w u) (TakenBy t)) l else taken_at
+            (place_at w u) l)
+        in_hand_by u = taking_is t taken (λ u. taken_at (place_at w u) l)
+            (λ u. taken_at (next_place (place_at w u) (TakenBy t)) l) u splits.wants
 
-    take_site : (d : Deed) → AreSingle (d ∷ []) → lock_taken.lock ≡ (after_acts r (acts t (d ∷ [])) (lock_by w l r)).lock
+    take_site : (d : Deed) → AreSingle (d ∷ []) → lock_taken.lock
+        ≡ (after_acts r (acts t (d ∷ [])) (lock_by w l r)).lock
         → lock_taken.parked ≡ (after_acts r (acts t (d ∷ [])) (lock_by w l r)).parked
         → lock_taken.aside_parked ≡ (after_acts r (acts t (d ∷ [])) (lock_by w l r)).aside_parked
         → lock_taken.filled ≡ (after_acts r (acts t (d ∷ [])) (lock_by w l r)).filled
         → role_on p2 l ≡ (after_acts r (acts t (d ∷ [])) (lock_by w l r)).role t
-        → seen_in r l (with_line (parts_at w l) m left) places_now ≡ after_acts r (acts t (d ∷ [])) (lock_by w l r)
+        → seen_in r l (with_line (parts_at w l) m left) places_now ≡ after_acts r (acts t (d ∷ []))
+        (lock_by w l r)
     take_site d single lock parked aside full own_is = λ i. record {
       lock = ((λ j. lock_in (with_line (parts_at w l) m left) (λ u. taken_now u j)) ∙ lock) i;
       parked = parked i;
@@ -316,17 +382,23 @@ module _ (w : State) (t l : ℕ) (steady : IsInductive w) (there : t < length w.
       role = λ u. role_now u i;
     }
       where
-        role_now : (u : ℕ) → role_on (places_now u) l ≡ (after_acts r (acts t (d ∷ [])) (lock_by w l r)).role u
-        role_now = by_thread (λ u p. role_on p l ≡ (after_acts r (acts t (d ∷ [])) (lock_by w l r)).role u) own_is
+        role_now : (u : ℕ) → role_on (places_now u) l ≡ (after_acts r (acts t (d ∷ [])) (lock_by w l r)).role
+            u
+        role_now = by_thread (λ u p. role_on p l ≡ (after_acts r (acts t (d ∷ [])) (lock_by w l r)).role u)
+            own_is
             (λ u nu h. (splits.sleeps u h).role ∙ sym (others_same r (d ∷ []) (lock_by w l r) t u single nu))
             (λ u nu h. sym (others_same r (d ∷ []) (lock_by w l r) t u single nu))
 
     -- the deed, and what it makes of the lock
     module _ (v : State) (el : v.locks ≡ w.locks) (eh : v.shares ≡ w.shares) (es : v.sections ≡ w.sections)
-        (threads : length v.places ≡ length w.places) (places : place_at v ≡ places_now) (here : queue_at v (key_of l m) ≡ left)
+        (threads : length v.places ≡ length w.places) (places : place_at v ≡ places_now)
+        (here : queue_at v (key_of l m) ≡ left)
         (others : (key : ℕ) → key ≢ key_of l m → queue_at v key ≡ queue_at w key) where
       same_lock : (k : ℕ) → base_at v k ≡ base_at w k
-      same_lock k = λ i. record { shared = get_or (eh i) k (replicate (threads i) 0); filled = (get_or (el i) k (unlocked kind.TheVariants.Mutex)).filled }
+      same_lock k = λ i. record {
+        shared = get_or (eh i) k (replicate (threads i) 0);
+        filled = (get_or (el i) k (unlocked kind.TheVariants.Mutex)).filled;
+      }
 
       here_now : (n : Line) → m ≡ n → parts_at v l ≡ with_line (parts_at w l) n left
       here_now Main e = λ i. record {
@@ -364,28 +436,39 @@ module _ (w : State) (t l : ℕ) (steady : IsInductive w) (there : t < length w.
           same_kinds : (k : ℕ) → kind_at v k ≡ kind_at w k
           same_kinds k i = (get_or (el i) k (unlocked kind.TheVariants.Mutex)).kind
 
-          same_sharers : (n : Line) → length (with_line (parts_at w l) n left).base.shared ≡ length (shares_at w l)
+          same_sharers : (n : Line) → length (with_line (parts_at w l) n left).base.shared ≡ length
+              (shares_at w l)
           same_sharers Main = refl
           same_sharers Second = refl
 
       word_now : (n : Line) → m ≡ n
-          → (with_line (parts_at w l) n left).word ≡ code r (seen_in r l (with_line (parts_at w l) n left) places_now)
-      word_now Main e = word_by_lines w t l steady there r rules p2 beside fits left (queue_at w (2 * l + 1)) places_now
-      word_now Second e = word_by_lines w t l steady there r rules p2 beside fits (queue_at w (2 * l)) left places_now
+          → (with_line (parts_at w l) n left).word ≡ code r (seen_in r l (with_line (parts_at w l) n left)
+          places_now)
+      word_now Main e = word_by_lines w t l steady there r rules p2 beside fits left (queue_at w (2 * l + 1))
+          places_now
+      word_now Second e = word_by_lines w t l steady there r rules p2 beside fits (queue_at w (2 * l)) left
+          places_now
 
       pub take_goes : ((b : Bool) → c ≡ Some b → (b ≡ false) × ((u : ℕ) × (has u ≡ true)))
           → ((u : ℕ) → has u ≡ true → c ≡ Some false)
-          → (d : Deed) → AreSingle (d ∷ []) → NoHandOff (d ∷ []) → ActsNeeded r (acts t (d ∷ [])) (lock_by w l r)
+          → (d : Deed) → AreSingle (d ∷ []) → NoHandOff (d ∷ []) → ActsNeeded r (acts t (d ∷ []))
+          (lock_by w l r)
           → lock_taken.lock ≡ (after_acts r (acts t (d ∷ [])) (lock_by w l r)).lock
           → lock_taken.parked ≡ (after_acts r (acts t (d ∷ [])) (lock_by w l r)).parked
           → lock_taken.aside_parked ≡ (after_acts r (acts t (d ∷ [])) (lock_by w l r)).aside_parked
           → lock_taken.filled ≡ (after_acts r (acts t (d ∷ [])) (lock_by w l r)).filled
-          → role_on p2 l ≡ (after_acts r (acts t (d ∷ [])) (lock_by w l r)).role t → Goes w v l (acts t (d ∷ []))
+          → role_on p2 l ≡ (after_acts r (acts t (d ∷ [])) (lock_by w l r)).role t
+          → Goes w v l (acts t (d ∷ []))
       take_goes some full d single_deed plain needed lock parked aside filled own_is = record {
-        follows = follows_by w v l (with_line (parts_at w l) m left) places_now moves r rules (acts t (d ∷ [])) (λ e. all_by (length w.places) t (d ∷ []) there) (limited w l steady r rules (acts t (d ∷ [])) (λ h. ordinary_by (length w.places) t (d ∷ []) there plain) needed) (take_site d single_deed lock parked aside filled own_is) needed (word_now m refl);
+        follows = follows_by w v l (with_line (parts_at w l) m left) places_now moves r rules
+            (acts t (d ∷ [])) (λ e. all_by (length w.places) t (d ∷ []) there)
+            (limited w l steady r rules (acts t (d ∷ [])) (λ h. ordinary_by (length w.places) t (d ∷ []) there
+            plain) needed) (take_site d single_deed lock parked aside filled own_is) needed (word_now m refl);
         stands = stands_by w v places_now places moves.kinds
             (record {
-              sections = subst (λ (f : ℕ → Option ℕ). Sections (locations_of places_now) f) (sym (λ i key. get_or (es i) key None)) (sections_same (locations_of (place_at w)) (locations_of places_now) (section_at w) steady.stands.sections inside_now);
+              sections = subst (λ (f : ℕ → Option ℕ). Sections (locations_of places_now) f)
+                  (sym (λ i key. get_or (es i) key None)) (sections_same (locations_of (place_at w))
+                  (locations_of places_now) (section_at w) steady.stands.sections inside_now);
               lines = lines_now (queue_at v) here others;
               waits = waits_now (queue_at v) here others;
               hands = hands_now some full;

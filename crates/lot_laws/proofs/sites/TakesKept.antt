@@ -1,5 +1,7 @@
--- A thread in a call of one lock takes waiters of a line of it, as many as it is to, each in a call of that lock.
-use Rattle.std.proofs.Common.{ℕ, Bool, true, false, Option, Some, None, if◌then◌else◌, ◌≡◌, ◌≢◌, ◌+◌, ◌≤◌, ◌<◌, List, [], ◌∷◌, length, map, refl, sym, ◌∙◌, ap, arith}
+-- A thread in a call of one lock takes waiters of a line of it, as many as it is to, each in a call of that
+-- lock.
+use Rattle.std.proofs.Common.{ℕ, Bool, true, false, Option, Some, None, if◌then◌else◌, ◌≡◌, ◌≢◌, ◌+◌, ◌≤◌}
+use Rattle.std.proofs.Common.{◌<◌, List, [], ◌∷◌, length, map, refl, sym, ◌∙◌, ap, arith}
 use Rattle.core_base.specs.declared.wants.Waiter.{Waiter}
 use Rattle.core_base.specs.declared.wants.Want.{Want}
 use Rattle.core_base.specs.Lines.{times}
@@ -14,14 +16,16 @@ use Rattle.lot_machine.specs.Machine.{State, place_at, queue_at}
 use Rattle.lot_laws.specs.Refinement.{taken_at}
 use Rattle.lot_laws.specs.MutexDeeds.{acts}
 use Rattle.lot_laws.specs.Locations.{Location, hand, location, location_at, nowhere, role_on}
-use Rattle.lot_laws.specs.SitesOf.{ActsNeeded, TakesOne, IsInductive, Goes, FitsItsLock, AreWaiting, after_acts, rules_in, key_of, stood_in, locations_of}
+use Rattle.lot_laws.specs.SitesOf.{ActsNeeded, TakesOne, IsInductive, Goes, FitsItsLock, AreWaiting}
+use Rattle.lot_laws.specs.SitesOf.{after_acts, rules_in, key_of, stood_in, locations_of}
 use Rattle.lot_laws.proofs.machine.Parts.{parts_at, lock_in, seen_in, IsOf, location_here}
 use Rattle.lot_laws.proofs.sites.OneStep.{AreSingle}
 use Rattle.lot_laws.proofs.sites.Following.{NoHandOff, with_line, lock_by}
 use Rattle.lot_laws.proofs.sites.StandsKept.{own_alike}
 use Rattle.steps_base.specs.Locations.{want_in_line}
 use Rattle.lot_steps.specs.Steps.{profile}
-pub use Rattle.lot_laws.proofs.sites.TakesAt.{member, member_times, at_most_one, told_by, told_places, told_once, AllAre}
+pub use Rattle.lot_laws.proofs.sites.TakesAt.{member, member_times, at_most_one, told_by, told_places}
+pub use Rattle.lot_laws.proofs.sites.TakesAt.{told_once, AllAre}
 use Rattle.lot_laws.proofs.sites.TakesAt.{IsTakenAt, behind_take}
 use Rattle.lot_laws.proofs.sites.TakesAt as at
 
@@ -33,7 +37,8 @@ pub record IsTakenFrom (w : State) (t l : ℕ) (m : Line) (p : Place) : Type 0 w
   pub free : location (next_place p (TakenBy t)) ≡ record nowhere { hand = hand t false }
   pub calls_then : IsOf l (next_place p (TakenBy t))
   pub role : role_on (next_place p (TakenBy t)) l ≡ role_on p l
-  pub held : (x : Want) → wanted ≡ Some x → taken_at (next_place p (TakenBy t)) l ≡ Some (record { by = t; want = x })
+  pub held : (x : Want) → wanted ≡ Some x → taken_at (next_place p (TakenBy t)) l
+      ≡ Some (record { by = t; want = x })
   pub fits : FitsItsLock w (next_place p (TakenBy t))
 
 -- the waiters taken of the line, and those left
@@ -47,15 +52,19 @@ taken_so : (w : State) (t l : ℕ) (m : Line) (p : Place) → IsTakenFrom w t l 
 taken_so w t l m p s = let here = location_here l p s.calls ∙ s.was in record {
   stands = ap (λ (y : Location). y.stands) here;
   unheld = ap (λ (y : Location). y.hand) here;
-  goes = location_here l (next_place p (TakenBy t)) s.calls_then ∙ s.free ∙ sym (ap (behind_take t true) here);
+  goes = location_here l (next_place p (TakenBy t)) s.calls_then ∙ s.free
+      ∙ sym (ap (behind_take t true) here);
   alike = own_alike l p (next_place p (TakenBy t)) s.calls s.calls_then;
   role = s.role;
   fits = s.fits;
 }
 
-module _ (w : State) (t l : ℕ) (steady : IsInductive w) (own : IsOf l (place_at w t)) (there : t < length w.places) (p2 : Place)
+module _ (w : State) (t l : ℕ) (steady : IsInductive w) (own : IsOf l (place_at w t)) (there : t
+    < length w.places) (p2 : Place)
     (of : IsOf l p2) (fits : FitsItsLock w p2) (many : TakesOne w l → ⊥)
-    (m : Line) (taken left : List Waiter) (splits : Splits w t l m taken left) (out : (location (place_at w t)).stands ≡ None) (free : (location (place_at w t)).hand ≡ None) (bare : (location (place_at w t)).carries ≡ None) where
+    (m : Line) (taken left : List Waiter) (splits : Splits w t l m taken left)
+    (out : (location (place_at w t)).stands ≡ None) (free : (location (place_at w t)).hand ≡ None)
+    (bare : (location (place_at w t)).carries ≡ None) where
   was_here : location_at (place_at w t) l ≡ location (place_at w t)
   was_here = location_here l (place_at w t) own
 
@@ -64,15 +73,19 @@ module _ (w : State) (t l : ℕ) (steady : IsInductive w) (own : IsOf l (place_a
     where
       either : (b : Bool) → member t taken ≡ b → b ≡ false
       either false h = refl
-      either true h = absurd (let a : times t taken + times t left ≡ stood_in (location_at (place_at w t) l).stands m = splits.counts t ∙ steady.stands.lines t l m in
-          let b : stood_in (location_at (place_at w t) l).stands m ≡ 0 = ap (λ (y : Location). stood_in y.stands m) was_here ∙ ap (λ o. stood_in o m) out in
+      either true h = absurd (let a : times t taken + times t left ≡ stood_in
+          (location_at (place_at w t) l).stands m = splits.counts t ∙ steady.stands.lines t l m in
+          let b : stood_in (location_at (place_at w t) l).stands m ≡ 0 =
+          ap (λ (y : Location). stood_in y.stands m) was_here ∙ ap (λ o. stood_in o m) out in
           let c : 1 ≤ times t taken = member_times t taken h in omega arith)
 
   waits_out : (p : Place) → (location p).stands ≡ None → (location p).waits ≡ None
   waits_out p e = ap (λ o. want_in_line o (profile p).wants) e
 
   -- its location, but for the threads that it carries
-  now : (location p2).inside ≡ (location (place_at w t)).inside → (location p2).stands ≡ None → (location p2).hand ≡ None → location_at p2 l ≡ record (behind_take t (member t taken) (location_at (place_at w t) l)) { carries = (location p2).carries }
+  now : (location p2).inside ≡ (location (place_at w t)).inside → (location p2).stands ≡ None
+      → (location p2).hand ≡ None → location_at p2 l ≡ record (behind_take t (member t taken)
+      (location_at (place_at w t) l)) { carries = (location p2).carries }
   now inside stands unheld = location_here l p2 of ∙ (λ i. record (location (place_at w t)) {
     inside = inside i;
     stands = (stands ∙ sym out) i;
@@ -81,28 +94,41 @@ module _ (w : State) (t l : ℕ) (steady : IsInductive w) (own : IsOf l (place_a
     hand = (unheld ∙ sym free) i;
   }) ∙ sym (λ i. record (behind_take t (not_self i) (was_here i)) { carries = (location p2).carries })
 
-  module _ (r : Rules) (rules : rules_in w l ≡ r) (none : taken_at (place_at w t) l ≡ None) (none2 : taken_at p2 l ≡ None) where
+  module _ (r : Rules) (rules : rules_in w l ≡ r) (none : taken_at (place_at w t) l ≡ None)
+      (none2 : taken_at p2 l ≡ None) where
     abbrev pub lock_taken : Site
     lock_taken = record (seen_in r l (with_line (parts_at w l) m left) (place_at w)) {
-      lock = lock_in (with_line (parts_at w l) m left) (locks.taking t (map queued_of taken) (λ u. taken_at (place_at w u) l));
+      lock = lock_in (with_line (parts_at w l) m left) (locks.taking t (map queued_of taken)
+          (λ u. taken_at (place_at w u) l));
     }
 
     -- the deed, and what it makes of the lock
     module _ (v : State) (el : v.locks ≡ w.locks) (eh : v.shares ≡ w.shares) (es : v.sections ≡ w.sections)
         (threads : length v.places ≡ length w.places)
-        (places : place_at v ≡ putting (told_by (TakenBy t) taken (place_at w)) t p2) (here : queue_at v (key_of l m) ≡ left)
+        (places : place_at v ≡ putting (told_by (TakenBy t) taken (place_at w)) t p2)
+        (here : queue_at v (key_of l m) ≡ left)
         (others : (key : ℕ) → key ≢ key_of l m → queue_at v key ≡ queue_at w key) where
       pub take_goes : (location p2).inside ≡ (location (place_at w t)).inside → (location p2).stands ≡ None
           → (location p2).hand ≡ None
           → ((b : Bool) → (location p2).carries ≡ Some b → (b ≡ false) × ((u : ℕ) × (member u taken ≡ true)))
           → ((u : ℕ) → member u taken ≡ true → (location p2).carries ≡ Some false)
-          → (d : Deed) → AreSingle (d ∷ []) → NoHandOff (d ∷ []) → ActsNeeded r (acts t (d ∷ [])) (lock_by w l r)
+          → (d : Deed) → AreSingle (d ∷ []) → NoHandOff (d ∷ []) → ActsNeeded r (acts t (d ∷ []))
+          (lock_by w l r)
           → lock_taken.lock ≡ (after_acts r (acts t (d ∷ [])) (lock_by w l r)).lock
           → lock_taken.parked ≡ (after_acts r (acts t (d ∷ [])) (lock_by w l r)).parked
           → lock_taken.aside_parked ≡ (after_acts r (acts t (d ∷ [])) (lock_by w l r)).aside_parked
           → lock_taken.filled ≡ (after_acts r (acts t (d ∷ [])) (lock_by w l r)).filled
-          → role_on p2 l ≡ (after_acts r (acts t (d ∷ [])) (lock_by w l r)).role t → Goes w v l (acts t (d ∷ []))
-      take_goes inside stands unheld = at.take_goes w t l steady there p2 (own_alike l (place_at w t) p2 own of) fits m taken left
-          (record { counts = splits.counts; sleeps = λ u h. taken_so w t l m (place_at w u) (splits.sleeps u h); lefts = splits.lefts; wants = splits.wants })
-          (λ one. absurd (many one)) (ap (λ (y : Location). y.carries) was_here ∙ bare) (location p2).carries (now inside stands unheld) r rules
-          (none2 ∙ sym (ap (λ b. if b then taken_at (next_place (place_at w t) (TakenBy t)) l else taken_at (place_at w t) l) not_self ∙ none)) v el eh es threads places here others
+          → role_on p2 l ≡ (after_acts r (acts t (d ∷ [])) (lock_by w l r)).role t
+          → Goes w v l (acts t (d ∷ []))
+      take_goes inside stands unheld =
+          at.take_goes w t l steady there p2 (own_alike l (place_at w t) p2 own of) fits m taken left
+          (record {
+            counts = splits.counts;
+            sleeps = λ u h. taken_so w t l m (place_at w u) (splits.sleeps u h);
+            lefts = splits.lefts;
+            wants = splits.wants;
+          })
+          (λ one. absurd (many one)) (ap (λ (y : Location). y.carries) was_here ∙ bare) (location p2).carries
+          (now inside stands unheld) r rules
+          (none2 ∙ sym (ap (λ b. if b then taken_at (next_place (place_at w t) (TakenBy t)) l
+          else taken_at (place_at w t) l) not_self ∙ none)) v el eh es threads places here others

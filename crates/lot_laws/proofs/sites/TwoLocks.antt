@@ -1,5 +1,8 @@
--- A step of one thread at two locks that nobody shares: both are sites again, and every other lock is as it was.
-use Rattle.std.proofs.Common.{ℕ, Bool, true, false, Option, Some, None, if◌then◌else◌, ◌==◌, ◌&&◌, ◌≡◌, ◌≢◌, ◌+◌, ◌*◌, ◌<◌, List, [], length, replicate, get_or, set, inl, inr, refl, sym, ◌∙◌, ap, subst, arith, length-set}
+-- A step of one thread at two locks that nobody shares: both are sites again, and every other lock is as it
+-- was.
+use Rattle.std.proofs.Common.{ℕ, Bool, true, false, Option, Some, None, if◌then◌else◌, ◌==◌, ◌&&◌, ◌≡◌, ◌≢◌}
+use Rattle.std.proofs.Common.{◌+◌, ◌*◌, ◌<◌, List, [], length, replicate, get_or, set, inl, inr, refl, sym}
+use Rattle.std.proofs.Common.{◌∙◌, ap, subst, arith, length-set}
 use Rattle.std.proofs.lemmas.Bool.{cases_eq}
 use Rattle.core_base.specs.declared.wants.Waiter.{Waiter}
 use Rattle.spec_locks.specs.declared.kinds.Kind as kind
@@ -15,9 +18,11 @@ use Rattle.lot_laws.specs.Refinement.{lock_state}
 use Rattle.lot_laws.specs.MutexDeeds.{acts}
 use Rattle.lot_laws.specs.MutexDeeds as deeds
 use Rattle.lot_laws.specs.Locations.{Location}
-use Rattle.lot_laws.specs.SitesOf.{ActsNeeded, AllBy, FollowAll, IsInductive, SameNumbers, after_acts, key_of, rules_in, site_of}
+use Rattle.lot_laws.specs.SitesOf.{ActsNeeded, AllBy, FollowAll, IsInductive, SameNumbers, after_acts, key_of}
+use Rattle.lot_laws.specs.SitesOf.{rules_in, site_of}
 use Rattle.lot_laws.proofs.semaphore.Permits.{all_by}
-use Rattle.lot_laws.proofs.machine.Parts.{Parts, parts_at, put_here, put_other, put_places, same, differ, seen_in}
+use Rattle.lot_laws.proofs.machine.Parts.{Parts, parts_at, put_here, put_other, put_places, same, differ}
+use Rattle.lot_laws.proofs.machine.Parts.{seen_in}
 use Rattle.lot_laws.proofs.sites.OneStep.{Steps, same_word}
 use Rattle.lot_laws.proofs.sites.StandsKept.{Alike, other_key}
 use Rattle.lot_laws.proofs.sites.StandsMoved.{AreThere, goes_in, goes_out}
@@ -40,57 +45,87 @@ pub record BehindIt (w v : State) (q : ℕ → Place) (l : ℕ) (ds : List deeds
 
 module _ (w v : State) (steady : IsInductive w) (q : ℕ → Place) (places : place_at v ≡ q)
     (kinds : (k : ℕ) → kind_at v k ≡ kind_at w k) (numbers : SameNumbers w v) (c m : ℕ)
-    (others : (k : ℕ) → k ≢ c → k ≢ m → (parts_at v k ≡ parts_at w k) × ((u : ℕ) → AlikeAt k (place_at w u) (q u))) where
-  site_at : (l : ℕ) (ds : List deeds.Act) → BehindIt w v q l ds → site_of v l ≡ after_acts (rules_in w l) ds (site_of w l)
+    (others : (k : ℕ) → k ≢ c → k ≢ m → (parts_at v k ≡ parts_at w k)
+    × ((u : ℕ) → AlikeAt k (place_at w u) (q u))) where
+  site_at : (l : ℕ) (ds : List deeds.Act) → BehindIt w v q l ds → site_of v l ≡ after_acts (rules_in w l) ds
+      (site_of w l)
   site_at l ds b = (λ i. seen_in (rules_of (kinds l i)) l (b.here i) (places i)) ∙ b.led
 
   site_else : (k : ℕ) → k ≢ c → k ≢ m → site_of v k ≡ site_of w k
   site_else k nc nm = let o = others k nc nm in (λ i. seen_in (rules_of (kinds k i)) k (o.0 i) (places i))
-      ∙ (λ i. record (site_of w k) { lock = record (site_of w k).lock { taken = λ u. (o.1 u).0 i }; role = λ u. (o.1 u).1 i })
+      ∙ (λ i. record (site_of w k) {
+        lock = record (site_of w k).lock { taken = λ u. (o.1 u).0 i };
+        role = λ u. (o.1 u).1 i;
+      })
 
-  word_here : (l : ℕ) (ds : List deeds.Act) → BehindIt w v q l ds → word_at v l ≡ code (rules_in w l) (site_of v l)
-  word_here l ds b = ap (λ (a : Parts). a.word) b.here ∙ b.coded ∙ sym (ap (code (rules_in w l)) (λ i. seen_in (rules_of (kinds l i)) l (b.here i) (places i)))
+  word_here : (l : ℕ) (ds : List deeds.Act) → BehindIt w v q l ds → word_at v l ≡ code (rules_in w l)
+      (site_of v l)
+  word_here l ds b = ap (λ (a : Parts). a.word) b.here ∙ b.coded
+      ∙ sym (ap (code (rules_in w l)) (λ i. seen_in (rules_of (kinds l i)) l (b.here i) (places i)))
 
   word_else : (k : ℕ) → k ≢ c → k ≢ m → word_at v k ≡ code (rules_in w k) (site_of v k)
-  word_else k nc nm = ap (λ (a : Parts). a.word) (others k nc nm).0 ∙ steady.sites.word k ∙ sym (ap (code (rules_in w k)) (site_else k nc nm))
+  word_else k nc nm = ap (λ (a : Parts). a.word) (others k nc nm).0 ∙ steady.sites.word k
+      ∙ sym (ap (code (rules_in w k)) (site_else k nc nm))
 
   module _ (at_c at_m : List deeds.Act) (apart : m ≢ c) (behind_c : BehindIt w v q c at_c)
       (behind_m : BehindIt w v q m at_m) where
     -- by which lock is looked at
-    by_lock : (P : ℕ → List deeds.Act → Type 0) → P c at_c → P m at_m → ((k : ℕ) → k ≢ c → k ≢ m → P k []) → (k : ℕ)
+    by_lock : (P : ℕ → List deeds.Act → Type 0) → P c at_c → P m at_m → ((k : ℕ) → k ≢ c → k ≢ m → P k [])
+        → (k : ℕ)
         → P k (two_at c m at_c at_m k)
     by_lock P here beside else_at k = elim (cases_eq k c) [
-      | inl e ↦ subst (λ j. P j (two_at c m at_c at_m j)) (sym e) (subst (P c) (sym (ap (λ b. if b then at_c else if c == m then at_m else []) (same c))) here)
+      | inl e ↦ subst (λ j. P j (two_at c m at_c at_m j)) (sym e)
+          (subst (P c) (sym (ap (λ b. if b then at_c else if c == m then at_m else []) (same c))) here)
       | inr nc ↦ elim (cases_eq k m) [
-        | inl e ↦ subst (λ j. P j (two_at c m at_c at_m j)) (sym e) (subst (P m) (sym (ap (λ b. if b then at_c else if m == m then at_m else []) (differ m c apart) ∙ ap (λ b. if b then at_m else []) (same m))) beside)
-        | inr nm ↦ subst (P k) (sym (ap (λ b. if b then at_c else if k == m then at_m else []) (differ k c nc) ∙ ap (λ b. if b then at_m else []) (differ k m nm))) (else_at k nc nm)
+        | inl e ↦ subst (λ j. P j (two_at c m at_c at_m j)) (sym e)
+            (subst (P m) (sym (ap (λ b. if b then at_c else if m == m then at_m else []) (differ m c apart)
+            ∙ ap (λ b. if b then at_m else []) (same m))) beside)
+        | inr nm ↦ subst (P k) (sym (ap (λ b. if b then at_c else if k == m then at_m else []) (differ k c nc)
+            ∙ ap (λ b. if b then at_m else []) (differ k m nm))) (else_at k nc nm)
       ]
     ]
 
     pub follow_two : FollowAll w v (two_at c m at_c at_m)
     follow_two = record {
-      site = by_lock (λ k ds. site_of v k ≡ after_acts (rules_in w k) ds (site_of w k)) (site_at c at_c behind_c) (site_at m at_m behind_m) site_else;
-      needed = by_lock (λ k ds. ActsNeeded (rules_in w k) ds (site_of w k)) behind_c.needed behind_m.needed (λ k nc nm. tt);
-      word = by_lock (λ k ds. word_at v k ≡ code (rules_in w k) (site_of v k)) (word_here c at_c behind_c) (word_here m at_m behind_m) word_else;
+      site = by_lock (λ k ds. site_of v k ≡ after_acts (rules_in w k) ds (site_of w k))
+          (site_at c at_c behind_c) (site_at m at_m behind_m) site_else;
+      needed = by_lock (λ k ds. ActsNeeded (rules_in w k) ds (site_of w k)) behind_c.needed behind_m.needed
+          (λ k nc nm. tt);
+      word = by_lock (λ k ds. word_at v k ≡ code (rules_in w k) (site_of v k)) (word_here c at_c behind_c)
+          (word_here m at_m behind_m) word_else;
       kinds = kinds;
       numbers = numbers;
-      sharers = by_lock (λ k ds. length (shares_at v k) ≡ length (shares_at w k)) (ap (λ (a : Parts). length a.base.shared) behind_c.here ∙ behind_c.sharers) (ap (λ (a : Parts). length a.base.shared) behind_m.here ∙ behind_m.sharers)
+      sharers = by_lock (λ k ds. length (shares_at v k) ≡ length (shares_at w k))
+          (ap (λ (a : Parts). length a.base.shared) behind_c.here ∙ behind_c.sharers)
+          (ap (λ (a : Parts). length a.base.shared) behind_m.here ∙ behind_m.sharers)
           (λ k nc nm. ap (λ (a : Parts). length a.base.shared) (others k nc nm).0);
-      limit = by_lock (λ k ds. has_readers (rules_in w k).sort ≡ true → HasLimit (rules_in w k) (lock_state v k)) (λ h. let z : true ≡ false = sym h ∙ behind_c.unshared in cc) (λ h. let z : true ≡ false = sym h ∙ behind_m.unshared in cc)
-          (λ k nc nm h. subst (λ (s : Site). HasLimit (rules_in w k) s.lock) (sym (site_else k nc nm)) (steady.sites.limits k h).1);
-      by = by_lock (λ k ds. (rules_in w k).sort ≡ locks.Semaphore → AllBy (length w.places) ds) behind_c.by behind_m.by (λ k nc nm h. tt);
+      limit = by_lock (λ k ds. has_readers (rules_in w k).sort ≡ true → HasLimit (rules_in w k)
+          (lock_state v k)) (λ h. let z : true ≡ false = sym h ∙ behind_c.unshared in cc) (λ h. let z : true
+          ≡ false = sym h ∙ behind_m.unshared in cc)
+          (λ k nc nm h. subst (λ (s : Site). HasLimit (rules_in w k) s.lock) (sym (site_else k nc nm))
+          (steady.sites.limits k h).1);
+      by = by_lock (λ k ds. (rules_in w k).sort ≡ locks.Semaphore → AllBy (length w.places) ds) behind_c.by
+          behind_m.by (λ k nc nm h. tt);
     }
 
--- ---------------------------------------------------------------- sections alone change, and the place of one thread
+-- -------------------------------------------------------- sections alone change, and the place of one thread
 
 -- it goes from where it stands by deeds at both locks
-module _ (w v : State) (steady : IsInductive w) (t : ℕ) (there : t < length w.places) (p2 : Place) (c m : ℕ) (apart : m ≢ c)
+module _ (w v : State) (steady : IsInductive w) (t : ℕ) (there : t < length w.places) (p2 : Place) (c m : ℕ)
+    (apart : m ≢ c)
     (alike : (k : ℕ) → k ≢ c → k ≢ m → Alike k (place_at w t) p2)
-    (el : v.locks ≡ w.locks) (eh : v.shares ≡ w.shares) (eq : v.queues ≡ w.queues) (ep : v.places ≡ set w.places t p2) (unshared_c : has_readers (rules_in w c).sort ≡ false) (unshared_m : has_readers (rules_in w m).sort ≡ false)
-    (ds_c ds_m : List Deed) (steps_c : Steps (rules_in w c) c (parts_at w c) (parts_at w c) (place_at w) t p2 ds_c) (steps_m : Steps (rules_in w m) m (parts_at w m) (parts_at w m) (place_at w) t p2 ds_m) where
+    (el : v.locks ≡ w.locks) (eh : v.shares ≡ w.shares) (eq : v.queues ≡ w.queues) (ep : v.places
+    ≡ set w.places t p2) (unshared_c : has_readers (rules_in w c).sort ≡ false)
+    (unshared_m : has_readers (rules_in w m).sort ≡ false)
+    (ds_c ds_m : List Deed) (steps_c : Steps (rules_in w c) c (parts_at w c) (parts_at w c) (place_at w) t p2
+    ds_c) (steps_m : Steps (rules_in w m) m (parts_at w m) (parts_at w m) (place_at w) t p2 ds_m) where
   same_parts : (k : ℕ) → parts_at v k ≡ parts_at w k
   same_parts k = λ i. record {
-    base = record { shared = get_or (eh i) k (replicate ((ap (λ (xs : List Place). length xs) ep ∙ length-set w.places t p2) i) 0); filled = (get_or (el i) k (unlocked kind.TheVariants.Mutex)).filled };
+    base = record {
+      shared = get_or (eh i) k (replicate ((ap (λ (xs : List Place). length xs) ep ∙ length-set w.places t p2)
+          i) 0);
+      filled = (get_or (el i) k (unlocked kind.TheVariants.Mutex)).filled;
+    };
     word = (get_or (el i) k (unlocked kind.TheVariants.Mutex)).word;
     owners = (get_or (el i) k (unlocked kind.TheVariants.Mutex)).owners;
     main = get_or (eq i) (2 * k) [];
@@ -98,7 +133,8 @@ module _ (w v : State) (steady : IsInductive w) (t : ℕ) (there : t < length w.
   }
 
   pub places_put : place_at v ≡ putting (place_at w) t p2
-  places_put = ap (λ (xs : List Place). λ u. get_or xs u Idle) ep ∙ put_places w t p2 (λ h. absurd (omega arith))
+  places_put = ap (λ (xs : List Place). λ u. get_or xs u Idle) ep
+      ∙ put_places w t p2 (λ h. absurd (omega arith))
 
   pub same_kinds : (k : ℕ) → kind_at v k ≡ kind_at w k
   same_kinds k i = (get_or (el i) k (unlocked kind.TheVariants.Mutex)).kind
@@ -111,7 +147,8 @@ module _ (w v : State) (steady : IsInductive w) (t : ℕ) (there : t < length w.
     here = same_parts l;
     led = steps.site;
     needed = steps.needed;
-    coded = steady.sites.word l ∙ same_word (rules_in w l).sort (rules_in w l).limit _ _ _ _ refl refl refl refl refl refl;
+    coded = steady.sites.word l ∙ same_word (rules_in w l).sort (rules_in w l).limit _ _ _ _ refl refl refl
+        refl refl refl;
     sharers = refl;
     unshared = unshared;
     by = λ e. all_by (length w.places) t ds there;
@@ -128,22 +165,29 @@ module _ (w v : State) (steady : IsInductive w) (t : ℕ) (there : t < length w.
   )
 
   pub two_follow : FollowAll w v (two_at c m (acts t ds_c) (acts t ds_m))
-  two_follow = follow_two w v steady (putting (place_at w) t p2) places_put same_kinds (record { threads = ap (λ (xs : List Place). length xs) ep ∙ length-set w.places t p2; locks = λ i. length (el i); shares = λ i. length (eh i) })
-      c m others (acts t ds_c) (acts t ds_m) apart (behind c ds_c unshared_c steps_c) (behind m ds_m unshared_m steps_m)
+  two_follow = follow_two w v steady (putting (place_at w) t p2) places_put same_kinds (record {
+    threads = ap (λ (xs : List Place). length xs) ep ∙ length-set w.places t p2;
+    locks = λ i. length (el i);
+    shares = λ i. length (eh i);
+  })
+      c m others (acts t ds_c) (acts t ds_m) apart (behind c ds_c unshared_c steps_c)
+      (behind m ds_m unshared_m steps_m)
 
--- ---------------------------------------------------------------- its station at one of them, and then at the other
+-- --------------------------------------------------------- its station at one of them, and then at the other
 
 -- where one thread stands otherwise at one lock
 abbrev pub with_location : (ℕ → ℕ → Location) → ℕ → ℕ → Location → ℕ → ℕ → Location
 with_location at t l x u k = if (u == t) && (k == l) then x else at u k
 
 pub location_here : (at : ℕ → ℕ → Location) (t l : ℕ) (x : Location) → with_location at t l x t l ≡ x
-location_here at t l x = ap (λ b. if b && (l == l) then x else at t l) (same t) ∙ ap (λ b. if b then x else at t l) (same l)
+location_here at t l x = ap (λ b. if b && (l == l) then x else at t l) (same t)
+    ∙ ap (λ b. if b then x else at t l) (same l)
 
 pub location_else : (at : ℕ → ℕ → Location) (t l : ℕ) (x : Location) (u k : ℕ) → (u ≡ t → k ≡ l → ⊥)
     → with_location at t l x u k ≡ at u k
 location_else at t l x u k ne = elim (cases_eq u t) [
-  | inl e ↦ ap (λ b. if (u == t) && b then x else at u k) (differ k l (ne e)) ∙ ap (λ b. if b then x else at u k) (no (u == t))
+  | inl e ↦ ap (λ b. if (u == t) && b then x else at u k) (differ k l (ne e))
+      ∙ ap (λ b. if b then x else at u k) (no (u == t))
   | inr nu ↦ ap (λ b. if b && (k == l) then x else at u k) (differ u t nu)
 ]
   where
@@ -154,7 +198,8 @@ location_else at t l x u k ne = elim (cases_eq u t) [
 -- a thread goes into two sections that are free, or out of its two
 module _ {one : ℕ → Type 0} (at at2 : ℕ → ℕ → Location) (section : ℕ → Option ℕ) (queue : ℕ → List Waiter)
     (there : AreThere one at section queue) (t c m : ℕ) (apart : m ≢ c)
-    (others : (u k : ℕ) → (u ≡ t → k ≡ c → ⊥) → (u ≡ t → k ≡ m → ⊥) → at2 u k ≡ at u k) (after : ℕ → Option ℕ) (elsewhere : (key : ℕ) → key ≢ key_of c Main → key ≢ key_of m Main → after key ≡ section key) where
+    (others : (u k : ℕ) → (u ≡ t → k ≡ c → ⊥) → (u ≡ t → k ≡ m → ⊥) → at2 u k ≡ at u k) (after : ℕ → Option ℕ)
+    (elsewhere : (key : ℕ) → key ≢ key_of c Main → key ≢ key_of m Main → after key ≡ section key) where
   -- once it has gone at the first
   abbrev between : ℕ → ℕ → Location
   between = with_location at t c (at2 t c)
@@ -186,19 +231,27 @@ module _ {one : ℕ → Type 0} (at at2 : ℕ → ℕ → Location) (section : �
   section_m : section_between (key_of m Main) ≡ section (key_of m Main)
   section_m = put_other section (key_of c Main) (after (key_of c Main)) (key_of m Main) other_keys
 
-  pub goes_in_two : section (key_of c Main) ≡ None → section (key_of m Main) ≡ None → after (key_of c Main) ≡ Some t
+  pub goes_in_two : section (key_of c Main) ≡ None → section (key_of m Main) ≡ None → after (key_of c Main)
+      ≡ Some t
       → after (key_of m Main) ≡ Some t → (at t c).inside ≡ None → (at t m).inside ≡ None
       → at2 t c ≡ record (at t c) { inside = Some Main } → at2 t m ≡ record (at t m) { inside = Some Main }
       → AreThere one at2 after queue
   goes_in_two free_c free_m held_c held_m out_c out_m now_c now_m = goes_in between at2 section_between queue
-      (goes_in at between section queue there t c (location_else at t c (at2 t c)) Main section_between (λ key ne. put_other section (key_of c Main) (after (key_of c Main)) key ne) free_c
-      (put_here section (key_of c Main) (after (key_of c Main)) ∙ held_c) out_c (location_here at t c (at2 t c) ∙ now_c))
-      t m second_others Main after later (section_m ∙ free_m) held_m (ap (λ (x : Location). x.inside) at_m ∙ out_m) (now_m ∙ sym (ap (λ (x : Location). record x { inside = Some Main }) at_m))
+      (goes_in at between section queue there t c (location_else at t c (at2 t c)) Main section_between
+      (λ key ne. put_other section (key_of c Main) (after (key_of c Main)) key ne) free_c
+      (put_here section (key_of c Main) (after (key_of c Main)) ∙ held_c) out_c
+      (location_here at t c (at2 t c) ∙ now_c))
+      t m second_others Main after later (section_m ∙ free_m) held_m (ap (λ (x : Location). x.inside) at_m
+      ∙ out_m) (now_m ∙ sym (ap (λ (x : Location). record x { inside = Some Main }) at_m))
 
   pub goes_out_two : after (key_of c Main) ≡ None → after (key_of m Main) ≡ None → (at t c).inside ≡ Some Main
       → (at t m).inside ≡ Some Main
-      → at2 t c ≡ record (at t c) { inside = None } → at2 t m ≡ record (at t m) { inside = None } → AreThere one at2 after queue
+      → at2 t c ≡ record (at t c) { inside = None } → at2 t m ≡ record (at t m) { inside = None }
+      → AreThere one at2 after queue
   goes_out_two free_c free_m within_c within_m now_c now_m = goes_out between at2 section_between queue
-      (goes_out at between section queue there t c (location_else at t c (at2 t c)) Main section_between (λ key ne. put_other section (key_of c Main) (after (key_of c Main)) key ne)
-      (put_here section (key_of c Main) (after (key_of c Main)) ∙ free_c) within_c (location_here at t c (at2 t c) ∙ now_c))
-      t m second_others Main after later free_m (ap (λ (x : Location). x.inside) at_m ∙ within_m) (now_m ∙ sym (ap (λ (x : Location). record x { inside = None }) at_m))
+      (goes_out at between section queue there t c (location_else at t c (at2 t c)) Main section_between
+      (λ key ne. put_other section (key_of c Main) (after (key_of c Main)) key ne)
+      (put_here section (key_of c Main) (after (key_of c Main)) ∙ free_c) within_c
+      (location_here at t c (at2 t c) ∙ now_c))
+      t m second_others Main after later free_m (ap (λ (x : Location). x.inside) at_m ∙ within_m) (now_m
+      ∙ sym (ap (λ (x : Location). record x { inside = None }) at_m))

@@ -1,6 +1,8 @@
 -- A thread leaves its section of a lock and lets go each thread that it has in hand there, one or many,
 -- itself among them or not: every lock is a site again.
-use Rattle.std.proofs.Common.{Option, ℕ, Bool, true, false, Some, None, if◌then◌else◌, ◌==◌, ◌&&◌, ◌≡◌, ◌≢◌, ◌+◌, ◌*◌, ◌<◌, replicate, List, [], ◌∷◌, length, get_or, map, inl, inr, refl, sym, ◌∙◌, ap, subst, length-set, get_or-set_same, get_or-set_other}
+use Rattle.std.proofs.Common.{Option, ℕ, Bool, true, false, Some, None, if◌then◌else◌, ◌==◌, ◌&&◌, ◌≡◌, ◌≢◌}
+use Rattle.std.proofs.Common.{◌+◌, ◌*◌, ◌<◌, replicate, List, [], ◌∷◌, length, get_or, map, inl, inr, refl}
+use Rattle.std.proofs.Common.{sym, ◌∙◌, ap, subst, length-set, get_or-set_same, get_or-set_other}
 use Rattle.std.proofs.lemmas.Bool.{cases_eq}
 use Rattle.std.proofs.lemmas.List.{length-map}
 use Rattle.core_base.specs.declared.keys.Keys.TheVariants.{One}
@@ -11,23 +13,29 @@ use Rattle.steps_base.specs.Moves.{AreLeaving}
 use Rattle.lot_steps.specs.Steps.{next_place}
 use Rattle.spec_locks.specs.Locks.{Rules, putting, keep_from}
 use Rattle.spec_locks.specs.Sites.{Deed, Line, End, Out, idle, wakened, leaves}
-use Rattle.lot_machine.specs.Machine.{State, place_at, filled_at, section_at, queue_at, put, state_with_sections, state_after_telling, place_after_telling}
+use Rattle.lot_machine.specs.Machine.{State, place_at, filled_at, section_at, queue_at, put}
+use Rattle.lot_machine.specs.Machine.{state_with_sections, state_after_telling, place_after_telling}
 use Rattle.lot_laws.specs.Refinement.{taken_at}
 use Rattle.lot_laws.specs.MutexDeeds.{acts}
 use Rattle.lot_laws.specs.Locations.{Location, hand, location_at, role_on}
-use Rattle.lot_laws.specs.SitesOf.{ActsNeeded, TakesOne, Hands, Sections, IsInductive, Goes, FitsItsLock, after_acts, rules_in, key_of, carried_at, hand_at, locations_of}
+use Rattle.lot_laws.specs.SitesOf.{ActsNeeded, TakesOne, Hands, Sections, IsInductive, Goes, FitsItsLock}
+use Rattle.lot_laws.specs.SitesOf.{after_acts, rules_in, key_of, carried_at, hand_at, locations_of}
 use Rattle.lot_laws.proofs.semaphore.Permits.{all_by}
-use Rattle.lot_laws.proofs.machine.Parts.{Parts, parts_at, lock_in, seen_in, put_here, put_other, LetGo, stays, untaken}
+use Rattle.lot_laws.proofs.machine.Parts.{Parts, parts_at, lock_in, seen_in, put_here, put_other, LetGo}
+use Rattle.lot_laws.proofs.machine.Parts.{stays, untaken}
 use Rattle.lot_laws.proofs.sites.ActsAt.{word_by_lines}
 use Rattle.lot_laws.proofs.sites.Following.{limited, follows_by, lock_by}
 use Rattle.lot_laws.proofs.sites.OneStep.{AreOrdinary}
-use Rattle.lot_laws.proofs.sites.ToldAt.{IsToldAt, HoldsHere, SameHands, has, told, places_then, held_here, told_on, told_off, not_held, in_hand, carries, alike, calls_then, other_parts, all_parts, places_are}
+use Rattle.lot_laws.proofs.sites.ToldAt.{IsToldAt, HoldsHere, SameHands, has, told, places_then, held_here}
+use Rattle.lot_laws.proofs.sites.ToldAt.{told_on, told_off, not_held, in_hand, carries, alike, calls_then}
+use Rattle.lot_laws.proofs.sites.ToldAt.{other_parts, all_parts, places_are}
 use Rattle.lot_laws.proofs.sites.StandsKept.{AlikeBeside, left, lines_same, waits_same, hands_freed, calls_in}
 use Rattle.lot_laws.proofs.sites.StandsMoved.{AreThere, stands_by}
 
 -- ----------------------------------------------------- leaving a section, whatever threads are woken by it
 
-module _ (r : Rules) (l : ℕ) (a : Parts) (p q : ℕ → Place) (t : ℕ) (own_taken : taken_at (q t) l ≡ keep_from t (taken_at (p t) l))
+module _ (r : Rules) (l : ℕ) (a : Parts) (p q : ℕ → Place) (t : ℕ) (own_taken : taken_at (q t) l
+    ≡ keep_from t (taken_at (p t) l))
     (others : (u : ℕ) → u ≢ t → LetGo t l (p u) (q u)) where
   taken_now : (u : ℕ) → taken_at (q u) l ≡ keep_from t (taken_at (p u) l)
   taken_now u = elim (cases_eq u t) [
@@ -36,24 +44,35 @@ module _ (r : Rules) (l : ℕ) (a : Parts) (p q : ℕ → Place) (t : ℕ) (own_
   ]
 
   out_of : (u : ℕ) → u ≢ t
-      → role_on (q u) l ≡ wakened t (taken_at (p u) l) (putting (λ x. role_on (p x) l) t (leaves (role_on (p t) l)) u)
-  out_of u ne = (others u ne).role ∙ sym (ap (wakened t (taken_at (p u) l)) (put_other (λ y. role_on (p y) l) t (leaves (role_on (p t) l)) u ne))
+      → role_on (q u) l ≡ wakened t (taken_at (p u) l) (putting (λ x. role_on (p x) l) t
+      (leaves (role_on (p t) l)) u)
+  out_of u ne = (others u ne).role
+      ∙ sym (ap (wakened t (taken_at (p u) l)) (put_other (λ y. role_on (p y) l) t (leaves (role_on (p t) l))
+      u ne))
 
-  pub leaving_by : (ds : List Deed) → AreLeaving ds → role_on (q t) l ≡ (after_acts r (acts t ds) (seen_in r l a p)).role t
+  pub leaving_by : (ds : List Deed) → AreLeaving ds → role_on (q t) l
+      ≡ (after_acts r (acts t ds) (seen_in r l a p)).role t
       → seen_in r l a q ≡ after_acts r (acts t ds) (seen_in r l a p)
-  leaving_by (Out ∷ []) h own = λ i. record (seen_in r l a q) { lock = lock_in a (λ u. taken_now u i); role = λ u. role_now u i }
+  leaving_by (Out ∷ []) h own = λ i. record (seen_in r l a q) {
+    lock = lock_in a (λ u. taken_now u i);
+    role = λ u. role_now u i;
+  }
     where
       role_now : (u : ℕ) → role_on (q u) l ≡ (after_acts r (acts t (Out ∷ [])) (seen_in r l a p)).role u
       role_now u = elim (cases_eq u t) [
         | inl e ↦ rw e own
         | inr ne ↦ out_of u ne
       ]
-  leaving_by (Out ∷ End ∷ []) h own = λ i. record (seen_in r l a q) { lock = lock_in a (λ u. taken_now u i); role = λ u. role_now u i }
+  leaving_by (Out ∷ End ∷ []) h own = λ i. record (seen_in r l a q) {
+    lock = lock_in a (λ u. taken_now u i);
+    role = λ u. role_now u i;
+  }
     where
       role_now : (u : ℕ) → role_on (q u) l ≡ (after_acts r (acts t (Out ∷ End ∷ [])) (seen_in r l a p)).role u
       role_now u = elim (cases_eq u t) [
         | inl e ↦ rw e own
-        | inr ne ↦ out_of u ne ∙ sym (put_other (λ x. wakened t (taken_at (p x) l) (putting (λ y. role_on (p y) l) t (leaves (role_on (p t) l)) x)) t idle u ne)
+        | inr ne ↦ out_of u ne ∙ sym (put_other (λ x. wakened t (taken_at (p x) l)
+            (putting (λ y. role_on (p y) l) t (leaves (role_on (p t) l)) x)) t idle u ne)
       ]
   leaving_by ds h own = absurd h
 
@@ -71,101 +90,142 @@ pub record IsWokenAt (w : State) (t l : ℕ) (x : Note) (p : Place) : Type 0 whe
 
 module _ (w : State) (t l : ℕ) (steady : IsInductive w) (there : t < length w.places) (p2 : Place)
     (beside : SameHands l (place_at w t) p2) (fits : FitsItsLock w p2) (holds : HoldsHere w t l) (x : Note)
-    (woken : (u : ℕ) (b : Bool) → hand_at (place_at w u) l ≡ hand t b → IsWokenAt w t l x (place_at w u)) where
-  pub all_told : (u : ℕ) (b : Bool) → hand_at (place_at w u) l ≡ hand t b → IsToldAt w t l b None (Woken x) (place_at w u)
-  all_told u b held = let k = woken u b held in record { goes = k.goes; alike = k.alike; fits = k.fits }
+    (woken : (u : ℕ) (b : Bool) → hand_at (place_at w u) l ≡ hand t b → IsWokenAt w t l x (place_at w u))
+  where
+    pub all_told : (u : ℕ) (b : Bool) → hand_at (place_at w u) l ≡ hand t b → IsToldAt w t l b None (Woken x)
+        (place_at w u)
+    all_told u b held = let k = woken u b held in record { goes = k.goes; alike = k.alike; fits = k.fits }
 
-  abbrev pub is_told : ℕ → Bool
-  is_told = has w t l steady p2 beside fits holds (Woken x) None all_told
+    abbrev pub is_told : ℕ → Bool
+    is_told = has w t l steady p2 beside fits holds (Woken x) None all_told
 
-  abbrev pub behind : ℕ → Place
-  behind = places_then w t l steady p2 beside fits holds (Woken x) None all_told
+    abbrev pub behind : ℕ → Place
+    behind = places_then w t l steady p2 beside fits holds (Woken x) None all_told
 
-  abbrev told_now : ℕ → Place
-  told_now = told w t l steady p2 beside fits holds (Woken x) None all_told
+    abbrev told_now : ℕ → Place
+    told_now = told w t l steady p2 beside fits holds (Woken x) None all_told
 
-  -- each other thread is let go, or stays
-  pub lets : (u : ℕ) → u ≢ t → LetGo t l (place_at w u) (behind u)
-  lets u ne = subst (λ (y : Place). LetGo t l (place_at w u) y) (sym (put_other told_now t p2 u ne)) (either (is_told u) refl)
-    where
-      either : (b : Bool) → is_told u ≡ b → LetGo t l (place_at w u) (told_now u)
-      either true h = let held = held_here w t l steady p2 beside fits holds (Woken x) None all_told u h in subst (λ (y : Place). LetGo t l (place_at w u) y) (sym (told_on w t l steady p2 beside fits holds (Woken x) None all_told u h)) (woken u held.handed held.hand).lets
-      either false h = subst (λ (y : Place). LetGo t l (place_at w u) y) (sym (told_off w t l steady p2 beside fits holds (Woken x) None all_told u h)) (stays t l (place_at w u) (untaken (place_at w u) t l (not_held w t l steady p2 beside fits holds (Woken x) None all_told u h false)))
+    -- each other thread is let go, or stays
+    pub lets : (u : ℕ) → u ≢ t → LetGo t l (place_at w u) (behind u)
+    lets u ne = subst (λ (y : Place). LetGo t l (place_at w u) y) (sym (put_other told_now t p2 u ne))
+        (either (is_told u) refl)
+      where
+        either : (b : Bool) → is_told u ≡ b → LetGo t l (place_at w u) (told_now u)
+        either true h = let held = held_here w t l steady p2 beside fits holds (Woken x) None all_told u h
+            in subst (λ (y : Place). LetGo t l (place_at w u) y)
+            (sym (told_on w t l steady p2 beside fits holds (Woken x) None all_told u h))
+            (woken u held.handed held.hand).lets
+        either false h = subst (λ (y : Place). LetGo t l (place_at w u) y)
+            (sym (told_off w t l steady p2 beside fits holds (Woken x) None all_told u h))
+            (stays t l (place_at w u) (untaken (place_at w u) t l (not_held w t l steady p2 beside fits holds
+            (Woken x) None all_told u h false)))
 
-  abbrev was : Location
-  was = location_at (place_at w t) l
+    abbrev was : Location
+    was = location_at (place_at w t) l
 
-  abbrev is : Location
-  is = location_at p2 l
+    abbrev is : Location
+    is = location_at p2 l
 
-  -- t has nobody in hand then, and isn't in its own
-  module _ (bare : is.carries ≡ None) (own_hand : is.hand ≡ (if is_told t then None else was.hand)) where
-    pub hands_then : Hands (TakesOne w) behind
-    hands_then = hands_freed (TakesOne w) (locations_of (place_at w)) (locations_of behind) steady.stands.hands t l is_told (in_hand w t l steady p2 beside fits holds (Woken x) None all_told own_hand)
-        (λ i k. carries w t l steady p2 beside fits holds (Woken x) None all_told i k ∙ ap (λ c. if (i == t) && (k == l) then c else carried_at (place_at w i) k) bare)
-        (λ u h. let held = held_here w t l steady p2 beside fits holds (Woken x) None all_told u h in (held.handed, held.hand)) (λ u b h. holds.taker u b h)
+    -- t has nobody in hand then, and isn't in its own
+    module _ (bare : is.carries ≡ None) (own_hand : is.hand ≡ (if is_told t then None else was.hand)) where
+      pub hands_then : Hands (TakesOne w) behind
+      hands_then = hands_freed (TakesOne w) (locations_of (place_at w)) (locations_of behind)
+          steady.stands.hands t l is_told (in_hand w t l steady p2 beside fits holds (Woken x) None all_told
+          own_hand)
+          (λ i k. carries w t l steady p2 beside fits holds (Woken x) None all_told i k
+          ∙ ap (λ c. if (i == t) && (k == l) then c else carried_at (place_at w i) k) bare)
+          (λ u h. let held = held_here w t l steady p2 beside fits holds (Woken x) None all_told u h
+          in (held.handed, held.hand)) (λ u b h. holds.taker u b h)
 
-    -- how the threads stand, by the sections behind it
-    pub there_then : (after : ℕ → Option ℕ) → Sections (locations_of behind) after
-        → ((k : ℕ) → (location_at p2 k).stands ≡ (location_at (place_at w t) k).stands)
-        → ((k : ℕ) → (location_at p2 k).waits ≡ (location_at (place_at w t) k).waits)
-        → AreThere (TakesOne w) (locations_of behind) after (queue_at w)
-    there_then after sections stood waited = record {
-      sections = sections;
-      lines = lines_same (locations_of (place_at w)) (locations_of behind) (queue_at w) (queue_at w) steady.stands.lines (all_parts w t l steady p2 beside fits holds (Woken x) None all_told (λ y. y.stands) (λ y h. refl) stood) (λ key. refl);
-      waits = waits_same (locations_of (place_at w)) (locations_of behind) (queue_at w) (queue_at w) steady.stands.waits (all_parts w t l steady p2 beside fits holds (Woken x) None all_told (λ y. y.waits) (λ y h. refl) waited) (λ key. refl);
-      hands = hands_then;
-    }
-
-    -- nobody else comes into a section, or goes out of one
-    pub others_inside : (u k : ℕ) → u ≢ t → (location_at (behind u) k).inside ≡ (location_at (place_at w u) k).inside
-    others_inside = other_parts w t l steady p2 beside fits holds (Woken x) None all_told (λ y. y.inside) (λ y h. refl)
-
-    -- out of a section of the lock
-    module _ (alike_there : AlikeBeside l (place_at w t) p2) (m : Line) (line : key_of l m < length w.sections)
-        (within : was.inside ≡ Some m) (stood : is.stands ≡ was.stands) (waited : is.waits ≡ was.waits)
-        (out : is.inside ≡ None) where
-      abbrev pub v : State
-      v = put (state_after_telling (state_with_sections w (One (key_of l m)) None) t (Woken x)) t p2
-
-      places : place_at v ≡ behind
-      places = places_are w t l steady p2 beside fits holds (Woken x) None all_told (state_with_sections w (One (key_of l m)) None) refl there
-
-      -- a part of the station of t
-      by_lock : {A : Type 0} (g : Location → A) → g is ≡ g was → (k : ℕ) → g (location_at p2 k) ≡ g (location_at (place_at w t) k)
-      by_lock g e k = elim (cases_eq k l) [
-        | inl f ↦ rw f e
-        | inr ne ↦ ap g (alike_there k ne).location
-      ]
-
-      inside_else : (u k : ℕ) → (u ≡ t → k ≡ l → ⊥) → (location_at (behind u) k).inside ≡ (location_at (place_at w u) k).inside
-      inside_else u k ne = elim (cases_eq u t) [
-        | inl e ↦ rw (e, put_here told_now t p2) (ap (λ (y : Location). y.inside) (alike_there k (ne e)).location)
-        | inr nu ↦ others_inside u k nu
-      ]
-
-      pub wake_goes : (r : Rules) → rules_in w l ≡ r → taken_at p2 l ≡ keep_from t (taken_at (place_at w t) l) → (ds : List Deed)
-          → AreLeaving ds → ActsNeeded r (acts t ds) (lock_by w l r)
-          → role_on p2 l ≡ (after_acts r (acts t ds) (lock_by w l r)).role t → Goes w v l (acts t ds)
-      wake_goes r rules own_taken ds leaving needed e = record {
-        follows = follows_by w v l (parts_at w l) behind (record {
-          here = λ i. record (parts_at w l) { base = record { shared = get_or w.shares l (replicate (threads i) 0); filled = filled_at w l } };
-          others = λ k ne i. record (parts_at w k) { base = record { shared = get_or w.shares k (replicate (threads i) 0); filled = filled_at w k } };
-          places = places;
-          kinds = λ k. refl;
-          alike = λ k ne. alike w t l steady p2 beside fits holds (Woken x) None all_told k ne ((alike_there k ne).taken, (alike_there k ne).role);
-          numbers = record { threads = threads; locks = refl; shares = refl };
-          sharers = refl;
-        }) r rules (acts t ds) (λ e. all_by (length w.places) t ds there) (limited w l steady r rules (acts t ds) (λ h. leaving_ordinary (length w.places) t ds leaving) needed)
-            (leaving_by r l (parts_at w l) (place_at w) behind t (ap (λ y. taken_at y l) (put_here told_now t p2) ∙ own_taken) lets ds leaving (ap (λ y. role_on y l) (put_here told_now t p2) ∙ e))
-            needed (word_by_lines w t l steady there r rules p2 alike_there fits (queue_at w (2 * l)) (queue_at w (2 * l + 1)) behind);
-        stands = stands_by w v behind places (λ k. refl)
-            (there_then (section_at v)
-            (left (locations_of (place_at w)) (locations_of behind) (section_at w) (section_at v) steady.stands.sections t l m inside_else (λ key ne. get_or-set_other w.sections (key_of l m) key None None ne)
-            within (ap (λ y. (location_at y l).inside) (put_here told_now t p2) ∙ out) (get_or-set_same w.sections (key_of l m) None None line))
-            (by_lock (λ y. y.stands) stood) (by_lock (λ y. y.waits) waited))
-            (λ u. calls_in w v (behind u) (λ k. refl) (calls_then w t l steady p2 beside fits holds (Woken x) None all_told u));
+      -- how the threads stand, by the sections behind it
+      pub there_then : (after : ℕ → Option ℕ) → Sections (locations_of behind) after
+          → ((k : ℕ) → (location_at p2 k).stands ≡ (location_at (place_at w t) k).stands)
+          → ((k : ℕ) → (location_at p2 k).waits ≡ (location_at (place_at w t) k).waits)
+          → AreThere (TakesOne w) (locations_of behind) after (queue_at w)
+      there_then after sections stood waited = record {
+        sections = sections;
+        lines = lines_same (locations_of (place_at w)) (locations_of behind) (queue_at w) (queue_at w)
+            steady.stands.lines (all_parts w t l steady p2 beside fits holds (Woken x) None all_told
+            (λ y. y.stands) (λ y h. refl) stood) (λ key. refl);
+        waits = waits_same (locations_of (place_at w)) (locations_of behind) (queue_at w) (queue_at w)
+            steady.stands.waits (all_parts w t l steady p2 beside fits holds (Woken x) None all_told
+            (λ y. y.waits) (λ y h. refl) waited) (λ key. refl);
+        hands = hands_then;
       }
-        where
-          threads : length v.places ≡ length w.places
-          threads = length-set (map (place_after_telling t (Woken x)) w.places) t p2 ∙ length-map w.places (place_after_telling t (Woken x))
+
+      -- nobody else comes into a section, or goes out of one
+      pub others_inside : (u k : ℕ) → u ≢ t → (location_at (behind u) k).inside
+          ≡ (location_at (place_at w u) k).inside
+      others_inside = other_parts w t l steady p2 beside fits holds (Woken x) None all_told (λ y. y.inside)
+          (λ y h. refl)
+
+      -- out of a section of the lock
+      module _ (alike_there : AlikeBeside l (place_at w t) p2) (m : Line) (line : key_of l m < length
+          w.sections)
+          (within : was.inside ≡ Some m) (stood : is.stands ≡ was.stands) (waited : is.waits ≡ was.waits)
+          (out : is.inside ≡ None) where
+        abbrev pub v : State
+        v = put (state_after_telling (state_with_sections w (One (key_of l m)) None) t (Woken x)) t p2
+
+        places : place_at v ≡ behind
+        places = places_are w t l steady p2 beside fits holds (Woken x) None all_told
+            (state_with_sections w (One (key_of l m)) None) refl there
+
+        -- a part of the station of t
+        by_lock : {A : Type 0} (g : Location → A) → g is ≡ g was → (k : ℕ) → g (location_at p2 k)
+            ≡ g (location_at (place_at w t) k)
+        by_lock g e k = elim (cases_eq k l) [
+          | inl f ↦ rw f e
+          | inr ne ↦ ap g (alike_there k ne).location
+        ]
+
+        inside_else : (u k : ℕ) → (u ≡ t → k ≡ l → ⊥) → (location_at (behind u) k).inside
+            ≡ (location_at (place_at w u) k).inside
+        inside_else u k ne = elim (cases_eq u t) [
+          | inl e ↦ rw (e, put_here told_now t p2) (ap (λ (y : Location). y.inside)
+              (alike_there k (ne e)).location)
+          | inr nu ↦ others_inside u k nu
+        ]
+
+        pub wake_goes : (r : Rules) → rules_in w l ≡ r → taken_at p2 l ≡ keep_from t
+            (taken_at (place_at w t) l)
+            → (ds : List Deed)
+            → AreLeaving ds → ActsNeeded r (acts t ds) (lock_by w l r)
+            → role_on p2 l ≡ (after_acts r (acts t ds) (lock_by w l r)).role t → Goes w v l (acts t ds)
+        wake_goes r rules own_taken ds leaving needed e = record {
+          follows = follows_by w v l (parts_at w l) behind (record {
+            here = λ i. record (parts_at w l) {
+              base = record { shared = get_or w.shares l (replicate (threads i) 0); filled = filled_at w l };
+            };
+            others = λ k ne i. record (parts_at w k) {
+              base = record { shared = get_or w.shares k (replicate (threads i) 0); filled = filled_at w k };
+            };
+            places = places;
+            kinds = λ k. refl;
+            alike = λ k ne. alike w t l steady p2 beside fits holds (Woken x) None all_told k ne
+                ((alike_there k ne).taken, (alike_there k ne).role);
+            numbers = record { threads = threads; locks = refl; shares = refl };
+            sharers = refl;
+          }) r rules (acts t ds) (λ e. all_by (length w.places) t ds there) (limited w l steady r rules
+              (acts t ds) (λ h. leaving_ordinary (length w.places) t ds leaving) needed)
+              (leaving_by r l (parts_at w l) (place_at w) behind t
+              (ap (λ y. taken_at y l) (put_here told_now t p2) ∙ own_taken) lets ds leaving
+              (ap (λ y. role_on y l) (put_here told_now t p2) ∙ e))
+              needed (word_by_lines w t l steady there r rules p2 alike_there fits (queue_at w (2 * l))
+              (queue_at w (2 * l + 1)) behind);
+          stands = stands_by w v behind places (λ k. refl)
+              (there_then (section_at v)
+              (left (locations_of (place_at w)) (locations_of behind) (section_at w) (section_at v)
+              steady.stands.sections t l m inside_else (λ key ne. get_or-set_other w.sections (key_of l m)
+              key None None ne)
+              within (ap (λ y. (location_at y l).inside) (put_here told_now t p2) ∙ out)
+              (get_or-set_same w.sections (key_of l m) None None line))
+              (by_lock (λ y. y.stands) stood) (by_lock (λ y. y.waits) waited))
+              (λ u. calls_in w v (behind u) (λ k. refl) (calls_then w t l steady p2 beside fits holds
+              (Woken x)
+              None all_told u));
+        }
+          where
+            threads : length v.places ≡ length w.places
+            threads = length-set (map (place_after_telling t (Woken x)) w.places) t p2
+                ∙ length-map w.places (place_after_telling t (Woken x))

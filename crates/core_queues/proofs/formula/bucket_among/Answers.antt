@@ -9,4 +9,5 @@ pub returns-clause-bucket : goal.returns-clause-bucket
 returns-clause-bucket c = bucket_is c.args.bits c.args.key c.if-bits-eq0.false
 
 pub returns-clause-within : goal.returns-clause-within
-returns-clause-within c = rw (bucket_is c.args.bits c.args.key c.if-bits-eq0.false) (bucket_below c.args.bits c.args.key c.requires.few)
+returns-clause-within c = rw (bucket_is c.args.bits c.args.key c.if-bits-eq0.false)
+    (bucket_below c.args.bits c.args.key c.requires.few)

@@ -7,7 +7,9 @@ use Rattle.core_queues.proofs.wants.note_wants.Given as goal
 
 abbrev pub invariant-loop-waiter : goal.invariant-loop-waiter
 invariant-loop-waiter g l = let by = g.P.Picker in record {
-  noted : l.wants.items ++ wants_of (picked by.answer by.next l.picker (line l.key (drop l.place l.queues.waiters))) ≡ wants_of (picked by.answer by.next l.fn.picker (line l.key l.queues.waiters));
+  noted : l.wants.items ++ wants_of (picked by.answer by.next l.picker
+      (line l.key (drop l.place l.queues.waiters))) ≡ wants_of (picked by.answer by.next l.fn.picker
+      (line l.key l.queues.waiters));
   room : vec_capacity l.wants ≡ vec_capacity l.fn.wants;
 }
 

@@ -7,20 +7,31 @@ use Rattle.lock_monitor.proofs.Stays.{refused_at_last}
 use Rattle.lock_monitor.proofs.monitor.conditions.Goals as goal
 
 pub returns-in-Err-clause-token : goal.returns-in-Err-clause-token
-returns-in-Err-clause-token g c =
-    (c.new.ensures.token.0, stays_behind g.R.RawMutex.RawMutex.stays g.R.RawMutex.RawMutex.stays_on _ _ _ c.loop.invariant.stays c.new.ensures.token.1)
+returns-in-Err-clause-token g c = (
+  c.new.ensures.token.0,
+  stays_behind g.R.RawMutex.RawMutex.stays g.R.RawMutex.RawMutex.stays_on _ _ _
+      c.loop.invariant.stays c.new.ensures.token.1,
+)
 
 pub returns-in-Err-clause-err : goal.returns-in-Err-clause-err
-returns-in-Err-clause-err g c = refused_at_last (g.R.RawMutex.RawMutex.found_full (arc_value c.args.lot.now)) _ _ _ c.in-Err.ensures.made
+returns-in-Err-clause-err g c = refused_at_last (g.R.RawMutex.RawMutex.found_full (arc_value c.args.lot.now))
+    _ _ _ c.in-Err.ensures.made
 
 pub returns-in_err-push-in-Ok-clause-token : goal.returns-in_err-push-in-Ok-clause-token
-returns-in_err-push-in-Ok-clause-token g c =
-    (c.new.ensures.token.0, stays_behind g.R.RawMutex.RawMutex.stays g.R.RawMutex.RawMutex.stays_on _ _ _ c.loop.invariant.stays c.new.ensures.token.1)
+returns-in_err-push-in-Ok-clause-token g c = (
+  c.new.ensures.token.0,
+  stays_behind g.R.RawMutex.RawMutex.stays g.R.RawMutex.RawMutex.stays_on _ _ _
+      c.loop.invariant.stays c.new.ensures.token.1,
+)
 
 pub loop-preserved : goal.loop-preserved
 loop-preserved g c = record {
   thread = c.new.ensures.token.0;
-  stays = stays_behind g.R.RawMutex.RawMutex.stays g.R.RawMutex.RawMutex.stays_on _ _ _ c.loop.invariant.stays c.new.ensures.token.1;
-  counted = ap length c.in_ok-push-in-Ok.ensures.items ∙ length-append _ _ ∙ ap (λ n. n + 1) c.loop.invariant.counted;
-  together = all_more (λ condition. g.R.RawCondvar.lot_of condition ≡ arc_value c.args.lot.now) c.loop.made.items c.push.new.self.items c.in-Ok.condition c.in_ok-push-in-Ok.ensures.items c.loop.invariant.together c.in-Ok.ensures.made;
+  stays = stays_behind g.R.RawMutex.RawMutex.stays g.R.RawMutex.RawMutex.stays_on _ _ _ c.loop.invariant.stays
+      c.new.ensures.token.1;
+  counted = ap length c.in_ok-push-in-Ok.ensures.items ∙ length-append _ _
+      ∙ ap (λ n. n + 1) c.loop.invariant.counted;
+  together = all_more (λ condition. g.R.RawCondvar.lot_of condition ≡ arc_value c.args.lot.now)
+      c.loop.made.items c.push.new.self.items c.in-Ok.condition c.in_ok-push-in-Ok.ensures.items
+      c.loop.invariant.together c.in-Ok.ensures.made;
 }

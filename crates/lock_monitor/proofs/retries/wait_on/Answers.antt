@@ -18,21 +18,30 @@ pub loop-preserved : goal.loop-preserved
 loop-preserved g c = record {
   turns = (tt, tt);
   thread = c.in-Err.ensures.token.0;
-  stays = stays_behind g.R.RawMutex.RawMutex.stays g.R.RawMutex.RawMutex.stays_on _ _ _ c.loop.invariant.stays c.in-Err.ensures.token.1;
-  refused = waits_on (λ mutex. g.R.RawCondvar.waited c.args.condvar.now mutex false answers.TwoMutexes) _ _ _ _ _ c.loop.invariant.guard c.loop.invariant.refused c.in-Err.ensures.path;
+  stays = stays_behind g.R.RawMutex.RawMutex.stays g.R.RawMutex.RawMutex.stays_on _ _ _ c.loop.invariant.stays
+      c.in-Err.ensures.token.1;
+  refused = waits_on (λ mutex. g.R.RawCondvar.waited c.args.condvar.now mutex false answers.TwoMutexes) _ _ _
+      _ _ c.loop.invariant.guard c.loop.invariant.refused c.in-Err.ensures.path;
   guard = c.in-Err.ensures.guard.1 ∙ c.loop.invariant.guard;
 }
 
 pub returns-in-Ok-clause-token : goal.returns-in-Ok-clause-token
-returns-in-Ok-clause-token g c =
-    (c.in-Ok.ensures.token.0, stays_after g.R.RawMutex.RawMutex.stays g.R.RawMutex.RawMutex.stays_on _ _ _ c.loop.invariant.stays c.in-Ok.ensures.token.1)
+returns-in-Ok-clause-token g c = (
+  c.in-Ok.ensures.token.0,
+  stays_after g.R.RawMutex.RawMutex.stays g.R.RawMutex.RawMutex.stays_on _ _ _
+      c.loop.invariant.stays c.in-Ok.ensures.token.1,
+)
 
 pub returns-in-Ok-clause-guard : goal.returns-in-Ok-clause-guard
 returns-in-Ok-clause-guard g c = c.in-Ok.ensures.guard ∙ c.loop.invariant.guard
 
 pub returns-in-Ok-clause-path : goal.returns-in-Ok-clause-path
-returns-in-Ok-clause-path g c =
-    (_, c.loop.invariant.refused, with_given (λ mutex. g.R.RawCondvar.waited c.args.condvar.now mutex false answers.Ok) _ _ _ _ c.loop.invariant.guard c.in-Ok.ensures.path)
+returns-in-Ok-clause-path g c = (
+  _,
+  c.loop.invariant.refused,
+  with_given (λ mutex. g.R.RawCondvar.waited c.args.condvar.now mutex false
+      answers.Ok) _ _ _ _ c.loop.invariant.guard c.in-Ok.ensures.path,
+)
 
 pub wait-requires-clause-token : goal.wait-requires-clause-token
 wait-requires-clause-token g c = c.loop.invariant.thread

@@ -20,14 +20,19 @@ pub loop-preserved : goal.loop-preserved
 loop-preserved g c = record {
   turns = (tt, tt);
   thread = c.in-Err.ensures.token.0;
-  stays = stays_behind g.R.RawMutex.RawMutex.stays g.R.RawMutex.RawMutex.stays_on _ _ _ c.loop.invariant.stays c.in-Err.ensures.token.1;
-  refused = waits_on (λ mutex. g.R.RawCondvar.waited c.args.condvar.now mutex true answers.TwoMutexes) _ _ _ _ _ c.loop.invariant.guard c.loop.invariant.refused c.in-Err.ensures.path;
+  stays = stays_behind g.R.RawMutex.RawMutex.stays g.R.RawMutex.RawMutex.stays_on _ _ _ c.loop.invariant.stays
+      c.in-Err.ensures.token.1;
+  refused = waits_on (λ mutex. g.R.RawCondvar.waited c.args.condvar.now mutex true answers.TwoMutexes) _ _ _ _
+      _ c.loop.invariant.guard c.loop.invariant.refused c.in-Err.ensures.path;
   guard = c.in-Err.ensures.guard.1 ∙ c.loop.invariant.guard;
 }
 
 pub returns-in-Ok-clause-token : goal.returns-in-Ok-clause-token
-returns-in-Ok-clause-token g c =
-    (c.in-Ok.ensures.token.0, stays_after g.R.RawMutex.RawMutex.stays g.R.RawMutex.RawMutex.stays_on _ _ _ c.loop.invariant.stays c.in-Ok.ensures.token.1)
+returns-in-Ok-clause-token g c = (
+  c.in-Ok.ensures.token.0,
+  stays_after g.R.RawMutex.RawMutex.stays g.R.RawMutex.RawMutex.stays_on _ _ _
+      c.loop.invariant.stays c.in-Ok.ensures.token.1,
+)
 
 pub returns-in-Ok-clause-guard : goal.returns-in-Ok-clause-guard
 returns-in-Ok-clause-guard g c = c.in-Ok.ensures.guard ∙ c.loop.invariant.guard
@@ -36,7 +41,10 @@ pub returns-in-Ok-clause-path : goal.returns-in-Ok-clause-path
 returns-in-Ok-clause-path g c = (
   _,
   c.loop.invariant.refused,
-  subst (λ late. g.R.RawCondvar.waited c.args.condvar.now (lock_of c.args.guard) true (late_answer late) c.loop.token c.wait_until.new.token) (sym c.timed_out.ensures) (with_given (λ mutex. g.R.RawCondvar.waited c.args.condvar.now mutex true (late_answer c.in-Ok.ended)) _ _ _ _ c.loop.invariant.guard c.in-Ok.ensures.path),
+  subst (λ late. g.R.RawCondvar.waited c.args.condvar.now (lock_of c.args.guard) true (late_answer late)
+      c.loop.token c.wait_until.new.token) (sym c.timed_out.ensures)
+      (with_given (λ mutex. g.R.RawCondvar.waited c.args.condvar.now mutex true (late_answer c.in-Ok.ended)) _
+      _ _ _ c.loop.invariant.guard c.in-Ok.ensures.path),
 )
 
 pub returns-in-Ok-clause-late : goal.returns-in-Ok-clause-late

@@ -22,18 +22,23 @@ pub loop-preserved : goal.loop-preserved
 loop-preserved g c = record {
   turns = (tt, tt);
   thread = c.wait_on-guard.ensures.token.0;
-  stays = stays_behind g.R.RawMutex.RawMutex.stays g.R.RawMutex.RawMutex.stays_on _ _ _ c.loop.invariant.stays c.wait_on-guard.ensures.token.1;
-  waits = waits_on (λ mutex. WaitsAtLast (g.R.RawCondvar.waited c.args.condvar.now mutex false) answers.Ok) _ _ _ _ _ c.loop.invariant.guard c.loop.invariant.waits c.wait_on-guard.ensures.path;
+  stays = stays_behind g.R.RawMutex.RawMutex.stays g.R.RawMutex.RawMutex.stays_on _ _ _ c.loop.invariant.stays
+      c.wait_on-guard.ensures.token.1;
+  waits = waits_on (λ mutex. WaitsAtLast (g.R.RawCondvar.waited c.args.condvar.now mutex false) answers.Ok) _
+      _ _ _ _ c.loop.invariant.guard c.loop.invariant.waits c.wait_on-guard.ensures.path;
   guard = c.wait_on-guard.ensures.guard ∙ c.loop.invariant.guard;
-  callable = mut_next g.F.FnMut _ _ _ _ _ (record { met = c.condition.ensures.met }) refl c.loop.invariant.callable;
-  kept = λ stays. stays _ _ _ (was_Called g.F.FnMut c.args.condition c.loop.condition _ _ _ c.condition.new.self c.condition.ensures.met (c.loop.invariant.kept stays) refl);
+  callable = mut_next g.F.FnMut _ _ _ _ _ (record { met = c.condition.ensures.met }) refl
+      c.loop.invariant.callable;
+  kept = λ stays. stays _ _ _ (was_Called g.F.FnMut c.args.condition c.loop.condition _ _ _
+      c.condition.new.self c.condition.ensures.met (c.loop.invariant.kept stays) refl);
 }
 
 pub wait_on-guard-requires-clause-token : goal.wait_on-guard-requires-clause-token
 wait_on-guard-requires-clause-token g c = c.loop.invariant.thread
 
 pub wait_on-guard-requires-clause-lot : goal.wait_on-guard-requires-clause-lot
-wait_on-guard-requires-clause-lot g c = ap g.R.RawMutex.RawMutex.lot_of c.loop.invariant.guard ∙ c.requires.lot
+wait_on-guard-requires-clause-lot g c = ap g.R.RawMutex.RawMutex.lot_of c.loop.invariant.guard
+    ∙ c.requires.lot
 
 pub returns-then-not-condition-clause-token : goal.returns-then-not-condition-clause-token
 returns-then-not-condition-clause-token g c = (c.loop.invariant.thread, c.loop.invariant.stays)
@@ -45,4 +50,12 @@ pub returns-then-not-condition-clause-path : goal.returns-then-not-condition-cla
 returns-then-not-condition-clause-path g c = c.loop.invariant.waits
 
 pub returns-then-not-condition-clause-ended : goal.returns-then-not-condition-clause-ended
-returns-then-not-condition-clause-ended g c = (_, _, _, _, c.if-not-condition.ensures, refl, c.loop.invariant.kept)
+returns-then-not-condition-clause-ended g c = (
+  _,
+  _,
+  _,
+  _,
+  c.if-not-condition.ensures,
+  refl,
+  c.loop.invariant.kept,
+)

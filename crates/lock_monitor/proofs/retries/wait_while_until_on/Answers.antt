@@ -23,19 +23,25 @@ pub loop-preserved : goal.loop-preserved
 loop-preserved g c = record {
   turns = (tt, tt);
   thread = c.wait_until_on-back.ensures.token.0;
-  stays = stays_behind g.R.RawMutex.RawMutex.stays g.R.RawMutex.RawMutex.stays_on _ _ _ c.loop.invariant.stays c.wait_until_on-back.ensures.token.1;
-  waits = waits_so_far (λ mutex. WaitsAtLast (g.R.RawCondvar.waited c.args.condvar.now mutex true)) _ _ _ _ _ _ c.loop.invariant.guard (not_late (WaitsAtLast (g.R.RawCondvar.waited c.args.condvar.now _ true)) c.loop.late _ _ c.if-late.false c.loop.invariant.waits) c.wait_until_on-back.ensures.path;
+  stays = stays_behind g.R.RawMutex.RawMutex.stays g.R.RawMutex.RawMutex.stays_on _ _ _ c.loop.invariant.stays
+      c.wait_until_on-back.ensures.token.1;
+  waits = waits_so_far (λ mutex. WaitsAtLast (g.R.RawCondvar.waited c.args.condvar.now mutex true)) _ _ _ _ _
+      _ c.loop.invariant.guard (not_late (WaitsAtLast (g.R.RawCondvar.waited c.args.condvar.now _ true))
+      c.loop.late _ _ c.if-late.false c.loop.invariant.waits) c.wait_until_on-back.ensures.path;
   guard = c.wait_until_on-back.ensures.guard ∙ c.loop.invariant.guard;
   passed = c.wait_until_on-back.ensures.late;
-  callable = mut_next g.F.FnMut _ _ _ _ _ (record { met = c.condition-holds.ensures.met }) refl c.loop.invariant.callable;
-  kept = λ stays. stays _ _ _ (was_Called g.F.FnMut c.args.condition c.loop.condition _ _ _ c.condition-holds.new.self c.condition-holds.ensures.met (c.loop.invariant.kept stays) refl);
+  callable = mut_next g.F.FnMut _ _ _ _ _ (record { met = c.condition-holds.ensures.met }) refl
+      c.loop.invariant.callable;
+  kept = λ stays. stays _ _ _ (was_Called g.F.FnMut c.args.condition c.loop.condition _ _ _
+      c.condition-holds.new.self c.condition-holds.ensures.met (c.loop.invariant.kept stays) refl);
 }
 
 pub wait_until_on-back-requires-clause-token : goal.wait_until_on-back-requires-clause-token
 wait_until_on-back-requires-clause-token g c = c.loop.invariant.thread
 
 pub wait_until_on-back-requires-clause-lot : goal.wait_until_on-back-requires-clause-lot
-wait_until_on-back-requires-clause-lot g c = ap g.R.RawMutex.RawMutex.lot_of c.loop.invariant.guard ∙ c.requires.lot
+wait_until_on-back-requires-clause-lot g c = ap g.R.RawMutex.RawMutex.lot_of c.loop.invariant.guard
+    ∙ c.requires.lot
 
 pub returns-then-late-clause-token : goal.returns-then-late-clause-token
 returns-then-late-clause-token g c = (c.loop.invariant.thread, c.loop.invariant.stays)
@@ -44,10 +50,20 @@ pub returns-then-late-clause-guard : goal.returns-then-late-clause-guard
 returns-then-late-clause-guard g c = c.loop.invariant.guard
 
 pub returns-then-late-clause-path : goal.returns-then-late-clause-path
-returns-then-late-clause-path g c = waits_in_time (WaitsAtLast (g.R.RawCondvar.waited c.args.condvar.now (lock_of c.args.guard) true)) c.loop.late _ _ c.loop.invariant.waits
+returns-then-late-clause-path g c =
+    waits_in_time (WaitsAtLast (g.R.RawCondvar.waited c.args.condvar.now (lock_of c.args.guard) true))
+    c.loop.late _ _ c.loop.invariant.waits
 
 pub returns-then-late-clause-ended : goal.returns-then-late-clause-ended
-returns-then-late-clause-ended g c = (_, _, _, _, record { met = c.condition-holds.ensures.met }, refl, c.loop.invariant.kept)
+returns-then-late-clause-ended g c = (
+  _,
+  _,
+  _,
+  _,
+  record { met = c.condition-holds.ensures.met },
+  refl,
+  c.loop.invariant.kept,
+)
 
 pub returns-then-late-clause-late : goal.returns-then-late-clause-late
 returns-then-late-clause-late g c = λ holds. c.loop.invariant.passed (late_or_holds c.then-late.either holds)

@@ -4,4 +4,5 @@ use Rattle.lot_machine.proofs.hands.tell_each.Given as goal
 
 -- those so far are told
 abbrev pub invariant-loop-thread : goal.invariant-loop-thread
-invariant-loop-thread l = places_told l.reply l.fn.threads l.fn.places ≡ places_told l.reply (drop l.thread-index l.fn.threads) l.places
+invariant-loop-thread l = places_told l.reply l.fn.threads l.fn.places ≡ places_told l.reply
+    (drop l.thread-index l.fn.threads) l.places

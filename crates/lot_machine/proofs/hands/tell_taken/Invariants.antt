@@ -4,4 +4,5 @@ use Rattle.lot_machine.proofs.hands.tell_taken.Given as goal
 
 -- those so far are told
 abbrev pub invariant-loop-place : goal.invariant-loop-place
-invariant-loop-place l = map (place_after_telling l.thread l.reply) l.fn.places ≡ take l.place-index l.places ++ map (place_after_telling l.thread l.reply) (drop l.place-index l.places)
+invariant-loop-place l = map (place_after_telling l.thread l.reply) l.fn.places ≡ take l.place-index l.places
+    ++ map (place_after_telling l.thread l.reply) (drop l.place-index l.places)

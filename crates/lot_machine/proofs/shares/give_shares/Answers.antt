@@ -10,7 +10,15 @@ returns c =
     let ps = c.args.places.now in
     let ns = c.loop-other.shares in
     let over : (length ps ≤ i) ⊎ (length ns ≤ i) = elim (cases_lt i (length ps)) [
-      | inl lt ↦ inr (omega (arith, lt, c.loop-other-test.false, c.min-other-end.ensures, c.loop-other.auto.shares, c.loop-other.auto.other-end))
+      | inl lt ↦ inr (omega (
+        arith,
+        lt,
+        c.loop-other-test.false,
+        c.min-other-end.ensures,
+        c.loop-other.auto.shares,
+        c.loop-other.auto.other-end,
+      ))
       | inr ge ↦ inl ge
     ] in
-    sym (c.loop-other.invariant ∙ ap (λ q. take i ns ++ q) (given_all c.args.thread i ps ns over) ∙ take-append-drop i ns)
+    sym (c.loop-other.invariant ∙ ap (λ q. take i ns ++ q) (given_all c.args.thread i ps ns over)
+    ∙ take-append-drop i ns)

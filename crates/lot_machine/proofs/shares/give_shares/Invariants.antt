@@ -4,4 +4,5 @@ use Rattle.lot_machine.proofs.shares.give_shares.Given as goal
 
 -- those so far have theirs
 abbrev pub invariant-loop-other : goal.invariant-loop-other
-invariant-loop-other l = shares_given l.thread l.places l.fn.shares ≡ take l.other l.shares ++ shares_given l.thread (drop l.other l.places) (drop l.other l.shares)
+invariant-loop-other l = shares_given l.thread l.places l.fn.shares ≡ take l.other l.shares ++ shares_given
+    l.thread (drop l.other l.places) (drop l.other l.shares)

@@ -4,4 +4,5 @@ use Rattle.lot_machine.proofs.views.find_sharer.Given as goal
 
 -- none so far shares
 abbrev pub invariant-loop-thread : goal.invariant-loop-thread
-invariant-loop-thread l = sharers_listed l.fn.from (drop l.fn.from l.shares) ≡ sharers_listed l.thread (drop l.thread l.shares)
+invariant-loop-thread l = sharers_listed l.fn.from (drop l.fn.from l.shares) ≡ sharers_listed l.thread
+    (drop l.thread l.shares)

@@ -9,7 +9,9 @@ invariant-loop-first g l =
     (l.front.len ≤ length l.shown)
     × (l.front.lines ≤ l.front.len)
     × (l.front.refusal ≡ None)
-    × AnswersFront l.shown (drop l.front.len l.shown) l.front.lines (replay_stage_of l.initial.state.session) (replay_stage_of l.state.session) (Puts (g.W.Write.contents l.initial.writer) (g.W.Write.contents l.writer) l.initial.page l.page)
+    × AnswersFront l.shown (drop l.front.len l.shown) l.front.lines (replay_stage_of l.initial.state.session)
+    (replay_stage_of l.state.session) (Puts (g.W.Write.contents l.initial.writer)
+    (g.W.Write.contents l.writer) l.initial.page l.page)
 
 abbrev pub decreases-loop-first : goal.decreases-loop-first
 decreases-loop-first g l = length l.shown - l.front.len

@@ -8,5 +8,6 @@ use Rattle.lot_replay.proofs.replay.answer_lines.Given as goal
 abbrev pub invariant-loop : goal.invariant-loop
 invariant-loop g l =
     (text : List ℕ)
-    × ReachedKnown (g.R.Read.remaining l.initial.reader) (g.R.Read.remaining l.reader) text l.number (replay_stage_of l.state.session)
+    × ReachedKnown (g.R.Read.remaining l.initial.reader) (g.R.Read.remaining l.reader) text l.number
+    (replay_stage_of l.state.session)
     × Puts (g.W.Write.contents l.initial.writer) (g.W.Write.contents l.writer) l.initial.page l.page text

@@ -6,4 +6,5 @@ abbrev pub invariant-loop-owner : goal.invariant-loop-owner
 invariant-loop-owner g l =
     (goal.iterator-loop-owner g).can_next l.owner-iterator
     × (goal.iterator-loop-owner g).is_finite l.owner-iterator
-    × Left (g.W.Write.contents l.fn.writer) (g.W.Write.contents l.writer) l.fn.page l.page (group l.mark owner_text l.owner-iterator) (owners_text l.fn.owners)
+    × Left (g.W.Write.contents l.fn.writer) (g.W.Write.contents l.writer) l.fn.page l.page
+    (group l.mark owner_text l.owner-iterator) (owners_text l.fn.owners)

@@ -8,5 +8,6 @@ abbrev pub invariant-loop-waiter : goal.invariant-loop-waiter
 invariant-loop-waiter g l =
     (goal.iterator-loop-waiter g).can_next l.waiter-iterator
     × (goal.iterator-loop-waiter g).is_finite l.waiter-iterator
-    × Left (g.W.Write.contents l.fn.writer) (g.W.Write.contents l.writer) l.fn.page l.page (waiters_left (2 * l.lock) l.main_mark l.aside_mark l.waiter-iterator)
+    × Left (g.W.Write.contents l.fn.writer) (g.W.Write.contents l.writer) l.fn.page l.page
+    (waiters_left (2 * l.lock) l.main_mark l.aside_mark l.waiter-iterator)
     (waiters_left (2 * l.lock) (codes " queue=") (codes " aside=") l.fn.queue)

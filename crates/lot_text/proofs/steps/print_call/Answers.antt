@@ -11,6 +11,9 @@ returns g c =
     let names = c.args.names.now in
     let name = name_at names (lock_in call) in
     let beside = beside_text names (mutex_in call) in
-    puts_then _ _ _ c.args.page.now c.put.new.self c.print_beside.new.page (call_word call) (codes " " ++ (name ++ beside)) (rw c.call_word.ensures at c.put.ensures)
-    (puts_then _ _ _ c.put.new.self c.put-2.new.self c.print_beside.new.page (codes " ") (name ++ beside) c.put-2.ensures
-    (puts_then _ _ _ c.put-2.new.self c.print_name.new.page c.print_beside.new.page name beside (rw c.lock.ensures at c.print_name.ensures) (rw c.mutex.ensures at c.print_beside.ensures)))
+    puts_then _ _ _ c.args.page.now c.put.new.self c.print_beside.new.page (call_word call) (codes " "
+    ++ (name ++ beside)) (rw c.call_word.ensures at c.put.ensures)
+    (puts_then _ _ _ c.put.new.self c.put-2.new.self c.print_beside.new.page (codes " ") (name ++ beside)
+    c.put-2.ensures
+    (puts_then _ _ _ c.put-2.new.self c.print_name.new.page c.print_beside.new.page name beside
+    (rw c.lock.ensures at c.print_name.ensures) (rw c.mutex.ensures at c.print_beside.ensures)))

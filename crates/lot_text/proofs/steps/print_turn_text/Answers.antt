@@ -5,4 +5,5 @@ use Rattle.lot_text.proofs.steps.print_turn_text.Goals as goal
 
 pub returns-in-Begin : goal.returns-in-Begin
 returns-in-Begin g c =
-    rw c.in-Begin.is (puts_then _ _ _ c.args.page.now c.put.new.self c.print_call.new.page (codes " begin ") (call_text c.args.names.now c.in-Begin.call) c.put.ensures c.print_call.ensures)
+    rw c.in-Begin.is (puts_then _ _ _ c.args.page.now c.put.new.self c.print_call.new.page (codes " begin ")
+    (call_text c.args.names.now c.in-Begin.call) c.put.ensures c.print_call.ensures)

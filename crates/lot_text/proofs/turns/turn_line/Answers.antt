@@ -9,5 +9,7 @@ returns c =
     let digits = c.len_of_digits-digits in
     let found = c.in_ok-turn in
     let rest = drop digits.result text in
-    turn_begins text digits.result c.in_ok-thread.thread found.len found.turn digits.ensures (sym c.number.ensures ∙ c.in_ok-thread.was)
-    (subst (λ l. BeginsWithWord l found.turn found.len) (take_all (length text - digits.result) rest (omega (arith, length-drop digits.result text))) found.ensures)
+    turn_begins text digits.result c.in_ok-thread.thread found.len found.turn digits.ensures
+    (sym c.number.ensures ∙ c.in_ok-thread.was)
+    (subst (λ l. BeginsWithWord l found.turn found.len) (take_all (length text - digits.result) rest
+    (omega (arith, length-drop digits.result text))) found.ensures)

@@ -12,4 +12,7 @@ returns-clause-ok g c =
     (c.in_ok-take_turns.ensures.ok ∙ ap (λ n. turns n c.leave_main.new.self) most
     ∙ ap (turns _)
     (c.in_ok-leave_main.ensures.ok
-    ∙ ap out_of_main (c.in_ok-leave_second.ensures.ok ∙ ap (λ (steps : List Step). out_of_second 3 (record { state = c.args.machine; steps = steps })) c.new.ensures.items))))
+    ∙ ap out_of_main (c.in_ok-leave_second.ensures.ok ∙ ap (λ (steps : List Step). out_of_second 3 (record {
+      state = c.args.machine;
+      steps = steps;
+    })) c.new.ensures.items))))

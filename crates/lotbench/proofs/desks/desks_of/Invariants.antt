@@ -6,4 +6,5 @@ use Rattle.parking_lot_core.specs.Tokens.{IsTokenOf}
 use Rattle.lotbench.proofs.desks.desks_of.Given as goal
 
 abbrev pub invariant-loop-pair : goal.invariant-loop-pair
-invariant-loop-pair l = IsTokenOf (arc_value l.lot) l.token × All (λ padded. desk_lot (padded_value padded) ≡ arc_value l.lot) l.row.items
+invariant-loop-pair l = IsTokenOf (arc_value l.lot) l.token
+    × All (λ padded. desk_lot (padded_value padded) ≡ arc_value l.lot) l.row.items

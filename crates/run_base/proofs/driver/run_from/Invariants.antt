@@ -15,10 +15,13 @@ abbrev pub invariant-loop : goal.invariant-loop
 invariant-loop g l = record {
   turns : (goal.iterator-loop g).can_next l.iterator' × (goal.iterator-loop g).is_finite l.iterator';
   own : IsSameThread l.lot l.fn.token l.token × IsSectionOf l.lot l.section;
-  path : ComesBy (at_in l.words) l.fn.token.number l.fn.start (trail_of l.fn.token l.fn.inside) (trail_of l.token l.section) l.place;
+  path : ComesBy (at_in l.words) l.fn.token.number l.fn.start (trail_of l.fn.token l.fn.inside)
+      (trail_of l.token l.section) l.place;
   queued : is_queued l.place ≡ true → HasPlace l.lot l.token.number l.queue;
   words : AreWordsFor l.place (kind_in l.words) (at_in l.words);
-  fits : (base : List Ownership) → Fits (IsUp g.C.Clock.tells l.limit) base l.fn.start (stage_of l.fn.token l.fn.inside) → Fits (IsUp g.C.Clock.tells l.limit) base l.place (stage_of l.token l.section);
+  fits : (base : List Ownership) → Fits (IsUp g.C.Clock.tells l.limit) base l.fn.start
+      (stage_of l.fn.token l.fn.inside) → Fits (IsUp g.C.Clock.tells l.limit) base l.place
+      (stage_of l.token l.section);
   act : l.act ≡ act_of l.place;
   aim : call_purpose l.place ≡ call_purpose l.fn.start;
 }

@@ -17,43 +17,82 @@ use Rattle.run_base.proofs.Turning.{told}
 use Rattle.run_base.proofs.driver.turn.Goals as goal
 
 pub perform-requires-clause-needs : goal.perform-requires-clause-needs
-perform-requires-clause-needs g c = let words = c.args.words in let st = stage_of c.args.token.now c.args.section.now in let fits = c.requires.fits in
-    subst (ActNeeds (kind_in c.args.words) (at_in c.args.words) (stage_of c.args.token.now c.args.section.now)) (sym c.requires.act)
-    (places_lead (IsUp g.C.Clock.tells c.args.limit) (kind_in words) (at_in words) fits.0 c.args.place st c.requires.words fits.1).0
+perform-requires-clause-needs g c = let words = c.args.words in let st = stage_of c.args.token.now
+    c.args.section.now in let fits = c.requires.fits in
+    subst (ActNeeds (kind_in c.args.words) (at_in c.args.words)
+    (stage_of c.args.token.now c.args.section.now)) (sym c.requires.act)
+    (places_lead (IsUp g.C.Clock.tells c.args.limit) (kind_in words) (at_in words) fits.0 c.args.place st
+    c.requires.words fits.1).0
 
 pub returns-clause-told : goal.returns-clause-told
-returns-clause-told g c = let old = (view_of c.args.token.now).steps in let new = (view_of c.perform.new.token).steps in let words = c.args.words in
-    let adds = subst (λ (a : Act). Adds (at_in c.args.words) a c.perform.result (view_of c.args.token.now).steps (view_of c.perform.new.token).steps) c.requires.act c.perform.ensures.adds in
-    let became = subst (λ (a : Act). Became (IsUp g.C.Clock.tells c.args.limit) (kind_in c.args.words) (at_in c.args.words) (sleeper_at c.args.place) (stage_of c.args.token.now c.args.section.now) a c.perform.result (stage_of c.perform.new.token c.perform.new.section)) c.requires.act c.perform.ensures.became in
-    told (IsUp g.C.Clock.tells c.args.limit) (at_in words) (kind_in words) c.args.place (act_of c.args.place) refl c.requires.no_closure (stage_of c.args.token.now c.args.section.now) (stage_of c.perform.new.token c.perform.new.section) c.perform.result old new became adds
+returns-clause-told g c = let old = (view_of c.args.token.now).steps in let new =
+    (view_of c.perform.new.token).steps in let words = c.args.words in
+    let adds = subst (λ (a : Act). Adds (at_in c.args.words) a c.perform.result
+    (view_of c.args.token.now).steps (view_of c.perform.new.token).steps) c.requires.act
+    c.perform.ensures.adds in
+    let became = subst (λ (a : Act). Became (IsUp g.C.Clock.tells c.args.limit) (kind_in c.args.words)
+    (at_in c.args.words) (sleeper_at c.args.place) (stage_of c.args.token.now c.args.section.now) a
+    c.perform.result (stage_of c.perform.new.token c.perform.new.section)) c.requires.act
+    c.perform.ensures.became in
+    told (IsUp g.C.Clock.tells c.args.limit) (at_in words) (kind_in words) c.args.place (act_of c.args.place)
+    refl c.requires.no_closure (stage_of c.args.token.now c.args.section.now)
+    (stage_of c.perform.new.token c.perform.new.section) c.perform.result old new became adds
 
 pub returns-clause-tells : goal.returns-clause-tells
-returns-clause-tells g c = let words = c.args.words in let n = c.args.token.now.number in let p = c.args.place in let st = stage_of c.args.token.now c.args.section.now in
-    let became = subst (λ (a : Act). Became (IsUp g.C.Clock.tells c.args.limit) (kind_in c.args.words) (at_in c.args.words) (sleeper_at c.args.place) (stage_of c.args.token.now c.args.section.now) a c.perform.result (stage_of c.perform.new.token c.perform.new.section)) c.requires.act c.perform.ensures.became in
-    let queues = subst (λ (a : Act). TellsQueues a c.perform.result c.args.token.now.number c.args.section.now c.perform.new.section) c.requires.act c.perform.ensures.queues in
-    let tells = subst (λ (a : Act). TellsIn c.args.token.now.number a c.perform.result c.args.token.now c.args.section.now c.perform.new.token c.perform.new.section) c.requires.act c.perform.ensures.told in
-    let needs = (places_lead (IsUp g.C.Clock.tells c.args.limit) (kind_in words) (at_in words) c.requires.fits.0 p st c.requires.words c.requires.fits.1).0 in
-    has_told n c.args.token.now c.perform.new.token c.args.section.now c.perform.new.section (IsUp g.C.Clock.tells c.args.limit) (kind_in words) (at_in words) (sleeper_at p) (act_of p) c.perform.result needs became queues tells
+returns-clause-tells g c = let words = c.args.words in let n = c.args.token.now.number in let p = c.args.place
+    in let st = stage_of c.args.token.now c.args.section.now in
+    let became = subst (λ (a : Act). Became (IsUp g.C.Clock.tells c.args.limit) (kind_in c.args.words)
+    (at_in c.args.words) (sleeper_at c.args.place) (stage_of c.args.token.now c.args.section.now) a
+    c.perform.result (stage_of c.perform.new.token c.perform.new.section)) c.requires.act
+    c.perform.ensures.became in
+    let queues = subst (λ (a : Act). TellsQueues a c.perform.result c.args.token.now.number c.args.section.now
+    c.perform.new.section) c.requires.act c.perform.ensures.queues in
+    let tells = subst (λ (a : Act). TellsIn c.args.token.now.number a c.perform.result c.args.token.now
+    c.args.section.now c.perform.new.token c.perform.new.section) c.requires.act c.perform.ensures.told in
+    let needs = (places_lead (IsUp g.C.Clock.tells c.args.limit) (kind_in words) (at_in words)
+    c.requires.fits.0 p st c.requires.words c.requires.fits.1).0 in
+    has_told n c.args.token.now c.perform.new.token c.args.section.now c.perform.new.section
+    (IsUp g.C.Clock.tells c.args.limit) (kind_in words) (at_in words) (sleeper_at p) (act_of p)
+    c.perform.result needs became queues tells
 
 pub returns-clause-reached : goal.returns-clause-reached
-returns-clause-reached g c = let words = c.args.words in let st = stage_of c.args.token.now c.args.section.now in
-    let became = subst (λ (a : Act). Became (IsUp g.C.Clock.tells c.args.limit) (kind_in c.args.words) (at_in c.args.words) (sleeper_at c.args.place) (stage_of c.args.token.now c.args.section.now) a c.perform.result (stage_of c.perform.new.token c.perform.new.section)) c.requires.act c.perform.ensures.became in
-    λ (base : List Ownership) fits. (places_lead (IsUp g.C.Clock.tells c.args.limit) (kind_in words) (at_in words) base c.args.place st c.requires.words fits).2 c.perform.result (stage_of c.perform.new.token c.perform.new.section) became
+returns-clause-reached g c = let words = c.args.words in let st = stage_of c.args.token.now c.args.section.now
+    in
+    let became = subst (λ (a : Act). Became (IsUp g.C.Clock.tells c.args.limit) (kind_in c.args.words)
+    (at_in c.args.words) (sleeper_at c.args.place) (stage_of c.args.token.now c.args.section.now) a
+    c.perform.result (stage_of c.perform.new.token c.perform.new.section)) c.requires.act
+    c.perform.ensures.became in
+    λ (base : List Ownership) fits. (places_lead (IsUp g.C.Clock.tells c.args.limit) (kind_in words)
+    (at_in words) base c.args.place st c.requires.words fits).2 c.perform.result
+    (stage_of c.perform.new.token c.perform.new.section) became
 
 pub returns-clause-stays : goal.returns-clause-stays
 returns-clause-stays g c = let words = c.args.words in let fits = c.requires.fits in
-    let became = subst (λ (a : Act). Became (IsUp g.C.Clock.tells c.args.limit) (kind_in c.args.words) (at_in c.args.words) (sleeper_at c.args.place) (stage_of c.args.token.now c.args.section.now) a c.perform.result (stage_of c.perform.new.token c.perform.new.section)) c.requires.act c.perform.ensures.became in
-    stays_queued (IsUp g.C.Clock.tells c.args.limit) (kind_in words) (at_in words) fits.0 c.args.place (stage_of c.args.token.now c.args.section.now)
+    let became = subst (λ (a : Act). Became (IsUp g.C.Clock.tells c.args.limit) (kind_in c.args.words)
+    (at_in c.args.words) (sleeper_at c.args.place) (stage_of c.args.token.now c.args.section.now) a
+    c.perform.result (stage_of c.perform.new.token c.perform.new.section)) c.requires.act
+    c.perform.ensures.became in
+    stays_queued (IsUp g.C.Clock.tells c.args.limit) (kind_in words) (at_in words) fits.0 c.args.place
+    (stage_of c.args.token.now c.args.section.now)
     (stage_of c.perform.new.token c.perform.new.section) c.perform.result fits.1 became
 
 pub perform-requires-clause-queued : goal.perform-requires-clause-queued
 perform-requires-clause-queued g c = let fits = c.requires.fits in λ needs. c.requires.queued
-    (needs_queue (IsUp g.C.Clock.tells c.args.limit) fits.0 c.args.place (stage_of c.args.token.now c.args.section.now) fits.1 (subst (λ (a : Act). needs_place a ≡ true) c.requires.act needs))
+    (needs_queue (IsUp g.C.Clock.tells c.args.limit) fits.0 c.args.place (stage_of c.args.token.now
+    c.args.section.now) fits.1 (subst (λ (a : Act). needs_place a ≡ true) c.requires.act needs))
 
 pub returns-clause-queued : goal.returns-clause-queued
-returns-clause-queued g c = let p = c.args.place in let words = c.args.words in let reply = c.perform.result in let n = c.args.token.now.number in
-    let became = subst (λ (a : Act). Became (IsUp g.C.Clock.tells c.args.limit) (kind_in c.args.words) (at_in c.args.words) (sleeper_at c.args.place) (stage_of c.args.token.now c.args.section.now) a c.perform.result (stage_of c.perform.new.token c.perform.new.section)) c.requires.act c.perform.ensures.became in
-    let keeps = subst (λ (a : Act). KeepsPlace c.args.lot.now c.args.token.now.number a c.perform.result c.args.queue.now c.perform.new.queue) c.requires.act c.perform.ensures.place in
-    let goes = queued_on (IsUp g.C.Clock.tells c.args.limit) (kind_in words) (at_in words) c.requires.fits.0 (stage_of c.args.token.now c.args.section.now) (stage_of c.perform.new.token c.perform.new.section) reply p c.requires.fits.1 became in
+returns-clause-queued g c = let p = c.args.place in let words = c.args.words in let reply = c.perform.result
+    in let n = c.args.token.now.number in
+    let became = subst (λ (a : Act). Became (IsUp g.C.Clock.tells c.args.limit) (kind_in c.args.words)
+    (at_in c.args.words) (sleeper_at c.args.place) (stage_of c.args.token.now c.args.section.now) a
+    c.perform.result (stage_of c.perform.new.token c.perform.new.section)) c.requires.act
+    c.perform.ensures.became in
+    let keeps = subst (λ (a : Act). KeepsPlace c.args.lot.now c.args.token.now.number a c.perform.result
+    c.args.queue.now c.perform.new.queue) c.requires.act c.perform.ensures.place in
+    let goes = queued_on (IsUp g.C.Clock.tells c.args.limit) (kind_in words) (at_in words) c.requires.fits.0
+    (stage_of c.args.token.now c.args.section.now) (stage_of c.perform.new.token c.perform.new.section)
+    reply p c.requires.fits.1 became in
     λ queued. subst (λ (k : ℕ). HasPlace c.args.lot.now k c.perform.new.queue) (sym c.perform.ensures.own.0.1)
-    (keeps_on c.args.lot.now n (act_of p) reply c.args.queue.now c.perform.new.queue (is_queued p) (is_queued (next_place p reply)) goes keeps c.requires.queued queued)
+    (keeps_on c.args.lot.now n (act_of p) reply c.args.queue.now c.perform.new.queue (is_queued p)
+    (is_queued (next_place p reply)) goes keeps c.requires.queued queued)

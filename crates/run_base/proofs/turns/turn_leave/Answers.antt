@@ -9,11 +9,24 @@ use Rattle.run_base.proofs.TurnsOn.{needs_by, turned_by}
 use Rattle.run_base.proofs.turns.turn_leave.Goals as goal
 
 pub leave-requires : goal.leave-requires
-leave-requires g c = (c.requires.1.0, c.requires.1.2, subst (λ (note : Note). MayLeave note (section_view c.args.section.now)) (sym c.note_of.ensures) (needs_by (IsUp g.C.Clock.tells c.args._limit) c.args.lot.now c.args._words c.requires.0 (act.TheVariants.Leave c.args._keys c.args.wakes) c.args.token.now c.args.section.now c.requires.1 c.requires.2))
+leave-requires g c = (
+  c.requires.1.0,
+  c.requires.1.2,
+  subst (λ (note : Note). MayLeave note (section_view c.args.section.now)) (sym c.note_of.ensures)
+      (needs_by (IsUp g.C.Clock.tells c.args._limit) c.args.lot.now c.args._words c.requires.0
+      (act.TheVariants.Leave c.args._keys c.args.wakes) c.args.token.now c.args.section.now c.requires.1
+      c.requires.2),
+)
 
 pub returns : goal.returns
 returns g c = λ p at is.
-    turned_by (IsUp g.C.Clock.tells c.args._limit) c.args.lot.now c.args._words p c.args.token.now c.leave.new.token c.args.section.now c.leave.new.section (act.TheVariants.Leave c.args._keys c.args.wakes) Done is refl at
-    c.leave.ensures.own.0 c.leave.ensures.left.1
-    (ap (λ (v : View). v.owns) c.leave.ensures.own.1, c.leave.ensures.left.0, c.leave.ensures.left.2, ap (λ (v : View). v.steps) c.leave.ensures.own.1) (ap (λ (v : View). v.steps) c.leave.ensures.own.1)
+    turned_by (IsUp g.C.Clock.tells c.args._limit) c.args.lot.now c.args._words p c.args.token.now
+    c.leave.new.token c.args.section.now c.leave.new.section (act.TheVariants.Leave c.args._keys
+    c.args.wakes) Done is refl at
+    c.leave.ensures.own.0 c.leave.ensures.left.1 (
+      ap (λ (v : View). v.owns) c.leave.ensures.own.1,
+      c.leave.ensures.left.0,
+      c.leave.ensures.left.2,
+      ap (λ (v : View). v.steps) c.leave.ensures.own.1,
+    ) (ap (λ (v : View). v.steps) c.leave.ensures.own.1)
     tt c.leave.ensures.told

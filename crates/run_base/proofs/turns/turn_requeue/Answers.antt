@@ -11,11 +11,24 @@ use Rattle.run_base.proofs.TurnsOn.{needs_by, turned_by}
 use Rattle.run_base.proofs.turns.turn_requeue.Goals as goal
 
 pub requeue-requires : goal.requeue-requires
-requeue-requires g c = let needs = needs_by (IsUp g.C.Clock.tells c.args._limit) c.args.lot.now c.args._words c.requires.0 (act.TheVariants.Requeue c.args.from c.args.to c.args.how) c.args._token.now c.args.section.now c.requires.1 c.requires.2 in ((c.requires.1.2, needs.0, needs.3), needs.1, needs.2)
+requeue-requires g c = let needs = needs_by (IsUp g.C.Clock.tells c.args._limit) c.args.lot.now c.args._words
+    c.requires.0 (act.TheVariants.Requeue c.args.from c.args.to c.args.how) c.args._token.now
+    c.args.section.now c.requires.1 c.requires.2 in ((c.requires.1.2, needs.0, needs.3), needs.1, needs.2)
 
 pub returns-clause-done : goal.returns-clause-done
 returns-clause-done g c = λ p at is.
-    turned_by (IsUp g.C.Clock.tells c.args._limit) c.args.lot.now c.args._words p c.args._token.now c.args._token.now c.args.section.now c.requeue.new.section (act.TheVariants.Requeue c.args.from c.args.to c.args.how) (Requeued c.requeue.result.0 c.requeue.result.1) is refl at
-    (at.0, refl) c.requeue.ensures.did.0
-    (taken_waiter c.args.how (line_in c.args.from c.args.section.now), length (moved_by c.args.how (line_in c.args.from c.args.section.now)), c.requeue.ensures.number, ap (λ (i : Option SectionView). stage (view_of c.args._token.now).owns i (last_of c.args._token.now) (view_of c.args._token.now).steps) c.requeue.ensures.did.1) refl
-    (c.requeue.ensures.number, c.requeue.ensures.left.0, c.requeue.ensures.left.1) (refl, c.requeue.ensures.told.0, c.requeue.ensures.told.1)
+    turned_by (IsUp g.C.Clock.tells c.args._limit) c.args.lot.now c.args._words p c.args._token.now
+    c.args._token.now c.args.section.now c.requeue.new.section (act.TheVariants.Requeue c.args.from
+    c.args.to c.args.how) (Requeued c.requeue.result.0 c.requeue.result.1) is refl at
+    (at.0, refl) c.requeue.ensures.did.0 (
+      taken_waiter c.args.how (line_in c.args.from c.args.section.now),
+      length (moved_by c.args.how (line_in c.args.from c.args.section.now)),
+      c.requeue.ensures.number,
+      ap (λ (i : Option SectionView). stage (view_of c.args._token.now).owns i (last_of c.args._token.now)
+          (view_of c.args._token.now).steps) c.requeue.ensures.did.1,
+    ) refl
+    (c.requeue.ensures.number, c.requeue.ensures.left.0, c.requeue.ensures.left.1) (
+      refl,
+      c.requeue.ensures.told.0,
+      c.requeue.ensures.told.1,
+    )

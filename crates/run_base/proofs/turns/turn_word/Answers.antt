@@ -10,9 +10,15 @@ use Rattle.run_base.proofs.turns.turn_word.Goals as goal
 
 pub word-requires-clause-may : goal.word-requires-clause-may
 word-requires-clause-may g c =
-    subst (λ (w : Word). MayStep w.kind (word_index w.number w.kind) c.args.op (view_of c.args.token.now).owns) (sym c.of.ensures)
-    (needs_by (IsUp g.C.Clock.tells c.args._limit) c.args.lot.now c.args.words c.requires.0 (act.TheVariants.Word c.args.lock c.args.op) c.args.token.now c.args._section.now c.requires.1 c.requires.2)
+    subst (λ (w : Word). MayStep w.kind (word_index w.number w.kind) c.args.op
+    (view_of c.args.token.now).owns) (sym c.of.ensures)
+    (needs_by (IsUp g.C.Clock.tells c.args._limit) c.args.lot.now c.args.words c.requires.0
+    (act.TheVariants.Word c.args.lock c.args.op) c.args.token.now c.args._section.now c.requires.1
+    c.requires.2)
 
 pub returns : goal.returns
 returns g c = λ p at is.
-    word_turned (IsUp g.C.Clock.tells c.args._limit) c.args.lot.now c.args.words p c.args.token.now c.word.new.token c.args._section.now c.args.lock c.args.op c.word.result c.of.result c.of.ensures is at c.word.ensures.own.0 c.word.ensures.stepped c.word.ensures.own.1 c.word.ensures.coded c.word.ensures.untold
+    word_turned (IsUp g.C.Clock.tells c.args._limit) c.args.lot.now c.args.words p c.args.token.now
+    c.word.new.token c.args._section.now c.args.lock c.args.op c.word.result c.of.result c.of.ensures is
+    at c.word.ensures.own.0 c.word.ensures.stepped c.word.ensures.own.1 c.word.ensures.coded
+    c.word.ensures.untold

@@ -15,13 +15,18 @@ turn_leave-requires g c = let pair = c.args.pair in (
 )
 
 pub end-requires : goal.end-requires
-end-requires g c = let pair = c.args.pair in let here = notify_at pair.condvar pair.mutex c.args.all (notify.Leave c.args.any c.args.number) in
-    let left = c.turn_leave.ensures here c.requires (leaves_both c.main_key.ensures c.main_key-2.ensures c.taken-wakes.ensures) in
-    turn_outside ⊥ c.args.lot.now pair.words here Done c.args.token.now c.turn_leave.new.token c.args.section c.turn_leave.new.section
+end-requires g c = let pair = c.args.pair in let here = notify_at pair.condvar pair.mutex c.args.all
+    (notify.Leave c.args.any c.args.number) in
+    let left = c.turn_leave.ensures here c.requires (leaves_both c.main_key.ensures c.main_key-2.ensures
+    c.taken-wakes.ensures) in
+    turn_outside ⊥ c.args.lot.now pair.words here Done c.args.token.now c.turn_leave.new.token c.args.section
+    c.turn_leave.new.section
     (notified c.args.all c.args.number) c.requires left refl
 
 pub returns : goal.returns
-returns g c = let pair = c.args.pair in let here = notify_at pair.condvar pair.mutex c.args.all (notify.Leave c.args.any c.args.number) in
+returns g c = let pair = c.args.pair in let here = notify_at pair.condvar pair.mutex c.args.all
+    (notify.Leave c.args.any c.args.number) in
     over (begins ⊥ c.args.lot.now pair.words here c.args.token.now c.args.section c.requires)
     Done c.turn_leave.new.token c.turn_leave.new.section c.turn_leave.ensures
-    (leaves_both c.main_key.ensures c.main_key-2.ensures c.taken-wakes.ensures) c.notified_so.result (ap Some (sym c.notified_so.ensures))
+    (leaves_both c.main_key.ensures c.main_key-2.ensures c.taken-wakes.ensures) c.notified_so.result
+    (ap Some (sym c.notified_so.ensures))

@@ -14,77 +14,109 @@ use Rattle.steps_condvar.specs.declared.places.CondvarPlace.TheVariants.{Notify}
 use Rattle.run_locks.proofs.notify_courses.mark_and_move.Goals as goal
 
 pub move_some-requires : goal.move_some-requires
-move_some-requires g c = let pair = c.args.pair in let at = notify_at pair.condvar pair.mutex c.args.all in let seen = c.turn_word-seen.result in
+move_some-requires g c = let pair = c.args.pair in let at = notify_at pair.condvar pair.mutex c.args.all
+    in let seen = c.turn_word-seen.result in
     let owned : is_locked c.turn_word-seen.result ≡ false = search rules in
-    let here = begins ⊥ c.args.lot.now pair.words (at notify.Mark) c.args.token.now c.args.section c.requires in
-    let looked = comes here (Value seen) c.turn_word-seen.new.token c.args.section c.turn_word-seen.ensures refl (at (notify.Move false))
+    let here = begins ⊥ c.args.lot.now pair.words (at notify.Mark) c.args.token.now c.args.section c.requires
+    in
+    let looked = comes here (Value seen) c.turn_word-seen.new.token c.args.section c.turn_word-seen.ensures
+    refl (at (notify.Move false))
     (marks_on pair.condvar pair.mutex c.args.all seen false owned) in
     looked.at
 
 pub returns-then-not-is_locked : goal.returns-then-not-is_locked
-returns-then-not-is_locked g c = let pair = c.args.pair in let at = notify_at pair.condvar pair.mutex c.args.all in let seen = c.turn_word-seen.result in
+returns-then-not-is_locked g c = let pair = c.args.pair in let at = notify_at pair.condvar pair.mutex
+    c.args.all in let seen = c.turn_word-seen.result in
     let owned : is_locked c.turn_word-seen.result ≡ false = search rules in
-    let here = begins ⊥ c.args.lot.now pair.words (at notify.Mark) c.args.token.now c.args.section c.requires in
-    let looked = comes here (Value seen) c.turn_word-seen.new.token c.args.section c.turn_word-seen.ensures refl (at (notify.Move false))
+    let here = begins ⊥ c.args.lot.now pair.words (at notify.Mark) c.args.token.now c.args.section c.requires
+    in
+    let looked = comes here (Value seen) c.turn_word-seen.new.token c.args.section c.turn_word-seen.ensures
+    refl (at (notify.Move false))
     (marks_on pair.condvar pair.mutex c.args.all seen false owned) in
     looked.ends c.move_some.result c.move_some.new.token c.move_some.ensures
 
 pub turn_word-found-requires : goal.turn_word-found-requires
-turn_word-found-requires g c = let pair = c.args.pair in let at = notify_at pair.condvar pair.mutex c.args.all in let seen = c.turn_word-seen.result in
+turn_word-found-requires g c = let pair = c.args.pair in let at = notify_at pair.condvar pair.mutex c.args.all
+    in let seen = c.turn_word-seen.result in
     let owned : is_locked c.turn_word-seen.result ≡ true = search rules in
-    let here = begins ⊥ c.args.lot.now pair.words (at notify.Mark) c.args.token.now c.args.section c.requires in
-    let looked = comes here (Value seen) c.turn_word-seen.new.token c.args.section c.turn_word-seen.ensures refl (at (notify.Set seen))
+    let here = begins ⊥ c.args.lot.now pair.words (at notify.Mark) c.args.token.now c.args.section c.requires
+    in
+    let looked = comes here (Value seen) c.turn_word-seen.new.token c.args.section c.turn_word-seen.ensures
+    refl (at (notify.Set seen))
     (marks_on pair.condvar pair.mutex c.args.all seen true owned) in
     may_do looked refl
 
 pub move_some-requires-then-found-seen : goal.move_some-requires-then-found-seen
-move_some-requires-then-found-seen g c = let pair = c.args.pair in let at = notify_at pair.condvar pair.mutex c.args.all in let seen = c.turn_word-seen.result in
+move_some-requires-then-found-seen g c = let pair = c.args.pair in let at =
+    notify_at pair.condvar pair.mutex c.args.all in let seen = c.turn_word-seen.result in
     let owned : is_locked c.turn_word-seen.result ≡ true = search rules in
-    let here = begins ⊥ c.args.lot.now pair.words (at notify.Mark) c.args.token.now c.args.section c.requires in
-    let looked = comes here (Value seen) c.turn_word-seen.new.token c.args.section c.turn_word-seen.ensures refl (at (notify.Set seen))
+    let here = begins ⊥ c.args.lot.now pair.words (at notify.Mark) c.args.token.now c.args.section c.requires
+    in
+    let looked = comes here (Value seen) c.turn_word-seen.new.token c.args.section c.turn_word-seen.ensures
+    refl (at (notify.Set seen))
     (marks_on pair.condvar pair.mutex c.args.all seen true owned) in
     let same : c.turn_word-found.result ≡ c.turn_word-seen.result = search rules in
-    let set = comes looked (Value c.turn_word-found.result) c.turn_word-found.new.token c.args.section c.turn_word-found.ensures refl (at (notify.Move true))
+    let set = comes looked (Value c.turn_word-found.result) c.turn_word-found.new.token c.args.section
+    c.turn_word-found.ensures refl (at (notify.Move true))
     (set_on pair.condvar pair.mutex c.args.all seen c.turn_word-found.result same) in
     set.at
 
 pub returns-then-found-seen : goal.returns-then-found-seen
-returns-then-found-seen g c = let pair = c.args.pair in let at = notify_at pair.condvar pair.mutex c.args.all in let seen = c.turn_word-seen.result in
+returns-then-found-seen g c = let pair = c.args.pair in let at = notify_at pair.condvar pair.mutex c.args.all
+    in let seen = c.turn_word-seen.result in
     let owned : is_locked c.turn_word-seen.result ≡ true = search rules in
-    let here = begins ⊥ c.args.lot.now pair.words (at notify.Mark) c.args.token.now c.args.section c.requires in
-    let looked = comes here (Value seen) c.turn_word-seen.new.token c.args.section c.turn_word-seen.ensures refl (at (notify.Set seen))
+    let here = begins ⊥ c.args.lot.now pair.words (at notify.Mark) c.args.token.now c.args.section c.requires
+    in
+    let looked = comes here (Value seen) c.turn_word-seen.new.token c.args.section c.turn_word-seen.ensures
+    refl (at (notify.Set seen))
     (marks_on pair.condvar pair.mutex c.args.all seen true owned) in
     let same : c.turn_word-found.result ≡ c.turn_word-seen.result = search rules in
-    let set = comes looked (Value c.turn_word-found.result) c.turn_word-found.new.token c.args.section c.turn_word-found.ensures refl (at (notify.Move true))
+    let set = comes looked (Value c.turn_word-found.result) c.turn_word-found.new.token c.args.section
+    c.turn_word-found.ensures refl (at (notify.Move true))
     (set_on pair.condvar pair.mutex c.args.all seen c.turn_word-found.result same) in
-    set.ends c.move_some-then-found-seen.result c.move_some-then-found-seen.new.token c.move_some-then-found-seen.ensures
+    set.ends c.move_some-then-found-seen.result c.move_some-then-found-seen.new.token
+    c.move_some-then-found-seen.ensures
 
 pub rest-requires-clause-at : goal.rest-requires-clause-at
-rest-requires-clause-at g c = let pair = c.args.pair in let at = notify_at pair.condvar pair.mutex c.args.all in let seen = c.turn_word-seen.result in
+rest-requires-clause-at g c = let pair = c.args.pair in let at = notify_at pair.condvar pair.mutex c.args.all
+    in let seen = c.turn_word-seen.result in
     let owned : is_locked c.turn_word-seen.result ≡ true = search rules in
-    let here = begins ⊥ c.args.lot.now pair.words (at notify.Mark) c.args.token.now c.args.section c.requires in
-    let looked = comes here (Value seen) c.turn_word-seen.new.token c.args.section c.turn_word-seen.ensures refl (at (notify.Set seen))
+    let here = begins ⊥ c.args.lot.now pair.words (at notify.Mark) c.args.token.now c.args.section c.requires
+    in
+    let looked = comes here (Value seen) c.turn_word-seen.new.token c.args.section c.turn_word-seen.ensures
+    refl (at (notify.Set seen))
     (marks_on pair.condvar pair.mutex c.args.all seen true owned) in
-    let found = c.turn_word-found.result in let changed : c.turn_word-found.result ≢ c.turn_word-seen.result = search rules in
-    let missed = comes looked (Value found) c.turn_word-found.new.token c.args.section c.turn_word-found.ensures refl (next_place (at (notify.Set seen)) (Value found))
+    let found = c.turn_word-found.result in let changed : c.turn_word-found.result ≢ c.turn_word-seen.result =
+    search rules in
+    let missed = comes looked (Value found) c.turn_word-found.new.token c.args.section
+    c.turn_word-found.ensures refl (next_place (at (notify.Set seen)) (Value found))
     (refl, set_again pair.condvar pair.mutex c.args.all seen found (is_locked found) changed refl) in
-    let there = named missed (sym (c.next_place-next.ensures ∙ ap (λ (p : Place). next_place p (Value found)) c.notifies-place.ensures)) in
+    let there = named missed (sym (c.next_place-next.ensures ∙ ap (λ (p : Place). next_place p (Value found))
+    c.notifies-place.ensures)) in
     there.at
 
 pub returns : goal.returns
-returns g c = let pair = c.args.pair in let at = notify_at pair.condvar pair.mutex c.args.all in let seen = c.turn_word-seen.result in
+returns g c = let pair = c.args.pair in let at = notify_at pair.condvar pair.mutex c.args.all in let seen =
+    c.turn_word-seen.result in
     let owned : is_locked c.turn_word-seen.result ≡ true = search rules in
-    let here = begins ⊥ c.args.lot.now pair.words (at notify.Mark) c.args.token.now c.args.section c.requires in
-    let looked = comes here (Value seen) c.turn_word-seen.new.token c.args.section c.turn_word-seen.ensures refl (at (notify.Set seen))
+    let here = begins ⊥ c.args.lot.now pair.words (at notify.Mark) c.args.token.now c.args.section c.requires
+    in
+    let looked = comes here (Value seen) c.turn_word-seen.new.token c.args.section c.turn_word-seen.ensures
+    refl (at (notify.Set seen))
     (marks_on pair.condvar pair.mutex c.args.all seen true owned) in
-    let found = c.turn_word-found.result in let changed : c.turn_word-found.result ≢ c.turn_word-seen.result = search rules in
-    let missed = comes looked (Value found) c.turn_word-found.new.token c.args.section c.turn_word-found.ensures refl (next_place (at (notify.Set seen)) (Value found))
+    let found = c.turn_word-found.result in let changed : c.turn_word-found.result ≢ c.turn_word-seen.result =
+    search rules in
+    let missed = comes looked (Value found) c.turn_word-found.new.token c.args.section
+    c.turn_word-found.ensures refl (next_place (at (notify.Set seen)) (Value found))
     (refl, set_again pair.condvar pair.mutex c.args.all seen found (is_locked found) changed refl) in
-    let there = named missed (sym (c.next_place-next.ensures ∙ ap (λ (p : Place). next_place p (Value found)) c.notifies-place.ensures)) in
+    let there = named missed (sym (c.next_place-next.ensures ∙ ap (λ (p : Place). next_place p (Value found))
+    c.notifies-place.ensures)) in
     there.ends c.rest.result c.rest.new.token c.rest.ensures
 
 pub rest-requires-clause-queued : goal.rest-requires-clause-queued
 rest-requires-clause-queued g c = let pair = c.args.pair in let found = c.turn_word-found.result in
-    let next = c.next_place-next.ensures ∙ ap (λ (q : Place). next_place q (Value c.turn_word-found.result)) c.notifies-place.ensures in
-    let calm = after_condvar pair.condvar (Notify c.args.all pair.mutex (notify.Set c.turn_word-seen.result)) found tt refl in
+    let next = c.next_place-next.ensures ∙ ap (λ (q : Place). next_place q (Value c.turn_word-found.result))
+    c.notifies-place.ensures in
+    let calm = after_condvar pair.condvar (Notify c.args.all pair.mutex (notify.Set c.turn_word-seen.result))
+    found tt refl in
     λ queued. absurd (false≢true (sym calm ∙ ap is_queued (sym next) ∙ queued))

@@ -8,9 +8,27 @@ use Rattle.run_locks.specs.declared.rwlock_calls.Rest.TheVariants.{GoesOn, Misse
 use Rattle.run_locks.proofs.rwlock_calls.call.Goals as goal
 
 pub call_slow-requires-clause-begun : goal.call_slow-requires-clause-begun
-call_slow-requires-clause-begun g c = let is : c.call_fast.result ≡ Err (GoesOn c.in-Err-GoesOn.seen) = search rules in
-    (c.args.token.now, c.requires.right.0, c.requires.right.1, subst (λ (r : Result Answer Rest). MatchResult r (λ answer. HasEndedRwLock (IsUp g.C.Clock.tells c.args.limit.now) c.args.word.now c.args.settings.now.admission c.args.purpose answer c.args.token.now c.call_fast.new.token) (λ rest. HasBegunRwLock c.args.word.now c.args.settings.now.admission c.args.purpose rest c.args.token.now c.call_fast.new.token)) is c.call_fast.ensures.over)
+call_slow-requires-clause-begun g c = let is : c.call_fast.result ≡ Err (GoesOn c.in-Err-GoesOn.seen) =
+    search rules in (
+      c.args.token.now,
+      c.requires.right.0,
+      c.requires.right.1,
+      subst (λ (r : Result Answer Rest). MatchResult r
+          (λ answer. HasEndedRwLock (IsUp g.C.Clock.tells c.args.limit.now) c.args.word.now
+          c.args.settings.now.admission c.args.purpose answer c.args.token.now c.call_fast.new.token)
+          (λ rest. HasBegunRwLock c.args.word.now c.args.settings.now.admission c.args.purpose rest
+          c.args.token.now c.call_fast.new.token)) is c.call_fast.ensures.over,
+    )
 
 pub missed-requires-clause-begun : goal.missed-requires-clause-begun
-missed-requires-clause-begun g c = let is : c.call_fast.result ≡ Err (Missed c.in-Err-Missed.seen c.in-Err-Missed.found) = search rules in
-    (c.args.token.now, c.requires.right.0, c.requires.right.1, subst (λ (r : Result Answer Rest). MatchResult r (λ answer. HasEndedRwLock (IsUp g.C.Clock.tells c.args.limit.now) c.args.word.now c.args.settings.now.admission c.args.purpose answer c.args.token.now c.call_fast.new.token) (λ rest. HasBegunRwLock c.args.word.now c.args.settings.now.admission c.args.purpose rest c.args.token.now c.call_fast.new.token)) is c.call_fast.ensures.over)
+missed-requires-clause-begun g c = let is : c.call_fast.result
+    ≡ Err (Missed c.in-Err-Missed.seen c.in-Err-Missed.found) = search rules in (
+      c.args.token.now,
+      c.requires.right.0,
+      c.requires.right.1,
+      subst (λ (r : Result Answer Rest). MatchResult r
+          (λ answer. HasEndedRwLock (IsUp g.C.Clock.tells c.args.limit.now) c.args.word.now
+          c.args.settings.now.admission c.args.purpose answer c.args.token.now c.call_fast.new.token)
+          (λ rest. HasBegunRwLock c.args.word.now c.args.settings.now.admission c.args.purpose rest
+          c.args.token.now c.call_fast.new.token)) is c.call_fast.ensures.over,
+    )

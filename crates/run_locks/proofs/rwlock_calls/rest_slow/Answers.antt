@@ -15,24 +15,47 @@ use Rattle.run_base.proofs.Unqueued.{after_begin}
 use Rattle.run_locks.proofs.rwlock_calls.rest_slow.Goals as goal
 
 pub run_out-requires-clause-words : goal.run_out-requires-clause-words
-run_out-requires-clause-words g c = let start : c.place_behind-start.result ≡ next_place (rwlock_begin c.args.word.now.number c.args.admission.now c.args.purpose.now) (Value c.args.seen) = search rules in
-    subst (λ (p : Place). AreWordsFor p (kind_in (single_word c.args.word.now)) (at_in (single_word c.args.word.now))) (sym start)
-    (words_after c.args.word.now c.requires.own.2 c.args.admission.now c.args.purpose.now c.args.seen c.requires.own.3)
+run_out-requires-clause-words g c = let start : c.place_behind-start.result
+    ≡ next_place (rwlock_begin c.args.word.now.number c.args.admission.now c.args.purpose.now)
+    (Value c.args.seen) = search rules in
+    subst (λ (p : Place). AreWordsFor p (kind_in (single_word c.args.word.now))
+    (at_in (single_word c.args.word.now))) (sym start)
+    (words_after c.args.word.now c.requires.own.2 c.args.admission.now c.args.purpose.now c.args.seen
+    c.requires.own.3)
 
 pub run_out-requires-clause-fits : goal.run_out-requires-clause-fits
-run_out-requires-clause-fits g c = let start : c.place_behind-start.result ≡ next_place (rwlock_begin c.args.word.now.number c.args.admission.now c.args.purpose.now) (Value c.args.seen) = search rules in
-    (c.requires.fits.0, subst (λ (p : Place). Fits (IsUp g.C.Clock.tells c.args.limit.now) c.requires.fits.0 p (stage_of c.args.token.now None)) (sym start) c.requires.fits.1)
+run_out-requires-clause-fits g c = let start : c.place_behind-start.result
+    ≡ next_place (rwlock_begin c.args.word.now.number c.args.admission.now c.args.purpose.now)
+    (Value c.args.seen) = search rules in (
+      c.requires.fits.0,
+      subst (λ (p : Place). Fits (IsUp g.C.Clock.tells c.args.limit.now) c.requires.fits.0 p
+          (stage_of c.args.token.now None)) (sym start) c.requires.fits.1,
+    )
 
 pub returns-clause-path : goal.returns-clause-path
-returns-clause-path g c = let start : c.place_behind-start.result ≡ next_place (rwlock_begin c.args.word.now.number c.args.admission.now c.args.purpose.now) (Value c.args.seen) = search rules in
-    subst (λ (at : ℕ → ℕ). Courses at c.args.token.now.number (next_place (rwlock_begin c.args.word.now.number c.args.admission.now c.args.purpose.now) (Value c.args.seen)) (trail_of c.args.token.now None) (trail_of c.run_out.new.token None) c.run_out.result) (rwlock_alone c.args.word.now c.requires.own.2)
-    (subst (λ (p : Place). Courses (at_in (single_word c.args.word.now)) c.args.token.now.number p (trail_of c.args.token.now None) (trail_of c.run_out.new.token None) c.run_out.result) start c.run_out.ensures.path)
+returns-clause-path g c = let start : c.place_behind-start.result ≡ next_place
+    (rwlock_begin c.args.word.now.number c.args.admission.now c.args.purpose.now) (Value c.args.seen) =
+    search rules in
+    subst (λ (at : ℕ → ℕ). Courses at c.args.token.now.number
+    (next_place (rwlock_begin c.args.word.now.number c.args.admission.now c.args.purpose.now)
+    (Value c.args.seen)) (trail_of c.args.token.now None) (trail_of c.run_out.new.token None)
+    c.run_out.result) (rwlock_alone c.args.word.now c.requires.own.2)
+    (subst (λ (p : Place). Courses (at_in (single_word c.args.word.now)) c.args.token.now.number p
+    (trail_of c.args.token.now None) (trail_of c.run_out.new.token None) c.run_out.result) start
+    c.run_out.ensures.path)
 
 pub returns-clause-over : goal.returns-clause-over
-returns-clause-over g c = λ (base : List Ownership) fits. let start : c.place_behind-start.result ≡ next_place (rwlock_begin c.args.word.now.number c.args.admission.now c.args.purpose.now) (Value c.args.seen) = search rules in
-    subst (λ (p : Place). IsOver (IsUp g.C.Clock.tells c.args.limit.now) base (call_purpose p) c.run_out.result (stage_of c.run_out.new.token None)) start
-    (c.run_out.ensures.over base (subst (λ (p : Place). Fits (IsUp g.C.Clock.tells c.args.limit.now) base p (stage_of c.args.token.now None)) (sym start) fits))
+returns-clause-over g c = λ (base : List Ownership) fits. let start : c.place_behind-start.result
+    ≡ next_place (rwlock_begin c.args.word.now.number c.args.admission.now c.args.purpose.now)
+    (Value c.args.seen) = search rules in
+    subst (λ (p : Place). IsOver (IsUp g.C.Clock.tells c.args.limit.now) base (call_purpose p)
+    c.run_out.result (stage_of c.run_out.new.token None)) start
+    (c.run_out.ensures.over base (subst (λ (p : Place). Fits (IsUp g.C.Clock.tells c.args.limit.now) base p
+    (stage_of c.args.token.now None)) (sym start) fits))
 
 pub run_out-requires-clause-unqueued : goal.run_out-requires-clause-unqueued
-run_out-requires-clause-unqueued g c = let start : c.place_behind-start.result ≡ next_place (rwlock_begin c.args.word.now.number c.args.admission.now c.args.purpose.now) (Value c.args.seen) = search rules in
-    subst (λ (p : Place). is_queued p ≡ false) (sym start) (after_begin c.args.word.now.number c.args.admission.now c.args.purpose.now c.args.seen)
+run_out-requires-clause-unqueued g c = let start : c.place_behind-start.result
+    ≡ next_place (rwlock_begin c.args.word.now.number c.args.admission.now c.args.purpose.now)
+    (Value c.args.seen) = search rules in
+    subst (λ (p : Place). is_queued p ≡ false) (sym start) (after_begin c.args.word.now.number
+    c.args.admission.now c.args.purpose.now c.args.seen)

@@ -18,8 +18,14 @@ not_condvar e = cc
 
 pub unreachable-requires : goal.unreachable-requires
 unreachable-requires g c = let base = c.requires.fits.0 in
-    let stopped = subst (λ (stop : Stop). IsStopped (IsUp g.C.Clock.tells c.args.limit) c.requires.fits.0 (call_purpose c.args.start) stop (stage_of c.run.new.token None)) c.in-Paused.is (c.run.ensures.stopped base c.requires.fits.1) in
-    let words = subst (λ (words : Words). AreWordsAfter (Paused c.in-Paused.place c.in-Paused.state) (kind_in words) (at_in words)) c.alone.ensures
-    (subst (λ (stop : Stop). AreWordsAfter stop (kind_in c.alone.result) (at_in c.alone.result)) c.in-Paused.is c.run.ensures.words) in
+    let stopped = subst (λ (stop : Stop). IsStopped (IsUp g.C.Clock.tells c.args.limit) c.requires.fits.0
+    (call_purpose c.args.start) stop (stage_of c.run.new.token None)) c.in-Paused.is
+    (c.run.ensures.stopped base c.requires.fits.1) in
+    let words = subst (λ (words : Words). AreWordsAfter (Paused c.in-Paused.place c.in-Paused.state)
+    (kind_in words) (at_in words)) c.alone.ensures
+    (subst (λ (stop : Stop). AreWordsAfter stop (kind_in c.alone.result) (at_in c.alone.result))
+    c.in-Paused.is c.run.ensures.words) in
     let other : c.args.word.kind ≡ RwLock = c.requires.kind in
-    never_closes (IsUp g.C.Clock.tells c.args.limit) base (call_purpose c.args.start) c.in-Paused.place c.in-Paused.state (stage_of c.run.new.token None) c.args.word (λ is. not_once (sym other ∙ is)) (λ is. not_condvar (sym other ∙ is)) words stopped
+    never_closes (IsUp g.C.Clock.tells c.args.limit) base (call_purpose c.args.start) c.in-Paused.place
+    c.in-Paused.state (stage_of c.run.new.token None) c.args.word (λ is. not_once (sym other ∙ is))
+    (λ is. not_condvar (sym other ∙ is)) words stopped

@@ -16,15 +16,20 @@ pub turn_leave-requires : goal.turn_leave-requires
 turn_leave-requires g c = (
   unlocks_at c.args.mutex (unlock.Leave c.args.any),
   c.requires,
-  ap (λ (k : ℕ). Leave (One k) (wakes_taken c.args.any Normal)) (sym c.main_key.ensures) ∙ ap (λ (w : Wakes). Leave (One c.main_key.result) w) (sym c.taken-wakes.ensures),
+  ap (λ (k : ℕ). Leave (One k) (wakes_taken c.args.any Normal)) (sym c.main_key.ensures)
+      ∙ ap (λ (w : Wakes). Leave (One c.main_key.result) w) (sym c.taken-wakes.ensures),
 )
 
 pub end-requires : goal.end-requires
 end-requires g c = let p = unlocks_at c.args.mutex (unlock.Leave c.args.any) in
-    let is = ap (λ (k : ℕ). Leave (One k) (wakes_taken c.args.any Normal)) (sym c.main_key.ensures) ∙ ap (λ (w : Wakes). Leave (One c.main_key.result) w) (sym c.taken-wakes.ensures) in
-    turn_outside ⊥ c.args.lot.now c.args.words p Done c.args.token.now c.turn_leave.new.token c.args.section c.turn_leave.new.section Ok c.requires (c.turn_leave.ensures p c.requires is) refl
+    let is = ap (λ (k : ℕ). Leave (One k) (wakes_taken c.args.any Normal)) (sym c.main_key.ensures)
+    ∙ ap (λ (w : Wakes). Leave (One c.main_key.result) w) (sym c.taken-wakes.ensures) in
+    turn_outside ⊥ c.args.lot.now c.args.words p Done c.args.token.now c.turn_leave.new.token c.args.section
+    c.turn_leave.new.section Ok c.requires (c.turn_leave.ensures p c.requires is) refl
 
 pub returns : goal.returns
 returns g c = let p = unlocks_at c.args.mutex (unlock.Leave c.args.any) in
-    let is = ap (λ (k : ℕ). Leave (One k) (wakes_taken c.args.any Normal)) (sym c.main_key.ensures) ∙ ap (λ (w : Wakes). Leave (One c.main_key.result) w) (sym c.taken-wakes.ensures) in
-    turn_ends ⊥ c.args.lot.now c.args.words p Done c.args.token.now c.turn_leave.new.token c.args.section c.turn_leave.new.section (c.turn_leave.ensures p c.requires is) c.requires Ok refl
+    let is = ap (λ (k : ℕ). Leave (One k) (wakes_taken c.args.any Normal)) (sym c.main_key.ensures)
+    ∙ ap (λ (w : Wakes). Leave (One c.main_key.result) w) (sym c.taken-wakes.ensures) in
+    turn_ends ⊥ c.args.lot.now c.args.words p Done c.args.token.now c.turn_leave.new.token c.args.section
+    c.turn_leave.new.section (c.turn_leave.ensures p c.requires is) c.requires Ok refl

@@ -10,6 +10,10 @@ use Rattle.run_locks.proofs.unlocks.unlock_slow.Goals as goal
 
 pub returns-clause-path : goal.returns-clause-path
 returns-clause-path g c = λ before same saw untold. let n = c.args.word.number in
-    let courses = subst (λ (k : ℕ). Courses (at_in c.alone.result) c.args.token.now.number (unlocks_at k unlock.Enter) (trail_of c.args.token.now None) (trail_of c.unlock_through.new.token None) Ok) c.number.ensures c.unlock_through.ensures.2 in
+    let courses = subst (λ (k : ℕ). Courses (at_in c.alone.result) c.args.token.now.number
+    (unlocks_at k unlock.Enter) (trail_of c.args.token.now None) (trail_of c.unlock_through.new.token
+    None) Ok) c.number.ensures c.unlock_through.ensures.2 in
     path_behind n Unlock 3 before c.args.token.now c.unlock_through.new.token Ok
-    (subst (λ (at : ℕ → ℕ). Courses at c.args.token.now.number (unlocks_at n unlock.Enter) (trail_of c.args.token.now None) (trail_of c.unlock_through.new.token None) Ok) (ap at_in c.alone.ensures ∙ alone_at c.args.word c.requires.own.2) courses) same saw untold
+    (subst (λ (at : ℕ → ℕ). Courses at c.args.token.now.number (unlocks_at n unlock.Enter)
+    (trail_of c.args.token.now None) (trail_of c.unlock_through.new.token None) Ok)
+    (ap at_in c.alone.ensures ∙ alone_at c.args.word c.requires.own.2) courses) same saw untold

@@ -16,51 +16,85 @@ use Rattle.run_base.specs.Queued.{is_queued}
 use Rattle.run_locks.proofs.wait_courses.fall_asleep.Goals as goal
 
 pub lock_again-requires : goal.lock_again-requires
-lock_again-requires g c = let pair = c.args.pair in let at = wait_at pair.condvar pair.mutex c.args.timed in let up = IsUp g.C.Clock.tells c.args.limit in
-    let here = begins up c.args.lot.now pair.words (at (wait.Asleep Listed)) c.args.token.now c.args.section c.requires.at in
-    let turned = subst (λ (p : Place). HasTurned up c.args.lot.now pair.words p c.turn_sleep-reply.result c.args.token.now c.args.section
-    c.turn_sleep-reply.new.token c.turn_sleep-reply.new.section) c.waits-place.ensures c.turn_sleep-reply.ensures.turned in
+lock_again-requires g c = let pair = c.args.pair in let at = wait_at pair.condvar pair.mutex c.args.timed
+    in let up = IsUp g.C.Clock.tells c.args.limit in
+    let here = begins up c.args.lot.now pair.words (at (wait.Asleep Listed)) c.args.token.now c.args.section
+    c.requires.at in
+    let turned = subst (λ (p : Place). HasTurned up c.args.lot.now pair.words p c.turn_sleep-reply.result
+    c.args.token.now c.args.section
+    c.turn_sleep-reply.new.token c.turn_sleep-reply.new.section) c.waits-place.ensures
+    c.turn_sleep-reply.ensures.turned in
     let woken : c.turn_sleep-reply.result ≡ Woken Normal = search rules in
-    let on : (next_place (at (wait.Asleep Listed)) c.turn_sleep-reply.result ≡ at (locks_at lock.First)) × (answer_of (next_act (at (wait.Asleep Listed)) c.turn_sleep-reply.result) ≡ None) = rw woken (refl, refl) in
-    let awake = turns_to here c.turn_sleep-reply.result c.turn_sleep-reply.new.token c.turn_sleep-reply.new.section turned (at (locks_at lock.First)) on in
+    let on : (next_place (at (wait.Asleep Listed)) c.turn_sleep-reply.result ≡ at (locks_at lock.First))
+    × (answer_of (next_act (at (wait.Asleep Listed)) c.turn_sleep-reply.result) ≡ None) =
+    rw woken (refl, refl) in
+    let awake = turns_to here c.turn_sleep-reply.result c.turn_sleep-reply.new.token
+    c.turn_sleep-reply.new.section turned (at (locks_at lock.First)) on in
     awake.at
 
 pub returns-then-matches : goal.returns-then-matches
-returns-then-matches g c = let pair = c.args.pair in let at = wait_at pair.condvar pair.mutex c.args.timed in let up = IsUp g.C.Clock.tells c.args.limit in
-    let here = begins up c.args.lot.now pair.words (at (wait.Asleep Listed)) c.args.token.now c.args.section c.requires.at in
-    let turned = subst (λ (p : Place). HasTurned up c.args.lot.now pair.words p c.turn_sleep-reply.result c.args.token.now c.args.section
-    c.turn_sleep-reply.new.token c.turn_sleep-reply.new.section) c.waits-place.ensures c.turn_sleep-reply.ensures.turned in
+returns-then-matches g c = let pair = c.args.pair in let at = wait_at pair.condvar pair.mutex c.args.timed
+    in let up = IsUp g.C.Clock.tells c.args.limit in
+    let here = begins up c.args.lot.now pair.words (at (wait.Asleep Listed)) c.args.token.now c.args.section
+    c.requires.at in
+    let turned = subst (λ (p : Place). HasTurned up c.args.lot.now pair.words p c.turn_sleep-reply.result
+    c.args.token.now c.args.section
+    c.turn_sleep-reply.new.token c.turn_sleep-reply.new.section) c.waits-place.ensures
+    c.turn_sleep-reply.ensures.turned in
     let woken : c.turn_sleep-reply.result ≡ Woken Normal = search rules in
-    let on : (next_place (at (wait.Asleep Listed)) c.turn_sleep-reply.result ≡ at (locks_at lock.First)) × (answer_of (next_act (at (wait.Asleep Listed)) c.turn_sleep-reply.result) ≡ None) = rw woken (refl, refl) in
-    let awake = turns_to here c.turn_sleep-reply.result c.turn_sleep-reply.new.token c.turn_sleep-reply.new.section turned (at (locks_at lock.First)) on in
+    let on : (next_place (at (wait.Asleep Listed)) c.turn_sleep-reply.result ≡ at (locks_at lock.First))
+    × (answer_of (next_act (at (wait.Asleep Listed)) c.turn_sleep-reply.result) ≡ None) =
+    rw woken (refl, refl) in
+    let awake = turns_to here c.turn_sleep-reply.result c.turn_sleep-reply.new.token
+    c.turn_sleep-reply.new.section turned (at (locks_at lock.First)) on in
     awake.ends c.lock_again.result c.lock_again.new.token c.lock_again.ensures
 
 pub rest-requires-clause-at : goal.rest-requires-clause-at
-rest-requires-clause-at g c = let pair = c.args.pair in let at = wait_at pair.condvar pair.mutex c.args.timed in let up = IsUp g.C.Clock.tells c.args.limit in
-    let here = begins up c.args.lot.now pair.words (at (wait.Asleep Listed)) c.args.token.now c.args.section c.requires.at in
-    let turned = subst (λ (p : Place). HasTurned up c.args.lot.now pair.words p c.turn_sleep-reply.result c.args.token.now c.args.section
-    c.turn_sleep-reply.new.token c.turn_sleep-reply.new.section) c.waits-place.ensures c.turn_sleep-reply.ensures.turned in
-    let awake = turns_to here c.turn_sleep-reply.result c.turn_sleep-reply.new.token c.turn_sleep-reply.new.section turned
-    (next_place (at (wait.Asleep Listed)) c.turn_sleep-reply.result) (refl, sleeps_on pair.condvar pair.mutex c.args.timed c.turn_sleep-reply.result) in
-    let there = named awake (sym (c.next_place-next.ensures ∙ ap (λ (p : Place). next_place p c.turn_sleep-reply.result) c.waits-place.ensures)) in
+rest-requires-clause-at g c = let pair = c.args.pair in let at = wait_at pair.condvar pair.mutex c.args.timed
+    in let up = IsUp g.C.Clock.tells c.args.limit in
+    let here = begins up c.args.lot.now pair.words (at (wait.Asleep Listed)) c.args.token.now c.args.section
+    c.requires.at in
+    let turned = subst (λ (p : Place). HasTurned up c.args.lot.now pair.words p c.turn_sleep-reply.result
+    c.args.token.now c.args.section
+    c.turn_sleep-reply.new.token c.turn_sleep-reply.new.section) c.waits-place.ensures
+    c.turn_sleep-reply.ensures.turned in
+    let awake = turns_to here c.turn_sleep-reply.result c.turn_sleep-reply.new.token
+    c.turn_sleep-reply.new.section turned
+    (next_place (at (wait.Asleep Listed)) c.turn_sleep-reply.result) (
+      refl,
+      sleeps_on pair.condvar pair.mutex c.args.timed c.turn_sleep-reply.result,
+    ) in
+    let there = named awake (sym (c.next_place-next.ensures
+    ∙ ap (λ (p : Place). next_place p c.turn_sleep-reply.result) c.waits-place.ensures)) in
     there.at
 
 pub rest-requires-clause-call : goal.rest-requires-clause-call
 rest-requires-clause-call g c =
-    subst IsOfCondvar (sym (c.next_place-next.ensures ∙ ap (λ (p : Place). next_place p c.turn_sleep-reply.result) c.waits-place.ensures)) tt
+    subst IsOfCondvar (sym (c.next_place-next.ensures
+    ∙ ap (λ (p : Place). next_place p c.turn_sleep-reply.result) c.waits-place.ensures)) tt
 
 pub returns : goal.returns
-returns g c = let pair = c.args.pair in let at = wait_at pair.condvar pair.mutex c.args.timed in let up = IsUp g.C.Clock.tells c.args.limit in
-    let here = begins up c.args.lot.now pair.words (at (wait.Asleep Listed)) c.args.token.now c.args.section c.requires.at in
-    let turned = subst (λ (p : Place). HasTurned up c.args.lot.now pair.words p c.turn_sleep-reply.result c.args.token.now c.args.section
-    c.turn_sleep-reply.new.token c.turn_sleep-reply.new.section) c.waits-place.ensures c.turn_sleep-reply.ensures.turned in
-    let awake = turns_to here c.turn_sleep-reply.result c.turn_sleep-reply.new.token c.turn_sleep-reply.new.section turned
-    (next_place (at (wait.Asleep Listed)) c.turn_sleep-reply.result) (refl, sleeps_on pair.condvar pair.mutex c.args.timed c.turn_sleep-reply.result) in
-    let there = named awake (sym (c.next_place-next.ensures ∙ ap (λ (p : Place). next_place p c.turn_sleep-reply.result) c.waits-place.ensures)) in
+returns g c = let pair = c.args.pair in let at = wait_at pair.condvar pair.mutex c.args.timed in let up =
+    IsUp g.C.Clock.tells c.args.limit in
+    let here = begins up c.args.lot.now pair.words (at (wait.Asleep Listed)) c.args.token.now c.args.section
+    c.requires.at in
+    let turned = subst (λ (p : Place). HasTurned up c.args.lot.now pair.words p c.turn_sleep-reply.result
+    c.args.token.now c.args.section
+    c.turn_sleep-reply.new.token c.turn_sleep-reply.new.section) c.waits-place.ensures
+    c.turn_sleep-reply.ensures.turned in
+    let awake = turns_to here c.turn_sleep-reply.result c.turn_sleep-reply.new.token
+    c.turn_sleep-reply.new.section turned
+    (next_place (at (wait.Asleep Listed)) c.turn_sleep-reply.result) (
+      refl,
+      sleeps_on pair.condvar pair.mutex c.args.timed c.turn_sleep-reply.result,
+    ) in
+    let there = named awake (sym (c.next_place-next.ensures
+    ∙ ap (λ (p : Place). next_place p c.turn_sleep-reply.result) c.waits-place.ensures)) in
     there.ends c.rest.result c.rest.new.token c.rest.ensures
 
 pub turn_sleep-reply-requires-clause-queued : goal.turn_sleep-reply-requires-clause-queued
 turn_sleep-reply-requires-clause-queued g c = c.requires.queued
 
 pub rest-requires-clause-queued : goal.rest-requires-clause-queued
-rest-requires-clause-queued g c = λ queued. c.turn_sleep-reply.ensures.queued (subst (λ (p : Place). is_queued p ≡ true) c.next_place-next.ensures queued)
+rest-requires-clause-queued g c = λ queued. c.turn_sleep-reply.ensures.queued
+    (subst (λ (p : Place). is_queued p ≡ true) c.next_place-next.ensures queued)

@@ -11,34 +11,48 @@ use Rattle.run_base.specs.Queued.{is_queued}
 use Rattle.run_locks.proofs.wait_courses.lock_seen.Goals as goal
 
 pub rest-requires-clause-at : goal.rest-requires-clause-at
-rest-requires-clause-at g c = let pair = c.args.pair in let at = wait_at pair.condvar pair.mutex c.args.timed in let seen = c.turn_word-seen.result in
-    let here = begins (IsUp g.C.Clock.tells c.args.limit) c.args.lot.now pair.words (at (locks_at lock.Load)) c.args.token.now c.args.section c.requires in
-    let looked = comes here (Value seen) c.turn_word-seen.new.token c.args.section c.turn_word-seen.ensures refl (at (locks_at (lock.Decide seen)))
+rest-requires-clause-at g c = let pair = c.args.pair in let at = wait_at pair.condvar pair.mutex c.args.timed
+    in let seen = c.turn_word-seen.result in
+    let here = begins (IsUp g.C.Clock.tells c.args.limit) c.args.lot.now pair.words (at (locks_at lock.Load))
+    c.args.token.now c.args.section c.requires in
+    let looked = comes here (Value seen) c.turn_word-seen.new.token c.args.section c.turn_word-seen.ensures
+    refl (at (locks_at (lock.Decide seen)))
     (refl, decides_on pair.condvar pair.mutex c.args.timed seen (is_locked seen) refl) in
     let there = named looked (sym (c.waits-place.ensures ∙ ap at c.locks.ensures)) in
     there.at
 
 pub returns-then-is_locked : goal.returns-then-is_locked
-returns-then-is_locked g c = let pair = c.args.pair in let at = wait_at pair.condvar pair.mutex c.args.timed in let seen = c.turn_word-seen.result in
-    let here = begins (IsUp g.C.Clock.tells c.args.limit) c.args.lot.now pair.words (at (locks_at lock.Load)) c.args.token.now c.args.section c.requires in
-    let looked = comes here (Value seen) c.turn_word-seen.new.token c.args.section c.turn_word-seen.ensures refl (at (locks_at (lock.Decide seen)))
+returns-then-is_locked g c = let pair = c.args.pair in let at = wait_at pair.condvar pair.mutex c.args.timed
+    in let seen = c.turn_word-seen.result in
+    let here = begins (IsUp g.C.Clock.tells c.args.limit) c.args.lot.now pair.words (at (locks_at lock.Load))
+    c.args.token.now c.args.section c.requires in
+    let looked = comes here (Value seen) c.turn_word-seen.new.token c.args.section c.turn_word-seen.ensures
+    refl (at (locks_at (lock.Decide seen)))
     (refl, decides_on pair.condvar pair.mutex c.args.timed seen (is_locked seen) refl) in
     let there = named looked (sym (c.waits-place.ensures ∙ ap at c.locks.ensures)) in
     there.ends c.rest.result c.rest.new.token c.rest.ensures
 
 pub lock_free-requires-clause-at : goal.lock_free-requires-clause-at
-lock_free-requires-clause-at g c = let pair = c.args.pair in let at = wait_at pair.condvar pair.mutex c.args.timed in let seen = c.turn_word-seen.result in
-    let here = begins (IsUp g.C.Clock.tells c.args.limit) c.args.lot.now pair.words (at (locks_at lock.Load)) c.args.token.now c.args.section c.requires in
-    let looked = comes here (Value seen) c.turn_word-seen.new.token c.args.section c.turn_word-seen.ensures refl (at (locks_at (lock.Decide seen)))
+lock_free-requires-clause-at g c = let pair = c.args.pair in let at = wait_at pair.condvar pair.mutex
+    c.args.timed in let seen = c.turn_word-seen.result in
+    let here = begins (IsUp g.C.Clock.tells c.args.limit) c.args.lot.now pair.words (at (locks_at lock.Load))
+    c.args.token.now c.args.section c.requires in
+    let looked = comes here (Value seen) c.turn_word-seen.new.token c.args.section c.turn_word-seen.ensures
+    refl (at (locks_at (lock.Decide seen)))
     (refl, decides_on pair.condvar pair.mutex c.args.timed seen (is_locked seen) refl) in
     looked.at
 
 pub returns : goal.returns
-returns g c = let pair = c.args.pair in let at = wait_at pair.condvar pair.mutex c.args.timed in let seen = c.turn_word-seen.result in
-    let here = begins (IsUp g.C.Clock.tells c.args.limit) c.args.lot.now pair.words (at (locks_at lock.Load)) c.args.token.now c.args.section c.requires in
-    let looked = comes here (Value seen) c.turn_word-seen.new.token c.args.section c.turn_word-seen.ensures refl (at (locks_at (lock.Decide seen)))
+returns g c = let pair = c.args.pair in let at = wait_at pair.condvar pair.mutex c.args.timed in let seen =
+    c.turn_word-seen.result in
+    let here = begins (IsUp g.C.Clock.tells c.args.limit) c.args.lot.now pair.words (at (locks_at lock.Load))
+    c.args.token.now c.args.section c.requires in
+    let looked = comes here (Value seen) c.turn_word-seen.new.token c.args.section c.turn_word-seen.ensures
+    refl (at (locks_at (lock.Decide seen)))
     (refl, decides_on pair.condvar pair.mutex c.args.timed seen (is_locked seen) refl) in
     looked.ends c.lock_free.result c.lock_free.new.token c.lock_free.ensures
 
 pub rest-requires-clause-queued : goal.rest-requires-clause-queued
-rest-requires-clause-queued g c = λ queued. absurd (false≢true (ap is_queued (sym (c.waits-place.ensures ∙ ap (wait_at c.args.pair.condvar c.args.pair.mutex c.args.timed) c.locks.ensures)) ∙ queued))
+rest-requires-clause-queued g c = λ queued. absurd
+    (false≢true (ap is_queued (sym (c.waits-place.ensures
+    ∙ ap (wait_at c.args.pair.condvar c.args.pair.mutex c.args.timed) c.locks.ensures)) ∙ queued))

@@ -27,53 +27,97 @@ use Rattle.run_signals.proofs.once_calls.close.Goals as goal
 
 pub word-seen-requires-clause-may : goal.word-seen-requires-clause-may
 word-seen-requires-clause-may g c = let n = c.args.word.number in
-    subst (λ (kind : WordKind). MayStep kind (word_index c.args.word.number kind) (Swap c.word_behind.result) (owns_of c.args.token.now)) (sym c.requires.own.2)
-    (subst (λ (left : ℕ). MayStep Once (once_at c.args.word.number) (Swap left) (owns_of c.args.token.now)) (sym c.word_behind.ensures)
-    ((once_steps (once_at n) (owns_of c.args.token.now)).finish (word_behind c.args.succeeded) (word_left n c.args.succeeded) c.requires.runs))
+    subst (λ (kind : WordKind). MayStep kind (word_index c.args.word.number kind) (Swap c.word_behind.result)
+    (owns_of c.args.token.now)) (sym c.requires.own.2)
+    (subst (λ (left : ℕ). MayStep Once (once_at c.args.word.number) (Swap left) (owns_of c.args.token.now))
+    (sym c.word_behind.ensures)
+    ((once_steps (once_at n) (owns_of c.args.token.now)).finish (word_behind c.args.succeeded)
+    (word_left n c.args.succeeded) c.requires.runs))
 
 -- tells what the thread owns behind the step that ended its run
-behind : (n : ℕ) (s : Bool) (seen left : ℕ) (kind : WordKind) (owns new : List Ownership) → kind ≡ Once → left ≡ word_behind s → CodesWith kind (word_index n kind) seen owns → has (owning (once_at n) Runner) owns ≡ true
-    → new ≡ owns_after_step kind (word_index n kind) (Swap left) seen owns → OwnsBehind n s (without (owning (once_at n) Runner) owns) new
-behind n s seen left kind owns new once same coded runs is = let code = subst (λ (kind : WordKind). CodesWith kind (word_index n kind) seen owns) once coded in
-    subst (OwnsBehind n s (without (owning (once_at n) Runner) owns)) (sym (is ∙ ap (λ (kind : WordKind). owns_after_step kind (word_index n kind) (Swap left) seen owns) once ∙ ap (λ (left : ℕ). owns_after_step Once (once_at n) (Swap left) seen owns) same))
+behind : (n : ℕ) (s : Bool) (seen left : ℕ) (kind : WordKind) (owns new : List Ownership) → kind ≡ Once
+    → left ≡ word_behind s → CodesWith kind (word_index n kind) seen owns → has (owning (once_at n) Runner)
+    owns ≡ true
+    → new ≡ owns_after_step kind (word_index n kind) (Swap left) seen owns
+    → OwnsBehind n s (without (owning (once_at n) Runner) owns) new
+behind n s seen left kind owns new once same coded runs is = let code =
+    subst (λ (kind : WordKind). CodesWith kind (word_index n kind) seen owns) once coded in
+    subst (OwnsBehind n s (without (owning (once_at n) Runner) owns))
+    (sym (is ∙ ap (λ (kind : WordKind). owns_after_step kind (word_index n kind) (Swap left) seen owns)
+    once ∙ ap (λ (left : ℕ). owns_after_step Once (once_at n) (Swap left) seen owns) same))
     (swapped n s owns seen code.1.0 (runs_found n seen owns code runs))
 
 pub wake-requires-clause-owns : goal.wake-requires-clause-owns
-wake-requires-clause-owns g c = let n = c.args.word.number in let w = c.word-seen in let owns = owns_of c.args.token.now in (
-  without (owning (once_at n) Runner) owns,
-  behind n c.args.succeeded w.result c.word_behind.result c.args.word.kind owns (owns_of w.new.token) c.requires.own.2 c.word_behind.ensures w.ensures.coded c.requires.runs (ap (λ (v : View). v.owns) w.ensures.stepped),
-)
+wake-requires-clause-owns g c = let n = c.args.word.number in let w = c.word-seen in let owns =
+    owns_of c.args.token.now in (
+      without (owning (once_at n) Runner) owns,
+      behind n c.args.succeeded w.result c.word_behind.result c.args.word.kind owns (owns_of w.new.token)
+          c.requires.own.2 c.word_behind.ensures w.ensures.coded c.requires.runs
+          (ap (λ (v : View). v.owns) w.ensures.stepped),
+    )
 
 -- The step of a close adds one to the path.
-added : (n seen left : ℕ) (s : Bool) (kind : WordKind) (old new : List WordStep) → kind ≡ Once → left ≡ word_behind s → new ≡ old ++ step (word_index n kind) (Swap left) seen → new ≡ old ++ step (once_at n) (Swap (word_behind s)) seen
-added n seen left s kind old new once same is = is ∙ ap (λ (kind : WordKind). old ++ step (word_index n kind) (Swap left) seen) once ∙ ap (λ (left : ℕ). old ++ step (once_at n) (Swap left) seen) same
+added : (n seen left : ℕ) (s : Bool) (kind : WordKind) (old new : List WordStep) → kind ≡ Once
+    → left ≡ word_behind s → new ≡ old ++ step (word_index n kind) (Swap left) seen → new ≡ old
+    ++ step (once_at n) (Swap (word_behind s)) seen
+added n seen left s kind old new once same is = is
+    ∙ ap (λ (kind : WordKind). old ++ step (word_index n kind) (Swap left) seen) once
+    ∙ ap (λ (left : ℕ). old ++ step (once_at n) (Swap left) seen) same
 
 pub returns-then-is_marked-clause-path : goal.returns-then-is_marked-clause-path
-returns-then-is_marked-clause-path g c = let n = c.args.word.number in let s = c.args.succeeded in let w = c.word-seen in let owns = owns_of c.args.token.now in let old = steps_of c.args.token.now in let mid = steps_of c.word-seen.new.token in
+returns-then-is_marked-clause-path g c = let n = c.args.word.number in let s = c.args.succeeded in let w =
+    c.word-seen in let owns = owns_of c.args.token.now in let old = steps_of c.args.token.now in let mid =
+    steps_of c.word-seen.new.token in
     let marked : is_marked c.word-seen.result ≡ true = search rules in
-    let over = c.wake.ensures.over (without (owning (once_at n) Runner) owns) (behind n s w.result c.word_behind.result c.args.word.kind owns (owns_of w.new.token) c.requires.own.2 c.word_behind.ensures w.ensures.coded c.requires.runs (ap (λ (v : View). v.owns) w.ensures.stepped)) in
-    closes_on n c.args.forced s w.result c.args.token.now.number (trail_of c.args.token.now None) (trail_of w.new.token None) (trail_of c.wake.new.token None) c.wake.result marked (one_more _ _ _ _ _ (added n w.result c.word_behind.result s c.args.word.kind old mid c.requires.own.2 c.word_behind.ensures (ap (λ (v : View). v.steps) w.ensures.stepped)) w.ensures.untold) over.1
-    (subst (λ (me : ℕ). Courses (at_once c.args.word.number) me (place.Once c.args.word.number (Run c.args.forced (run.Enter c.args.succeeded))) (trail_of c.word-seen.new.token None) (trail_of c.wake.new.token None) c.wake.result) w.ensures.own.0.1 c.wake.ensures.path)
+    let over = c.wake.ensures.over (without (owning (once_at n) Runner) owns)
+    (behind n s w.result c.word_behind.result c.args.word.kind owns (owns_of w.new.token) c.requires.own.2
+    c.word_behind.ensures w.ensures.coded c.requires.runs (ap (λ (v : View). v.owns) w.ensures.stepped))
+    in
+    closes_on n c.args.forced s w.result c.args.token.now.number (trail_of c.args.token.now None)
+    (trail_of w.new.token None) (trail_of c.wake.new.token None) c.wake.result marked
+    (one_more _ _ _ _ _ (added n w.result c.word_behind.result s c.args.word.kind old mid c.requires.own.2
+    c.word_behind.ensures (ap (λ (v : View). v.steps) w.ensures.stepped)) w.ensures.untold) over.1
+    (subst (λ (me : ℕ). Courses (at_once c.args.word.number) me (place.Once c.args.word.number
+    (Run c.args.forced (run.Enter c.args.succeeded))) (trail_of c.word-seen.new.token None)
+    (trail_of c.wake.new.token None) c.wake.result) w.ensures.own.0.1 c.wake.ensures.path)
 
 pub returns-then-is_marked-clause-closed : goal.returns-then-is_marked-clause-closed
-returns-then-is_marked-clause-closed g c = let n = c.args.word.number in let s = c.args.succeeded in let w = c.word-seen in let owns = owns_of c.args.token.now in let old = steps_of c.args.token.now in let mid = steps_of c.word-seen.new.token in
+returns-then-is_marked-clause-closed g c = let n = c.args.word.number in let s = c.args.succeeded in let w =
+    c.word-seen in let owns = owns_of c.args.token.now in let old = steps_of c.args.token.now in let mid =
+    steps_of c.word-seen.new.token in
     let marked : is_marked c.word-seen.result ≡ true = search rules in let path = c.wake.ensures.path in
-    let over = c.wake.ensures.over (without (owning (once_at n) Runner) owns) (behind n s w.result c.word_behind.result c.args.word.kind owns (owns_of w.new.token) c.requires.own.2 c.word_behind.ensures w.ensures.coded c.requires.runs (ap (λ (v : View). v.owns) w.ensures.stepped)) in (
+    let over = c.wake.ensures.over (without (owning (once_at n) Runner) owns)
+    (behind n s w.result c.word_behind.result c.args.word.kind owns (owns_of w.new.token) c.requires.own.2
+    c.word_behind.ensures w.ensures.coded c.requires.runs (ap (λ (v : View). v.owns) w.ensures.stepped))
+    in (
       w.result,
       path.0.steps,
-      ap (λ (t : Trail). t.steps) path.1 ∙ ap (λ (l : List WordStep). l ++ c.wake.ensures.path.0.steps) (added n w.result c.word_behind.result s c.args.word.kind old mid c.requires.own.2 c.word_behind.ensures (ap (λ (v : View). v.steps) w.ensures.stepped)),
-      subst (λ (b : Bool). WokeIfMarked c.args.word.number b c.wake.ensures.path.0.steps (last_of c.wake.new.token)) (sym marked) over.3,
+      ap (λ (t : Trail). t.steps) path.1 ∙ ap (λ (l : List WordStep). l ++ c.wake.ensures.path.0.steps)
+          (added n w.result c.word_behind.result s c.args.word.kind old mid c.requires.own.2
+          c.word_behind.ensures (ap (λ (v : View). v.steps) w.ensures.stepped)),
+      subst (λ (b : Bool). WokeIfMarked c.args.word.number b c.wake.ensures.path.0.steps
+          (last_of c.wake.new.token)) (sym marked) over.3,
     )
 
 pub returns-then-is_marked-clause-owns : goal.returns-then-is_marked-clause-owns
-returns-then-is_marked-clause-owns g c = let n = c.args.word.number in let s = c.args.succeeded in let w = c.word-seen in let owns = owns_of c.args.token.now in
-    (c.wake.ensures.over (without (owning (once_at n) Runner) owns) (behind n s w.result c.word_behind.result c.args.word.kind owns (owns_of w.new.token) c.requires.own.2 c.word_behind.ensures w.ensures.coded c.requires.runs (ap (λ (v : View). v.owns) w.ensures.stepped))).2
+returns-then-is_marked-clause-owns g c = let n = c.args.word.number in let s = c.args.succeeded in let w =
+    c.word-seen in let owns = owns_of c.args.token.now in
+    (c.wake.ensures.over (without (owning (once_at n) Runner) owns) (behind n s w.result c.word_behind.result
+    c.args.word.kind owns (owns_of w.new.token) c.requires.own.2 c.word_behind.ensures w.ensures.coded
+    c.requires.runs (ap (λ (v : View). v.owns) w.ensures.stepped))).2
 
 pub returns-else-is_marked-clause-path : goal.returns-else-is_marked-clause-path
-returns-else-is_marked-clause-path g c = let n = c.args.word.number in let s = c.args.succeeded in let w = c.word-seen in let old = steps_of c.args.token.now in let mid = steps_of c.word-seen.new.token in
+returns-else-is_marked-clause-path g c = let n = c.args.word.number in let s = c.args.succeeded in let w =
+    c.word-seen in let old = steps_of c.args.token.now in let mid = steps_of c.word-seen.new.token in
     let unmarked : is_marked c.word-seen.result ≡ false = search rules in
-    closes_at_once n c.args.forced s w.result c.args.token.now.number (trail_of c.args.token.now None) (trail_of w.new.token None) unmarked (one_more _ _ _ _ _ (added n w.result c.word_behind.result s c.args.word.kind old mid c.requires.own.2 c.word_behind.ensures (ap (λ (v : View). v.steps) w.ensures.stepped)) w.ensures.untold)
+    closes_at_once n c.args.forced s w.result c.args.token.now.number (trail_of c.args.token.now None)
+    (trail_of w.new.token None) unmarked
+    (one_more _ _ _ _ _ (added n w.result c.word_behind.result s c.args.word.kind old mid c.requires.own.2
+    c.word_behind.ensures (ap (λ (v : View). v.steps) w.ensures.stepped)) w.ensures.untold)
 
 pub returns-else-is_marked-clause-owns : goal.returns-else-is_marked-clause-owns
-returns-else-is_marked-clause-owns g c = let n = c.args.word.number in let w = c.word-seen in let owns = owns_of c.args.token.now in
-    behind n c.args.succeeded w.result c.word_behind.result c.args.word.kind owns (owns_of w.new.token) c.requires.own.2 c.word_behind.ensures w.ensures.coded c.requires.runs (ap (λ (v : View). v.owns) w.ensures.stepped)
+returns-else-is_marked-clause-owns g c = let n = c.args.word.number in let w = c.word-seen in let owns =
+    owns_of c.args.token.now in
+    behind n c.args.succeeded w.result c.word_behind.result c.args.word.kind owns (owns_of w.new.token)
+    c.requires.own.2 c.word_behind.ensures w.ensures.coded c.requires.runs
+    (ap (λ (v : View). v.owns) w.ensures.stepped)

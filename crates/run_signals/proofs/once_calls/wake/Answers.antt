@@ -9,5 +9,10 @@ use Rattle.run_signals.proofs.once_calls.wake.Goals as goal
 
 pub returns-clause-path : goal.returns-clause-path
 returns-clause-path g c =
-    subst (λ (at : ℕ → ℕ). Courses at c.args.token.now.number (Once c.args.word.number (Run c.args.forced (Enter c.args.succeeded))) (trail_of c.args.token.now None) (trail_of c.run.new.token None) c.in-Ended.answer) (ap at_in c.alone.ensures ∙ once_alone c.args.word c.requires.own.2)
-    (subst (λ (n : ℕ). Courses (at_in c.alone.result) c.args.token.now.number (Once n (Run c.args.forced (Enter c.args.succeeded))) (trail_of c.args.token.now None) (trail_of c.run.new.token None) c.in-Ended.answer) c.number.ensures c.in-Ended.ensures.path)
+    subst (λ (at : ℕ → ℕ). Courses at c.args.token.now.number
+    (Once c.args.word.number (Run c.args.forced (Enter c.args.succeeded)))
+    (trail_of c.args.token.now None) (trail_of c.run.new.token None) c.in-Ended.answer)
+    (ap at_in c.alone.ensures ∙ once_alone c.args.word c.requires.own.2)
+    (subst (λ (n : ℕ). Courses (at_in c.alone.result) c.args.token.now.number
+    (Once n (Run c.args.forced (Enter c.args.succeeded))) (trail_of c.args.token.now None)
+    (trail_of c.run.new.token None) c.in-Ended.answer) c.number.ensures c.in-Ended.ensures.path)

@@ -8,4 +8,5 @@ take_picked-requires g c =
     omega (arith, length_seated _ _ c.self.invariant.1, c.self.inside.waiters.ok)
 
 pub invariant_of-self : goal.invariant_of-self
-invariant_of-self g c = rw (c.take_picked.ensures.capacity, c.take_picked.ensures.waiting) (c.self.invariant.0, seated_without_picked _ _ _ _ _ _ c.self.invariant.1)
+invariant_of-self g c = rw (c.take_picked.ensures.capacity, c.take_picked.ensures.waiting)
+    (c.self.invariant.0, seated_without_picked _ _ _ _ _ _ c.self.invariant.1)

@@ -9,7 +9,8 @@ use Rattle.core_parts.specs.PermitIds.{PermitId}
 use Rattle.core_parts.specs.Ownership.{Id, offset, state}
 use Rattle.core_parts.specs.contracts.place.Place.{the_row}
 
-state_keyless : (R : RattleType) → IsSend R → (id : PermitId) (b o : ℕ) (t : Id) (y : Bool) → Keyless (state R id b o t y)
+state_keyless : (R : RattleType) → IsSend R → (id : PermitId) (b o : ℕ) (t : Id) (y : Bool)
+    → Keyless (state R id b o t y)
 state_keyless R s id b o t true = ((λ x. part_keyless R s full_share x b (o + offset R)), (tt, tt))
 state_keyless R s id b o t false = entry_keyless token id.family id.number tt
 

@@ -4,4 +4,5 @@ use Rattle.core_queues.proofs.Places.{without_nobody}
 use Rattle.core_queues.proofs.buckets.BucketQueues.drop_thread.Goals as goal
 
 pub returns-in_default-clause-lines : goal.returns-in_default-clause-lines
-returns-in_default-clause-lines c = ap lines (sym (without_nobody c.args.thread _ (sym c.in_default.ensures.key)))
+returns-in_default-clause-lines c =
+    ap lines (sym (without_nobody c.args.thread _ (sym c.in_default.ensures.key)))

@@ -7,8 +7,10 @@ use Rattle.core_queues.proofs.buckets.BucketQueues.move_all.Given as goal
 
 abbrev pub invariant-loop-number : goal.invariant-loop-number
 invariant-loop-number l = record {
-  number : l.number + length (line l.from (joined l.self.chains)) ≡ length (line l.from (joined l.fn.self.chains));
-  lines : lines (requeued All l.from l.to (joined l.self.chains)) ≡ lines (requeued All l.from l.to (joined l.fn.self.chains));
+  number : l.number + length (line l.from (joined l.self.chains)) ≡ length
+      (line l.from (joined l.fn.self.chains));
+  lines : lines (requeued All l.from l.to (joined l.self.chains))
+      ≡ lines (requeued All l.from l.to (joined l.fn.self.chains));
   capacity : l.self.capacity ≡ l.fn.self.capacity;
   bits : l.self.bits ≡ l.fn.self.bits;
 }

@@ -5,7 +5,8 @@ use Rattle.core_queues.proofs.kind.BucketQueuesQueues.count.Given as goal
 
 abbrev pub invariant-loop-waiter : goal.invariant-loop-waiter
 invariant-loop-waiter l = record {
-  number : l.number + length (line l.key (behind l.before (chain l.self l.bucket))) ≡ length (line l.key (chain l.self l.bucket));
+  number : l.number + length (line l.key (behind l.before (chain l.self l.bucket))) ≡ length
+      (line l.key (chain l.self l.bucket));
   stands : IfSome l.before (λ b. 1 ≤ times b (chain l.self l.bucket));
 }
 

@@ -10,8 +10,12 @@ use Rattle.core_queues.proofs.kind.BucketQueuesQueues.take_by.Given as goal
 abbrev pub invariant-loop-waiter : goal.invariant-loop-waiter
 invariant-loop-waiter g l = let by = g.P.Picker in record {
   chains : l.self.chains ≡ slice_set l.fn.self.chains l.bucket (chain l.self l.bucket);
-  waiting : upto l.before (chain l.self l.bucket) ++ without_picked by.answer by.next l.picker l.key (behind l.before (chain l.self l.bucket)) ≡ without_picked by.answer by.next l.fn.picker l.key (chain l.fn.self l.bucket);
-  taken : l.out.items ++ threads_of (picked by.answer by.next l.picker (line l.key (behind l.before (chain l.self l.bucket)))) ≡ l.fn.out.items ++ threads_of (picked by.answer by.next l.fn.picker (line l.key (chain l.fn.self l.bucket)));
+  waiting : upto l.before (chain l.self l.bucket) ++ without_picked by.answer by.next l.picker l.key
+      (behind l.before (chain l.self l.bucket)) ≡ without_picked by.answer by.next l.fn.picker l.key
+      (chain l.fn.self l.bucket);
+  taken : l.out.items ++ threads_of (picked by.answer by.next l.picker
+      (line l.key (behind l.before (chain l.self l.bucket)))) ≡ l.fn.out.items ++ threads_of
+      (picked by.answer by.next l.fn.picker (line l.key (chain l.fn.self l.bucket)));
   left : vec_len l.out + length (chain l.self l.bucket) ≤ vec_capacity l.out;
   room : vec_capacity l.out ≡ vec_capacity l.fn.out;
   capacity : l.self.capacity ≡ l.fn.self.capacity;

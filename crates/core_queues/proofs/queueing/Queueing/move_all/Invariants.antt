@@ -8,8 +8,10 @@ use Rattle.core_queues.proofs.queueing.Queueing.move_all.Given as goal
 
 abbrev pub invariant-loop-number : goal.invariant-loop-number
 invariant-loop-number l = record {
-  number : l.number + length (line l.from (l.self.queues.waiters ++ l.other.queues.waiters)) ≡ length (line l.from (l.fn.self.queues.waiters ++ l.fn.other.queues.waiters));
-  lines : lines (requeued All l.from l.to (l.self.queues.waiters ++ l.other.queues.waiters)) ≡ lines (requeued All l.from l.to (l.fn.self.queues.waiters ++ l.fn.other.queues.waiters));
+  number : l.number + length (line l.from (l.self.queues.waiters ++ l.other.queues.waiters))
+      ≡ length (line l.from (l.fn.self.queues.waiters ++ l.fn.other.queues.waiters));
+  lines : lines (requeued All l.from l.to (l.self.queues.waiters ++ l.other.queues.waiters))
+      ≡ lines (requeued All l.from l.to (l.fn.self.queues.waiters ++ l.fn.other.queues.waiters));
   apart : AreApart l.from l.self.queues.waiters l.other.queues.waiters;
   same : TookSame l.fn.self l.self × IsSameBucket l.fn.self l.self;
   others : TookSame l.fn.other l.other × IsSameBucket l.fn.other l.other;

@@ -15,9 +15,16 @@ use Rattle.core_words.proofs.Trades.{has_first}
 use Rattle.core_words.proofs.table.LotWords.leave_alone_picked.Goals as goal
 
 pub compare_exchange-requires : goal.compare_exchange-requires
-compare_exchange-requires g c = let lot = c.args.self.now in let owner = c.args.owner.now in let word = c.args.word in
+compare_exchange-requires g c = let lot = c.args.self.now in let owner = c.args.owner.now in let word =
+    c.args.word in
     let own : IsSeatOf lot owner × IsWordOf lot word = (c.requires.own.0.0, c.requires.own.1) in
-    let mine : has (named_by word Exclusive) owner.me.0.owns ≡ true = subst (λ (owns : List Ownership). has (named_by word Exclusive) owns ≡ true) (sym (ap (λ v. v.owns) c.requires.own.0.1)) (has_first (named_by word Exclusive) []) in
-    table_expects lot owner word own g.P.PermitPick.family c.index.result 1 c.args.locked 0 (λ from. Exchange from 0)
-    ((mutex_steps (word_index word.number Mutex) owner.me.0.owns).leave_alone (subst (λ i. has (owning i Exclusive) owner.me.0.owns ≡ true) (at_mutex lot owner word own c.requires.own.2) mine))
-    (leaves_or_not (λ from. Exchange from 0) c.args.locked exchanges_nothing c.requires.expects) c.requires.pick c.index.ensures c.requires.own.2
+    let mine : has (named_by word Exclusive) owner.me.0.owns ≡ true =
+    subst (λ (owns : List Ownership). has (named_by word Exclusive) owns ≡ true)
+    (sym (ap (λ v. v.owns) c.requires.own.0.1)) (has_first (named_by word Exclusive) []) in
+    table_expects lot owner word own g.P.PermitPick.family c.index.result 1 c.args.locked 0
+    (λ from. Exchange from 0)
+    ((mutex_steps (word_index word.number Mutex) owner.me.0.owns).leave_alone
+    (subst (λ i. has (owning i Exclusive) owner.me.0.owns ≡ true) (at_mutex lot owner word own
+    c.requires.own.2) mine))
+    (leaves_or_not (λ from. Exchange from 0) c.args.locked exchanges_nothing c.requires.expects)
+    c.requires.pick c.index.ensures c.requires.own.2

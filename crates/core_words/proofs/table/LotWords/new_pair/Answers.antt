@@ -4,4 +4,5 @@ use Rattle.core_words.specs.declared.words.WordKind.TheVariants.{Mutex, Count}
 use Rattle.core_words.proofs.table.LotWords.new_pair.Goals as goal
 
 pub returns-in-Some-clause-drawn : goal.returns-in-Some-clause-drawn
-returns-in-Some-clause-drawn c = subst (λ (n : ℕ). IsDrawn c.args.self.now.count (Mutex ∷ Count ∷ []) n c.args.seat.now.me.0 c.draw.new.seat.me.0) (sym c.new-mutex.ensures.0) c.in-Some.ensures.drawn
+returns-in-Some-clause-drawn c = subst (λ (n : ℕ). IsDrawn c.args.self.now.count (Mutex ∷ Count ∷ []) n
+    c.args.seat.now.me.0 c.draw.new.seat.me.0) (sym c.new-mutex.ensures.0) c.in-Some.ensures.drawn

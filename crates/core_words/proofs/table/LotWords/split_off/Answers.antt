@@ -10,6 +10,8 @@ use Rattle.core_words.proofs.table.LotWords.split_off.Goals as goal
 pub split_seat-requires : goal.split_seat-requires
 split_seat-requires g c = let lot = c.args.self.now in let sized = lot.sized in let sized₀ = sized.0 in (
   c.requires.own.0,
-  splits_off lot.table.shared.key.0 lot.table.shared.key.1.family c.args.seat.now.id c.args.seat.now.me.0 g.P.Piece.owned c.requires.named.1
-      (subst (λ (x : Ownership). (r : ℕ) → word_kind_at r ≡ Mutex → cond (eqb x.at r) (exclusive x.owner) 0 ≡ 0) (sym c.requires.named.0) (apart c.args.word c.args.owner c.requires.stays)),
+  splits_off lot.table.shared.key.0 lot.table.shared.key.1.family c.args.seat.now.id c.args.seat.now.me.0
+      g.P.Piece.owned c.requires.named.1
+      (subst (λ (x : Ownership). (r : ℕ) → word_kind_at r ≡ Mutex → cond (eqb x.at r) (exclusive x.owner) 0
+      ≡ 0) (sym c.requires.named.0) (apart c.args.word c.args.owner c.requires.stays)),
 )

@@ -4,7 +4,8 @@ use Rattle.core_words.specs.Views.{shown}
 use Rattle.core_words.proofs.table.LotWords.step.Goals as goal
 
 pub returns-clause-own : goal.returns-clause-own
-returns-clause-own c = let told = c.step_picked.ensures in let family = c.args.self.now.table.shared.key.1.family in
+returns-clause-own c = let told = c.step_picked.ensures in let family =
+    c.args.self.now.table.shared.key.1.family in
     (told.0 ∙ c.requires.own.0.0, ap (λ m. m.1) told.1.0 ∙ sym (ap (λ m. slots_of family m.0.out) told.1.0))
 
 pub returns-clause-stepped : goal.returns-clause-stepped

@@ -21,23 +21,38 @@ pub loop-preserved : goal.loop-preserved
 loop-preserved g c = record {
   turns = (tt, tt);
   thread = c.in-Ok.ensures.token.0;
-  stays = stays_behind g.R.RawMutex.RawMutex.stays g.R.RawMutex.RawMutex.stays_on _ _ _ c.loop.invariant.stays c.in-Ok.ensures.token.1;
-  waits = waits_on (λ mutex. g.R.RawCondvar.waited c.args.self.now mutex false answers.Ok) _ _ _ _ _ c.loop.invariant.guard c.loop.invariant.waits c.in-Ok.ensures.path;
+  stays = stays_behind g.R.RawMutex.RawMutex.stays g.R.RawMutex.RawMutex.stays_on _ _ _ c.loop.invariant.stays
+      c.in-Ok.ensures.token.1;
+  waits = waits_on (λ mutex. g.R.RawCondvar.waited c.args.self.now mutex false answers.Ok) _ _ _ _ _
+      c.loop.invariant.guard c.loop.invariant.waits c.in-Ok.ensures.path;
   guard = c.in-Ok.ensures.guard ∙ c.loop.invariant.guard;
-  callable = mut_next g.F.FnMut _ _ _ _ _ (record { met = c.condition.ensures.met }) refl c.loop.invariant.callable;
-  kept = λ stays. stays _ _ _ (was_Called g.F.FnMut c.args.condition c.loop.condition _ _ _ c.condition.new.self c.condition.ensures.met (c.loop.invariant.kept stays) refl);
+  callable = mut_next g.F.FnMut _ _ _ _ _ (record { met = c.condition.ensures.met }) refl
+      c.loop.invariant.callable;
+  kept = λ stays. stays _ _ _ (was_Called g.F.FnMut c.args.condition c.loop.condition _ _ _
+      c.condition.new.self c.condition.ensures.met (c.loop.invariant.kept stays) refl);
 }
 
 pub returns-in-Err-clause-token : goal.returns-in-Err-clause-token
-returns-in-Err-clause-token g c =
-    (c.in-Err.ensures.token.0, stays_behind g.R.RawMutex.RawMutex.stays g.R.RawMutex.RawMutex.stays_on _ _ _ c.loop.invariant.stays c.in-Err.ensures.token.1)
+returns-in-Err-clause-token g c = (
+  c.in-Err.ensures.token.0,
+  stays_behind g.R.RawMutex.RawMutex.stays g.R.RawMutex.RawMutex.stays_on _ _ _
+      c.loop.invariant.stays c.in-Err.ensures.token.1,
+)
 
 pub returns-in-Err-clause-path : goal.returns-in-Err-clause-path
-returns-in-Err-clause-path g c =
-    (_, c.loop.invariant.waits, with_given (λ mutex. g.R.RawCondvar.waited c.args.self.now mutex false answers.TwoMutexes) _ _ _ _ c.loop.invariant.guard c.in-Err.ensures.path)
+returns-in-Err-clause-path g c = (
+  _,
+  c.loop.invariant.waits,
+  with_given (λ mutex. g.R.RawCondvar.waited c.args.self.now mutex false
+      answers.TwoMutexes) _ _ _ _ c.loop.invariant.guard c.in-Err.ensures.path,
+)
 
 pub returns-in-Err-clause-guard : goal.returns-in-Err-clause-guard
-returns-in-Err-clause-guard g c = (c.in-Err.ensures.guard.0, c.in-Err.ensures.guard.1 ∙ c.loop.invariant.guard)
+returns-in-Err-clause-guard g c = (
+  c.in-Err.ensures.guard.0,
+  c.in-Err.ensures.guard.1
+      ∙ c.loop.invariant.guard,
+)
 
 pub wait-requires-clause-token : goal.wait-requires-clause-token
 wait-requires-clause-token g c = c.loop.invariant.thread
@@ -55,4 +70,12 @@ pub returns-then-not-condition-clause-path : goal.returns-then-not-condition-cla
 returns-then-not-condition-clause-path g c = c.loop.invariant.waits
 
 pub returns-then-not-condition-clause-ended : goal.returns-then-not-condition-clause-ended
-returns-then-not-condition-clause-ended g c = (_, _, _, _, c.if-not-condition.ensures, refl, c.loop.invariant.kept)
+returns-then-not-condition-clause-ended g c = (
+  _,
+  _,
+  _,
+  _,
+  c.if-not-condition.ensures,
+  refl,
+  c.loop.invariant.kept,
+)

@@ -12,7 +12,8 @@ invariant-loop g l = record {
   turns : (goal.iterator-loop g).can_next l.iterator' × (goal.iterator-loop g).is_finite l.iterator';
   thread : g.R.RawMutex.RawMutex.is_token_of (g.R.RawCondvar.lot_of l.self) l.token;
   stays : WaitedOrNot g.R.RawMutex.RawMutex.stays l.fn.token l.token;
-  waits : WaitsAnyTimes (g.R.RawCondvar.waited l.fn.self (lock_of l.fn.guard) false answers.Ok) l.fn.token l.token;
+  waits : WaitsAnyTimes (g.R.RawCondvar.waited l.fn.self (lock_of l.fn.guard) false answers.Ok) l.fn.token
+      l.token;
   guard : lock_of l.guard ≡ lock_of l.fn.guard;
   callable : always_mut g.F.FnMut l.condition;
   kept : CallKeepsClosure g.F.FnMut l.initial.condition → l.condition ≡ l.initial.condition;

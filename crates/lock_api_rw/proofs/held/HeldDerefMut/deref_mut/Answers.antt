@@ -26,4 +26,10 @@ same_guard {v = v} right value a b x y = λ i. record {
 }
 
 pub returns : goal.returns
-returns g c = ((refl, λ w. same_guard _ _ _ _ _ _), record { writes_back = tt; shows = c.show_mut.ensures.shows })
+returns g c = (
+  (refl, λ w. same_guard _ _ _ _ _ _),
+  record {
+    writes_back = tt;
+    shows = c.show_mut.ensures.shows;
+  },
+)

@@ -5,6 +5,11 @@ use Rattle.lock_monitor.proofs.team.Team.with_words.Goals as goal
 
 pub invariant_of-result : goal.invariant_of-result
 invariant_of-result c = (
-  others (arc_value c.in_ok-lot.lot) c.in_ok-lot.tickets.items c.pop.new.self.items _ c.in-Some.ensures.rest c.in_ok-lot.ensures.tickets.1,
-  (one_less c.in_ok-lot.tickets.items c.pop.new.self.items c.in-Some.ticket _ c.in-Some.ensures.items c.in_ok-lot.ensures.tickets.0 ∙ sym c.in_ok-lot.ensures.lot.1, tt),
+  others (arc_value c.in_ok-lot.lot) c.in_ok-lot.tickets.items c.pop.new.self.items _ c.in-Some.ensures.rest
+      c.in_ok-lot.ensures.tickets.1,
+  (
+    one_less c.in_ok-lot.tickets.items c.pop.new.self.items c.in-Some.ticket _ c.in-Some.ensures.items
+        c.in_ok-lot.ensures.tickets.0 ∙ sym c.in_ok-lot.ensures.lot.1,
+    tt,
+  ),
 )

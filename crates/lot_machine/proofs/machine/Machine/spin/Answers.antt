@@ -9,24 +9,38 @@ use Rattle.lot_machine.proofs.machine.Machine.spin.Goals as goal
 
 pub returns-in-Some-clause-state : goal.returns-in-Some-clause-state
 returns-in-Some-clause-state g c =
-    let there : c.args.thread < length c.self.inside.places.items = subst (λ (w : State). c.args.thread < length w.places) (sym c.self.view_is) c.requires.1 in
-    let is : looking (get_or c.self.inside.places.items c.args.thread Idle) ≡ Some c.in-Some.place = ap looking (get_or_default c.self.inside.places.items c.args.thread Idle c.index.result.now there ∙ sym c.index.ensures) ∙ sym c.in-Some.ensures in
+    let there : c.args.thread < length c.self.inside.places.items =
+    subst (λ (w : State). c.args.thread < length w.places) (sym c.self.view_is) c.requires.1 in
+    let is : looking (get_or c.self.inside.places.items c.args.thread Idle) ≡ Some c.in-Some.place =
+    ap looking (get_or_default c.self.inside.places.items c.args.thread Idle c.index.result.now there
+    ∙ sym c.index.ensures) ∙ sym c.in-Some.ensures in
     rw (← c.self.view_is) (spun _ _ c.args.thread c.in-Some.place there is c.go.ensures.state)
 
 pub returns-in-Some-clause-outcome : goal.returns-in-Some-clause-outcome
 returns-in-Some-clause-outcome g c =
-    let there : c.args.thread < length c.self.inside.places.items = subst (λ (w : State). c.args.thread < length w.places) (sym c.self.view_is) c.requires.1 in
-    let is : looking (get_or c.self.inside.places.items c.args.thread Idle) ≡ Some c.in-Some.place = ap looking (get_or_default c.self.inside.places.items c.args.thread Idle c.index.result.now there ∙ sym c.index.ensures) ∙ sym c.in-Some.ensures in
+    let there : c.args.thread < length c.self.inside.places.items =
+    subst (λ (w : State). c.args.thread < length w.places) (sym c.self.view_is) c.requires.1 in
+    let is : looking (get_or c.self.inside.places.items c.args.thread Idle) ≡ Some c.in-Some.place =
+    ap looking (get_or_default c.self.inside.places.items c.args.thread Idle c.index.result.now there
+    ∙ sym c.index.ensures) ∙ sym c.in-Some.ensures in
     spun_told c.self.view_is c.args.thread c.in-Some.place c.go.result there is c.go.ensures.outcome
 
 pub go-requires-clause-keys : goal.go-requires-clause-keys
 go-requires-clause-keys g c =
-    let there : c.args.thread < length c.self.inside.places.items = subst (λ (w : State). c.args.thread < length w.places) (sym c.self.view_is) c.requires.1 in
-    let is : looking (get_or c.self.inside.places.items c.args.thread Idle) ≡ Some c.in-Some.place = ap looking (get_or_default c.self.inside.places.items c.args.thread Idle c.index.result.now there ∙ sym c.index.ensures) ∙ sym c.in-Some.ensures in
-    looks_keyed _ c.args.thread c.in-Some.place (subst (λ (w : State). IsWellFormed w) (sym c.self.view_is) c.requires.0) is
+    let there : c.args.thread < length c.self.inside.places.items =
+    subst (λ (w : State). c.args.thread < length w.places) (sym c.self.view_is) c.requires.1 in
+    let is : looking (get_or c.self.inside.places.items c.args.thread Idle) ≡ Some c.in-Some.place =
+    ap looking (get_or_default c.self.inside.places.items c.args.thread Idle c.index.result.now there
+    ∙ sym c.index.ensures) ∙ sym c.in-Some.ensures in
+    looks_keyed _ c.args.thread c.in-Some.place (subst (λ (w : State). IsWellFormed w) (sym c.self.view_is)
+    c.requires.0) is
 
 pub go-requires-clause-fits : goal.go-requires-clause-fits
 go-requires-clause-fits g c =
-    let there : c.args.thread < length c.self.inside.places.items = subst (λ (w : State). c.args.thread < length w.places) (sym c.self.view_is) c.requires.1 in
-    let is : looking (get_or c.self.inside.places.items c.args.thread Idle) ≡ Some c.in-Some.place = ap looking (get_or_default c.self.inside.places.items c.args.thread Idle c.index.result.now there ∙ sym c.index.ensures) ∙ sym c.in-Some.ensures in
-    looks_fit _ c.args.thread c.in-Some.place (subst (λ (w : State). IsWellFormed w) (sym c.self.view_is) c.requires.0) there is
+    let there : c.args.thread < length c.self.inside.places.items =
+    subst (λ (w : State). c.args.thread < length w.places) (sym c.self.view_is) c.requires.1 in
+    let is : looking (get_or c.self.inside.places.items c.args.thread Idle) ≡ Some c.in-Some.place =
+    ap looking (get_or_default c.self.inside.places.items c.args.thread Idle c.index.result.now there
+    ∙ sym c.index.ensures) ∙ sym c.in-Some.ensures in
+    looks_fit _ c.args.thread c.in-Some.place (subst (λ (w : State). IsWellFormed w) (sym c.self.view_is)
+    c.requires.0) there is

@@ -4,4 +4,9 @@ use Rattle.lot_machine.proofs.machine.Machine.withdraw.Goals as goal
 
 pub returns : goal.returns
 returns g c =
-    rw (lines_removed (length c.self.inside.sections.items) c.args.thread (g.Q.Queues.waiting c.self.inside.queues) (g.Q.Queues.waiting c.remove.new.self) c.remove.ensures.lines, ← c.self.view_is) refl
+    rw (
+      lines_removed (length c.self.inside.sections.items) c.args.thread (g.Q.Queues.waiting
+          c.self.inside.queues) (g.Q.Queues.waiting c.remove.new.self) c.remove.ensures.lines,
+      ← c.self.view_is,
+    )
+    refl

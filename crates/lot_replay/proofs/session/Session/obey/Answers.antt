@@ -11,7 +11,9 @@ pub returns-in-Some : goal.returns-in-Some
 returns-in-Some g c =
     let s = c.args.self.now in
     let w = session_world s in
-    subst (λ wanted. AnswersTo (Some c.args.command) wanted c.act.result (session_stage s) (session_stage c.act.new.self) (Puts (g.W.Write.contents c.args.writer.now) (g.W.Write.contents c.act.new.writer) c.args.page.now c.act.new.page))
+    subst (λ wanted. AnswersTo (Some c.args.command) wanted c.act.result (session_stage s)
+    (session_stage c.act.new.self) (Puts (g.W.Write.contents c.args.writer.now)
+    (g.W.Write.contents c.act.new.writer) c.args.page.now c.act.new.page))
     (sym (ap (obeyed (session_stage s)) c.in-Turn.is ∙ turn_obeyed s c.in-Turn.thread c.in-Turn.turn
     ∙ ap (option_map (acted s.names w c.in-Turn.thread)) (sym c.action_of.ensures ∙ c.in-Some.is)))
     (c.act.ensures (Some c.args.command))

@@ -14,6 +14,9 @@ returns g c =
     let s = c.args.self.now in
     let w = session_world s in
     let said = Some (Turn c.args.thread (named_turn c.args.turn)) in
-    subst (λ wanted. AnswersTo said wanted c.act.result (session_stage s) (session_stage c.act.new.self) (Puts (g.W.Write.contents c.args.writer.now) (g.W.Write.contents c.act.new.writer) c.args.page.now c.act.new.page))
-    (sym (turn_obeyed s c.args.thread (named_turn c.args.turn) ∙ ap (option_map (acted s.names w c.args.thread)) (c.plain_action.ensures s.names w)))
+    subst (λ wanted. AnswersTo said wanted c.act.result (session_stage s) (session_stage c.act.new.self)
+    (Puts (g.W.Write.contents c.args.writer.now) (g.W.Write.contents c.act.new.writer) c.args.page.now
+    c.act.new.page))
+    (sym (turn_obeyed s c.args.thread (named_turn c.args.turn)
+    ∙ ap (option_map (acted s.names w c.args.thread)) (c.plain_action.ensures s.names w)))
     (c.act.ensures said)

@@ -19,14 +19,17 @@ pub schedule-requires-clause-shaped : goal.schedule-requires-clause-shaped
 schedule-requires-clause-shaped g c = subst IsWellFormed (sym c.in_ok-copy.ensures.ok) c.self.invariant.shaped
 
 pub schedule-requires-clause-one : goal.schedule-requires-clause-one
-schedule-requires-clause-one g c = ap (λ (w : State). length w.locks) (c.in_ok-copy.ensures.ok ∙ c.self.view_is) ∙ c.requires.lock.one
+schedule-requires-clause-one g c = ap (λ (w : State). length w.locks) (c.in_ok-copy.ensures.ok
+    ∙ c.self.view_is) ∙ c.requires.lock.one
 
 pub returns-clause-ok : goal.returns-clause-ok
 returns-clause-ok g c =
     let w = c.args.self.now in
     let drains = schedules_drain w (subst IsWorld c.self.view_is c.self.invariant) c.requires in
-    IfOk-weaker c.schedule.result _ _ (λ steps is. subst (IsDrain w) (sym (is ∙ ap schedule_of (c.in_ok-copy.ensures.ok ∙ c.self.view_is))) drains) c.schedule.ensures.ok
+    IfOk-weaker c.schedule.result _ _ (λ steps is. subst (IsDrain w)
+    (sym (is ∙ ap schedule_of (c.in_ok-copy.ensures.ok ∙ c.self.view_is))) drains) c.schedule.ensures.ok
 
 pub returns-clause-schedule : goal.returns-clause-schedule
 returns-clause-schedule g c =
-    IfOk-weaker c.schedule.result _ _ (λ steps is. is ∙ ap schedule_of (c.in_ok-copy.ensures.ok ∙ c.self.view_is)) c.schedule.ensures.ok
+    IfOk-weaker c.schedule.result _ _ (λ steps is. is ∙ ap schedule_of (c.in_ok-copy.ensures.ok
+    ∙ c.self.view_is)) c.schedule.ensures.ok

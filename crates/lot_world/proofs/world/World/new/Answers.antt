@@ -18,7 +18,14 @@ invariant_of-result g c = rw c.in_ok-new.ensures.ok (record {
 pub returns-clause-opening : goal.returns-clause-opening
 returns-clause-opening g c =
     let steady = opening_steady c.args.kinds.now c.args.threads c.requires.some c.requires.fit in
-    rw c.in_ok-new.ensures.ok (opening_is c.args.kinds.now c.args.threads, kept _ steady (opening_condvars c.args.kinds.now c.args.threads) (opening_settled c.args.kinds.now c.args.threads))
+    rw c.in_ok-new.ensures.ok (
+      opening_is c.args.kinds.now c.args.threads,
+      kept _ steady (opening_condvars c.args.kinds.now c.args.threads) (opening_settled c.args.kinds.now
+          c.args.threads),
+    )
 
 pub returns-clause-headline : goal.returns-clause-headline
-returns-clause-headline g c = rw c.in_ok-new.ensures.ok (opens c.args.kinds.now c.args.threads, unfilled_0 c.args.kinds.now)
+returns-clause-headline g c = rw c.in_ok-new.ensures.ok (
+  opens c.args.kinds.now c.args.threads,
+  unfilled_0 c.args.kinds.now,
+)

@@ -6,7 +6,8 @@ use Rattle.lot_world.proofs.StandsOnce.{stand_once, stand_under}
 use Rattle.lot_world.proofs.world.World.restore.Goals as goal
 
 -- two worlds with as many threads and locks
-can_restore : (w v : State) → IsWorld w → IsWorld v → length v.places ≡ length w.places → length v.locks ≡ length w.locks → CanRestore w v
+can_restore : (w v : State) → IsWorld w → IsWorld v → length v.places ≡ length w.places → length v.locks
+    ≡ length w.locks → CanRestore w v
 can_restore w v before after threads locks = record {
   threads = threads;
   locks = locks;
@@ -26,7 +27,9 @@ restore-requires g c =
     let w = c.self.inside.machine in
     let s = g.P.Parts.state c.args.parts.now in
     let same = c.self.view_is in
-    can_restore w s c.self.invariant c.requires.world (c.requires.size.threads ∙ ap (λ (v : State). length v.places) (sym same)) (c.requires.size.locks ∙ ap (λ (v : State). length v.locks) (sym same))
+    can_restore w s c.self.invariant c.requires.world (c.requires.size.threads
+    ∙ ap (λ (v : State). length v.places) (sym same)) (c.requires.size.locks
+    ∙ ap (λ (v : State). length v.locks) (sym same))
 
 pub invariant_of-self : goal.invariant_of-self
 invariant_of-self g c = subst IsWorld (sym c.restore.ensures) c.requires.world

@@ -15,12 +15,16 @@ invariant_of-lot c = let seats = sym c.in_ok-records.ensures.1 in record {
 }
 
 pub returns-clause-lot : goal.returns-clause-lot
-returns-clause-lot c = let lot = c.in_ok-new.ensures.ok in
-    (ap (λ (l : ParkingLot). l.words.count) lot ∙ c.in_ok-words.ensures.0, ap (λ (l : ParkingLot). l.records.count) lot ∙ c.in_ok-records.ensures.1)
+returns-clause-lot c = let lot = c.in_ok-new.ensures.ok in (
+  ap (λ (l : ParkingLot). l.words.count) lot ∙ c.in_ok-words.ensures.0,
+  ap (λ (l : ParkingLot). l.records.count) lot ∙ c.in_ok-records.ensures.1,
+)
 
 pub returns-clause-tickets : goal.returns-clause-tickets
-returns-clause-tickets c = let tickets = c.in_ok-tickets.ensures.tickets in let items = c.in_ok-tickets.tickets.items in (
-  tickets.0,
-  subst (λ (l : ParkingLot). All (IsNewTicketOf l) items) (sym c.in_ok-new.ensures.ok)
-      (subst (λ (seats : ℕ). All (IsNewTicket c.in_ok-words.words seats) items) (sym c.in_ok-records.ensures.1) tickets.1),
-)
+returns-clause-tickets c = let tickets = c.in_ok-tickets.ensures.tickets in let items =
+    c.in_ok-tickets.tickets.items in (
+      tickets.0,
+      subst (λ (l : ParkingLot). All (IsNewTicketOf l) items) (sym c.in_ok-new.ensures.ok)
+          (subst (λ (seats : ℕ). All (IsNewTicket c.in_ok-words.words seats) items)
+          (sym c.in_ok-records.ensures.1) tickets.1),
+    )

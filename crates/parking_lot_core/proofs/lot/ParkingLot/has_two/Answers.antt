@@ -13,10 +13,16 @@ use Rattle.parking_lot_core.proofs.lot.ParkingLot.has_two.Goals as goal
 
 pub unreachable-requires : goal.unreachable-requires
 unfolding view_of
-unreachable-requires c = let mutex = c.args.mutex in let old = view_of c.args.token.now in let i = word_index mutex.number Mutex in
+unreachable-requires c = let mutex = c.args.mutex in let old = view_of c.args.token.now in let i =
+    word_index mutex.number Mutex in
     let guarded : (view_of c.join_open.new.token).owns ≡ owning i Exclusive ∷ old.owns =
-    ap (λ (v : View). v.owns) c.join_open.ensures.joined ∙ ap (λ (kind : WordKind). owning (word_index mutex.number kind) Exclusive ∷ old.owns) c.requires.own.2 in
-    let both : (shown c.join_counted.new.seat.me.0).owns ≡ owning_with i c.args.kept.said ∷ owning i Exclusive ∷ old.owns =
-    ap (λ (v : View). v.owns) c.join_counted.ensures.joined ∙ ap (λ (os : List Ownership). owning_with i c.args.kept.said ∷ os) guarded in
+    ap (λ (v : View). v.owns) c.join_open.ensures.joined
+    ∙ ap (λ (kind : WordKind). owning (word_index mutex.number kind) Exclusive ∷ old.owns)
+    c.requires.own.2 in
+    let both : (shown c.join_counted.new.seat.me.0).owns ≡ owning_with i c.args.kept.said ∷ owning i Exclusive
+    ∷ old.owns =
+    ap (λ (v : View). v.owns) c.join_counted.ensures.joined
+    ∙ ap (λ (os : List Ownership). owning_with i c.args.kept.said ∷ os) guarded in
     owned_once i c.args.kept.said c.load.result old.owns (shown c.join_counted.new.seat.me.0).owns both
-    (subst (λ (kind : WordKind). CodesWith kind (word_index mutex.number kind) c.load.result (shown c.join_counted.new.seat.me.0).owns) c.requires.own.2 c.load.ensures.coded)
+    (subst (λ (kind : WordKind). CodesWith kind (word_index mutex.number kind) c.load.result
+    (shown c.join_counted.new.seat.me.0).owns) c.requires.own.2 c.load.ensures.coded)

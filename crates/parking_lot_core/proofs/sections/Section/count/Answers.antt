@@ -6,4 +6,5 @@ count_beside-requires-clause-two c = let self = c.args.self.now in
 
 pub count_beside-requires-clause-key : goal.count_beside-requires-clause-key
 count_beside-requires-clause-key c = let self = c.args.self.now in
-    rw (c.deref.ensures, c.deref-in-Some.ensures) ((self.two c.in-Some.other c.in-Some.is).1.each c.args.key c.requires)
+    rw (c.deref.ensures, c.deref-in-Some.ensures) ((self.two c.in-Some.other c.in-Some.is).1.each c.args.key
+    c.requires)

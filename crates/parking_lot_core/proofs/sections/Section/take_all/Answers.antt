@@ -12,27 +12,43 @@ use Rattle.parking_lot_core.proofs.sections.Section.take_all.Goals as goal
 
 pub invariant_of-self-clause-alone : goal.invariant_of-self-clause-alone
 invariant_of-self-clause-alone c = let turned = c.turn_to.new.self in
-    let same : IsSameBucket (mutex_guard_value turned.first) c.take_all.new.self = rw (← c.deref_mut.ensures.value) c.take_all.ensures.same in
-    λ none. alone_still turned.keys (mutex_guard_value turned.first) c.take_all.new.self same (turned.alone none)
+    let same : IsSameBucket (mutex_guard_value turned.first) c.take_all.new.self =
+    rw (← c.deref_mut.ensures.value) c.take_all.ensures.same in
+    λ none. alone_still turned.keys (mutex_guard_value turned.first) c.take_all.new.self same
+    (turned.alone none)
 
 pub invariant_of-self-clause-two : goal.invariant_of-self-clause-two
 invariant_of-self-clause-two c = let turned = c.turn_to.new.self in
-    let same : IsSameBucket (mutex_guard_value turned.first) c.take_all.new.self = rw (← c.deref_mut.ensures.value) c.take_all.ensures.same in
-    λ guard is. two_still turned.keys (mutex_guard_value turned.first) (mutex_guard_value guard) c.take_all.new.self (mutex_guard_value guard) same (search rules) (turned.two guard is)
+    let same : IsSameBucket (mutex_guard_value turned.first) c.take_all.new.self =
+    rw (← c.deref_mut.ensures.value) c.take_all.ensures.same in
+    λ guard is. two_still turned.keys (mutex_guard_value turned.first) (mutex_guard_value guard)
+    c.take_all.new.self (mutex_guard_value guard) same (search rules) (turned.two guard is)
 
 pub returns-clause-taken : goal.returns-clause-taken
-returns-clause-taken c = let turned = c.turn_to.new.self in let first = c.deref_mut.result.now in let old = waiting_in c.args.self.now in
-    let same : lines (both first.queues.waiters (others_in turned)) ≡ lines old = ap (λ (q : Queueing). lines (both q.queues.waiters (others_in turned))) c.deref_mut.ensures.value ∙ c.turn_to.ensures.lines in
-    let here : line c.args.key first.queues.waiters ≡ line c.args.key old = line_old c.args.key first.queues.waiters old (others_in turned) c.turn_to.ensures.none same in
+returns-clause-taken c = let turned = c.turn_to.new.self in let first = c.deref_mut.result.now in let old =
+    waiting_in c.args.self.now in
+    let same : lines (both first.queues.waiters (others_in turned)) ≡ lines old =
+    ap (λ (q : Queueing). lines (both q.queues.waiters (others_in turned))) c.deref_mut.ensures.value
+    ∙ c.turn_to.ensures.lines in
+    let here : line c.args.key first.queues.waiters ≡ line c.args.key old =
+    line_old c.args.key first.queues.waiters old (others_in turned) c.turn_to.ensures.none same in
     (c.take_all.ensures.taken.0 ∙ ap threads_of here, c.take_all.ensures.taken.1)
 
 pub returns-clause-wants : goal.returns-clause-wants
-returns-clause-wants c = let turned = c.turn_to.new.self in let first = c.deref_mut.result.now in let old = waiting_in c.args.self.now in
-    let same : lines (both first.queues.waiters (others_in turned)) ≡ lines old = ap (λ (q : Queueing). lines (both q.queues.waiters (others_in turned))) c.deref_mut.ensures.value ∙ c.turn_to.ensures.lines in
-    let here : line c.args.key first.queues.waiters ≡ line c.args.key old = line_old c.args.key first.queues.waiters old (others_in turned) c.turn_to.ensures.none same in
+returns-clause-wants c = let turned = c.turn_to.new.self in let first = c.deref_mut.result.now in let old =
+    waiting_in c.args.self.now in
+    let same : lines (both first.queues.waiters (others_in turned)) ≡ lines old =
+    ap (λ (q : Queueing). lines (both q.queues.waiters (others_in turned))) c.deref_mut.ensures.value
+    ∙ c.turn_to.ensures.lines in
+    let here : line c.args.key first.queues.waiters ≡ line c.args.key old =
+    line_old c.args.key first.queues.waiters old (others_in turned) c.turn_to.ensures.none same in
     c.take_all.ensures.wants ∙ ap wants_of here
 
 pub returns-clause-lines : goal.returns-clause-lines
-returns-clause-lines c = let turned = c.turn_to.new.self in let first = c.deref_mut.result.now in let old = waiting_in c.args.self.now in
-    let same : lines (both first.queues.waiters (others_in turned)) ≡ lines old = ap (λ (q : Queueing). lines (both q.queues.waiters (others_in turned))) c.deref_mut.ensures.value ∙ c.turn_to.ensures.lines in
-    side_key c.args.key first.queues.waiters c.take_all.new.self.queues.waiters old (others_in turned) c.turn_to.ensures.none same c.take_all.ensures.lines
+returns-clause-lines c = let turned = c.turn_to.new.self in let first = c.deref_mut.result.now in let old =
+    waiting_in c.args.self.now in
+    let same : lines (both first.queues.waiters (others_in turned)) ≡ lines old =
+    ap (λ (q : Queueing). lines (both q.queues.waiters (others_in turned))) c.deref_mut.ensures.value
+    ∙ c.turn_to.ensures.lines in
+    side_key c.args.key first.queues.waiters c.take_all.new.self.queues.waiters old (others_in turned)
+    c.turn_to.ensures.none same c.take_all.ensures.lines

@@ -13,27 +13,46 @@ use Rattle.parking_lot_core.proofs.sections.Section.take_picked.Goals as goal
 
 pub invariant_of-self-clause-alone : goal.invariant_of-self-clause-alone
 invariant_of-self-clause-alone c = let turned = c.turn_to.new.self in
-    let same : IsSameBucket (mutex_guard_value turned.first) c.take_picked.new.self = rw (← c.deref_mut.ensures.value) c.take_picked.ensures.same in
-    λ none. alone_still turned.keys (mutex_guard_value turned.first) c.take_picked.new.self same (turned.alone none)
+    let same : IsSameBucket (mutex_guard_value turned.first) c.take_picked.new.self =
+    rw (← c.deref_mut.ensures.value) c.take_picked.ensures.same in
+    λ none. alone_still turned.keys (mutex_guard_value turned.first) c.take_picked.new.self same
+    (turned.alone none)
 
 pub invariant_of-self-clause-two : goal.invariant_of-self-clause-two
 invariant_of-self-clause-two c = let turned = c.turn_to.new.self in
-    let same : IsSameBucket (mutex_guard_value turned.first) c.take_picked.new.self = rw (← c.deref_mut.ensures.value) c.take_picked.ensures.same in
-    λ guard is. two_still turned.keys (mutex_guard_value turned.first) (mutex_guard_value guard) c.take_picked.new.self (mutex_guard_value guard) same (search rules) (turned.two guard is)
+    let same : IsSameBucket (mutex_guard_value turned.first) c.take_picked.new.self =
+    rw (← c.deref_mut.ensures.value) c.take_picked.ensures.same in
+    λ guard is. two_still turned.keys (mutex_guard_value turned.first) (mutex_guard_value guard)
+    c.take_picked.new.self (mutex_guard_value guard) same (search rules) (turned.two guard is)
 
 pub returns-clause-taken : goal.returns-clause-taken
-returns-clause-taken c = let turned = c.turn_to.new.self in let first = c.deref_mut.result.now in let old = waiting_in c.args.self.now in
-    let same : lines (both first.queues.waiters (others_in turned)) ≡ lines old = ap (λ (q : Queueing). lines (both q.queues.waiters (others_in turned))) c.deref_mut.ensures.value ∙ c.turn_to.ensures.lines in
-    let here : line c.args.key first.queues.waiters ≡ line c.args.key old = line_old c.args.key first.queues.waiters old (others_in turned) c.turn_to.ensures.none same in
-    (c.take_picked.ensures.taken.0 ∙ ap (λ l. threads_of (lock_picked c.args.start c.args.recursive l)) here, c.take_picked.ensures.taken.1)
+returns-clause-taken c = let turned = c.turn_to.new.self in let first = c.deref_mut.result.now in let old =
+    waiting_in c.args.self.now in
+    let same : lines (both first.queues.waiters (others_in turned)) ≡ lines old =
+    ap (λ (q : Queueing). lines (both q.queues.waiters (others_in turned))) c.deref_mut.ensures.value
+    ∙ c.turn_to.ensures.lines in
+    let here : line c.args.key first.queues.waiters ≡ line c.args.key old =
+    line_old c.args.key first.queues.waiters old (others_in turned) c.turn_to.ensures.none same in (
+      c.take_picked.ensures.taken.0 ∙ ap (λ l. threads_of (lock_picked c.args.start c.args.recursive l)) here,
+      c.take_picked.ensures.taken.1,
+    )
 
 pub returns-clause-wants : goal.returns-clause-wants
-returns-clause-wants c = let turned = c.turn_to.new.self in let first = c.deref_mut.result.now in let old = waiting_in c.args.self.now in
-    let same : lines (both first.queues.waiters (others_in turned)) ≡ lines old = ap (λ (q : Queueing). lines (both q.queues.waiters (others_in turned))) c.deref_mut.ensures.value ∙ c.turn_to.ensures.lines in
-    let here : line c.args.key first.queues.waiters ≡ line c.args.key old = line_old c.args.key first.queues.waiters old (others_in turned) c.turn_to.ensures.none same in
+returns-clause-wants c = let turned = c.turn_to.new.self in let first = c.deref_mut.result.now in let old =
+    waiting_in c.args.self.now in
+    let same : lines (both first.queues.waiters (others_in turned)) ≡ lines old =
+    ap (λ (q : Queueing). lines (both q.queues.waiters (others_in turned))) c.deref_mut.ensures.value
+    ∙ c.turn_to.ensures.lines in
+    let here : line c.args.key first.queues.waiters ≡ line c.args.key old =
+    line_old c.args.key first.queues.waiters old (others_in turned) c.turn_to.ensures.none same in
     c.take_picked.ensures.wants ∙ ap (λ l. wants_of (lock_picked c.args.start c.args.recursive l)) here
 
 pub returns-clause-lines : goal.returns-clause-lines
-returns-clause-lines c = let turned = c.turn_to.new.self in let first = c.deref_mut.result.now in let old = waiting_in c.args.self.now in
-    let same : lines (both first.queues.waiters (others_in turned)) ≡ lines old = ap (λ (q : Queueing). lines (both q.queues.waiters (others_in turned))) c.deref_mut.ensures.value ∙ c.turn_to.ensures.lines in
-    side_picked c.args.start c.args.recursive c.args.key first.queues.waiters c.take_picked.new.self.queues.waiters old (others_in turned) c.turn_to.ensures.none same c.take_picked.ensures.lines
+returns-clause-lines c = let turned = c.turn_to.new.self in let first = c.deref_mut.result.now in let old =
+    waiting_in c.args.self.now in
+    let same : lines (both first.queues.waiters (others_in turned)) ≡ lines old =
+    ap (λ (q : Queueing). lines (both q.queues.waiters (others_in turned))) c.deref_mut.ensures.value
+    ∙ c.turn_to.ensures.lines in
+    side_picked c.args.start c.args.recursive c.args.key first.queues.waiters
+    c.take_picked.new.self.queues.waiters old (others_in turned) c.turn_to.ensures.none same
+    c.take_picked.ensures.lines

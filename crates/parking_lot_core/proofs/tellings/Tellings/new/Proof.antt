@@ -1,5 +1,8 @@
 -- Nothing was told yet.
-use Rattle.atomic_table.proofs.Names.{◌≡◌, [], ◌∷◌, refl, Val, SProp, emp, ‵, raw, ◌⊛◌, ◌$◌, ◌∵◌, !, qed, by, keep, split, fjoin, use0, no_more, returns, enter, alloc_all, pass_all, free_all, look_at, sets, agg, tables, owns, types_at, nothing, alive, Stays, walk_of, fact, fact_i}
+use Rattle.atomic_table.proofs.Names.{◌≡◌, [], ◌∷◌, refl, Val, SProp, emp, ‵, raw, ◌⊛◌, ◌$◌, ◌∵◌, !, qed, by}
+use Rattle.atomic_table.proofs.Names.{keep, split, fjoin, use0, no_more, returns, enter, alloc_all, pass_all}
+use Rattle.atomic_table.proofs.Names.{free_all, look_at, sets, agg, tables, owns, types_at, nothing, alive}
+use Rattle.atomic_table.proofs.Names.{Stays, walk_of, fact, fact_i}
 use Rattle.atomic_table.proofs.Walks.{proved, leaves}
 use Rattle.parking_lot_core.proofs.Blanks.{blank_val, Blank, blank_made}
 use Rattle.parking_lot_core.specs.contracts.tellings.Tellings as tellings
@@ -10,13 +13,20 @@ use Rattle.parking_lot_core.proofs.tellings.Tellings.new.Code as code
 
 pub new_spec : {M : Type 1} → statement M
 new_spec 𝓤 𝓛 𝓜 𝓡 wired =
-    let H = 𝓛.H in let 𝓣 = tables 𝓤 H 𝓜 𝓡 𝓡.env in let En = ended in let c = clauses 𝓛 𝓜.mem 𝓡.returns in let fn = code.function in
+    let H = 𝓛.H in let 𝓣 = tables 𝓤 H 𝓜 𝓡 𝓡.env in let En = ended in let c = clauses 𝓛 𝓜.mem 𝓡.returns
+    in let fn = code.function in
     let hs : Stays En.signature.params En.kept = tt in
-    proved 𝓛 En hs c 𝓜 𝓡 tt #self fn (code.unfolded 𝓤 H 𝓜 𝓡 wired) (λ κs. tt) (λ κs. tt) (λ κs qs bounds a gh are.
-    let y : (walk_of 𝓛 En hs c).Ghost = ((κs, qs, bounds, a, tt), gh) in let Post : Val → SProp 𝓤 = (walk_of 𝓛 En hs c).post y in
+    proved 𝓛 En hs c 𝓜 𝓡 tt #self fn (code.unfolded 𝓤 H 𝓜 𝓡 wired) (λ κs. tt) (λ κs. tt)
+    (λ κs qs bounds a gh are.
+    let y : (walk_of 𝓛 En hs c).Ghost = ((κs, qs, bounds, a, tt), gh) in let Post : Val → SProp 𝓤 =
+    (walk_of 𝓛 En hs c).post y in
     let r : tellings.the_row.Denot = record { list = [] } in let Told : Type 0 = r.list ≡ [] in
-    qed 𝓛 ((raw (alive 𝓛 En.signature κs qs) ⊛ ‵ (owns (types_at En.signature.params κs) a y.0.4)) ∷ raw ((c κs a).requires gh) ∷ []) ∵
-    split ! $ keep ! (0 ∷ []) $ nothing ! $ use0 𝓛 (‵ (Blank.own_val tt (blank_val ∷ []))) (blank_made 𝓛) $ fjoin ! $
+    qed 𝓛 ((raw (alive 𝓛 En.signature κs qs) ⊛ ‵ (owns (types_at En.signature.params κs) a y.0.4))
+    ∷ raw ((c κs a).requires gh) ∷ []) ∵
+    split ! $ keep ! (0 ∷ []) $ nothing ! $ use0 𝓛 (‵ (Blank.own_val tt (blank_val ∷ []))) (blank_made 𝓛)
+    $ fjoin ! $
     enter ! 𝓣.C 𝓣.Λ fn [] Post $ alloc_all ! (λ l. pass_all ! refl tt $
-    sets ! (agg ! (no_more !)) refl (tt, tt) $ use0 𝓛 (raw (fact 𝓤 Told)) (fact_i 𝓤 Told (emp 𝓤) refl) $ nothing ! $
-    returns ! (look_at ! 0 refl) $ free_all ! refl $ keep ! (3 ∷ 0 ∷ 2 ∷ 1 ∷ []) $ by ! (leaves 𝓛 En hs c y blank_val r tt tt)))
+    sets ! (agg ! (no_more !)) refl (tt, tt) $ use0 𝓛 (raw (fact 𝓤 Told)) (fact_i 𝓤 Told (emp 𝓤) refl)
+    $ nothing ! $
+    returns ! (look_at ! 0 refl) $ free_all ! refl $ keep ! (3 ∷ 0 ∷ 2 ∷ 1 ∷ [])
+    $ by ! (leaves 𝓛 En hs c y blank_val r tt tt)))

@@ -10,5 +10,6 @@ abbrev pub invariant-loop : goal.invariant-loop
 invariant-loop g l = record {
   turns : (goal.iterator-loop g).can_next l.iterator' × (goal.iterator-loop g).is_finite l.iterator';
   own : IsTokenOf (lot_of l.self) l.token × StaysAs l.fn.token l.token;
-  saw : (before : List ℕ) × (steps_of l.token ≡ steps_of l.fn.token ++ load_steps (count_at l.self.word.number) before);
+  saw : (before : List ℕ) × (steps_of l.token ≡ steps_of l.fn.token ++ load_steps
+      (count_at l.self.word.number) before);
 }

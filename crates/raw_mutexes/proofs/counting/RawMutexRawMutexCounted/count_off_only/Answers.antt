@@ -9,18 +9,23 @@ use Rattle.raw_mutexes.proofs.CountLemmas.{seen_last}
 use Rattle.raw_mutexes.proofs.counting.RawMutexRawMutexCounted.count_off_only.Goals as goal
 
 pub returns-in-Ok-clause-guard : goal.returns-in-Ok-clause-guard
-returns-in-Ok-clause-guard g c = let mutex = c.args.self.now in let n = mutex.word.number in let old = c.args.token.now in let looked = c.look_count-seen.new.token in let new = c.count_out.new.token in
+returns-in-Ok-clause-guard g c = let mutex = c.args.self.now in let n = mutex.word.number in let old =
+    c.args.token.now in let looked = c.look_count-seen.new.token in let new = c.count_out.new.token in
     let seen = c.look_count-seen.result in let before = c.loop.invariant.saw in
-    let got : IsGuardOf (lot_of mutex) mutex.word c.in-Ok.guard × StoredCount n seen 0 looked new = search rules in
+    let got : IsGuardOf (lot_of mutex) mutex.word c.in-Ok.guard × StoredCount n seen 0 looked new =
+    search rules in
     let once : times_in seen ≡ 1 = search rules in
-    let saw = seen_last (count_at n) seen before.0 (steps_of old) (steps_of c.loop.token) (steps_of looked) before.1 c.look_count-seen.ensures.stepped in
+    let saw = seen_last (count_at n) seen before.0 (steps_of old) (steps_of c.loop.token) (steps_of looked)
+    before.1 c.look_count-seen.ensures.stepped in
     (got.0, (seen, looked, (before.0, saw), once, got.1))
 
 pub loop-preserved : goal.loop-preserved
-loop-preserved g c = let mutex = c.args.self.now in let n = mutex.word.number in let old = c.args.token.now in let looked = c.look_count-seen.new.token in let new = c.count_out.new.token in
+loop-preserved g c = let mutex = c.args.self.now in let n = mutex.word.number in let old = c.args.token.now
+    in let looked = c.look_count-seen.new.token in let new = c.count_out.new.token in
     let seen = c.look_count-seen.result in let before = c.loop.invariant.saw in
     let got : IsShareOf (lot_of mutex) mutex.word c.in-Err.again × (new ≡ looked) = search rules in
-    let saw = seen_last (count_at n) seen before.0 (steps_of old) (steps_of c.loop.token) (steps_of looked) before.1 c.look_count-seen.ensures.stepped in
+    let saw = seen_last (count_at n) seen before.0 (steps_of old) (steps_of c.loop.token) (steps_of looked)
+    before.1 c.look_count-seen.ensures.stepped in
     let own : IsTokenOf (lot_of mutex) new × StaysAs old new = search rules in record {
       turns = search rules;
       own = own;

@@ -12,5 +12,6 @@ invariant-loop g l = record {
   own : IsTokenOf (lot_of l.self) l.token × StaysAs l.fn.token l.token;
   share : IsShareOf (lot_of l.self) l.self.word l.share;
   named : thread_of l.share ≡ thread_of l.fn.share;
-  saw : (before : List ℕ) × (steps_of l.token ≡ steps_of l.fn.token ++ load_steps (count_at l.self.word.number) before);
+  saw : (before : List ℕ) × (steps_of l.token ≡ steps_of l.fn.token ++ load_steps
+      (count_at l.self.word.number) before);
 }

@@ -8,7 +8,11 @@ use Rattle.raw_mutexes.proofs.raw_condvar.RawCondvarRawCondvar.notify_all_slow.G
 
 pub returns-clause-path : goal.returns-clause-path
 returns-clause-path g c = let number = c.args.self.now.word.number in
-    λ (before : Token) (looked : HasLooked (lot_of c.args.self.now).words.count number c.args.seen before c.args.token.now). (
-      subst (λ (a : Answer). NotifiesBy number true a before c.notify_rest.new.token) c.in-Number.is (c.notify_rest.ensures.path before looked),
-      moved_all (lot_of c.args.self.now).words.count number c.args.seen before c.args.token.now c.notify_rest.new.token looked c.notify_rest.result c.in-Number.number c.in-Number.is c.notify_rest.ensures.record,
+    λ (before : Token) (looked : HasLooked (lot_of c.args.self.now).words.count number c.args.seen before
+    c.args.token.now). (
+      subst (λ (a : Answer). NotifiesBy number true a before c.notify_rest.new.token) c.in-Number.is
+          (c.notify_rest.ensures.path before looked),
+      moved_all (lot_of c.args.self.now).words.count number c.args.seen before c.args.token.now
+          c.notify_rest.new.token looked c.notify_rest.result c.in-Number.number c.in-Number.is
+          c.notify_rest.ensures.record,
     )

@@ -16,16 +16,23 @@ use Rattle.raw_mutexes.specs.MutexGuards.{StaysAs}
 use Rattle.raw_mutexes.proofs.raw_mutex.RawMutex.unlock_fair_fast.Goals as goal
 
 pub returns-then-seen-eq-LOCKED-clause-over : goal.returns-then-seen-eq-LOCKED-clause-over
-returns-then-seen-eq-LOCKED-clause-over c = let mutex = c.args.self.now in let n = mutex.word.number in let old = c.args.token.now in let v = view_of old in
-    let new = c.leave_open_alone-seen.new.token in let seen = c.leave_open_alone-seen.result in let one = c.if-seen-eq-LOCKED.true in let at = word_index n mutex.word.kind in
+returns-then-seen-eq-LOCKED-clause-over c = let mutex = c.args.self.now in let n = mutex.word.number
+    in let old = c.args.token.now in let v = view_of old in
+    let new = c.leave_open_alone-seen.new.token in let seen = c.leave_open_alone-seen.result in let one =
+    c.if-seen-eq-LOCKED.true in let at = word_index n mutex.word.kind in
     let left : view_of new ≡ stepping v at (Exchange 1 0) seen = c.leave_open_alone-seen.ensures.stepped
-    ∙ ap (λ b. cond b (stepping v at (Exchange 1 0) seen) (stepping (takes_in v (piece_of mutex.word Exclusive)) at (Exchange 1 0) seen)) (eq-eqb seen 1 one) in
-    let added = ap (λ (v : View). v.steps) left ∙ ap (λ (k : WordKind). v.steps ++ step (word_index n k) (Exchange 1 0) seen) mutex.drawn.1 in
+    ∙ ap (λ b. cond b (stepping v at (Exchange 1 0) seen)
+    (stepping (takes_in v (piece_of mutex.word Exclusive)) at (Exchange 1 0) seen)) (eq-eqb seen 1 one) in
+    let added = ap (λ (v : View). v.steps) left
+    ∙ ap (λ (k : WordKind). v.steps ++ step (word_index n k) (Exchange 1 0) seen) mutex.drawn.1 in
     let stays : StaysAs old new = search rules in
     let released : TookIfSeen n UnlockFair (steps_of old) (steps_of new) (last_of new) = (
       seen,
       [],
       added ∙ sym (append-nil (steps_of old ++ step (mutex_at n) (Exchange 1 0) seen)),
-      subst (λ b. TookIfParked n (not b) [] (last_of new)) (sym (eq-eqb seen 1 one)) (refl, c.leave_open_alone-seen.ensures.own.1),
+      subst (λ b. TookIfParked n (not b) [] (last_of new)) (sym (eq-eqb seen 1 one)) (
+        refl,
+        c.leave_open_alone-seen.ensures.own.1,
+      ),
     ) in
     (stays, path_at_once n UnlockFair seen old new one added c.leave_open_alone-seen.ensures.untold, released)

@@ -11,7 +11,13 @@ use Rattle.raw_mutexes.specs.MutexGuards.{StaysAs}
 use Rattle.raw_mutexes.proofs.raw_mutex.RawMutexRawMutex.lock_fast.Goals as goal
 
 pub returns-in-Ok-clause-over : goal.returns-in-Ok-clause-over
-returns-in-Ok-clause-over c = let mutex = c.args.self.now in let n = mutex.word.number in let old = c.args.token.now in let new = c.enter_open.new.token in
-    let added = ap (λ (v : View). v.steps) c.in-Ok.ensures.stepped ∙ ap (λ (k : WordKind). (view_of old).steps ++ step (word_index n k) (Exchange 0 1) 0) mutex.drawn.1 in
-    let stays : StaysAs old new = search rules in
-    (stays, path_at_once n Lock 0 old new refl added c.enter_open.ensures.untold, (search rules, search rules))
+returns-in-Ok-clause-over c = let mutex = c.args.self.now in let n = mutex.word.number in let old =
+    c.args.token.now in let new = c.enter_open.new.token in
+    let added = ap (λ (v : View). v.steps) c.in-Ok.ensures.stepped
+    ∙ ap (λ (k : WordKind). (view_of old).steps ++ step (word_index n k) (Exchange 0 1) 0) mutex.drawn.1
+    in
+    let stays : StaysAs old new = search rules in (
+      stays,
+      path_at_once n Lock 0 old new refl added c.enter_open.ensures.untold,
+      (search rules, search rules),
+    )

@@ -23,21 +23,58 @@ use Rattle.run_base.proofs.RwLockNeeds.{has_right, left_beside}
 use Rattle.raw_rwlocks.proofs.rwlock_rights.LotRwLock.bump.Goals as goal
 
 pub bump-requires-clause-right : goal.bump-requires-clause-right
-bump-requires-clause-right g c = ((view_of c.args.token.now).owns, (owner_for (wanted c.args.access), (view_of c.args.token.now).owns, refl, (λ settled. refl), ap (λ (v : View). v.owns) c.join.ensures.joined ∙ ap (λ (w : Want). owning (rwlock_at c.args.self.now.word.number) (owner_for w) ∷ (view_of c.args.token.now).owns) c.wanted.ensures))
+bump-requires-clause-right g c = (
+  (view_of c.args.token.now).owns,
+  (
+    owner_for (wanted c.args.access),
+    (view_of c.args.token.now).owns,
+    refl,
+    (λ settled. refl),
+    ap (λ (v : View). v.owns) c.join.ensures.joined
+        ∙ ap (λ (w : Want). owning (rwlock_at c.args.self.now.word.number) (owner_for w)
+        ∷ (view_of c.args.token.now).owns) c.wanted.ensures,
+  ),
+)
 
 pub split-requires-clause-held : goal.split-requires-clause-held
-split-requires-clause-held g c = let over = c.bump.ensures.over (view_of c.args.token.now).owns (owner_for (wanted c.args.access), (view_of c.args.token.now).owns, refl, (λ settled. refl), ap (λ (v : View). v.owns) c.join.ensures.joined ∙ ap (λ (w : Want). owning (rwlock_at c.args.self.now.word.number) (owner_for w) ∷ (view_of c.args.token.now).owns) c.wanted.ensures) in
-    let right = (entered_right ⊥ c.args.self.now.word.number (view_of c.args.token.now).owns c.args.self.now.settings.admission c.args.access Patient c.bump.result (stage_of c.bump.new.token None) over (inl c.in-Ok.is)).1 in
-    subst (λ (w : Want). has (owning (rwlock_at c.args.self.now.word.number) (owner_for w)) (view_of c.bump.new.token).owns ≡ true) (sym c.wanted-in-Ok.ensures) (has_right c.args.self.now.word.number (owner_for (wanted c.args.access)) (view_of c.args.token.now).owns (view_of c.bump.new.token).owns right)
+split-requires-clause-held g c = let over = c.bump.ensures.over (view_of c.args.token.now).owns (
+  owner_for (wanted c.args.access),
+  (view_of c.args.token.now).owns,
+  refl,
+  (λ settled. refl),
+  ap (λ (v : View). v.owns) c.join.ensures.joined
+      ∙ ap (λ (w : Want). owning (rwlock_at c.args.self.now.word.number) (owner_for w)
+      ∷ (view_of c.args.token.now).owns) c.wanted.ensures,
+) in
+    let right = (entered_right ⊥ c.args.self.now.word.number (view_of c.args.token.now).owns
+    c.args.self.now.settings.admission c.args.access Patient c.bump.result
+    (stage_of c.bump.new.token None) over (inl c.in-Ok.is)).1 in
+    subst (λ (w : Want). has (owning (rwlock_at c.args.self.now.word.number) (owner_for w))
+    (view_of c.bump.new.token).owns ≡ true) (sym c.wanted-in-Ok.ensures)
+    (has_right c.args.self.now.word.number (owner_for (wanted c.args.access))
+    (view_of c.args.token.now).owns (view_of c.bump.new.token).owns right)
 
 pub returns-in-Ok-clause-token : goal.returns-in-Ok-clause-token
-returns-in-Ok-clause-token g c = let over = c.bump.ensures.over (view_of c.args.token.now).owns (owner_for (wanted c.args.access), (view_of c.args.token.now).owns, refl, (λ settled. refl), ap (λ (v : View). v.owns) c.join.ensures.joined ∙ ap (λ (w : Want). owning (rwlock_at c.args.self.now.word.number) (owner_for w) ∷ (view_of c.args.token.now).owns) c.wanted.ensures) in
-    let right = (entered_right ⊥ c.args.self.now.word.number (view_of c.args.token.now).owns c.args.self.now.settings.admission c.args.access Patient c.bump.result (stage_of c.bump.new.token None) over (inl c.in-Ok.is)).1 in (
+returns-in-Ok-clause-token g c = let over = c.bump.ensures.over (view_of c.args.token.now).owns (
+  owner_for (wanted c.args.access),
+  (view_of c.args.token.now).owns,
+  refl,
+  (λ settled. refl),
+  ap (λ (v : View). v.owns) c.join.ensures.joined
+      ∙ ap (λ (w : Want). owning (rwlock_at c.args.self.now.word.number) (owner_for w)
+      ∷ (view_of c.args.token.now).owns) c.wanted.ensures,
+) in
+    let right = (entered_right ⊥ c.args.self.now.word.number (view_of c.args.token.now).owns
+    c.args.self.now.settings.admission c.args.access Patient c.bump.result
+    (stage_of c.bump.new.token None) over (inl c.in-Ok.is)).1 in (
       search rules,
       (
         search rules,
-        λ settled. ap (λ (v : View). v.owns) c.split.ensures.left ∙ ap (λ (w : Want). without (owning (rwlock_at c.args.self.now.word.number) (owner_for w)) (view_of c.bump.new.token).owns) c.wanted-in-Ok.ensures
-            ∙ left_beside c.args.self.now.word.number (owner_for (wanted c.args.access)) (view_of c.args.token.now).owns (view_of c.bump.new.token).owns right settled,
+        λ settled. ap (λ (v : View). v.owns) c.split.ensures.left
+            ∙ ap (λ (w : Want). without (owning (rwlock_at c.args.self.now.word.number) (owner_for w))
+            (view_of c.bump.new.token).owns) c.wanted-in-Ok.ensures
+            ∙ left_beside c.args.self.now.word.number (owner_for (wanted c.args.access))
+            (view_of c.args.token.now).owns (view_of c.bump.new.token).owns right settled,
       ),
     )
 
@@ -47,19 +84,33 @@ returns-in-Ok-clause-path g c = courses_between (at_rwlock c.args.self.now.word.
     c.args.token.now c.join.new.token c.bump.new.token c.split.new.token c.join.ensures.own.0.1
     (ap (λ (v : View). v.steps) c.join.ensures.joined) c.join.ensures.untold
     (ap (λ (v : View). v.steps) c.split.ensures.left) c.split.ensures.untold
-    (subst (λ (answer : Answer). HasWalkedCall c.args.self.now.word.number c.args.self.now.settings.admission (calls.Bump c.args.access) answer c.join.new.token c.bump.new.token) c.in-Ok.is c.bump.ensures.path)
+    (subst (λ (answer : Answer). HasWalkedCall c.args.self.now.word.number c.args.self.now.settings.admission
+    (calls.Bump c.args.access) answer c.join.new.token c.bump.new.token) c.in-Ok.is c.bump.ensures.path)
 
 pub returns-in_default : goal.returns-in_default
-returns-in_default g c = let over = c.bump.ensures.over (view_of c.args.token.now).owns (owner_for (wanted c.args.access), (view_of c.args.token.now).owns, refl, (λ settled. refl), ap (λ (v : View). v.owns) c.join.ensures.joined ∙ ap (λ (w : Want). owning (rwlock_at c.args.self.now.word.number) (owner_for w) ∷ (view_of c.args.token.now).owns) c.wanted.ensures) in
-    let full = bump_full c.args.self.now.word.number (view_of c.args.token.now).owns c.args.self.now.settings.admission c.args.access c.bump.result (stage_of c.bump.new.token None) over c.in_default.not-Ok in
+returns-in_default g c = let over = c.bump.ensures.over (view_of c.args.token.now).owns (
+  owner_for (wanted c.args.access),
+  (view_of c.args.token.now).owns,
+  refl,
+  (λ settled. refl),
+  ap (λ (v : View). v.owns) c.join.ensures.joined
+      ∙ ap (λ (w : Want). owning (rwlock_at c.args.self.now.word.number) (owner_for w)
+      ∷ (view_of c.args.token.now).owns) c.wanted.ensures,
+) in
+    let full = bump_full c.args.self.now.word.number (view_of c.args.token.now).owns
+    c.args.self.now.settings.admission c.args.access c.bump.result (stage_of c.bump.new.token None) over
+    c.in_default.not-Ok in
     let walked = courses_between (at_rwlock c.args.self.now.word.number)
     (RwLock c.args.self.now.word.number c.args.self.now.settings.admission (Glance c.args.access)) ReadersFull
     c.args.token.now c.join.new.token c.bump.new.token c.bump.new.token c.join.ensures.own.0.1
     (ap (λ (v : View). v.steps) c.join.ensures.joined) c.join.ensures.untold refl refl
-    (subst (λ (answer : Answer). HasWalkedCall c.args.self.now.word.number c.args.self.now.settings.admission (calls.Bump c.args.access) answer c.join.new.token c.bump.new.token) full.0 c.bump.ensures.path) in record {
+    (subst (λ (answer : Answer). HasWalkedCall c.args.self.now.word.number c.args.self.now.settings.admission
+    (calls.Bump c.args.access) answer c.join.new.token c.bump.new.token) full.0 c.bump.ensures.path)
+    in record {
       token = (search rules, (search rules, full.2));
       right = refl;
       path = walked;
       counted = full.1;
-      full = bump_sees_full c.args.access c.args.self.now.word.number c.args.self.now.settings.admission c.args.token.now c.bump.new.token walked;
+      full = bump_sees_full c.args.access c.args.self.now.word.number c.args.self.now.settings.admission
+          c.args.token.now c.bump.new.token walked;
     }

@@ -17,21 +17,33 @@ pub call_fast-requires-clause-right : goal.call_fast-requires-clause-right
 call_fast-requires-clause-right c = (
   (view_of c.args.token.now).owns,
   begins_releasing c.args.self.now c.args.access c.args.token.now c.join.new.token (search rules)
-      (subst (λ (w : Want). view_of c.join.new.token ≡ takes_in (view_of c.args.token.now) (piece (owning (rwlock_at c.args.self.now.word.number) (owner_for w)))) c.wanted.ensures c.join.ensures.joined),
+      (subst (λ (w : Want). view_of c.join.new.token ≡ takes_in (view_of c.args.token.now)
+      (piece (owning (rwlock_at c.args.self.now.word.number) (owner_for w)))) c.wanted.ensures
+      c.join.ensures.joined),
 )
 
 pub returns-in-Ok-clause-over : goal.returns-in-Ok-clause-over
 returns-in-Ok-clause-over c = let is : c.call_fast.result ≡ Ok c.in-Ok._answer = search rules in
     released c.args.self.now c.args.access c.args.token.now c.join.new.token (search rules)
-    (subst (λ (w : Want). view_of c.join.new.token ≡ takes_in (view_of c.args.token.now) (piece (owning (rwlock_at c.args.self.now.word.number) (owner_for w)))) c.wanted.ensures c.join.ensures.joined)
+    (subst (λ (w : Want). view_of c.join.new.token ≡ takes_in (view_of c.args.token.now)
+    (piece (owning (rwlock_at c.args.self.now.word.number) (owner_for w)))) c.wanted.ensures
+    c.join.ensures.joined)
     c.join.ensures.untold c.call_fast.new.token c.in-Ok._answer
-    (subst (λ (r : Result Answer Rest). MatchResult r (λ answer. HasEndedRwLock ⊥ c.args.self.now.word c.args.self.now.settings.admission (Release c.args.access) answer c.join.new.token c.call_fast.new.token) (λ rest. HasBegunRwLock c.args.self.now.word c.args.self.now.settings.admission (Release c.args.access) rest c.join.new.token c.call_fast.new.token)) is c.call_fast.ensures.over)
+    (subst (λ (r : Result Answer Rest). MatchResult r (λ answer. HasEndedRwLock ⊥ c.args.self.now.word
+    c.args.self.now.settings.admission (Release c.args.access) answer c.join.new.token
+    c.call_fast.new.token) (λ rest. HasBegunRwLock c.args.self.now.word c.args.self.now.settings.admission
+    (Release c.args.access) rest c.join.new.token c.call_fast.new.token)) is c.call_fast.ensures.over)
 
 pub returns-in-Err-clause-over : goal.returns-in-Err-clause-over
 returns-in-Err-clause-over c = let is : c.call_fast.result ≡ Err c.in-Err.rest = search rules in (
   c.join.new.token,
   search rules,
-  subst (λ (w : Want). view_of c.join.new.token ≡ takes_in (view_of c.args.token.now) (piece (owning (rwlock_at c.args.self.now.word.number) (owner_for w)))) c.wanted.ensures c.join.ensures.joined,
-  subst (λ (r : Result Answer Rest). MatchResult r (λ answer. HasEndedRwLock ⊥ c.args.self.now.word c.args.self.now.settings.admission (Release c.args.access) answer c.join.new.token c.call_fast.new.token) (λ rest. HasBegunRwLock c.args.self.now.word c.args.self.now.settings.admission (Release c.args.access) rest c.join.new.token c.call_fast.new.token)) is c.call_fast.ensures.over,
+  subst (λ (w : Want). view_of c.join.new.token ≡ takes_in (view_of c.args.token.now)
+      (piece (owning (rwlock_at c.args.self.now.word.number) (owner_for w)))) c.wanted.ensures
+      c.join.ensures.joined,
+  subst (λ (r : Result Answer Rest). MatchResult r (λ answer. HasEndedRwLock ⊥ c.args.self.now.word
+      c.args.self.now.settings.admission (Release c.args.access) answer c.join.new.token
+      c.call_fast.new.token) (λ rest. HasBegunRwLock c.args.self.now.word c.args.self.now.settings.admission
+      (Release c.args.access) rest c.join.new.token c.call_fast.new.token)) is c.call_fast.ensures.over,
   c.join.ensures.untold,
 )

@@ -12,7 +12,12 @@ use Rattle.run_signals.proofs.once.Once.go_on.Goals as goal
 
 pub returns-in-Ended-clause-came : goal.returns-in-Ended-clause-came
 returns-in-Ended-clause-came g c = let rest = c.begin_slow.ensures in let n = c.args.self.now.word.number in
-    λ (before : Token) saw. subst (λ (to : Came). CameTo (IsUp g.C.Clock.tells c.args.limit.now) c.args.self.now.word.number c.args.call before c.begin_slow.new.token to) (sym c.came_by.ensures)
-    (came n (IsUp g.C.Clock.tells c.args.limit.now) c.args.call before c.begin_slow.new.token c.in-Ended.answer (rest.own.1 ∙ saw.0)
-    (subst (λ (look : Look). LooksBy c.args.self.now.word.number c.args.call look before c.begin_slow.new.token) c.in-Ended.is (rest.path before saw))
-    (subst (λ (look : Look). LookOwns (IsUp g.C.Clock.tells c.args.limit.now) c.args.self.now.word.number c.args.call look (owns_of before) (owns_of c.begin_slow.new.token) (last_of c.begin_slow.new.token)) c.in-Ended.is (rest.over before saw)))
+    λ (before : Token) saw. subst (λ (to : Came). CameTo (IsUp g.C.Clock.tells c.args.limit.now)
+    c.args.self.now.word.number c.args.call before c.begin_slow.new.token to) (sym c.came_by.ensures)
+    (came n (IsUp g.C.Clock.tells c.args.limit.now) c.args.call before c.begin_slow.new.token
+    c.in-Ended.answer (rest.own.1 ∙ saw.0)
+    (subst (λ (look : Look). LooksBy c.args.self.now.word.number c.args.call look before
+    c.begin_slow.new.token) c.in-Ended.is (rest.path before saw))
+    (subst (λ (look : Look). LookOwns (IsUp g.C.Clock.tells c.args.limit.now) c.args.self.now.word.number
+    c.args.call look (owns_of before) (owns_of c.begin_slow.new.token) (last_of c.begin_slow.new.token))
+    c.in-Ended.is (rest.over before saw)))

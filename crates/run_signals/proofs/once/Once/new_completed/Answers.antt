@@ -3,7 +3,8 @@ use Rattle.run_base.specs.OnceFitting.{knowing}
 use Rattle.run_signals.proofs.once.Once.new_completed.Goals as goal
 
 pub returns-then-complete-clause-stays : goal.returns-then-complete-clause-stays
-returns-then-complete-clause-stays c = let n = c.in_ok-once.once.word.number in let drawn = c.new.ensures.token in
+returns-then-complete-clause-stays c = let n = c.in_ok-once.once.word.number in let drawn =
+    c.new.ensures.token in
     let done = c.complete.ensures.done c.if-complete.true in
     (c.complete.ensures.token.1 ∙ drawn.1, (suc done.0, done.1 ∙ ap (knowing n (suc done.0)) drawn.2))
 

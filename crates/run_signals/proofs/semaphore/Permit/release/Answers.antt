@@ -13,17 +13,27 @@ use Rattle.run_signals.proofs.SemaphoreCalling.{by_same, releases_at_once, relea
 use Rattle.run_signals.proofs.semaphore.Permit.release.Goals as goal
 
 pub returns-then-has_parked-clause-path : goal.returns-then-has_parked-clause-path
-returns-then-has_parked-clause-path g c = let n = c.args.self.semaphore.now.word.number in let old = c.args.token.now in let mid = c.give-seen.new.token in let new = c.wake_first.new.token in
+returns-then-has_parked-clause-path g c = let n = c.args.self.semaphore.now.word.number in let old =
+    c.args.token.now in let mid = c.give-seen.new.token in let new = c.wake_first.new.token in
     let parked : has_parked c.give-seen.result ≡ true = search rules in
     let joined = ap (λ (v : View). v.steps) c.join_held.ensures.joined in
-    releases_on n c.give-seen.result old.number (trail_of old None) (trail_of mid None) (trail_of new None) answers.Ok parked
-    (one_more _ _ _ _ _ (c.give-seen.ensures.added.1 ∙ ap (λ (steps : List WordStep). steps ++ step (semaphore_at c.args.self.semaphore.now.word.number) (Add 2) c.give-seen.result) joined) (c.give-seen.ensures.added.2 ∙ c.join_held.ensures.untold))
+    releases_on n c.give-seen.result old.number (trail_of old None) (trail_of mid None) (trail_of new None)
+    answers.Ok parked
+    (one_more _ _ _ _ _ (c.give-seen.ensures.added.1
+    ∙ ap (λ (steps : List WordStep). steps ++ step (semaphore_at c.args.self.semaphore.now.word.number)
+    (Add 2) c.give-seen.result) joined) (c.give-seen.ensures.added.2 ∙ c.join_held.ensures.untold))
     (by_same n (waking n) answers.Ok old mid new (c.give-seen.ensures.added.0 ∙ c.join_held.ensures.own.0.1)
-    (subst (λ (answer : Answer). HasGone c.args.self.semaphore.now.word.number (waking c.args.self.semaphore.now.word.number) answer c.give-seen.new.token c.wake_first.new.token) c.wake_first.ensures.over.0 c.wake_first.ensures.path))
+    (subst (λ (answer : Answer). HasGone c.args.self.semaphore.now.word.number
+    (waking c.args.self.semaphore.now.word.number) answer c.give-seen.new.token c.wake_first.new.token)
+    c.wake_first.ensures.over.0 c.wake_first.ensures.path))
 
 pub returns-else-has_parked-clause-path : goal.returns-else-has_parked-clause-path
-returns-else-has_parked-clause-path g c = let n = c.args.self.semaphore.now.word.number in let old = c.args.token.now in let mid = c.give-seen.new.token in
+returns-else-has_parked-clause-path g c = let n = c.args.self.semaphore.now.word.number in let old =
+    c.args.token.now in let mid = c.give-seen.new.token in
     let none : has_parked c.give-seen.result ≡ false = search rules in
     let joined = ap (λ (v : View). v.steps) c.join_held.ensures.joined in
-    releases_at_once n c.give-seen.result old.number (trail_of old None) (trail_of mid None) (trail_of mid None) none
-    (one_more _ _ _ _ _ (c.give-seen.ensures.added.1 ∙ ap (λ (steps : List WordStep). steps ++ step (semaphore_at c.args.self.semaphore.now.word.number) (Add 2) c.give-seen.result) joined) (c.give-seen.ensures.added.2 ∙ c.join_held.ensures.untold))
+    releases_at_once n c.give-seen.result old.number (trail_of old None) (trail_of mid None)
+    (trail_of mid None) none
+    (one_more _ _ _ _ _ (c.give-seen.ensures.added.1
+    ∙ ap (λ (steps : List WordStep). steps ++ step (semaphore_at c.args.self.semaphore.now.word.number)
+    (Add 2) c.give-seen.result) joined) (c.give-seen.ensures.added.2 ∙ c.join_held.ensures.untold))

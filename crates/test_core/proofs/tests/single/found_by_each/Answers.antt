@@ -10,12 +10,15 @@ use Rattle.core_words.specs.declared.words.WordKind.TheVariants.{Mutex}
 use Rattle.test_core.proofs.tests.single.found_by_each.Goals as goal
 
 -- tells what may be done to a mutex may be done to this word
-may : (word : Word) (op : Op) (owns : List Ownership) → word.kind ≡ Mutex → MayStep Mutex (word_index word.number Mutex) op owns
+may : (word : Word) (op : Op) (owns : List Ownership) → word.kind ≡ Mutex
+    → MayStep Mutex (word_index word.number Mutex) op owns
     → MayStep word.kind (word_index word.number word.kind) op owns
-may word op owns is step = subst (λ (kind : WordKind). MayStep kind (word_index word.number kind) op owns) (sym is) step
+may word op owns is step = subst (λ (kind : WordKind). MayStep kind (word_index word.number kind) op owns)
+    (sym is) step
 
 pub word-requires-clause-may : goal.word-requires-clause-may
-word-requires-clause-may c = may c.args.word _ _ c.requires.2 ((c.mutex_may_step.ensures _ _).enter 0 (search rules) refl)
+word-requires-clause-may c = may c.args.word _ _ c.requires.2 ((c.mutex_may_step.ensures _ _).enter 0
+    (search rules) refl)
 
 pub word-requires-2-clause-may : goal.word-requires-2-clause-may
 word-requires-2-clause-may c = may c.args.word _ _ c.requires.2 (c.mutex_may_step.ensures _ _).set_parked

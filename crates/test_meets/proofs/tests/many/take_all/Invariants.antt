@@ -5,4 +5,5 @@ use Rattle.test_meets.specs.Standing.{IsInLot}
 use Rattle.test_meets.proofs.tests.many.take_all.Given as goal
 
 abbrev pub invariant-loop-thread : goal.invariant-loop-thread
-invariant-loop-thread g l = (l.section.lot.now ≡ l.lot) × (l.section.keys ≡ One 0) × IsUntouched l.section × All (IsInLot l.lot) l.places.items
+invariant-loop-thread g l = (l.section.lot.now ≡ l.lot) × (l.section.keys ≡ One 0) × IsUntouched l.section
+    × All (IsInLot l.lot) l.places.items

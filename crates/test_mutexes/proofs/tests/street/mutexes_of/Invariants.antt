@@ -5,4 +5,5 @@ use Rattle.parking_lot_core.specs.Tokens.{IsTokenOf}
 use Rattle.test_mutexes.proofs.tests.street.mutexes_of.Given as goal
 
 abbrev pub invariant-loop : goal.invariant-loop
-invariant-loop g l = IsTokenOf (arc_value l.lot) l.token × All (λ mutex. lot_of mutex ≡ arc_value l.lot) l.mutexes.items
+invariant-loop g l = IsTokenOf (arc_value l.lot) l.token × All (λ mutex. lot_of mutex ≡ arc_value l.lot)
+    l.mutexes.items
