@@ -7,7 +7,7 @@ use Rattle.core_base.specs.declared.requeues.Requeue.{Requeue}
 use Rattle.core_base.specs.declared.wants.Waiter.{Waiter}
 use Rattle.core_base.specs.declared.wants.Want.{Want}
 
--- where each thread stands at most once, it does so behind each call
+-- where each thread stands at most once, it does so after each call
 pub record EachStandsOnce (waiters : List Waiter) (capacity : ℕ) : Type 0 where
   pub appended : (key thread : ℕ) (want : Want) → thread < capacity
       → IsSeated (without thread waiters ++ waiter key thread want ∷ []) capacity

@@ -22,7 +22,7 @@ abbrev pub left_by : Requeue → ℕ → List Waiter → List Waiter
 left_by One key waiters = without_first key waiters
 left_by _ key waiters = without_key key waiters
 
--- the list after a requeue: a thread that was moved stands behind the last of another key, and wants to own
+-- the list after a requeue: a thread that was moved stands after the last of another key, and wants to own
 -- alone
 abbrev pub requeued : Requeue → ℕ → ℕ → List Waiter → List Waiter
 requeued op from to waiters =

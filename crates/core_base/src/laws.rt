@@ -4,7 +4,7 @@ ghost use Rattle.core_base.specs.Laws.{EachStandsOnce};
 ghost use Rattle.core_base.specs.Lines.{IsSeated};
 ghost use Rattle.core_base.specs.declared.wants.Waiter.{Waiter};
 
-/// Where each thread stands at most once, it does so behind each call of the queues.
+/// Where each thread stands at most once, it does so after each call of the queues.
 pub fn each_thread_stands_once()
     ensures { (waiters : List Waiter) (capacity : ℕ) → IsSeated waiters capacity
         → EachStandsOnce waiters capacity }

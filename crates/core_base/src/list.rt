@@ -79,7 +79,7 @@ fn take_picked<P: Picker + Drop>(
     }
 }
 
-/// Moves the first under a key behind the last under another, where there is one.
+/// Moves the first under a key after the last under another, where there is one.
 fn move_first(waiters: &mut Vec<Waiter>, from: Key, to: Key) -> bool
     ensures moved { (if result then 1 else 0)
         ≡ length (moved_by One (line from waiters.old.items)) }
@@ -97,7 +97,7 @@ fn move_first(waiters: &mut Vec<Waiter>, from: Key, to: Key) -> bool
     true
 }
 
-/// Moves all under a key behind the last under another, and answers how many there were.
+/// Moves all under a key after the last under another, and answers how many there were.
 fn move_all(waiters: &mut Vec<Waiter>, from: Key, to: Key) -> usize
     requires { from ≢ to }
     ensures number { result ≡ length (line from waiters.old.items) }

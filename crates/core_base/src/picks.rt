@@ -12,7 +12,7 @@ pub enum Pick {
     Unpark,
     /// The waiter stays, and the next is asked for.
     Skip,
-    /// The waiter stays, and so do all behind it.
+    /// The waiter stays, and so do all after it.
     Stop,
 }
 

@@ -33,7 +33,7 @@ pub trait Queues {
         ensures ok { IfOk result (λ queues. (waiting queues ≡ []) × (capacity queues ≡ threads)) }
         ensures err { IfErr result (λ fault. fault ≡ Fault.NoMemory) };
 
-    /// Puts a thread behind the last under a key. One that stands somewhere leaves that place
+    /// Puts a thread after the last under a key. One that stands somewhere leaves that place
     /// first.
     fn append(&mut self, key: Key, thread: usize, want: Want)
         requires { thread < capacity self.old }
@@ -67,7 +67,7 @@ pub trait Queues {
             ≡ lines (without_picked P.answer P.next picker key (waiting self.old)) }
         ensures capacity { capacity self.new ≡ capacity self.old };
 
-    /// Moves waiters from under a key behind the last under another. Those that are moved want to
+    /// Moves waiters from under a key after the last under another. Those that are moved want to
     /// own alone from then on. It answers the thread that was taken, if any, and how many were
     /// moved.
     fn requeue(&mut self, from: Key, to: Key, op: Requeue) -> (Option<usize>, usize)
@@ -92,7 +92,7 @@ pub trait Queues {
     fn key_of(&self, thread: usize) -> Option<Key>
         ensures { result ≡ queued_under thread (waiting self.now) };
 
-    /// The first that stands under a key from a place of the queues on, and the place behind it.
+    /// The first that stands under a key from a place of the queues on, and the place after it.
     /// The first place is 0.
     fn find(&self, key: Key, place: usize) -> Option<(Waiter, usize)>
         ensures few { length (line key (waiting self.now)) ≤ capacity self.now }

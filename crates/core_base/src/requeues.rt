@@ -1,6 +1,6 @@
 //! How waiters are moved from one queue to another.
 
-/// The waiters that are moved behind the last of another queue.
+/// The waiters that are moved after the last of another queue.
 #[derive(Clone, Copy, Debug, PartialEq, Eq)]
 pub enum Requeue {
     /// The first.

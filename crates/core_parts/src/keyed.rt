@@ -24,7 +24,7 @@ const TAKEN: u64 = 2;
 
 const AWAITED: u64 = 3;
 
-// How often a thread that found a value out looks at the word before it parks on it, a pause behind
+// How often a thread that found a value out looks at the word before it parks on it, a pause after
 // each look: a microsecond, where a pause takes 11 nanoseconds. A value is out for a twentieth of
 // that, unless the thread that has it was interrupted, and then a longer look is in vain.
 pub(crate) const LOOKS: u32 = 100;

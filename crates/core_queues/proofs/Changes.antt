@@ -1,4 +1,4 @@
--- The chain from which a thread is taken, and the chain behind whose last a thread is put.
+-- The chain from which a thread is taken, and the chain after whose last a thread is put.
 use Rattle.std.proofs.Common.{ℕ, ◌≡◌, ◌≢◌, ◌≤◌, ◌<◌, inl, inr, List, [], ◌∷◌, ◌++◌, Option, Some, None}
 use Rattle.std.proofs.Common.{length, refl, sym, ap, subst, ◌∙◌, arith, get_or-set_other, get_or-set_same}
 use Rattle.std.specs.Prelude.{slice_set}
@@ -37,7 +37,7 @@ without_later : (thread : ℕ) (x : Waiter) (xs : List Waiter) → x.thread ≢ 
     ∷ without thread xs
 without_later thread x xs differ = grind (arith, nat_tests)
 
--- a thread that stands behind one that stands there does so too
+-- a thread that stands after one that stands there does so too
 pub next_stands : (records : List (Option Record)) (from : Option ℕ) (xs : List Waiter) (before thread : ℕ)
     → Leads records from xs → 1 ≤ times before xs → next_of records before ≡ Some thread → 1 ≤ times thread xs
 next_stands records from [] before thread a h next = absurd (omega arith)
@@ -63,7 +63,7 @@ next_stands records from (x ∷ y ∷ ys) before thread a h next = elim (cases_e
   )
 ]
 
--- tells what a record is once the thread behind `before` has left
+-- tells what a record is once the thread after `before` has left
 record_else : (records : List (Option Record)) (before thread other : ℕ) → other ≢ before → other ≢ thread
     → record_of (unlinked_records records (Some before) thread) other ≡ record_of records other
 record_else records before thread other b t =
@@ -76,7 +76,7 @@ record_before : (records : List (Option Record)) (before thread : ℕ) → befor
 record_before records before thread h t = get_or-set_other (with_next records before (next_of records thread))
     thread before None None t ∙ get_or-set_same records before _ None h
 
--- a thread leaves, behind another
+-- a thread leaves, after another
 unlinked_at : (records : List (Option Record)) (from : Option ℕ) (xs : List Waiter) (before thread : ℕ)
     → Leads records from xs → 1 ≤ times before xs → next_of records before ≡ Some thread
     → Leads (unlinked_records records (Some before) thread) from (without thread xs)
@@ -148,14 +148,14 @@ unlinked_first records (x ∷ xs) thread a =
     ap (λ (u : ℕ). times u xs) (sym k) in omega arith))
     (subst (λ (t : ℕ). Leads records (next_of records t) xs) gone a.2))
 
--- the one that a thread stands behind: nobody, as the first, or another of the chain
-abbrev pub IsBehind : List (Option Record) → Ends → Option ℕ → ℕ → List Waiter → Type 0
-IsBehind records e None thread xs = e.first ≡ thread
-IsBehind records e (Some before) thread xs = (1 ≤ times before xs) × (next_of records before ≡ Some thread)
+-- the one that a thread stands after: nobody, as the first, or another of the chain
+abbrev pub IsAfter : List (Option Record) → Ends → Option ℕ → ℕ → List Waiter → Type 0
+IsAfter records e None thread xs = e.first ≡ thread
+IsAfter records e (Some before) thread xs = (1 ≤ times before xs) × (next_of records before ≡ Some thread)
 
 pub unlinked_leads : (records : List (Option Record)) (e : Ends) (xs : List Waiter) (before : Option ℕ)
     (thread : ℕ) (next : Option ℕ) → next_of records thread ≡ next → Leads records (Some e.first) xs
-    → IsBehind records e before thread xs → Leads (unlinked_records records before thread)
+    → IsAfter records e before thread xs → Leads (unlinked_records records before thread)
     (first_in (unlinked_ends e before next)) (without thread xs)
 unlinked_leads records e xs None thread None n a first =
     rw (← n) (unlinked_first records xs thread (subst (λ (t : ℕ). Leads records (Some t) xs) first a))
@@ -191,7 +191,7 @@ still other thread xs differ h = omega (arith, times_without other thread xs dif
 
 pub unlinked_end : (records : List (Option Record)) (e : Ends) (xs : List Waiter) (before : Option ℕ)
     (thread : ℕ) (next : Option ℕ) → next_of records thread ≡ next → Leads records (Some e.first) xs
-    → EndsAt records (Some e) xs → IsBehind records e before thread xs
+    → EndsAt records (Some e) xs → IsAfter records e before thread xs
     → EndsAt (unlinked_records records before thread) (unlinked_ends e before next) (without thread xs)
 unlinked_end records e xs None thread None n a last first =
     last_of_all (unlinked_records records None thread) (without thread xs)
@@ -216,7 +216,7 @@ unlinked_end records e xs (Some before) thread (Some next) n a last h =
           ∙ last.1,
     )
 
--- ---------------------------------------------------------------- a thread is put behind the last
+-- ---------------------------------------------------------------- a thread is put after the last
 
 linked_at : (records : List (Option Record)) (from : Option ℕ) (xs : List Waiter) (last thread key : ℕ)
     (wanted : Want) (e : Ends) → e.last ≡ last → record_of records thread ≡ None → thread < length records

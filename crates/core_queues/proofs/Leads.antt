@@ -7,7 +7,7 @@ use Rattle.std.proofs.lemmas.Bool.Decides.{nat_tests}
 use Rattle.std.proofs.lemmas.List.{get_or_past}
 use Rattle.core_base.specs.declared.wants.Waiter.{Waiter}
 use Rattle.core_base.specs.Lines.{times, IsSeated}
-use Rattle.core_queues.specs.Chains.{behind}
+use Rattle.core_queues.specs.Chains.{rest_after}
 use Rattle.core_queues.specs.Links.{standing_record, record_of, next_in, next_of, waiters_of_record}
 use Rattle.core_queues.specs.Links.{chain_from, Leads}
 use Rattle.core_queues.specs.declared.records.Record.{Record}
@@ -48,13 +48,13 @@ since_later : (thread : ℕ) (x : Waiter) (xs : List Waiter) → x.thread ≢ th
     ≡ since thread xs
 since_later thread x xs differ = grind (arith, nat_tests)
 
-pub behind_here : (thread : ℕ) (x : Waiter) (xs : List Waiter) → x.thread ≡ thread
-    → behind (Some thread) (x ∷ xs) ≡ xs
-behind_here thread x xs same = grind (arith, nat_tests)
+pub after_here : (thread : ℕ) (x : Waiter) (xs : List Waiter) → x.thread ≡ thread
+    → rest_after (Some thread) (x ∷ xs) ≡ xs
+after_here thread x xs same = grind (arith, nat_tests)
 
-pub behind_later : (thread : ℕ) (x : Waiter) (xs : List Waiter) → x.thread ≢ thread
-    → behind (Some thread) (x ∷ xs) ≡ behind (Some thread) xs
-behind_later thread x xs differ = grind (arith, nat_tests)
+pub after_later : (thread : ℕ) (x : Waiter) (xs : List Waiter) → x.thread ≢ thread
+    → rest_after (Some thread) (x ∷ xs) ≡ rest_after (Some thread) xs
+after_later thread x xs differ = grind (arith, nat_tests)
 
 length-since : (thread : ℕ) (xs : List Waiter) → length (since thread xs) ≤ length xs
 length-since thread [] = omega arith
@@ -134,19 +134,19 @@ seated records from xs a = record {
   once = λ thread. once records from xs thread a;
 }
 
--- the thread behind a thread
-pub leads_behind : (records : List (Option Record)) (from : Option ℕ) (xs : List Waiter) (thread : ℕ)
+-- the thread after a thread
+pub leads_afterwards : (records : List (Option Record)) (from : Option ℕ) (xs : List Waiter) (thread : ℕ)
     → Leads records from xs → 1 ≤ times thread xs → Leads records (next_of records thread)
-    (behind (Some thread) xs)
-leads_behind records from [] thread a h = absurd (omega arith)
-leads_behind records from (x ∷ xs) thread a h = elim (cases_eq x.thread thread) [
-  | inl same ↦ rw (behind_here thread x xs same) (subst (λ (t : ℕ). Leads records (next_of records t) xs) same
+    (rest_after (Some thread) xs)
+leads_afterwards records from [] thread a h = absurd (omega arith)
+leads_afterwards records from (x ∷ xs) thread a h = elim (cases_eq x.thread thread) [
+  | inl same ↦ rw (after_here thread x xs same) (subst (λ (t : ℕ). Leads records (next_of records t) xs) same
       a.2)
-  | inr differ ↦ rw (behind_later thread x xs differ) (leads_behind records (next_of records x.thread) xs
+  | inr differ ↦ rw (after_later thread x xs differ) (leads_afterwards records (next_of records x.thread) xs
       thread a.2 (times_later thread x xs differ h))
 ]
 
--- a thread that has nobody behind, is the last
+-- a thread that has nobody after, is the last
 pub last_of_all : (records : List (Option Record)) (xs : List Waiter) → Leads records None xs → xs ≡ []
 last_of_all records [] a = refl
 last_of_all records (x ∷ xs) a = let e : None ≡ Some x.thread = a.0 in absurd cc

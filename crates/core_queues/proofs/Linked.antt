@@ -11,7 +11,7 @@ use Rattle.core_base.specs.declared.wants.Want.{Want}
 use Rattle.core_base.specs.Lines.{waiter, times, without, queued_under}
 use Rattle.core_base.proofs.Counts.{times_append, times_without, times_gone}
 use Rattle.core_base.proofs.Seats.{length_seated}
-use Rattle.core_queues.specs.Chains.{bucket_of, behind, joined, AreOfBucket, IsHashed}
+use Rattle.core_queues.specs.Chains.{bucket_of, rest_after, joined, AreOfBucket, IsHashed}
 use Rattle.core_queues.specs.Links.{standing_record, ends, record_of, next_in, key_of_record, next_of}
 use Rattle.core_queues.specs.Links.{leading, with_next, Leads, EndsAt, first_in, chain_from, chains_of}
 use Rattle.core_queues.specs.Links.{IsLinked, unlinked_records, unlinked_ends, linked_records, linked_ends}
@@ -19,7 +19,7 @@ use Rattle.core_queues.specs.declared.records.Record.{Record}
 use Rattle.core_queues.specs.declared.records.Ends.{Ends}
 use Rattle.core_queues.proofs.Leads.{times_here, times_more, times_later, nobody_without, leads_kept, seated}
 use Rattle.core_queues.proofs.Leads.{chain_is}
-use Rattle.core_queues.proofs.Changes.{IsBehind, unlinked_leads, unlinked_end, linked_leads, linked_end}
+use Rattle.core_queues.proofs.Changes.{IsAfter, unlinked_leads, unlinked_end, linked_leads, linked_end}
 
 at_map : {A B : Type 0} (f : A → B) (xs : List A) (i : ℕ) (d : A) (e : B) → i < length xs
     → slice_index_or (map f xs) i e ≡ f (slice_index_or xs i d)
@@ -200,20 +200,20 @@ else_same records (Some before) thread other differ apart =
     (apart before refl)
 
 before_stands : (records : List (Option Record)) (e : Ends) (before : Option ℕ) (a thread : ℕ)
-    (xs : List Waiter) → before ≡ Some a → IsBehind records e before thread xs → 1 ≤ times a xs
-before_stands records e None a thread xs is behind = let e : None ≡ Some a = is in absurd cc
-before_stands records e (Some before) a thread xs is behind = let same : before ≡ a = cc
-    in subst (λ (t : ℕ). 1 ≤ times t xs) same behind.0
+    (xs : List Waiter) → before ≡ Some a → IsAfter records e before thread xs → 1 ≤ times a xs
+before_stands records e None a thread xs is rest_after = let e : None ≡ Some a = is in absurd cc
+before_stands records e (Some before) a thread xs is rest_after = let same : before ≡ a = cc
+    in subst (λ (t : ℕ). 1 ≤ times t xs) same rest_after.0
 
--- a thread that stands behind another in a chain leaves it
+-- a thread that stands after another in a chain leaves it
 pub one_leaves : (records : List (Option Record)) (buckets : List (Option Ends)) (bits : ℕ)
     (chains : List (List Waiter)) (b : ℕ) (e : Ends) (before : Option ℕ) (thread : ℕ)
     → IsLinked records buckets bits chains → b < length buckets → slice_index_or buckets b None ≡ Some e
-    → IsBehind records e before thread (slice_index_or chains b [])
+    → IsAfter records e before thread (slice_index_or chains b [])
     → 1 ≤ times thread (slice_index_or chains b []) → IsLinked (unlinked_records records before thread)
     (slice_set buckets b (unlinked_ends e before (next_of records thread))) bits
     (slice_set chains b (without thread (slice_index_or chains b [])))
-one_leaves records buckets bits chains b e before thread linked fits is behind stands =
+one_leaves records buckets bits chains b e before thread linked fits is rest_after stands =
     let xs : List Waiter = slice_index_or chains b [] in
     let leads : Leads records (Some e.first) xs = subst (λ (h : Option Ends). Leads records (first_in h) xs)
     is (linked.leads b) in
@@ -222,14 +222,14 @@ one_leaves records buckets bits chains b e before thread linked fits is behind s
     let rest : List (Option Record) = unlinked_records records before thread in
     changed records rest buckets bits chains b (unlinked_ends e before (next_of records thread))
     (without thread xs) linked fits record {
-      leads = unlinked_leads records e xs before thread (next_of records thread) refl leads behind;
-      ends = unlinked_end records e xs before thread (next_of records thread) refl leads last behind;
+      leads = unlinked_leads records e xs before thread (next_of records thread) refl leads rest_after;
+      ends = unlinked_end records e xs before thread (next_of records thread) refl leads last rest_after;
       else = λ other c differ there. else_same records before thread other
           (λ (k : other ≡ thread). differ (apart records buckets bits chains c b other linked there
           (subst (λ (t : ℕ). 1 ≤ times t xs) (sym k) stands)))
           (λ a (i : before ≡ Some a) (k : other ≡ a). differ (apart records buckets bits chains c b other
           linked there (subst (λ (t : ℕ). 1 ≤ times t xs) (sym k) (before_stands records e before a thread
-          xs i behind))));
+          xs i rest_after))));
       own = λ other key has there.
           let differ : other ≢ thread = λ (k : other ≡ thread). let none : times other (without thread xs)
           ≡ 0 = ap (λ (t : ℕ). times t (without thread xs)) k ∙ times_gone thread xs
@@ -295,7 +295,7 @@ times_new key thread wanted xs = grind (arith, nat_tests, times_append thread ke
 key_is : (key k : ℕ) → Some key ≡ Some k → key ≡ k
 key_is key k e = cc
 
--- a thread without a record comes behind the last of the chain of its key's bucket
+-- a thread without a record comes after the last of the chain of its key's bucket
 pub one_comes : (records : List (Option Record)) (buckets : List (Option Ends)) (bits : ℕ)
     (chains : List (List Waiter)) (b key thread : ℕ) (wanted : Want) → IsLinked records buckets bits chains
     → b < length buckets → bucket_of bits key ≡ b → record_of records thread ≡ None → thread < length records

@@ -1,4 +1,4 @@
--- A thread leaves a chain or comes behind its last, by what is seen of the chains.
+-- A thread leaves a chain or comes after its last, by what is seen of the chains.
 use Rattle.std.proofs.Common.{ℕ, ◌≡◌, ◌≤◌, ◌<◌, inl, inr, List, [], ◌∷◌, ◌++◌, Option, Some, None, IfSome}
 use Rattle.std.proofs.Common.{length, refl, sym, ap, subst, ◌∙◌, arith, length-set}
 use Rattle.std.specs.Prelude.{slice_index_or, slice_set}
@@ -7,14 +7,14 @@ use Rattle.std.proofs.lemmas.List.{get_or_read}
 use Rattle.core_base.specs.declared.wants.Waiter.{Waiter}
 use Rattle.core_base.specs.declared.wants.Want.{Want}
 use Rattle.core_base.specs.Lines.{waiter, times, without, first_of, queued_under}
-use Rattle.core_queues.specs.Chains.{bucket_of, behind, joined}
+use Rattle.core_queues.specs.Chains.{bucket_of, rest_after, joined}
 use Rattle.core_queues.specs.Links.{standing_record, leading, with_next, record_of, next_of, key_of_record}
 use Rattle.core_queues.specs.Links.{first_in, Leads, EndsAt, IsLinked, chains_of, unlinked_records, ends_left}
 use Rattle.core_queues.specs.Links.{linked_records, linked_ends}
 use Rattle.core_queues.specs.declared.records.Record.{Record}
 use Rattle.core_queues.specs.declared.records.Ends.{Ends}
-use Rattle.core_queues.proofs.Leads.{leads_behind, seated}
-use Rattle.core_queues.proofs.Changes.{IsBehind}
+use Rattle.core_queues.proofs.Leads.{leads_afterwards, seated}
+use Rattle.core_queues.proofs.Changes.{IsAfter}
 use Rattle.core_queues.proofs.Linked.{shown_is, one_leaves, one_comes, key_found, gone}
 use Rattle.core_queues.proofs.Found.{first_stands}
 
@@ -41,37 +41,37 @@ head_is : (xs : List Waiter) (thread : ℕ) → first_of xs ≡ Some thread → 
 head_is [] thread first records from a = let e : None ≡ Some thread = first in absurd cc
 head_is (x ∷ xs) thread first records from a = a.0 ∙ first
 
-pub first_there : (before : Option ℕ) (xs : List Waiter) (thread : ℕ) → first_of (behind before xs)
+pub first_there : (before : Option ℕ) (xs : List Waiter) (thread : ℕ) → first_of (rest_after before xs)
     ≡ Some thread → 1 ≤ times thread xs
-first_there before xs thread first = go (behind before xs) refl where
-  go : (zs : List Waiter) → behind before xs ≡ zs → 1 ≤ times thread xs
+first_there before xs thread first = go (rest_after before xs) refl where
+  go : (zs : List Waiter) → rest_after before xs ≡ zs → 1 ≤ times thread xs
   go [] is = let e : None ≡ Some thread = sym (ap first_of is) ∙ first in absurd cc
   go (y ∷ ys) is = let e : Some y.thread ≡ Some thread = sym (ap first_of is) ∙ first in let same : y.thread
       ≡ thread = cc in subst (λ (t : ℕ). 1 ≤ times t xs) same (first_stands before xs y ys is)
 
-is_behind : (records : List (Option Record)) (e : Ends) (xs : List Waiter) (before : Option ℕ) (thread : ℕ)
-    → Leads records (Some e.first) xs → IfSome before (λ b. 1 ≤ times b xs) → first_of (behind before xs)
-    ≡ Some thread → IsBehind records e before thread xs
-is_behind records e xs None thread a stands first = let h : Some e.first ≡ Some thread =
+is_after : (records : List (Option Record)) (e : Ends) (xs : List Waiter) (before : Option ℕ) (thread : ℕ)
+    → Leads records (Some e.first) xs → IfSome before (λ b. 1 ≤ times b xs) → first_of (rest_after before xs)
+    ≡ Some thread → IsAfter records e before thread xs
+is_after records e xs None thread a stands first = let h : Some e.first ≡ Some thread =
     head_is xs thread first records (Some e.first) a in (cc)
-is_behind records e xs (Some b) thread a stands first = (
+is_after records e xs (Some b) thread a stands first = (
   stands,
-  head_is (behind (Some b) xs) thread first records (next_of records b)
-      (leads_behind records (Some e.first) xs b a stands),
+  head_is (rest_after (Some b) xs) thread first records (next_of records b)
+      (leads_afterwards records (Some e.first) xs b a stands),
 )
 
-nobody_first : (before : Option ℕ) (xs : List Waiter) (thread : ℕ) → xs ≡ [] → first_of (behind before xs)
+nobody_first : (before : Option ℕ) (xs : List Waiter) (thread : ℕ) → xs ≡ [] → first_of (rest_after before xs)
     ≡ Some thread → Some thread ≡ None
 nobody_first None xs thread empty first = sym first ∙ ap first_of empty
 nobody_first (Some b) xs thread empty first = sym first
-    ∙ ap (λ (l : List Waiter). first_of (behind (Some b) l)) empty
+    ∙ ap (λ (l : List Waiter). first_of (rest_after (Some b) l)) empty
 
 -- a thread has left
 pub left : (records : List (Option Record)) (buckets : List (Option Ends)) (bits : ℕ)
     (chains : List (List Waiter)) (b : ℕ) (had : Option Ends) (before : Option ℕ) (thread : ℕ)
     → IsLinked records buckets bits chains → b < length buckets → slice_index_or buckets b None ≡ had
     → IfSome before (λ b'. 1 ≤ times b' (slice_index_or chains b []))
-    → first_of (behind before (slice_index_or chains b [])) ≡ Some thread
+    → first_of (rest_after before (slice_index_or chains b [])) ≡ Some thread
     → IsLinked (unlinked_records records before thread) (slice_set buckets b
     (ends_left had before (next_of records thread))) bits
     (slice_set chains b (without thread (slice_index_or chains b [])))
@@ -85,7 +85,7 @@ left records buckets bits chains b (Some e) before thread linked fits is stands 
     let leads : Leads records (Some e.first) xs = subst (λ (h : Option Ends). Leads records (first_in h) xs)
     is (linked.leads b) in
     one_leaves records buckets bits chains b e before thread linked fits is
-    (is_behind records e xs before thread leads stands first) (first_there before xs thread first)
+    (is_after records e xs before thread leads stands first) (first_there before xs thread first)
 
 none_standing : (r : Option Record) → key_of_record r ≡ None → r ≡ None
 none_standing None h = refl
@@ -120,7 +120,7 @@ pub left_now : (records others : List (Option Record)) (buckets : List (Option E
     (had new : Option Ends) (before next : Option ℕ) (thread : ℕ) → IsLinked records buckets bits
     (chains_of records buckets) → b < length (chains_of records buckets) → had ≡ slice_index_or buckets b had
     → IfSome before (λ b'. 1 ≤ times b' (slice_index_or (chains_of records buckets) b []))
-    → first_of (behind before (slice_index_or (chains_of records buckets) b [])) ≡ Some thread
+    → first_of (rest_after before (slice_index_or (chains_of records buckets) b [])) ≡ Some thread
     → next ≡ next_of records thread → others ≡ unlinked_records records before thread
     → new ≡ ends_left had before next → IsLinked others (slice_set buckets b new) bits
     (slice_set (chains_of records buckets) b

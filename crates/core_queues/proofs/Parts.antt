@@ -1,4 +1,4 @@
--- A chain, up to a thread and behind it.
+-- A chain, up to a thread and after it.
 use Rattle.std.proofs.Common.{ℕ, ◌≡◌, ◌≢◌, ◌≤◌, inl, inr, List, [], ◌∷◌, ◌++◌, Option, Some, None}
 use Rattle.std.proofs.Common.{if◌then◌else◌, refl, sym, ap, subst, ◌∙◌, arith}
 use Rattle.std.specs.Prelude.{◌==◌}
@@ -6,7 +6,7 @@ use Rattle.std.proofs.lemmas.Bool.{cases_eq}
 use Rattle.std.proofs.lemmas.Bool.Decides.{nat_tests}
 use Rattle.core_base.specs.declared.wants.Waiter.{Waiter}
 use Rattle.core_base.specs.Lines.{times, without}
-use Rattle.core_queues.specs.Chains.{behind}
+use Rattle.core_queues.specs.Chains.{rest_after}
 use Rattle.core_queues.proofs.Joined.{without_none}
 
 -- the waiters up to a thread
@@ -15,18 +15,20 @@ upto None xs = []
 upto (Some thread) [] = []
 upto (Some thread) (x ∷ xs) = if x.thread == thread then x ∷ [] else (x ∷ upto (Some thread) xs)
 
-pub both_parts : (before : Option ℕ) (xs : List Waiter) → upto before xs ++ behind before xs ≡ xs
+pub both_parts : (before : Option ℕ) (xs : List Waiter) → upto before xs ++ rest_after before xs ≡ xs
 both_parts None xs = refl
 both_parts (Some thread) [] = refl
 both_parts (Some thread) (x ∷ xs) = grind (arith, nat_tests, both_parts (Some thread) xs)
 
-times_behind : (other thread : ℕ) (xs : List Waiter) → times other (behind (Some thread) xs) ≤ times other xs
-times_behind other thread [] = omega arith
-times_behind other thread (x ∷ xs) = grind (arith, nat_tests, times_behind other thread xs)
+times_after : (other thread : ℕ) (xs : List Waiter) → times other (rest_after (Some thread) xs)
+    ≤ times other xs
+times_after other thread [] = omega arith
+times_after other thread (x ∷ xs) = grind (arith, nat_tests, times_after other thread xs)
 
 -- one more
 pub upto_more : (before : Option ℕ) (xs : List Waiter) (y : Waiter) (ys : List Waiter)
-    → ((t : ℕ) → times t xs ≤ 1) → behind before xs ≡ y ∷ ys → upto (Some y.thread) xs ≡ upto before xs ++ y
+    → ((t : ℕ) → times t xs ≤ 1) → rest_after before xs ≡ y ∷ ys → upto (Some y.thread) xs ≡ upto before xs
+    ++ y
     ∷ []
 upto_more None xs y ys once is = rw is (head y ys) where
   head : (y : Waiter) (ys : List Waiter) → upto (Some y.thread) (y ∷ ys) ≡ y ∷ []
@@ -42,7 +44,7 @@ upto_more (Some b) (x ∷ xs) y ys once is = elim (cases_eq x.thread b) [
       ∙ ap (λ (l : List Waiter). x ∷ l) (head y ys)
       ∙ sym (ap (λ (l : List Waiter). l ++ y ∷ []) (only b x xs same))
   | inr differ ↦
-      let is_later : behind (Some b) xs ≡ y ∷ ys = sym (else_ b x xs differ) ∙ is in
+      let is_later : rest_after (Some b) xs ≡ y ∷ ys = sym (else_ b x xs differ) ∙ is in
       let there : 1 ≤ times y.thread xs = from b xs y ys is_later in
       let apart : x.thread ≢ y.thread = not_head x xs y.thread there (once y.thread) in
       later y.thread x xs apart ∙ ap (λ (l : List Waiter). x ∷ l) (upto_more (Some b) xs y ys
@@ -52,10 +54,11 @@ upto_more (Some b) (x ∷ xs) y ys once is = elim (cases_eq x.thread b) [
   head : (y : Waiter) (ys : List Waiter) → upto (Some y.thread) (y ∷ ys) ≡ y ∷ []
   head y ys = grind (arith, nat_tests)
 
-  here : (b : ℕ) (x : Waiter) (xs : List Waiter) → x.thread ≡ b → behind (Some b) (x ∷ xs) ≡ xs
+  here : (b : ℕ) (x : Waiter) (xs : List Waiter) → x.thread ≡ b → rest_after (Some b) (x ∷ xs) ≡ xs
   here b x xs same = grind (arith, nat_tests)
 
-  else_ : (b : ℕ) (x : Waiter) (xs : List Waiter) → x.thread ≢ b → behind (Some b) (x ∷ xs) ≡ behind (Some b)
+  else_ : (b : ℕ) (x : Waiter) (xs : List Waiter) → x.thread ≢ b → rest_after (Some b) (x ∷ xs)
+      ≡ rest_after (Some b)
       xs
   else_ b x xs differ = grind (arith, nat_tests)
 
@@ -73,11 +76,11 @@ upto_more (Some b) (x ∷ xs) y ys once is = elim (cases_eq x.thread b) [
       → x.thread ≢ thread
   not_head x xs thread there once = λ (k : x.thread ≡ thread). grind (arith, nat_tests)
 
-  from : (b : ℕ) (xs : List Waiter) (y : Waiter) (ys : List Waiter) → behind (Some b) xs ≡ y ∷ ys
+  from : (b : ℕ) (xs : List Waiter) (y : Waiter) (ys : List Waiter) → rest_after (Some b) xs ≡ y ∷ ys
       → 1 ≤ times y.thread xs
   from b xs y ys is = omega (
     arith,
-    times_behind y.thread b xs,
+    times_after y.thread b xs,
     subst (λ (l : List Waiter). 1 ≤ times y.thread l) (sym is) (stands y ys),
   )
 
@@ -88,8 +91,8 @@ without_both thread (x ∷ xs) ys = grind (arith, nat_tests, without_both thread
 
 -- the next one leaves
 pub upto_left : (before : Option ℕ) (xs : List Waiter) (y : Waiter) (ys : List Waiter)
-    → ((t : ℕ) → times t xs ≤ 1) → behind before xs ≡ y ∷ ys
-    → (upto before (without y.thread xs) ≡ upto before xs) × (behind before (without y.thread xs) ≡ ys)
+    → ((t : ℕ) → times t xs ≤ 1) → rest_after before xs ≡ y ∷ ys
+    → (upto before (without y.thread xs) ≡ upto before xs) × (rest_after before (without y.thread xs) ≡ ys)
 upto_left None xs y ys once is =
     let few : times y.thread (y ∷ ys) ≤ 1 = subst (λ (l : List Waiter). times y.thread l ≤ 1) is
     (once y.thread) in
@@ -112,21 +115,22 @@ upto_left (Some b) (x ∷ xs) y ys once is = elim (cases_eq x.thread b) [
       ∙ ap (λ (l : List Waiter). x ∷ without y.thread l) rest ∙ ap (λ (l : List Waiter). x ∷ l)
       (first y ys few) in (
         ap (upto (Some b)) left ∙ only b x ys same ∙ sym (only b x xs same),
-        ap (behind (Some b)) left
+        ap (rest_after (Some b)) left
             ∙ here b x ys same,
       )
   | inr differ ↦
-      let is_later : behind (Some b) xs ≡ y ∷ ys = sym (else_ b x xs differ) ∙ is in
+      let is_later : rest_after (Some b) xs ≡ y ∷ ys = sym (else_ b x xs differ) ∙ is in
       let there : 1 ≤ times y.thread xs = omega (
         arith,
-        times_behind y.thread b xs,
+        times_after y.thread b xs,
         subst (λ (l : List Waiter). 1 ≤ times y.thread l) (sym is_later) (stands y ys),
       ) in
       let apart : x.thread ≢ y.thread = not_head x xs y.thread there (once y.thread) in
       let more = upto_left (Some b) xs y ys (λ t. omega (arith, once t)) is_later in (
         ap (upto (Some b)) (keeps y.thread x xs apart) ∙ later b x (without y.thread xs) differ
             ∙ ap (λ (l : List Waiter). x ∷ l) more.0 ∙ sym (later b x xs differ),
-        ap (behind (Some b)) (keeps y.thread x xs apart) ∙ else_ b x (without y.thread xs) differ ∙ more.1,
+        ap (rest_after (Some b)) (keeps y.thread x xs apart) ∙ else_ b x (without y.thread xs) differ
+            ∙ more.1,
       )
 ] where
   first : (y : Waiter) (ys : List Waiter) → times y.thread (y ∷ ys) ≤ 1 → without y.thread (y ∷ ys) ≡ ys
@@ -135,10 +139,11 @@ upto_left (Some b) (x ∷ xs) y ys once is = elim (cases_eq x.thread b) [
       let rest : without y.thread (y ∷ ys) ≡ without y.thread ys = grind (arith, nat_tests) in
       rest ∙ without_none y.thread ys none
 
-  here : (b : ℕ) (x : Waiter) (xs : List Waiter) → x.thread ≡ b → behind (Some b) (x ∷ xs) ≡ xs
+  here : (b : ℕ) (x : Waiter) (xs : List Waiter) → x.thread ≡ b → rest_after (Some b) (x ∷ xs) ≡ xs
   here b x xs same = grind (arith, nat_tests)
 
-  else_ : (b : ℕ) (x : Waiter) (xs : List Waiter) → x.thread ≢ b → behind (Some b) (x ∷ xs) ≡ behind (Some b)
+  else_ : (b : ℕ) (x : Waiter) (xs : List Waiter) → x.thread ≢ b → rest_after (Some b) (x ∷ xs)
+      ≡ rest_after (Some b)
       xs
   else_ b x xs differ = grind (arith, nat_tests)
 

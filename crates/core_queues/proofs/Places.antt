@@ -15,7 +15,7 @@ use Rattle.core_base.specs.Lines.{waiter, times, line, lines, without, without_f
 use Rattle.core_base.specs.Lines.{queued_under}
 use Rattle.core_base.specs.Picks.{picked, without_picked}
 use Rattle.core_base.specs.Requeues.{requeued}
-use Rattle.core_queues.specs.Chains.{bucket_of, behind, joined, Chained, IsHashed, chain, rest_of}
+use Rattle.core_queues.specs.Chains.{bucket_of, rest_after, joined, Chained, IsHashed, chain, rest_of}
 use Rattle.core_queues.proofs.Joined.{everywhere, line_at, without_none}
 
 -- ---------------------------------------------------------------- places
@@ -29,14 +29,14 @@ at_first q key bucket place found hashed none is h =
     ∙ sym (line_at q key hashed) ∙ ap (rest_of q key) (sym none) in
     subst (λ (l : List Waiter). MatchOption found (l ≡ []) (λ f. l ≡ f.0 ∷ rest_of q key f.1)) e h
 
-nobody_behind : (thread : ℕ) (xs : List Waiter) → times thread xs ≡ 0 → behind (Some thread) xs ≡ []
-nobody_behind thread [] none = refl
-nobody_behind thread (x ∷ xs) none = grind (arith, nat_tests, nobody_behind thread xs)
+nobody_after : (thread : ℕ) (xs : List Waiter) → times thread xs ≡ 0 → rest_after (Some thread) xs ≡ []
+nobody_after thread [] none = refl
+nobody_after thread (x ∷ xs) none = grind (arith, nat_tests, nobody_after thread xs)
 
 rest_none : (q : Chained) (key place thread : ℕ) → place ≡ suc thread
     → times thread (chain q (bucket_of q.bits key)) ≡ 0 → rest_of q key place ≡ []
 rest_none q key place thread is none = ap (rest_of q key) is
-    ∙ ap (line key) (nobody_behind thread (chain q (bucket_of q.bits key)) none)
+    ∙ ap (line key) (nobody_after thread (chain q (bucket_of q.bits key)) none)
 
 pub no_times : (thread : ℕ) (xs : List Waiter) → queued_under thread xs ≡ None → times thread xs ≡ 0
 no_times thread [] none = refl
@@ -62,9 +62,9 @@ nowhere thread [] i none = refl
 nowhere thread (c ∷ cs) zero none = no_times thread c (first_none thread c (joined cs) none).0
 nowhere thread (c ∷ cs) (suc i) none = nowhere thread cs i (first_none thread c (joined cs) none).1
 
-pub behind_nobody : (q : Chained) (key place thread : ℕ) → place ≢ 0 → thread ≡ place - 1
+pub after_nobody : (q : Chained) (key place thread : ℕ) → place ≢ 0 → thread ≡ place - 1
     → queued_under thread (joined q.chains) ≡ None → rest_of q key place ≡ []
-behind_nobody q key place thread some is none = rest_none q key place thread (omega arith)
+after_nobody q key place thread some is none = rest_none q key place thread (omega arith)
     (nowhere thread q.chains (bucket_of q.bits key) none)
 
 pub in_another : (q : Chained) (key place thread other bucket others : ℕ) → IsHashed q → place ≢ 0
@@ -160,11 +160,12 @@ one_more threads bits least more k enough = elim (cases_lt bits k) [
   | inr h ↦ let small : 2 ^ k ≤ 2 ^ bits = pow_mono h in absurd (omega arith)
 ]
 
--- the place behind one that a bucket has
-pub rest_behind_one : (q : Chained) (key bucket : ℕ) (x : Waiter) → bucket ≡ bucket_of q.bits key
-    → x ∷ line key (behind (Some x.thread) (chain q bucket)) ≡ x ∷ rest_of q key (x.thread + 1)
-rest_behind_one q key bucket x is = ap (λ (l : List Waiter). x ∷ l)
-    (ap (λ (b : ℕ). line key (behind (Some x.thread) (chain q b))) is ∙ ap (rest_of q key) (next x.thread))
+-- the place after one that a bucket has
+pub rest_after_one : (q : Chained) (key bucket : ℕ) (x : Waiter) → bucket ≡ bucket_of q.bits key
+    → x ∷ line key (rest_after (Some x.thread) (chain q bucket)) ≡ x ∷ rest_of q key (x.thread + 1)
+rest_after_one q key bucket x is = ap (λ (l : List Waiter). x ∷ l)
+    (ap (λ (b : ℕ). line key (rest_after (Some x.thread) (chain q b))) is ∙ ap (rest_of q key)
+    (next x.thread))
   where
     next : (n : ℕ) → suc n ≡ n + 1
     next n = omega arith

@@ -13,7 +13,7 @@ use Rattle.core_base.specs.Lines.{times, line, lines, without, threads_of}
 use Rattle.core_base.specs.Picks.{picked, without_picked}
 use Rattle.core_base.proofs.Counts.{times_without}
 use Rattle.core_base.proofs.Seats.{length_seated}
-use Rattle.core_queues.specs.Chains.{bucket_of, behind, joined, Chained, IsHashed, chain}
+use Rattle.core_queues.specs.Chains.{bucket_of, rest_after, joined, Chained, IsHashed, chain}
 use Rattle.core_queues.proofs.Joined.{line_at, lines_picked}
 use Rattle.core_queues.proofs.Parts.{upto, both_parts, upto_more, upto_left}
 
@@ -47,66 +47,70 @@ module _ {P : Type 0} (answer : P → Want → Pick) (next : P → Want → P) w
 
   -- the waiters that stay
   stays : (picker then : P) (key : ℕ) (before : Option ℕ) (xs : List Waiter) (w : Waiter)
-      → ((t : ℕ) → times t xs ≤ 1) → behind before xs ≡ w ∷ behind (Some w.thread) xs
-      → without_picked answer next picker key (w ∷ behind (Some w.thread) xs) ≡ w ∷ without_picked answer next
-      then key (behind (Some w.thread) xs) → upto (Some w.thread) xs ++ without_picked answer next
-      then key (behind (Some w.thread) xs) ≡ upto before xs ++ without_picked answer next picker key
-      (behind before xs)
+      → ((t : ℕ) → times t xs ≤ 1) → rest_after before xs ≡ w ∷ rest_after (Some w.thread) xs
+      → without_picked answer next picker key (w ∷ rest_after (Some w.thread) xs) ≡ w ∷ without_picked answer
+      next
+      then key (rest_after (Some w.thread) xs) → upto (Some w.thread) xs ++ without_picked answer next
+      then key (rest_after (Some w.thread) xs) ≡ upto before xs ++ without_picked answer next picker key
+      (rest_after before xs)
   stays picker then key before xs w once is left =
-      let rest : List Waiter = without_picked answer next then key (behind (Some w.thread) xs) in
-      ap (λ (l : List Waiter). l ++ rest) (upto_more before xs w (behind (Some w.thread) xs) once is)
+      let rest : List Waiter = without_picked answer next then key (rest_after (Some w.thread) xs) in
+      ap (λ (l : List Waiter). l ++ rest) (upto_more before xs w (rest_after (Some w.thread) xs) once is)
       ∙ append_assoc (upto before xs) (w ∷ []) rest
       ∙ ap (λ (l : List Waiter). upto before xs ++ l) (sym left)
       ∙ ap (λ (l : List Waiter). upto before xs ++ without_picked answer next picker key l) (sym is)
 
   pub passed_waiting : (picker : P) (key : ℕ) (before : Option ℕ) (xs : List Waiter) (w : Waiter)
-      → ((t : ℕ) → times t xs ≤ 1) → behind before xs ≡ w ∷ behind (Some w.thread) xs → w.key ≢ key
-      → upto (Some w.thread) xs ++ without_picked answer next picker key (behind (Some w.thread) xs)
-      ≡ upto before xs ++ without_picked answer next picker key (behind before xs)
+      → ((t : ℕ) → times t xs ≤ 1) → rest_after before xs ≡ w ∷ rest_after (Some w.thread) xs → w.key ≢ key
+      → upto (Some w.thread) xs ++ without_picked answer next picker key (rest_after (Some w.thread) xs)
+      ≡ upto before xs ++ without_picked answer next picker key (rest_after before xs)
   passed_waiting picker key before xs w once is differ = stays picker picker key before xs w once is
-      (left_pass picker key w (behind (Some w.thread) xs) differ)
+      (left_pass picker key w (rest_after (Some w.thread) xs) differ)
 
   pub skipped_waiting : (picker then : P) (key : ℕ) (before : Option ℕ) (xs : List Waiter) (w : Waiter)
-      → ((t : ℕ) → times t xs ≤ 1) → behind before xs ≡ w ∷ behind (Some w.thread) xs → w.key ≡ key
+      → ((t : ℕ) → times t xs ≤ 1) → rest_after before xs ≡ w ∷ rest_after (Some w.thread) xs → w.key ≡ key
       → answer picker w.want ≡ Skip → then ≡ next picker w.want → upto (Some w.thread) xs ++ without_picked
-      answer next then key (behind (Some w.thread) xs) ≡ upto before xs ++ without_picked answer next picker
-      key (behind before xs)
+      answer next then key (rest_after (Some w.thread) xs) ≡ upto before xs ++ without_picked answer next
+      picker
+      key (rest_after before xs)
   skipped_waiting picker then key before xs w once is same skip is_then =
       rw is_then (stays picker (next picker w.want) key before xs w once is
-      (left_skip picker key w (behind (Some w.thread) xs) same skip))
+      (left_skip picker key w (rest_after (Some w.thread) xs) same skip))
 
   pub taken_waiting : (picker then : P) (key : ℕ) (before : Option ℕ) (xs : List Waiter) (w : Waiter)
-      → ((t : ℕ) → times t xs ≤ 1) → behind before xs ≡ w ∷ behind (Some w.thread) xs → w.key ≡ key
+      → ((t : ℕ) → times t xs ≤ 1) → rest_after before xs ≡ w ∷ rest_after (Some w.thread) xs → w.key ≡ key
       → answer picker w.want ≡ Unpark → then ≡ next picker w.want → upto before (without w.thread xs)
-      ++ without_picked answer next then key (behind before (without w.thread xs)) ≡ upto before xs
-      ++ without_picked answer next picker key (behind before xs)
+      ++ without_picked answer next then key (rest_after before (without w.thread xs)) ≡ upto before xs
+      ++ without_picked answer next picker key (rest_after before xs)
   taken_waiting picker then key before xs w once is same take is_then =
-      let parts = upto_left before xs w (behind (Some w.thread) xs) once is in
+      let parts = upto_left before xs w (rest_after (Some w.thread) xs) once is in
       rw (is_then, parts.0, parts.1, is) (ap (λ (l : List Waiter). upto before xs ++ l)
-      (sym (left_take picker key w (behind (Some w.thread) xs) same take)))
+      (sym (left_take picker key w (rest_after (Some w.thread) xs) same take)))
 
   pub stopped_waiting : (picker : P) (key : ℕ) (before : Option ℕ) (xs : List Waiter) (w : Waiter)
-      → behind before xs ≡ w ∷ behind (Some w.thread) xs → w.key ≡ key → answer picker w.want ≡ Stop
-      → upto before xs ++ without_picked answer next picker key (behind before xs) ≡ xs
+      → rest_after before xs ≡ w ∷ rest_after (Some w.thread) xs → w.key ≡ key → answer picker w.want ≡ Stop
+      → upto before xs ++ without_picked answer next picker key (rest_after before xs) ≡ xs
   stopped_waiting picker key before xs w is same stop =
       ap (λ (l : List Waiter). upto before xs ++ without_picked answer next picker key l) is
-      ∙ ap (λ (l : List Waiter). upto before xs ++ l) (left_stop picker key w (behind (Some w.thread) xs) same
+      ∙ ap (λ (l : List Waiter). upto before xs ++ l) (left_stop picker key w (rest_after (Some w.thread) xs)
+      same
       stop ∙ sym is)
       ∙ both_parts before xs
 
-  pub ended_waiting : (picker : P) (key : ℕ) (before : Option ℕ) (xs : List Waiter) → behind before xs ≡ []
-      → upto before xs ++ without_picked answer next picker key (behind before xs) ≡ xs
+  pub ended_waiting : (picker : P) (key : ℕ) (before : Option ℕ) (xs : List Waiter) → rest_after before xs
+      ≡ []
+      → upto before xs ++ without_picked answer next picker key (rest_after before xs) ≡ xs
   ended_waiting picker key before xs is =
       ap (λ (l : List Waiter). upto before xs ++ without_picked answer next picker key l) is
       ∙ ap (λ (l : List Waiter). upto before xs ++ l) (sym is) ∙ both_parts before xs
 
   pub passed_taken : (picker : P) (key : ℕ) (before : Option ℕ) (xs : List Waiter) (w : Waiter) (out : List ℕ)
-      → behind before xs ≡ w ∷ behind (Some w.thread) xs → w.key ≢ key → out
-      ++ threads_of (picked answer next picker (line key (behind (Some w.thread) xs))) ≡ out
-      ++ threads_of (picked answer next picker (line key (behind before xs)))
+      → rest_after before xs ≡ w ∷ rest_after (Some w.thread) xs → w.key ≢ key → out
+      ++ threads_of (picked answer next picker (line key (rest_after (Some w.thread) xs))) ≡ out
+      ++ threads_of (picked answer next picker (line key (rest_after before xs)))
   passed_taken picker key before xs w out is differ =
       ap (λ (l : List Waiter). out ++ threads_of (picked answer next picker l))
-      (sym (ap (line key) is ∙ line_pass key w (behind (Some w.thread) xs) differ))
+      (sym (ap (line key) is ∙ line_pass key w (rest_after (Some w.thread) xs) differ))
 
   picked_skip : (picker : P) (w : Waiter) (l : List Waiter) → answer picker w.want ≡ Skip
       → picked answer next picker (w ∷ l) ≡ picked answer next (next picker w.want) l
@@ -121,43 +125,48 @@ module _ {P : Type 0} (answer : P → Want → Pick) (next : P → Want → P) w
   picked_stop picker w l stop = rw (stop, picked) refl
 
   pub skipped_taken : (picker then : P) (key : ℕ) (before : Option ℕ) (xs : List Waiter) (w : Waiter)
-      (out : List ℕ) → behind before xs ≡ w ∷ behind (Some w.thread) xs → w.key ≡ key → answer picker w.want
+      (out : List ℕ) → rest_after before xs ≡ w ∷ rest_after (Some w.thread) xs → w.key ≡ key
+      → answer picker w.want
       ≡ Skip → then ≡ next picker w.want
-      → out ++ threads_of (picked answer next then (line key (behind (Some w.thread) xs))) ≡ out
-      ++ threads_of (picked answer next picker (line key (behind before xs)))
+      → out ++ threads_of (picked answer next then (line key (rest_after (Some w.thread) xs))) ≡ out
+      ++ threads_of (picked answer next picker (line key (rest_after before xs)))
   skipped_taken picker then key before xs w out is same skip is_then =
       rw is_then (ap (λ (l : List Waiter). out ++ threads_of l)
       (sym (ap (λ (l : List Waiter). picked answer next picker l) (ap (line key) is
-      ∙ line_here key w (behind (Some w.thread) xs) same)
-      ∙ picked_skip picker w (line key (behind (Some w.thread) xs)) skip)))
+      ∙ line_here key w (rest_after (Some w.thread) xs) same)
+      ∙ picked_skip picker w (line key (rest_after (Some w.thread) xs)) skip)))
 
   pub taken_taken : (picker then : P) (key : ℕ) (before : Option ℕ) (xs : List Waiter) (w : Waiter)
-      (out more : List ℕ) → ((t : ℕ) → times t xs ≤ 1) → behind before xs ≡ w ∷ behind (Some w.thread) xs
+      (out more : List ℕ) → ((t : ℕ) → times t xs ≤ 1) → rest_after before xs ≡ w ∷ rest_after (Some w.thread)
+      xs
       → w.key ≡ key → answer picker w.want ≡ Unpark → then ≡ next picker w.want → more ≡ out ++ w.thread ∷ []
-      → more ++ threads_of (picked answer next then (line key (behind before (without w.thread xs)))) ≡ out
-      ++ threads_of (picked answer next picker (line key (behind before xs)))
+      → more ++ threads_of (picked answer next then (line key (rest_after before (without w.thread xs))))
+      ≡ out
+      ++ threads_of (picked answer next picker (line key (rest_after before xs)))
   taken_taken picker then key before xs w out more once is same take is_then is_more =
-      let parts = upto_left before xs w (behind (Some w.thread) xs) once is in
+      let parts = upto_left before xs w (rest_after (Some w.thread) xs) once is in
       let rest : List ℕ = threads_of (picked answer next (next picker w.want)
-      (line key (behind (Some w.thread) xs))) in
+      (line key (rest_after (Some w.thread) xs))) in
       rw (is_then, parts.1, is_more)
       (append_assoc out (w.thread ∷ []) rest
       ∙ ap (λ (l : List Waiter). out ++ threads_of l)
       (sym (ap (λ (l : List Waiter). picked answer next picker l) (ap (line key) is
-      ∙ line_here key w (behind (Some w.thread) xs) same)
-      ∙ picked_take picker w (line key (behind (Some w.thread) xs)) take)))
+      ∙ line_here key w (rest_after (Some w.thread) xs) same)
+      ∙ picked_take picker w (line key (rest_after (Some w.thread) xs)) take)))
 
   pub stopped_taken : (picker : P) (key : ℕ) (before : Option ℕ) (xs : List Waiter) (w : Waiter)
-      (out : List ℕ) → behind before xs ≡ w ∷ behind (Some w.thread) xs → w.key ≡ key → answer picker w.want
-      ≡ Stop → out ++ threads_of (picked answer next picker (line key (behind before xs))) ≡ out
+      (out : List ℕ) → rest_after before xs ≡ w ∷ rest_after (Some w.thread) xs → w.key ≡ key
+      → answer picker w.want
+      ≡ Stop → out ++ threads_of (picked answer next picker (line key (rest_after before xs))) ≡ out
   stopped_taken picker key before xs w out is same stop =
       ap (λ (l : List Waiter). out ++ threads_of l) (ap (λ (l : List Waiter). picked answer next picker l)
-      (ap (line key) is ∙ line_here key w (behind (Some w.thread) xs) same)
-      ∙ picked_stop picker w (line key (behind (Some w.thread) xs)) stop)
+      (ap (line key) is ∙ line_here key w (rest_after (Some w.thread) xs) same)
+      ∙ picked_stop picker w (line key (rest_after (Some w.thread) xs)) stop)
       ∙ append-nil out
 
   pub ended_taken : (picker : P) (key : ℕ) (before : Option ℕ) (xs : List Waiter) (out : List ℕ)
-      → behind before xs ≡ [] → out ++ threads_of (picked answer next picker (line key (behind before xs)))
+      → rest_after before xs ≡ [] → out
+      ++ threads_of (picked answer next picker (line key (rest_after before xs)))
       ≡ out
   ended_taken picker key before xs out is =
       ap (λ (l : List Waiter). out ++ threads_of (picked answer next picker (line key l))) is ∙ append-nil out
@@ -208,20 +217,21 @@ pub chain_fits : (q : Chained) (b : ℕ) → IsHashed q → length (chain q b) �
 chain_fits q b hashed = length_seated q.capacity (chain q b) (hashed.seated b)
 
 pub falls : (before : Option ℕ) (xs ys : List Waiter) (w : Waiter) → ((t : ℕ) → times t xs ≤ 1)
-    → behind before xs ≡ w ∷ behind (Some w.thread) xs → ys ≡ without w.thread xs → length (behind before ys)
-    < length (behind before xs)
+    → rest_after before xs ≡ w ∷ rest_after (Some w.thread) xs → ys ≡ without w.thread xs
+    → length (rest_after before ys)
+    < length (rest_after before xs)
 falls before xs ys w once is left =
-    let parts = upto_left before xs w (behind (Some w.thread) xs) once is in
+    let parts = upto_left before xs w (rest_after (Some w.thread) xs) once is in
     rw (left, parts.1, is) (omega arith)
 
--- the one that a thread stands behind stays as it leaves
-pub still_stands : (before : Option ℕ) (xs : List Waiter) (w : Waiter) → behind before xs ≡ w
-    ∷ behind (Some w.thread) xs → IfSome before (λ b. 1 ≤ times b xs)
+-- the one that a thread stands after stays as it leaves
+pub still_stands : (before : Option ℕ) (xs : List Waiter) (w : Waiter) → rest_after before xs ≡ w
+    ∷ rest_after (Some w.thread) xs → IfSome before (λ b. 1 ≤ times b xs)
     → IfSome before (λ b. 1 ≤ times b (without w.thread xs))
 still_stands None xs w is stands = tt
 still_stands (Some b) xs w is stands =
-    let differ : b ≢ w.thread = λ (k : b ≡ w.thread). longer w (behind (Some w.thread) xs)
-    (sym (ap (λ (t : ℕ). behind (Some t) xs) k) ∙ is) in
+    let differ : b ≢ w.thread = λ (k : b ≡ w.thread). longer w (rest_after (Some w.thread) xs)
+    (sym (ap (λ (t : ℕ). rest_after (Some t) xs) k) ∙ is) in
     omega (arith, times_without b w.thread xs differ) where
       longer : (w : Waiter) (ys : List Waiter) → ys ≡ w ∷ ys → ⊥
       longer w ys e = let n : length ys ≡ length (w ∷ ys) = ap length e in omega arith

@@ -19,21 +19,21 @@ bucket_of (suc bits) key = ((key * 11400714819323198485) % 2 ^ 64) / 2 ^ (64 - s
 abbrev pub chain : Chained → ℕ → List Waiter
 chain q bucket = slice_index_or q.chains bucket []
 
--- one chain behind another
+-- one chain after another
 abbrev pub joined : List (List Waiter) → List Waiter
 joined [] = []
 joined (c ∷ cs) = c ++ joined cs
 
--- the waiters behind a thread, or, with none, the whole chain
-abbrev pub behind : Option ℕ → List Waiter → List Waiter
-behind None waiters = waiters
-behind (Some thread) [] = []
-behind (Some thread) (x ∷ xs) = if x.thread == thread then xs else behind (Some thread) xs
+-- the waiters after a thread, or, with none, the whole chain
+abbrev pub rest_after : Option ℕ → List Waiter → List Waiter
+rest_after None waiters = waiters
+rest_after (Some thread) [] = []
+rest_after (Some thread) (x ∷ xs) = if x.thread == thread then xs else rest_after (Some thread) xs
 
 -- the waiters of a key from a place on
 abbrev pub rest_of : Chained → ℕ → ℕ → List Waiter
 rest_of q key zero = line key (joined q.chains)
-rest_of q key (suc thread) = line key (behind (Some thread) (chain q (bucket_of q.bits key)))
+rest_of q key (suc thread) = line key (rest_after (Some thread) (chain q (bucket_of q.bits key)))
 
 -- a line begins at place 0
 pub rest-from_first : (q : Chained) (key : ℕ) → rest_of q key 0 ≡ line key (joined q.chains)

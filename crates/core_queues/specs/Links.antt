@@ -33,10 +33,10 @@ abbrev pub first_in : Option Ends → Option ℕ
 first_in None = None
 first_in (Some e) = Some e.first
 
--- the next thread behind another, or, with none, the first
-abbrev pub next_behind : List (Option Record) → Option Ends → Option ℕ → Option ℕ
-next_behind records ends None = first_in ends
-next_behind records ends (Some before) = next_of records before
+-- the next thread after another, or, with none, the first
+abbrev pub next_after : List (Option Record) → Option Ends → Option ℕ → Option ℕ
+next_after records ends None = first_in ends
+next_after records ends (Some before) = next_of records before
 
 abbrev pub waiter_of_record : ℕ → Option Record → Option Waiter
 waiter_of_record thread None = None
@@ -47,7 +47,7 @@ abbrev pub waiter_at : List (Option Record) → Option ℕ → Option Waiter
 waiter_at records None = None
 waiter_at records (Some thread) = waiter_of_record thread (record_of records thread)
 
--- the record with another behind it
+-- the record with another after it
 abbrev pub leading : Option Record → Option ℕ → Option Record
 leading None next = None
 leading (Some r) next = Some (standing_record r.key r.want next)
@@ -96,7 +96,7 @@ pub record IsLinked (records : List (Option Record)) (buckets : List (Option End
   pub stands : (thread key : ℕ) → key_of_record (record_of records thread) ≡ Some key
       → 1 ≤ times thread (slice_index_or chains (bucket_of bits key) [])
 
--- the chain without a thread, which stands behind another
+-- the chain without a thread, which stands after another
 abbrev pub unlinked_records : List (Option Record) → Option ℕ → ℕ → List (Option Record)
 unlinked_records records None thread = slice_set records thread None
 unlinked_records records (Some before) thread =
@@ -112,7 +112,7 @@ abbrev pub ends_left : Option Ends → Option ℕ → Option ℕ → Option Ends
 ends_left None before next = None
 ends_left (Some e) before next = unlinked_ends e before next
 
--- the chain with a thread behind its last
+-- the chain with a thread after its last
 abbrev pub linked_records : List (Option Record) → Option Ends → ℕ → ℕ → Want
     → List (Option Record)
 linked_records records None key thread want =

@@ -1,12 +1,12 @@
 //! Hashed buckets, each a chain of records.
 ghost use Rattle.std.specs.Prelude.{◌≡◌, ◌≢◌, ◌<◌, ◌≤◌, ◌++◌, ◌∷◌, [], Some, None, IfSome, IfOk, IfErr};
 ghost use Rattle.std.specs.Prelude.{MatchOption, length, slice_set, ◌^◌};
-ghost use Rattle.core_queues.specs.Chains.{bucket_of, chain, joined, behind, IsHashed, IsLeast};
+ghost use Rattle.core_queues.specs.Chains.{bucket_of, chain, joined, rest_after, IsHashed, IsLeast};
 ghost use Rattle.core_base.specs.Lines.{waiter, without, without_first, line, first_of, queued_under, times};
 ghost use Rattle.core_base.specs.Lines.{lines};
 
 use crate::formula::bucket_among;
-use crate::links::{behind, ends_with, ends_without, link, next, standing, unlink, waiter};
+use crate::links::{ends_with, ends_without, link, next, rest_after, standing, unlink, waiter};
 use crate::records::{Ends, Record};
 use core_base::{Fault, Key, Waiter, Want};
 use std::alloc::Global;
@@ -57,16 +57,16 @@ impl BucketQueues {
     }
 
     /// Gives the next waiter of a bucket's chain, or, with no thread before it, the first.
-    pub(crate) fn behind(&self, bucket: usize, before: Option<usize>) -> Option<Waiter>
+    pub(crate) fn rest_after(&self, bucket: usize, before: Option<usize>) -> Option<Waiter>
         requires within { bucket < length self.now.chains }
         requires stands { IfSome before (λ b. 1 ≤ times b (chain self.now bucket)) }
         ensures hashed { IsHashed self.now }
-        ensures found { MatchOption result (behind before (chain self.now bucket) ≡ [])
-            (λ w. behind before (chain self.now bucket) ≡ w ∷ behind (Some w.thread) (chain self.now bucket)) }
+        ensures found { MatchOption result (rest_after before (chain self.now bucket) ≡ [])
+            (λ w. rest_after before (chain self.now bucket) ≡ w ∷ rest_after (Some w.thread) (chain self.now bucket)) }
         ensures stands { IfSome result (λ w. 1 ≤ times w.thread (chain self.now bucket)) }
     {
         let ends = self.buckets[bucket];
-        let thread = behind(&self.records, ends, before);
+        let thread = rest_after(&self.records, ends, before);
         waiter(&self.records, thread)
     }
 
@@ -75,7 +75,7 @@ impl BucketQueues {
     pub(crate) fn leave(&mut self, bucket: usize, before: Option<usize>, thread: usize)
         requires within { bucket < length self.old.chains }
         requires stands { IfSome before (λ b. 1 ≤ times b (chain self.old bucket)) }
-        requires first { first_of (behind before (chain self.old bucket)) ≡ Some thread }
+        requires first { first_of (rest_after before (chain self.old bucket)) ≡ Some thread }
         ensures chains { self.new.chains
             ≡ slice_set self.old.chains bucket (without thread (chain self.old bucket)) }
         ensures same { (self.new.capacity ≡ self.old.capacity) × (self.new.bits ≡ self.old.bits) }
@@ -120,9 +120,9 @@ impl BucketQueues {
         }
     }
 
-    /// Finds the first waiter of a key behind a thread, or, with none, in the whole chain, and the
+    /// Finds the first waiter of a key after a thread, or, with none, in the whole chain, and the
     /// thread in front of it.
-    pub(crate) fn first_behind(
+    pub(crate) fn first_after(
         &self,
         key: Key,
         bucket: usize,
@@ -130,16 +130,16 @@ impl BucketQueues {
     ) -> Option<(Option<usize>, Waiter)>
         requires within { bucket < length self.now.chains }
         requires stands { IfSome before (λ b. 1 ≤ times b (chain self.now bucket)) }
-        ensures found { MatchOption result (line key (behind before (chain self.now bucket)) ≡ [])
-            (λ found. line key (behind before (chain self.now bucket))
-            ≡ found.1 ∷ line key (behind (Some found.1.thread) (chain self.now bucket))) }
+        ensures found { MatchOption result (line key (rest_after before (chain self.now bucket)) ≡ [])
+            (λ found. line key (rest_after before (chain self.now bucket))
+            ≡ found.1 ∷ line key (rest_after (Some found.1.thread) (chain self.now bucket))) }
         ensures stands { IfSome result (λ found.
             IfSome found.0 (λ b. 1 ≤ times b (chain self.now bucket))
-            × (first_of (behind found.0 (chain self.now bucket)) ≡ Some found.1.thread)
+            × (first_of (rest_after found.0 (chain self.now bucket)) ≡ Some found.1.thread)
             × (1 ≤ times found.1.thread (chain self.now bucket))) }
         ensures hashed { IsHashed self.now }
     {
-        while let Some(waiter) = self.behind(bucket, before) {
+        while let Some(waiter) = self.rest_after(bucket, before) {
             if waiter.key == key {
                 return Some((before, waiter));
             }
@@ -159,7 +159,7 @@ impl BucketQueues {
         ensures hashed { IsHashed self.new }
     {
         let bucket = self.bucket(key);
-        let Some((before, waiter)) = self.first_behind(key, bucket, None) else {
+        let Some((before, waiter)) = self.first_after(key, bucket, None) else {
             return None;
         };
         self.leave(bucket, before, waiter.thread);
@@ -179,7 +179,7 @@ impl BucketQueues {
         };
         let bucket = self.bucket(key);
         let mut before = None;
-        while let Some(waiter) = self.behind(bucket, before) {
+        while let Some(waiter) = self.rest_after(bucket, before) {
             if waiter.thread == thread {
                 self.leave(bucket, before, thread);
                 return;

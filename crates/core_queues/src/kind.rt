@@ -2,7 +2,7 @@
 ghost use Rattle.std.specs.Prelude.{◌≡◌, ◌≢◌, ◌+◌, ◌<◌, ◌≤◌, ◌∷◌, [], if◌then◌else◌, length, MatchOption};
 ghost use Rattle.std.specs.Prelude.{IfSome, Some};
 ghost use Rattle.std.specs.Vec.{vec_len, vec_capacity};
-ghost use Rattle.core_queues.specs.Chains.{bucket_of, chain, joined, behind, IsHashed, rest_of};
+ghost use Rattle.core_queues.specs.Chains.{bucket_of, chain, joined, rest_after, IsHashed, rest_of};
 ghost use Rattle.core_queues.specs.Chains.{rest-from_first};
 ghost use Rattle.core_base.specs.Lines.{line, lines, times};
 ghost use Rattle.core_base.specs.Requeues.{moved_by, requeued};
@@ -15,24 +15,24 @@ use core_base::{Fault, Key, Pick, Picker, Queues, Requeue, Waiter, Want};
 use std::alloc::Global;
 
 impl BucketQueues {
-    /// Finds the first waiter of a key behind a thread, or, with none, in the whole chain, and the place
-    /// behind it.
-    fn find_behind(&self, key: Key, bucket: usize, before: Option<usize>) -> Option<(Waiter, usize)>
+    /// Finds the first waiter of a key after a thread, or, with none, in the whole chain, and the place
+    /// after it.
+    fn find_after(&self, key: Key, bucket: usize, before: Option<usize>) -> Option<(Waiter, usize)>
         requires bucket { bucket ≡ bucket_of self.now.bits key }
         requires within { bucket < length self.now.chains }
         requires stands { IfSome before (λ b. 1 ≤ times b (chain self.now bucket)) }
-        ensures found { MatchOption result (line key (behind before (chain self.now bucket)) ≡ [])
-            (λ found. line key (behind before (chain self.now bucket))
+        ensures found { MatchOption result (line key (rest_after before (chain self.now bucket)) ≡ [])
+            (λ found. line key (rest_after before (chain self.now bucket))
             ≡ found.0 ∷ rest_of self.now key found.1) }
     {
         let _ = &self.records;
-        let Some((_, waiter)) = self.first_behind(key, bucket, before) else {
+        let Some((_, waiter)) = self.first_after(key, bucket, before) else {
             return None;
         };
         Some((waiter, waiter.thread + 1))
     }
 
-    /// Requeues the first waiter of a key, if any, behind the last of another.
+    /// Requeues the first waiter of a key, if any, after the last of another.
     fn move_first(&mut self, from: Key, to: Key) -> bool
         ensures moved { (if result then 1 else 0)
             ≡ length (moved_by One (line from (joined self.old.chains))) }
@@ -48,7 +48,7 @@ impl BucketQueues {
         true
     }
 
-    /// Requeues all waiters of a key behind the last of another, and counts them.
+    /// Requeues all waiters of a key after the last of another, and counts them.
     fn move_all(&mut self, from: Key, to: Key) -> usize
         requires { from ≢ to }
         ensures number { (result ≡ length (line from (joined self.old.chains)))
@@ -104,7 +104,7 @@ impl Queues for BucketQueues {
     fn take_by<P: Picker + Drop>(&mut self, key: Key, mut picker: P, out: &mut Vec<usize>) {
         let bucket = self.bucket(key);
         let mut before = None;
-        while let Some(waiter) = self.behind(bucket, before) {
+        while let Some(waiter) = self.rest_after(bucket, before) {
             if waiter.key != key {
                 before = Some(waiter.thread);
                 continue;
@@ -144,7 +144,7 @@ impl Queues for BucketQueues {
         let bucket = self.bucket(key);
         let mut number = 0;
         let mut before = None;
-        while let Some((_, waiter)) = self.first_behind(key, bucket, before) {
+        while let Some((_, waiter)) = self.first_after(key, bucket, before) {
             number += 1;
             before = Some(waiter.thread);
         }
@@ -158,7 +158,7 @@ impl Queues for BucketQueues {
     fn find(&self, key: Key, place: usize) -> Option<(Waiter, usize)> {
         let bucket = self.bucket(key);
         if place == 0 {
-            return self.find_behind(key, bucket, None);
+            return self.find_after(key, bucket, None);
         }
         let thread = place - 1;
         let Some(other) = self.stands_under(thread) else {
@@ -167,7 +167,7 @@ impl Queues for BucketQueues {
         if self.bucket(other) != bucket {
             return None;
         }
-        self.find_behind(key, bucket, Some(thread))
+        self.find_after(key, bucket, Some(thread))
     }
 
     ghost from_first = { λ q key. rest-from_first q key };

@@ -2,13 +2,13 @@
 ghost use Rattle.std.specs.Prelude.{◌≡◌, ◌<◌, IfSome, length, Some};
 ghost use Rattle.std.specs.Vec.{vec_capacity};
 ghost use Rattle.core_queues.specs.Links.{next_of, next_in, first_in, leading, with_next, record_of};
-ghost use Rattle.core_queues.specs.Links.{next_behind, waiter_at, unlinked_records, ends_left};
+ghost use Rattle.core_queues.specs.Links.{next_after, waiter_at, unlinked_records, ends_left};
 ghost use Rattle.core_queues.specs.Links.{linked_records, linked_ends};
 
 use crate::records::{Ends, Record};
 use core_base::{Key, Waiter, Want};
 
-/// Gives the next thread of the chain behind a record.
+/// Gives the next thread of the chain after a record.
 pub(crate) fn next(standing: Option<Record>) -> Option<usize>
     ensures { result ≡ next_in standing }
 {
@@ -54,12 +54,12 @@ pub(crate) fn standing(records: &[Option<Record>], thread: usize) -> Option<Reco
 }
 
 /// Gives the next thread of a chain, or, with no thread before it, the first.
-pub(crate) fn behind(
+pub(crate) fn rest_after(
     records: &[Option<Record>],
     ends: Option<Ends>,
     before: Option<usize>,
 ) -> Option<usize>
-    ensures { result ≡ next_behind records.now ends before }
+    ensures { result ≡ next_after records.now ends before }
 {
     match before {
         Some(before) => next(standing(records, before)),
@@ -98,7 +98,7 @@ pub(crate) fn unlink(records: &mut Vec<Option<Record>>, before: Option<usize>, t
     records[thread] = None;
 }
 
-/// Computes the ends of a chain that a thread has left, by the threads in front of it and behind it.
+/// Computes the ends of a chain that a thread has left, by the threads in front of it and after it.
 pub(crate) fn ends_without(
     ends: Option<Ends>,
     before: Option<usize>,
@@ -123,7 +123,7 @@ pub(crate) fn ends_without(
     }
 }
 
-/// Puts a thread's record behind the last of a chain.
+/// Puts a thread's record after the last of a chain.
 pub(crate) fn link(
     records: &mut Vec<Option<Record>>,
     ends: Option<Ends>,

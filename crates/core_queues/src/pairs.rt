@@ -40,7 +40,7 @@ impl Queueing {
         None
     }
 
-    /// Puts a thread behind the last under a key of one of the buckets. One that stands in them leaves
+    /// Puts a thread after the last under a key of one of the buckets. One that stands in them leaves
     /// that place first.
     pub fn append_beside(&mut self, other: &mut Queueing, key: Key, thread: usize, want: Want)
         requires two { AreTwo self.old other.old × (self.old.bits < 64) }
@@ -110,7 +110,7 @@ impl Queueing {
         }
     }
 
-    // Moves the first under a key behind the last under a key of another bucket.
+    // Moves the first under a key after the last under a key of another bucket.
     fn move_first(&mut self, other: &mut Queueing, from: Key, to: Key) -> bool
         requires keys { (bucket_of self.old.bits from ≡ self.old.number)
             × (bucket_of other.old.bits to ≡ other.old.number) }
@@ -133,7 +133,7 @@ impl Queueing {
         true
     }
 
-    // Moves all under a key behind the last under a key of another bucket, and answers how many there
+    // Moves all under a key after the last under a key of another bucket, and answers how many there
     // were.
     fn move_all(&mut self, other: &mut Queueing, from: Key, to: Key) -> usize
         requires keys { (bucket_of self.old.bits from ≡ self.old.number)
@@ -156,7 +156,7 @@ impl Queueing {
         number
     }
 
-    /// Moves waiters from under a key behind the last under a key of another bucket.
+    /// Moves waiters from under a key after the last under a key of another bucket.
     pub fn requeue_beside(
         &mut self,
         other: &mut Queueing,

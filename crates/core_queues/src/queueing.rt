@@ -179,7 +179,7 @@ impl Queueing {
         copy_all(self.taken.as_slice(), &mut self.rightless);
     }
 
-    /// Moves waiters from under a key behind the last under another.
+    /// Moves waiters from under a key after the last under another.
     pub fn requeue(&mut self, from: Key, to: Key, op: Requeue) -> (Option<usize>, usize)
         requires none { (self.old.taken.items ≡ []) × (self.old.rightless.items ≡ [])
             × (self.old.wants.items ≡ []) }
@@ -246,7 +246,7 @@ impl Queueing {
         self.rightless.as_slice()
     }
 
-    /// Puts a thread behind the last under a key. One that stands somewhere leaves that place
+    /// Puts a thread after the last under a key. One that stands somewhere leaves that place
     /// first.
     pub fn append(&mut self, key: Key, thread: usize, want: Want)
         requires thread { thread < self.old.seats }

@@ -203,7 +203,7 @@ module _ (lot : LotWords) (seat : Seat PermitSlot View) (word : Word) (own : IsS
   may_mutex is op may = subst (λ (k : WordKind). MayStep k (word_index word.number k) op seat.me.0.owns)
       (sym is) may
 
-  -- a load of the counter, behind which the permit of a mutex that the seat owns is out
+  -- a load of the counter, after which the permit of a mutex that the seat owns is out
   pub table_takes_out : (family at : ℕ) → family ≡ from → at ≡ word_index word.number word.kind
       → word.kind ≡ Mutex → has (named_by word Exclusive) seat.me.0.owns ≡ true
       → StirsAt lot seat (takes_out family at seat.me)
@@ -264,7 +264,7 @@ module _ (lot : LotWords) (seat : Seat PermitSlot View) (word : Word) (own : IsS
             seated.1 may which)),
       )
 
--- a load of the counter, behind which nothing is out
+-- a load of the counter, after which nothing is out
 pub table_lays_back : (lot : LotWords) (seat : Seat PermitSlot View) → IsSeatOf lot seat
     → StirsAt lot seat (lays_back seat.me)
 table_lays_back lot seat own = (

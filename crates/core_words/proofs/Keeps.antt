@@ -423,7 +423,7 @@ module _ (words family : ℕ) (s : State PermitSlot View) (o : LotRule words fam
   agreed number Once id v at below = tt
   agreed number (Semaphore permits) id v at below = tt
 
-  -- a step that may be taken leaves a tied word tied, whatever is out behind it
+  -- a step that may be taken leaves a tied word tied, whatever is out after it
   tied_after : (number : ℕ) (kind : WordKind) (op : Op) (id : ℕ) (v : View) (out : List ℕ)
       → get_elem? s.views id ≡ some v → number < words
       → MayTie kind (word_index number kind) (get_or s.words (word_index number kind) 0)

@@ -417,7 +417,7 @@ impl LotWords {
     }
 
     /// Splits a mutex off that the seat's view names, with the permit of its value. It loads a
-    /// word, which is no step of a call: behind that load the permit is out with the mutex, also
+    /// word, which is no step of a call: after that load the permit is out with the mutex, also
     /// where the thread has locked another one since.
     #[inline]
     pub fn split_open(&self, seat: &mut Seat, word: Word) -> (OpenHeld, Permit)

@@ -23,7 +23,7 @@ abbrev pub LastAnswered : {F K V X E : Type 0} {k : keeps.Ghosts K} {v : shows.G
 LastAnswered step stays condition result =
     IfOk result (λ ended. AnsweredAt step stays condition ended.1 (value_of ended.0))
 
--- a thread is as it was where no wait was needed, and else the same one behind the waits, and owns
+-- a thread is as it was where no wait was needed, and else the same one after the waits, and owns
 -- what it did
 abbrev pub WaitedOrNot : {Token : Type 0} → (Token → Token → Type 0) → Token → Token → Type 0
 WaitedOrNot stays old new = (new ≡ old) ⊎ stays old new

@@ -104,7 +104,7 @@ impl<R: RawCondvar> Condvar<R> {
         ensures path { R.notified self.now false (notifying_answer result) token.old token.new }
         ensures record { R.moved self.now false (moved_first result) token.old token.new }
     {
-        // As `notify_one` of the raw one. It isn't called, since behind each call that may wait a
+        // As `notify_one` of the raw one. It isn't called, since after each call that may wait a
         // flag is tested.
         let seen = self.raw.notify_fast(token);
         if seen == 0 {

@@ -89,7 +89,7 @@ impl<R: RawMutex, T> Mutex<R, T> {
         ensures path { R.walked self.now Lock answers.Ok token.old token.new }
     {
         let lot = self.raw.lot();
-        // As `lock` of the raw one. It isn't called, since behind each call that may wait a flag is
+        // As `lock` of the raw one. It isn't called, since after each call that may wait a flag is
         // tested.
         let raw = match self.raw.lock_fast(token) {
             Ok(raw) => raw,

@@ -1,4 +1,4 @@
--- A thread behind a wait.
+-- A thread after a wait.
 use Rattle.std.proofs.Common.{inl, inr, subst}
 use Rattle.core_base.specs.declared.faults.Fault.{Fault}
 use Rattle.lock_api.specs.Conditions.{WaitedOrNot}
@@ -10,7 +10,7 @@ pub stays_after : {Token : Type 0} (stays : Token → Token → Type 0)
     → ((first next last : Token) → stays first next → stays next last → stays first last)
     → (first next last : Token) → WaitedOrNot stays first next → stays next last → stays first last
 stays_after stays on first next last (inl same) then = subst (λ t. stays t last) same then
-stays_after stays on first next last (inr behind) then = on first next last behind then
+stays_after stays on first next last (inr afterwards) then = on first next last afterwards then
 
 -- a refusal is one at last
 pub refused_at_last : {Token : Type 0} (found_full : Token → Token → Type 0) (old new : Token) (fault : Fault)

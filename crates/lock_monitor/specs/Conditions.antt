@@ -22,7 +22,7 @@ abbrev pub WaitsOften : {Token : Type 0} → (Answer → Token → Token → Typ
     → Token → Token → Type 0
 WaitsOften waited answer old new = WaitsAnyTimes (WaitsAtLast waited answer) old new
 
--- any number of such waits that were notified, and behind them one more at most, whose time was up
+-- any number of such waits that were notified, and after them one more at most, whose time was up
 abbrev pub WaitsOftenInTime : {Token : Type 0} → (Answer → Token → Token → Type 0)
     → Token → Token → Type 0
 WaitsOftenInTime {Token = Token} waited old new = (last : Token)

@@ -168,7 +168,7 @@ pub trait RawMutex {
     /// has more to do, which is `unlock_slow`.
     ///
     /// The lot is that of the mutex: a thread that has kept it since the mutex was taken needn't
-    /// look for it behind an atomic step.
+    /// look for it after an atomic step.
     fn unlock_fast(
         &self,
         lot: &Self::Lot,

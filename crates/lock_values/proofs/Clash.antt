@@ -80,7 +80,7 @@ module _ {M : Type 1} {𝓤 : Ura M} (𝓛 : Logic 𝓤) where
         ∗ ⟦ seen c γ j (right q) v ⟧
     halves q j v = entry_cut halved 𝓛 γ j (left q, c v) (right q, c v) (q, c v) (in_two q (c v))
 
-    -- a new one comes behind the last
+    -- a new one comes after the last
     pub signs : (vs : List V) (k : ℕ) (u : V) → ⟦ roster c γ k vs ⟧ ⊢ upd 𝓤 (⟦ roster c γ k (vs ++ u ∷ []) ⟧
         ∗ ⟦ seen c γ (k + length vs) three_quarters u ⟧)
     signs [] k u = let Z : Pr = ⟦ roster c γ k (u ∷ []) ⟧ ∗ ⟦ seen c γ (k + 0) three_quarters u ⟧

@@ -1,4 +1,4 @@
-//! Why one projection behind another finds nothing.
+//! Why one projection after another finds nothing.
 
 /// Tells which of the two found nothing, with its reason.
 #[derive(Clone, Copy, Debug, PartialEq, Eq)]

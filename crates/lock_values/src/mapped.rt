@@ -1,6 +1,6 @@
 //! Guards of a part of a value.
 ghost use Rattle.std.specs.Prelude.{◌≡◌, Err, IsOk, IsOkAnd, MatchResult, Ok};
-ghost use Rattle.lock_values.specs.Then.{found_behind};
+ghost use Rattle.lock_values.specs.Then.{found_after};
 
 use crate::project::Project;
 use crate::shows::{Shows, ShowsMut};
@@ -79,7 +79,7 @@ impl<G: Shows, P: Project<G::Value>> Mapped<G, P> {
     /// Maps on to a part of the part, which is there.
     #[inline]
     pub fn map<Q: Project<P::Target>>(self, by: Q) -> Mapped<G, Then<P, Q>>
-        requires { IsOk (found_behind (P.finds self.by (G.shown self.guard)) (Q.finds by)) }
+        requires { IsOk (found_after (P.finds self.by (G.shown self.guard)) (Q.finds by)) }
         ensures { (result.guard ≡ self.guard)
             × (result.by ≡ record { first = self.by; second = by }) }
     {

@@ -1,6 +1,6 @@
-//! One projection behind another.
+//! One projection after another.
 ghost use Rattle.std.specs.Prelude.{◌≡◌, Result, Ok, Err};
-ghost use Rattle.lock_values.specs.Then.{found_behind, found_behind_written, written_behind};
+ghost use Rattle.lock_values.specs.Then.{found_after, found_after_written, written_after};
 
 use crate::errors::ThenError;
 use crate::project::Project;
@@ -17,12 +17,12 @@ impl<T, P: Project<T>, Q: Project<P::Target>> Project<T> for Then<P, Q> {
 
     type Error = ThenError<P::Error, Q::Error>;
 
-    ghost finds = { λ by value. found_behind (P.finds by.first value) (Q.finds by.second) };
+    ghost finds = { λ by value. found_after (P.finds by.first value) (Q.finds by.second) };
 
-    ghost written = { λ by value next. written_behind (P.finds by.first value)
+    ghost written = { λ by value next. written_after (P.finds by.first value)
         (Q.written by.second) (P.written by.first value) value next };
 
-    ghost finds_written = { λ by value found next at. found_behind_written (P.finds by.first)
+    ghost finds_written = { λ by value found next at. found_after_written (P.finds by.first)
         (P.written by.first) (P.finds_written by.first) (Q.finds by.second)
         (Q.written by.second) (Q.finds_written by.second) value found next at };
 

@@ -6,7 +6,7 @@ pub mod Owing
 pub mod WorldRuns
 pub mod Solo
 pub mod Locations
-pub mod MutexDeeds
+pub mod ThreadDeeds
 pub mod SitesOf
 pub mod Laws
 pub mod Overtaking

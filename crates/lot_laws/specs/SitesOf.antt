@@ -37,7 +37,7 @@ use Rattle.steps_condvar.specs.CondvarSteps.{mutex_beside}
 use Rattle.steps_condvar.specs.CondvarCalls.{IsReached}
 use Rattle.steps_semaphore.specs.declared.places.SemaphorePlace.{SemaphorePlace}
 use Rattle.steps_semaphore.specs.SemaphoreProfiles.{semaphore_profile}
-use Rattle.lot_laws.specs.MutexDeeds.{Act}
+use Rattle.lot_laws.specs.ThreadDeeds.{Act}
 use Rattle.lot_laws.specs.Locations.{Hand, Location, hand, location_at, role_on}
 
 abbrev pub rules_in : State → ℕ → Rules
@@ -252,8 +252,8 @@ pub record IsSettled (w : State) : Type 0 where
 
 -- a world keeps this from step to step
 pub record IsWorld (w : State) : Type 0 where
-  pub shaped : IsWellFormed w
-  pub steady : IsInductive w
+  pub well_formed : IsWellFormed w
+  pub inductive : IsInductive w
   pub counted : AreCounted w
   pub condvars : AreCondvars w
   pub settled : IsSettled w

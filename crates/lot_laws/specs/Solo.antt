@@ -192,7 +192,7 @@ NeedsNoWay unparked r s Shared = BumpGivesWay r s Shared → ⊥
 NeedsNoWay unparked r s x = unparked
 
 -- by so many of its steps it gives its right up, and from there comes to what a call comes to that
--- waits for that right; later are the locks behind each number of them
+-- waits for that right; later are the locks after each number of them
 pub record ComesBack (later : ℕ → LocksState) (w : LocksState) (t l : ℕ) (x : Want) (o : Outcome)
     (v : LocksState) : Type 0 where
   pub steps : ℕ
@@ -229,7 +229,7 @@ AwaitsAlone Poisoned s t false timed o s2 =
     o ≡ outcome.TheVariants.End answer.TheVariants.Poisoned
 AwaitsAlone phase s t forced timed o s2 = SleepsLast s t Wait o s2
 
--- the end of a wait: it sleeps behind the last, its mutex let go, or ends where another mutex is shown
+-- the end of a wait: it sleeps after the last, its mutex let go, or ends where another mutex is shown
 pub record CondvarWaitsAlone (w : LocksState) (t l m : ℕ) (o : Outcome) (v : LocksState) : Type 0 where
   pub other : ShowsOther (w.locks l) m → o ≡ outcome.TheVariants.End answer.TheVariants.TwoMutexes
   pub own : (ShowsOther (w.locks l) m → ⊥)
@@ -260,14 +260,14 @@ EndsBy words later w t (Some (Notifies l all)) o v =
     NotifiesAlone all (w.locks l).queue o (v.locks l).queue
 EndsBy words later w t None o v = Unit {0}
 
--- the locks behind so many steps of the thread alone
-abbrev pub locks_behind : State → ℕ → ℕ → LocksState
-locks_behind w t steps = locks_of (after_steps w (replicate steps (go_of t)))
+-- the locks after so many steps of the thread alone
+abbrev pub locks_afterwards : State → ℕ → ℕ → LocksState
+locks_afterwards w t steps = locks_of (after_steps w (replicate steps (go_of t)))
 
 -- the end of a call, by its goal
 abbrev pub EndsAlone : State → ℕ → Option Purpose → Outcome → State → Type 0
 EndsAlone w t purpose o v =
-    EndsBy (word_at w) (locks_behind w t) (locks_of w) t purpose o (locks_of v)
+    EndsBy (word_at w) (locks_afterwards w t) (locks_of w) t purpose o (locks_of v)
 
 -- the last of what was told, and NotNow where nothing was
 abbrev pub last_told : List Outcome → Outcome
@@ -275,7 +275,7 @@ last_told [] = outcome.TheVariants.NotNow
 last_told (o ∷ []) = o
 last_told (o ∷ os) = last_told os
 
--- each but the last is a step: the thread rests behind no other
+-- each but the last is a step: the thread rests after no other
 abbrev pub GoesOnUntil : List Outcome → Type 0
 GoesOnUntil [] = Unit {0}
 GoesOnUntil (o ∷ []) = o ≢ outcome.TheVariants.NotNow

@@ -18,7 +18,7 @@ use Rattle.steps_condvar.specs.declared.wait.WaitAt.{WaitAt}
 use Rattle.steps_condvar.specs.declared.wait.WaitAt.TheVariants as wait
 use Rattle.steps_condvar.specs.declared.places.CondvarPlace.{CondvarPlace}
 use Rattle.steps_condvar.specs.declared.places.CondvarPlace.TheVariants.{Wait, Look, Notify}
-use Rattle.steps_condvar.specs.CondvarSteps.{behind_release, comes_from_another, condvar_act, condvar_next}
+use Rattle.steps_condvar.specs.CondvarSteps.{past_release, comes_from_another, condvar_act, condvar_next}
 use Rattle.steps_condvar.specs.CondvarSteps.{condvar_owners, in_lock, in_notify, in_wait, is_shown}
 use Rattle.steps_condvar.specs.CondvarSteps.{late_place, marks, moved_one, mutex_shown, notified, released}
 use Rattle.steps_condvar.specs.CondvarSteps.{relocked, stands_after}
@@ -130,14 +130,14 @@ module _ (l : ℕ) where
   -- ---------------------------------------------------------------- a wait before that
 
   module _ (m : ℕ) (timed : Bool) where
-    behind : (s : Stands) → condvar_looked (Wait m timed (behind_release s)) ≡ None
-    behind (stands.Noted note.Normal) = refl
-    behind (stands.Noted note.HandOff) = refl
-    behind s = refl
+    afterwards : (s : Stands) → condvar_looked (Wait m timed (past_release s)) ≡ None
+    afterwards (stands.Noted note.Normal) = refl
+    afterwards (stands.Noted note.HandOff) = refl
+    afterwards s = refl
 
     released_then : (s : Stands) (n : Next MutexPlace) → condvar_looked (Wait m timed (released s n)) ≡ None
     released_then s (At at) = refl
-    released_then s (End answer) = behind s
+    released_then s (End answer) = afterwards s
 
     releases : (s : Stands) (at : MutexPlace) (r : Reply)
         → Then (condvar_next (Wait m timed (wait.Release s at)) r) ≡ None
@@ -156,7 +156,7 @@ module _ (l : ℕ) where
 
     asleep : (s : Stands) (r : Reply) → Then (condvar_next (Wait m timed (wait.Asleep s)) r) ≡ None
     asleep s Late = late_then s
-    asleep s r = behind (stands_after s r)
+    asleep s r = afterwards (stands_after s r)
 
     shows : (r : Reply) → Then (condvar_next (Wait m timed wait.Show) r) ≡ None
     shows (Value v) = either ((v == 0) || is_shown v m)

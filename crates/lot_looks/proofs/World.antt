@@ -46,33 +46,34 @@ use Rattle.lot_looks.proofs.Turns.{one_turn, went_by_word}
 
 pub all_noted : (w : State) → IsWorld w → AllNoted w
 all_noted w h l = ap (λ b. filled_at w l || b) (fills_by (rules_in w l) (site_of w l) (word_at w l)
-    (h.steady.sites.site l) (h.steady.sites.word l))
-    ∙ sym (noted (rules_in w l) (site_of w l) (h.steady.sites.site l))
+    (h.inductive.sites.site l) (h.inductive.sites.word l))
+    ∙ sym (noted (rules_in w l) (site_of w l) (h.inductive.sites.site l))
 
 word_told : (w : State) → IsInductive w → (l : ℕ) (a : Admission) (c : RwLockCallPlace)
     → FitsItsLock w (RwLock l a c) → (t : ℕ)
     → (x : Act) → IsOwn l x → Tells (RwLock l a c) (reply_to w t x)
-word_told w steady l a c fits t (act.Word k f) own = subst (λ n. word_at w n < 2 ^ 64) (sym own)
-    (word_small w l steady fits.0.0)
-word_told w steady l a c fits t (act.HandOver k f) own = subst (λ n. word_at w n < 2 ^ 64) (sym own)
-    (word_small w l steady fits.0.0)
-word_told w steady l a c fits t (act.Park k key check x) own = tt
-word_told w steady l a c fits t (act.Take key whom.First) own = tt
-word_told w steady l a c fits t (act.Take key (whom.Picked start recursive)) own = tt
-word_told w steady l a c fits t (act.Take key whom.All) own = tt
-word_told w steady l a c fits t (act.Requeue from to how) own = tt
-word_told w steady l a c fits t (act.Remove key) own = tt
-word_told w steady l a c fits t x own = tt
+word_told w inductive l a c fits t (act.Word k f) own = subst (λ n. word_at w n < 2 ^ 64) (sym own)
+    (word_small w l inductive fits.0.0)
+word_told w inductive l a c fits t (act.HandOver k f) own = subst (λ n. word_at w n < 2 ^ 64) (sym own)
+    (word_small w l inductive fits.0.0)
+word_told w inductive l a c fits t (act.Park k key check x) own = tt
+word_told w inductive l a c fits t (act.Take key whom.First) own = tt
+word_told w inductive l a c fits t (act.Take key (whom.Picked start recursive)) own = tt
+word_told w inductive l a c fits t (act.Take key whom.All) own = tt
+word_told w inductive l a c fits t (act.Requeue from to how) own = tt
+word_told w inductive l a c fits t (act.Remove key) own = tt
+word_told w inductive l a c fits t x own = tt
 
 -- the reply to its act is one that a thread may hear
 tells_own : (w : State) (t : ℕ) → IsInductive w → (p : Place) → FitsItsLock w p
     → Tells p (reply_to w t (act_of p))
-tells_own w t steady Idle fits = tt
-tells_own w t steady (Mutex l at) fits = tt
-tells_own w t steady (RwLock l a c) fits = word_told w steady l a c fits t (call_act l a c) (call_own l a c)
-tells_own w t steady (Once l at) fits = tt
-tells_own w t steady (Condvar l at) fits = tt
-tells_own w t steady (Semaphore l at) fits = tt
+tells_own w t inductive Idle fits = tt
+tells_own w t inductive (Mutex l at) fits = tt
+tells_own w t inductive (RwLock l a c) fits = word_told w inductive l a c fits t (call_act l a c)
+    (call_own l a c)
+tells_own w t inductive (Once l at) fits = tt
+tells_own w t inductive (Condvar l at) fits = tt
+tells_own w t inductive (Semaphore l at) fits = tt
 
 -- a call looks at its own sort of lock
 other_mutex : (l : ℕ) (o : Option MutexPlace) (q : Place) → in_mutex l o ≡ Some q
@@ -102,7 +103,7 @@ other_semaphore l (Some at) q e k a c is = let here : Semaphore l at ≡ q = cc 
 -- so where it looks
 look_tells : (w : State) → IsInductive w → (p q : Place) → FitsItsLock w p → looked_from p ≡ Some q → (k : ℕ)
     → act_of q ≡ act.Word k Load → Tells q (Value (word_at w k))
-look_tells w steady p q fits looked k load = by_place p q fits looked load
+look_tells w inductive p q fits looked k load = by_place p q fits looked load
   where
     by_call : (l : ℕ) (a : Admission) (d : RwLockCallPlace)
         → ((t : ℕ) (x : Act) → IsOwn l x → Tells (RwLock l a d) (reply_to w t x))
@@ -115,7 +116,7 @@ look_tells w steady p q fits looked k load = by_place p q fits looked load
     by_option l a c None fits q e load = absurd cc
     by_option l a c (Some d) fits q e load = let here : RwLock l a d ≡ q = cc in
         subst (λ x. Tells x (Value (word_at w k))) here
-        (by_call l a d (λ t x own. word_told w steady l a c fits t x own) (ap act_of here ∙ load))
+        (by_call l a d (λ t x own. word_told w inductive l a c fits t x own) (ap act_of here ∙ load))
 
     away : (q : Place) → ((l : ℕ) (a : Admission) (c : RwLockCallPlace) → q ≡ RwLock l a c → ⊥)
         → Tells q (Value (word_at w k))
@@ -173,7 +174,7 @@ module _ (w : State) (h : IsWorld w) (t : ℕ) (there : t < length w.places) whe
       two_stays : (two : IsOfTwo (place_at w t))
           → StaysSo (place_at w t) (place_at (state_after_act w t (place_at w t) (act_of (place_at w t))) t)
       two_stays two =
-          let stood = own_place w t two.lock two.at two.is (fits_two w t h.steady two).reached there in
+          let stood = own_place w t two.lock two.at two.is (fits_two w t h.inductive two).reached there in
           subst (λ x. StaysSo x (place_at (state_after_act w t x (act_of x)) t)) (sym two.is)
           (subst (StaysSo (Condvar two.lock two.at)) (sym stood.1) (still_so two.lock two.at stood.0 stood.2))
 
@@ -255,7 +256,7 @@ module _ (w : State) (h : IsWorld w) (all : AllSane w.places) (t : ℕ) (there :
 
   next_sane : IsSane (next_place then_own told)
   next_sane = stays_sane then_own told
-      (own_stays.tells told (tells_own w t h.steady (place_at w t) (h.steady.stands.calls t))) own_sane
+      (own_stays.tells told (tells_own w t h.inductive (place_at w t) (h.inductive.stands.calls t))) own_sane
 
   -- its thread has not looked
   module _ (free : looked_from (place_at w t) ≡ None) (can : can_do w (act_of (place_at w t)) ≡ true) where
@@ -277,8 +278,8 @@ module _ (w : State) (h : IsWorld w) (all : AllSane w.places) (t : ℕ) (there :
             → Comes w (state_after_go w t) t (go_outcome w t)
         by_load load = look_goes w t (place_at w t) look.lock all (all_noted w h) there refl free load
             (stays_sane (place_at w t) (Value (word_at w look.lock))
-            (subst (λ x. Tells (place_at w t) (reply_to w t x)) load (tells_own w t h.steady (place_at w t)
-            (h.steady.stands.calls t))) (all t))
+            (subst (λ x. Tells (place_at w t) (reply_to w t x)) load (tells_own w t h.inductive (place_at w t)
+            (h.inductive.stands.calls t))) (all t))
             (here_by.acts (word_at w look.lock) (subst IsOfWord (sym load) tt))
 
     pub goes_freely : Comes w (state_after_go w t) t (go_outcome w t)
@@ -299,8 +300,8 @@ module _ (w : State) (h : IsWorld w) (all : AllSane w.places) (t : ℕ) (there :
     by_look = subst (GoesBy (place_at w t)) looked (goes_so (place_at w t) (all t))
 
     looked_sane : IsSane (next_place q (Value (word_at w by_look.lock)))
-    looked_sane = stays_sane q (Value (word_at w by_look.lock)) (look_tells w h.steady (place_at w t) q
-        (h.steady.stands.calls t) looked by_look.lock by_look.load) by_look.sound
+    looked_sane = stays_sane q (Value (word_at w by_look.lock)) (look_tells w h.inductive (place_at w t) q
+        (h.inductive.stands.calls t) looked by_look.lock by_look.load) by_look.sound
 
     pub goes_by_look : Comes w (state_after_go w t) t (go_outcome w t)
     goes_by_look = by_word (word_at w by_look.lock == by_look.from) refl

@@ -36,7 +36,7 @@ drop_on (suc n) k [] = drop-nil k ∙ sym (drop-nil (suc n + k))
 drop_on (suc n) k (p ∷ ps) = let same : suc (n + k) ≡ suc n + k = omega arith in drop_on n k ps
     ∙ ap (λ m. drop m (p ∷ ps)) same
 
--- those that are skipped have no debt, so the list is that from behind them
+-- those that are skipped have no debt, so the list is that from after them
 pub skips_debtors : (places : List Place) (debt : Debt) (l from to : ℕ) → from ≤ to → Skips places l from to
     → debtors debt l from (drop from places) ≡ debtors debt l to (drop to places)
 skips_debtors places debt l from to le none =

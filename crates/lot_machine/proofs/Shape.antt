@@ -123,10 +123,10 @@ below_without n t (x ∷ xs) h = either (not (x.thread == t)) (below_without n t
     either true more = (h.0, more)
     either false more = more
 
-below_behind : (n key t : ℕ) (wanted : Want) (xs : List Waiter) → t < n → AllBelow n xs
+below_after : (n key t : ℕ) (wanted : Want) (xs : List Waiter) → t < n → AllBelow n xs
     → AllBelow n (xs ++ waiter key t wanted ∷ [])
-below_behind n key t wanted [] lt h = (lt, tt)
-below_behind n key t wanted (x ∷ xs) lt h = (h.0, below_behind n key t wanted xs lt h.1)
+below_after n key t wanted [] lt h = (lt, tt)
+below_after n key t wanted (x ∷ xs) lt h = (h.0, below_after n key t wanted xs lt h.1)
 
 below_rest : (n : ℕ) (xs : List Waiter) → AllBelow n xs → AllBelow n (drop 1 xs)
 below_rest n [] h = tt
@@ -172,11 +172,11 @@ below_requeued n key requeue.TheVariants.All xs h = below_moved n key xs h
 below_requeued n key requeue.TheVariants.TakeOneMoveRest xs h = below_moved n key (drop 1 xs)
     (below_rest n xs h)
 
-below_behind_requeue : (n : ℕ) (how : Requeue) (xs : List Waiter) → AllBelow n xs
+below_after_requeue : (n : ℕ) (how : Requeue) (xs : List Waiter) → AllBelow n xs
     → AllBelow n (left_in_line how xs)
-below_behind_requeue n requeue.TheVariants.One xs h = below_rest n xs h
-below_behind_requeue n requeue.TheVariants.All xs h = tt
-below_behind_requeue n requeue.TheVariants.TakeOneMoveRest xs h = tt
+below_after_requeue n requeue.TheVariants.One xs h = below_rest n xs h
+below_after_requeue n requeue.TheVariants.All xs h = tt
+below_after_requeue n requeue.TheVariants.TakeOneMoveRest xs h = tt
 
 -- ---------------------------------------------------------------- lines and sections
 
@@ -237,7 +237,7 @@ stood_lined : (w : State) (t key : ℕ) (wanted : Want) → IsLined w → t < le
 stood_lined w t key wanted s lt = queues_lined w (queues_with_last w.queues key t wanted) s
     (length-set (map (without t) w.queues) key _ ∙ length-map w.queues (without t))
     (set_all (AllBelow (length w.places)) (map (without t) w.queues) key _ []
-    (below_behind (length w.places) key t wanted _ lt (others key)) others)
+    (below_after (length w.places) key t wanted _ lt (others key)) others)
   where
     others : (k : ℕ) → AllBelow (length w.places) (get_or (map (without t) w.queues) k [])
     others k = rw (get_or-map (without t) w.queues k []) (below_without (length w.places) t (queue_at w k)
@@ -302,7 +302,7 @@ requeued_lined w t from to how s = led_lined w (queues_requeued w.queues from to
     stays : (key : ℕ) → AllBelow (length w.places)
         (get_or (set w.queues from (left_in_line how (queue_at w from))) key [])
     stays = set_all (AllBelow (length w.places)) w.queues from (left_in_line how (queue_at w from)) []
-        (below_behind_requeue (length w.places) how (queue_at w from) (s.waiting from)) s.waiting
+        (below_after_requeue (length w.places) how (queue_at w from) (s.waiting from)) s.waiting
 
 removed_lined : (w : State) (t : ℕ) → IsLined w → IsLined (record w { queues = queues_without w.queues t })
 removed_lined w t s = queues_lined w (queues_without w.queues t) s (length-map w.queues (without t))
@@ -412,9 +412,10 @@ performed_counts w t p act = (refl, refl)
 pub suits : (w : State) → IsWellFormed w → (t : ℕ) → Suits (length w.locks) (kind_at w) (place_at w t)
 suits w s t = (s.places t, s.kinds t)
 
-shaped : (w : State) → IsLined w → ((t : ℕ) → Suits (length w.locks) (kind_at w) (place_at w t)) → AreShown w
+well_formed : (w : State) → IsLined w → ((t : ℕ) → Suits (length w.locks) (kind_at w) (place_at w t))
+    → AreShown w
     → IsWellFormed w
-shaped w s suit shown = record {
+well_formed w s suit shown = record {
   few = s.few;
   sections = s.sections;
   queues = s.queues;
@@ -424,21 +425,21 @@ shaped w s suit shown = record {
   waiting = s.waiting;
 }
 
-pub put_shaped : (w : State) (t : ℕ) (p : Place) → IsWellFormed w → Suits (length w.locks) (kind_at w) p
+pub put_well_formed : (w : State) (t : ℕ) (p : Place) → IsWellFormed w → Suits (length w.locks) (kind_at w) p
     → IsWellFormed (put w t p)
-put_shaped w t p s h = shaped (put w t p) (put_lined w t p (lined w s))
+put_well_formed w t p s h = well_formed (put w t p) (put_lined w t p (lined w s))
     (set_all (Suits (length w.locks) (kind_at w)) w.places t p Idle h (suits w s)) s.shown
 
-befallen_shaped : (w : State) (t : ℕ) (reply : Reply) → IsWellFormed w → ReplyFits (length w.locks)
+befallen_well_formed : (w : State) (t : ℕ) (reply : Reply) → IsWellFormed w → ReplyFits (length w.locks)
     (kind_at w) (place_at w t) reply → IsWellFormed (state_after_reply w t reply)
-befallen_shaped w t reply s r = put_shaped w t (next_place (place_at w t) reply) s
+befallen_well_formed w t reply s r = put_well_formed w t (next_place (place_at w t) reply) s
     (next_suits (length w.locks) (kind_at w) (place_at w t) reply (suits w s t) r)
 
-filled_shaped : (w : State) (keys : Keys) (who : Option ℕ) → IsWellFormed w
+filled_well_formed : (w : State) (keys : Keys) (who : Option ℕ) → IsWellFormed w
     → IsWellFormed (state_with_sections w keys who)
-filled_shaped w (One key) who s = shaped (state_with_sections w (One key) who)
+filled_well_formed w (One key) who s = well_formed (state_with_sections w (One key) who)
     (filled_lined w (One key) who (lined w s)) (suits w s) s.shown
-filled_shaped w (Two first second) who s = shaped (state_with_sections w (Two first second) who)
+filled_well_formed w (Two first second) who s = well_formed (state_with_sections w (Two first second) who)
     (filled_lined w (Two first second) who (lined w s)) (suits w s) s.shown
 
 -- all that befalls a thread suits it
@@ -472,8 +473,8 @@ module _ (w : State) (t : ℕ) (p : Place) (a : Act) where
       (λ loud r b q h. next_suits (length w.locks) (kind_at w) q r h (befallen_fits (length w.locks)
       (kind_at w) q r b)) (suits w s u)
 
-  performed_shaped : IsWellFormed w → t < length w.places → Writes w a → IsWellFormed done
-  performed_shaped s lt writes = shaped done (performed_lined w t p a (lined w s) lt)
+  performed_well_formed : IsWellFormed w → t < length w.places → Writes w a → IsWellFormed done
+  performed_well_formed s lt writes = well_formed done (performed_lined w t p a (lined w s) lt)
       (λ u. suits_then (place_at done u) (performed_suits s u))
       (λ l of. shows_then (word_at done l) (performed_shown w t p a s.shown writes l of))
 
@@ -579,7 +580,7 @@ seeing_fits w t p is not_looking = others_hear (length w.locks) (kind_at w)
     (acted_keeps LooksNot w t t p (act_of p) (λ loud r b q h. looks_not_next q r h)
     (subst LooksNot (sym is) not_looking)) (replies_timely w t (act_of p))
 
--- a notification that looks sees a mutex that is there, and any other reply suits any place behind the act
+-- a notification that looks sees a mutex that is there, and any other reply suits any place after the act
 reply_fits : (w : State) (t : ℕ) (p : Place) → IsWellFormed w → place_at w t ≡ p
     → ReplyFits (length w.locks) (kind_at w) (place_at (state_after_act w t p (act_of p)) t)
     (reply_to w t (act_of p))
@@ -595,18 +596,20 @@ reply_fits w t (Semaphore l at) s is = seeing_fits w t (Semaphore l at) is tt
 reply_fits w t (Condvar l (Wait m timed at)) s is = seeing_fits w t (Condvar l (Wait m timed at)) is tt
 reply_fits w t (Condvar l (Notify all m at)) s is = seeing_fits w t (Condvar l (Notify all m at)) is tt
 
-went_shaped : (w : State) (t : ℕ) (p : Place) → IsWellFormed w → place_at w t ≡ p → t < length w.places
+went_well_formed : (w : State) (t : ℕ) (p : Place) → IsWellFormed w → place_at w t ≡ p → t < length w.places
     → IsWellFormed (state_after_going w t p)
-went_shaped w t p s is lt =
+went_well_formed w t p s is lt =
     let v = state_after_act w t p (act_of p) in
-    put_shaped v t (next_place (place_at v t) (reply_to w t (act_of p))) (performed_shaped w t p (act_of p) s
+    put_well_formed v t (next_place (place_at v t) (reply_to w t (act_of p)))
+    (performed_well_formed w t p (act_of p) s
     lt (writes w p s (subst (Suits (length w.locks) (kind_at w)) is (suits w s t))))
     (suits_then w t p (act_of p) (next_place (place_at v t) (reply_to w t (act_of p)))
     (next_suits (length w.locks) (kind_at w) (place_at v t) (reply_to w t (act_of p))
     (performed_suits w t p (act_of p) s t) (reply_fits w t p s is)))
 
-gone_shaped : (w : State) (t : ℕ) → IsWellFormed w → t < length w.places → IsWellFormed (state_after_go w t)
-gone_shaped w t s lt = went_shaped w t (place_at w t) s refl lt
+gone_well_formed : (w : State) (t : ℕ) → IsWellFormed w → t < length w.places
+    → IsWellFormed (state_after_go w t)
+gone_well_formed w t s lt = went_well_formed w t (place_at w t) s refl lt
 
 -- where a closure's answer leads
 pub closed_fits : (w : State) (t : ℕ) (succeeded : Bool) → IsWellFormed w → Suits (length w.locks) (kind_at w)
@@ -614,16 +617,16 @@ pub closed_fits : (w : State) (t : ℕ) (succeeded : Bool) → IsWellFormed w �
 closed_fits w t succeeded s = next_suits (length w.locks) (kind_at w) (place_at w t) (Closed succeeded)
     (suits w s t) tt
 
-begun_shaped : (w : State) (t : ℕ) (c : Call) → IsWellFormed w → can_begin w t c ≡ true
+begun_well_formed : (w : State) (t : ℕ) (c : Call) → IsWellFormed w → can_begin w t c ≡ true
     → IsWellFormed (state_after_begin w t c)
-begun_shaped w t c s can = put_shaped w t (first_place (kind_at w (lock_in c)) c) s
+begun_well_formed w t c s can = put_well_formed w t (first_place (kind_at w (lock_in c)) c) s
     (call_suits w t c (both (is_idle (place_at w t)) (is_open_to w t c) can).1)
 
 -- a thread stands where it looks
-pub looking_shaped : (w : State) (t : ℕ) (q : Place) → IsWellFormed w → looking (place_at w t) ≡ Some q
+pub looking_well_formed : (w : State) (t : ℕ) (q : Place) → IsWellFormed w → looking (place_at w t) ≡ Some q
     → IsWellFormed (put w t q)
-looking_shaped w t q s is = let k = look (place_at w t) q is
-    in put_shaped w t q s (k.fits (length w.locks) (s.places t), k.kind (kind_at w) (s.kinds t))
+looking_well_formed w t q s is = let k = look (place_at w t) q is
+    in put_well_formed w t q s (k.fits (length w.locks) (s.places t), k.kind (kind_at w) (s.kinds t))
 
 -- A thread that looks loads the word of a lock that is there.
 pub looks_fit : (w : State) (t : ℕ) (q : Place) → IsWellFormed w → t < length w.places
@@ -649,7 +652,7 @@ has_keys locks (Condvar l (Notify all m at)) few h = (below locks l few h.0, bel
 pub looks_keyed : (w : State) (t : ℕ) (q : Place) → IsWellFormed w → looking (place_at w t) ≡ Some q
     → HasKeys (place_at (put w t q) t)
 looks_keyed w t q s is = has_keys (length w.locks) (place_at (put w t q) t) s.few
-    ((looking_shaped w t q s is).places t)
+    ((looking_well_formed w t q s is).places t)
 
 looks_go : (w : State) (t : ℕ) (q : Place) → t < length w.places → looking (place_at w t) ≡ Some q
     → can_go (put w t q) t ≡ true
@@ -672,22 +675,24 @@ spun_told {v} same t q told lt is e =
     (e ∙ ap (λ b. if b then go_outcome (put v t q) t else outcome.TheVariants.NotNow) (looks_go v t q lt is)
     ∙ sym (ap (λ o. if is_some o then look_outcome v t o else outcome.TheVariants.NotNow) is))
 
-spun_shaped : (w : State) (t : ℕ) → IsWellFormed w → t < length w.places → IsWellFormed (state_after_spin w t)
-spun_shaped w t s lt = by_place (looking (place_at w t)) refl
+spun_well_formed : (w : State) (t : ℕ) → IsWellFormed w → t < length w.places
+    → IsWellFormed (state_after_spin w t)
+spun_well_formed w t s lt = by_place (looking (place_at w t)) refl
   where
     by_place : (o : Option Place) → looking (place_at w t) ≡ o → IsWellFormed (state_after_look w t o)
     by_place None is = s
-    by_place (Some q) is = gone_shaped (put w t q) t (looking_shaped w t q s is)
+    by_place (Some q) is = gone_well_formed (put w t q) t (looking_well_formed w t q s is)
         (rw (length-set w.places t q) lt)
 
-lated_shaped : (w : State) (t : ℕ) → IsWellFormed w → IsWellFormed (state_after_late w t)
-lated_shaped w t s = by_place (place_at w t) refl
+lated_well_formed : (w : State) (t : ℕ) → IsWellFormed w → IsWellFormed (state_after_late w t)
+lated_well_formed w t s = by_place (place_at w t) refl
   where
     asleep : (l : ℕ) (entry : Entry) (retries : Bool) → place_at w t ≡ Mutex l
         (Lock entry retries lock.TheVariants.Asleep) → (b : Bool) → is_timed entry ≡ b
         → IsWellFormed (state_after_late_on w t (key_in (Some l) (in_line b Main)))
-    asleep l entry retries e true timed = befallen_shaped (state_with_sections w (One (2 * l)) (Some t)) t
-        Late (filled_shaped w (One (2 * l)) (Some t) s) (rw e timed)
+    asleep l entry retries e true timed = befallen_well_formed (state_with_sections w (One (2 * l)) (Some t))
+        t
+        Late (filled_well_formed w (One (2 * l)) (Some t) s) (rw e timed)
     asleep l entry retries e false timed = s
 
     locks : (l : ℕ) (entry : Entry) (retries : Bool) (at : LockAt) → place_at w t
@@ -702,8 +707,8 @@ lated_shaped w t s = by_place (place_at w t) refl
       where
         by_key : (o : Option ℕ) → IsWellFormed (state_after_late_on w t o)
         by_key None = s
-        by_key (Some key) = befallen_shaped (state_with_sections w (One key) (Some t)) t Late
-            (filled_shaped w (One key) (Some t) s) (rw e refl)
+        by_key (Some key) = befallen_well_formed (state_with_sections w (One key) (Some t)) t Late
+            (filled_well_formed w (One key) (Some t) s) (rw e refl)
     waits l (Wait m false (wait.Asleep st)) e = s
     waits l (Wait m timed at) e = s
     waits l (Look all) e = s
@@ -721,23 +726,23 @@ lated_shaped w t s = by_place (place_at w t) refl
       where
         by_line : (m : Option Line) → IsWellFormed (state_after_late_on w t (key_in (Some l) m))
         by_line None = s
-        by_line (Some m) = befallen_shaped (state_with_sections w (One (key_of l m)) (Some t)) t Late
-            (filled_shaped w (One (key_of l m)) (Some t) s) (rw e tt)
+        by_line (Some m) = befallen_well_formed (state_with_sections w (One (key_of l m)) (Some t)) t Late
+            (filled_well_formed w (One (key_of l m)) (Some t) s) (rw e tt)
     by_place (Once l at) e = by_line (once_profile at).late_line
       where
         by_line : (m : Option Line) → IsWellFormed (state_after_late_on w t (key_in (Some l) m))
         by_line None = s
-        by_line (Some m) = befallen_shaped (state_with_sections w (One (key_of l m)) (Some t)) t Late
-            (filled_shaped w (One (key_of l m)) (Some t) s) (rw e tt)
+        by_line (Some m) = befallen_well_formed (state_with_sections w (One (key_of l m)) (Some t)) t Late
+            (filled_well_formed w (One (key_of l m)) (Some t) s) (rw e tt)
     by_place (Semaphore l at) e = by_line (semaphore_profile at).late_line
       where
         by_line : (m : Option Line) → IsWellFormed (state_after_late_on w t (key_in (Some l) m))
         by_line None = s
-        by_line (Some m) = befallen_shaped (state_with_sections w (One (key_of l m)) (Some t)) t Late
-            (filled_shaped w (One (key_of l m)) (Some t) s) (rw e tt)
+        by_line (Some m) = befallen_well_formed (state_with_sections w (One (key_of l m)) (Some t)) t Late
+            (filled_well_formed w (One (key_of l m)) (Some t) s) (rw e tt)
     by_place (Condvar l at) e = waits l at e
 
--- the thread stands behind its closure, and goes on from there
+-- the thread stands after its closure, and goes on from there
 closing_can : (w : State) (t : ℕ) (succeeded : Bool) → runs_closure (act_of (place_at w t)) ≡ true
     → can_close w t succeeded ≡ true
 closing_can w t succeeded runs = rw (runs, closes_freely w w t succeeded runs) refl
@@ -770,37 +775,38 @@ closed_told {v} same t succeeded q told lt runs is e =
     (e ∙ ap (λ b. if b then go_outcome (put v t q) t else outcome.TheVariants.NotNow)
     (goes_closed v t succeeded q lt runs is))))
 
-closed_shaped : (w : State) (t : ℕ) (succeeded : Bool) → IsWellFormed w → t < length w.places
+closed_well_formed : (w : State) (t : ℕ) (succeeded : Bool) → IsWellFormed w → t < length w.places
     → IsWellFormed (state_after_close w t succeeded)
-closed_shaped w t succeeded s lt =
+closed_well_formed w t succeeded s lt =
     let q = closed_place w t succeeded in
-    gone_shaped (put w t q) t (put_shaped w t q s (closed_fits w t succeeded s))
+    gone_well_formed (put w t q) t (put_well_formed w t q s (closed_fits w t succeeded s))
     (rw (length-set w.places t q) lt)
 
-turned_shaped : (w : State) (t : ℕ) (x : Turn) → IsWellFormed w → t < length w.places → can_turn w t x ≡ true
+turned_well_formed : (w : State) (t : ℕ) (x : Turn) → IsWellFormed w → t < length w.places → can_turn w t x
+    ≡ true
     → IsWellFormed (state_after_turn w t x)
-turned_shaped w t (turn.TheVariants.Begin c) s lt can = begun_shaped w t c s can
-turned_shaped w t turn.TheVariants.Go s lt can = gone_shaped w t s lt
-turned_shaped w t turn.TheVariants.Spin s lt can = spun_shaped w t s lt
-turned_shaped w t turn.TheVariants.Late s lt can = lated_shaped w t s
-turned_shaped w t turn.TheVariants.Ok s lt can = closed_shaped w t true s lt
-turned_shaped w t turn.TheVariants.Err s lt can = closed_shaped w t false s lt
+turned_well_formed w t (turn.TheVariants.Begin c) s lt can = begun_well_formed w t c s can
+turned_well_formed w t turn.TheVariants.Go s lt can = gone_well_formed w t s lt
+turned_well_formed w t turn.TheVariants.Spin s lt can = spun_well_formed w t s lt
+turned_well_formed w t turn.TheVariants.Late s lt can = lated_well_formed w t s
+turned_well_formed w t turn.TheVariants.Ok s lt can = closed_well_formed w t true s lt
+turned_well_formed w t turn.TheVariants.Err s lt can = closed_well_formed w t false s lt
 
 -- a step keeps the shape
-pub after_shaped : (w : State) (s : Step) → IsWellFormed w → IsWellFormed (after w s)
-after_shaped w step s = either (is_possible w step) refl
+pub after_well_formed : (w : State) (s : Step) → IsWellFormed w → IsWellFormed (after w s)
+after_well_formed w step s = either (is_possible w step) refl
   where
     either : (b : Bool) → is_possible w step ≡ b
         → IsWellFormed (if b then state_after_turn w step.thread step.turn else w)
     either false e = s
     either true e = let parts = both (nat_lt step.thread (length w.places)) (can_turn w step.thread step.turn)
         e in
-        turned_shaped w step.thread step.turn s (ltb-true step.thread (length w.places) parts.0) parts.1
+        turned_well_formed w step.thread step.turn s (ltb-true step.thread (length w.places) parts.0) parts.1
 
 -- the opening state has the shape
-pub opening_shaped : (kinds : List Kind) (threads : ℕ) → length kinds ≤ 256
+pub opening_well_formed : (kinds : List Kind) (threads : ℕ) → length kinds ≤ 256
     → IsWellFormed (opening kinds threads)
-opening_shaped kinds threads few = record {
+opening_well_formed kinds threads few = record {
   few = rw (length-map kinds unlocked) few;
   sections = rw (length-replicate {A = Option ℕ} (2 * length kinds) None, length-map kinds unlocked) refl;
   queues = rw (

@@ -51,7 +51,7 @@ Writes w (HandOver l f) = is_condvar (kind_at w l) ≡ true → ShowsPlainMutex 
     (apply f (word_at w l))
 Writes w a = Unit {0}
 
--- ---------------------------------------------------------------- words behind acts
+-- ---------------------------------------------------------------- words after acts
 
 abbrev LockShows : State → Lock → Type 0
 LockShows w x = is_condvar x.kind ≡ true → ShowsPlainMutex (length w.locks) (kind_at w) x.word

@@ -51,7 +51,7 @@ use Rattle.steps_condvar.specs.declared.wait.Stands.TheVariants as stands
 use Rattle.steps_condvar.specs.declared.wait.WaitAt.{WaitAt}
 use Rattle.steps_condvar.specs.declared.wait.WaitAt.TheVariants as wait
 use Rattle.steps_condvar.specs.CondvarProfiles.{may_give_up}
-use Rattle.steps_condvar.specs.CondvarSteps.{stands_after, comes_from_another, behind_release, condvar_next}
+use Rattle.steps_condvar.specs.CondvarSteps.{stands_after, comes_from_another, past_release, condvar_next}
 use Rattle.steps_condvar.specs.CondvarSteps.{in_notify, in_wait, is_shown, late_place, look_next, mutex_shown}
 use Rattle.steps_condvar.specs.CondvarSteps.{notified, next_notify, next_wait, released, relocked}
 use Rattle.lot_steps.specs.declared.places.Place.{Place}
@@ -206,16 +206,16 @@ module _ (locks : ℕ) (kinds : ℕ → Kind) (c : ℕ) where
     TimelyNext (next.TheVariants.End answer) = Unit {0}
 
     -- a thread that has released its mutex is not late
-    behind_timely : (s : Stands) → GivesUpOnlyTimed (Wait m timed (behind_release s))
-    behind_timely (stands.Noted note.TheVariants.Normal) = tt
-    behind_timely (stands.Noted note.TheVariants.HandOff) = tt
-    behind_timely s = tt
+    after_timely : (s : Stands) → GivesUpOnlyTimed (Wait m timed (past_release s))
+    after_timely (stands.Noted note.TheVariants.Normal) = tt
+    after_timely (stands.Noted note.TheVariants.HandOff) = tt
+    after_timely s = tt
 
     releases_timely : (s : Stands) (at : MutexPlace) (n : Next MutexPlace) (b : Bool)
         → GivesUpOnlyTimed (Wait m timed (if b then wait.Release s at else released s n))
     releases_timely s at n true = tt
     releases_timely s at (next.TheVariants.At at2) false = tt
-    releases_timely s at (next.TheVariants.End answer) false = behind_timely s
+    releases_timely s at (next.TheVariants.End answer) false = after_timely s
 
     relocks_timely : (timed_out : Bool) (at : MutexPlace) (n : Next MutexPlace)
         → GivesUpOnlyTimed (Wait m timed (wait.Lock timed_out at)) → TimelyNext (relocked timed timed_out n)
@@ -250,7 +250,7 @@ module _ (locks : ℕ) (kinds : ℕ → Kind) (c : ℕ) where
               | false ↦ releases_timely s at (mutex_next at reply) false
             ]
     wait_timely (wait.Asleep s) Late h r = late_timely s r
-    wait_timely (wait.Asleep s) reply h r = behind_timely (stands_after s reply)
+    wait_timely (wait.Asleep s) reply h r = after_timely (stands_after s reply)
     wait_timely wait.Remove (Removed none_left) h r = either none_left
       where
         either : (b : Bool) → TimelyNext (if b then next.TheVariants.At wait.Hide else next.TheVariants.At

@@ -181,7 +181,7 @@ state_with_sections w (keys.TheVariants.One key) who =
 state_with_sections w (keys.TheVariants.Two first second) who =
     record w { sections = slice_set (slice_set w.sections first who) second who }
 
--- a thread leaves where it stands, and then stands behind the last under a key
+-- a thread leaves where it stands, and then stands after the last under a key
 abbrev pub queues_with_last : List (List Waiter) → ℕ → ℕ → Want → List (List Waiter)
 queues_with_last queues key t want =
     let others = map (without t) queues in
@@ -342,7 +342,7 @@ abbrev pub left_in_line : Requeue → List Waiter → List Waiter
 left_in_line requeue.TheVariants.One q = drop 1 q
 left_in_line how q = []
 
--- a waiter that is moved stands behind the last of the other line, and wants to own alone
+-- a waiter that is moved stands after the last of the other line, and wants to own alone
 abbrev pub moved_under : ℕ → List Waiter → List Waiter
 moved_under key q = map (λ (x : Waiter). waiter key x.thread Exclusive) q
 

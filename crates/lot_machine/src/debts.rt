@@ -71,8 +71,8 @@ impl<'a> DebtBook<'a> {
         let linked = linked_of(places.len());
         let mut links = [UNLINKED; LINKED];
         let mut first = [linked as u16; LOCKS];
-        for behind in 0..linked {
-            put_before(places, &mut links, &mut first, linked - behind - 1);
+        for afterwards in 0..linked {
+            put_before(places, &mut links, &mut first, linked - afterwards - 1);
         }
         DebtBook {
             places,
@@ -115,7 +115,7 @@ fn linked_of(threads: usize) -> usize
     if threads > LINKED { 0 } else { threads }
 }
 
-/// Puts a thread before those that are linked already, which are all behind it.
+/// Puts a thread before those that are linked already, which are all after it.
 fn put_before(places: &[Place], links: &mut [Link; LINKED], first: &mut [u16; LOCKS], thread: usize)
     requires there { (thread < length places.now) × (length places.now ≤ 1024) }
     requires linked { AreLinkedFrom links.old first.old places.now (thread + 1) }

@@ -16,7 +16,7 @@ pub struct OwnersOf<'a> {
     shares: &'a [usize],
     sharer: usize,
     rights: usize,
-    behind: usize,
+    afterwards: usize,
 }
 
 impl<'a> Model for OwnersOf<'a> {
@@ -28,7 +28,7 @@ impl<'a> Model for OwnersOf<'a> {
     ghost Value = { List (Owner × ℕ) };
 
     ghost view = { λ o. owners_listed o.left
-        ++ (replicate o.rights (Shared, o.sharer) ++ sharers_listed o.behind (drop o.behind o.shares.now)) };
+        ++ (replicate o.rights (Shared, o.sharer) ++ sharers_listed o.afterwards (drop o.afterwards o.shares.now)) };
 }
 
 impl<'a> OwnersOf<'a> {
@@ -40,7 +40,7 @@ impl<'a> OwnersOf<'a> {
             shares,
             sharer: 0,
             rights: 0,
-            behind: 0,
+            afterwards: 0,
         }
     }
 }
@@ -90,11 +90,11 @@ impl Iterator for OwnersOf<'_> {
             self.rights -= 1;
             return Some((Owner::Shared, self.sharer));
         }
-        match find_sharer(self.shares, self.behind) {
+        match find_sharer(self.shares, self.afterwards) {
             Some(thread) => {
                 self.sharer = thread;
                 self.rights = self.shares[thread] - 1;
-                self.behind = thread + 1;
+                self.afterwards = thread + 1;
                 Some((Owner::Shared, thread))
             }
             None => None,

@@ -76,7 +76,7 @@ impl Section {
     ) -> Result<(), TextError> {
         let end = self.code.len();
         for _ in 1..times {
-            self.copy_behind(alloc, start, end)?;
+            self.copy_after(alloc, start, end)?;
         }
         if times == 0 {
             self.code.truncate(start);
@@ -86,7 +86,7 @@ impl Section {
     }
 
     // Adds a copy of the instructions between two places.
-    fn copy_behind(&mut self, alloc: Global, start: usize, end: usize) -> Result<(), TextError> {
+    fn copy_after(&mut self, alloc: Global, start: usize, end: usize) -> Result<(), TextError> {
         let by = self.code.len().wrapping_sub(start);
         for at in start..end {
             let (Some(instruction), Some(line)) = (self.code.get(at), self.lines.get(at)) else {

@@ -362,16 +362,16 @@ known_read a b c text k n number s next Wrote r read e =
     subst (λ m. ReachedKnown a c (text ++ read.1) m next) at (known_all a b c text k s read.0 next read.1 r
     read.2 read.4)
 
--- the line that comes first, and what is left behind it
+-- the line that comes first, and what is left after it
 pub kept_line : (text line rest : List ℕ) (len : ℕ) → text ≡ line ++ 10 ∷ rest → len ≡ length line + 1
     → take (len - 1) text ≡ line
 kept_line text line rest len e f =
     let n : len - 1 ≡ length line = omega (arith, f) in
     ap (λ k. take k text) n ∙ ap (take (length line)) e ∙ take-append_seam line (10 ∷ rest)
 
-pub left_behind : (shown line rest : List ℕ) (n len : ℕ) → drop n shown ≡ line ++ 10 ∷ rest → len
+pub left_after : (shown line rest : List ℕ) (n len : ℕ) → drop n shown ≡ line ++ 10 ∷ rest → len
     ≡ length line + 1 → drop (n + len) shown ≡ rest
-left_behind shown line rest n len e f =
+left_after shown line rest n len e f =
     let long : len ≡ length (line ++ 10 ∷ []) = f ∙ sym (length-append line (10 ∷ [])) in
     sym (drop-drop len n shown)
     ∙ ap (drop len) (e ∙ sym (append_assoc line (10 ∷ []) rest))

@@ -15,7 +15,7 @@ MayAnswerAll stage (line ∷ lines) next text = (between : ReplayStage) × (firs
     × LineMayLead stage line between first × MayAnswerAll between lines next others
     × (text ≡ first ++ others)
 
--- a text begins with these lines, whatever comes behind it
+-- a text begins with these lines, whatever comes after it
 abbrev pub BeginsWithLines : List ℕ → List (List ℕ) → List ℕ → Type 0
 BeginsWithLines text lines left =
     (more : List ℕ) → lines_of (text ++ more) ≡ lines ++ lines_of (left ++ more)

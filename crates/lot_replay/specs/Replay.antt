@@ -1,4 +1,4 @@
--- The text of a schedule, and what `replay` may leave behind.
+-- The text of a schedule, and what `replay` may leave after.
 use Rattle.std.specs.Prelude.{◌≡◌, ◌≤◌, ℕ, ◌+◌, Bool, true, false, List, [], ◌∷◌, ◌++◌, length, ⊤, Option}
 use Rattle.std.specs.Prelude.{None, Some, ◌⊎◌, All}
 use Rattle.std.specs.Io.KnownBytes.{Appends}

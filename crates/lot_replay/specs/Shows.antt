@@ -37,7 +37,7 @@ aside_text x = decimal x.thread
 abbrev pub debtor_text : Debt × ℕ → List ℕ
 debtor_text d = decimal d.1
 
--- items parted by commas behind a heading, or nothing where there are none
+-- items parted by commas after a heading, or nothing where there are none
 abbrev pub group : {X : Type 0} → List ℕ → (X → List ℕ) → List X → List ℕ
 group heading text [] = []
 group heading text (x ∷ xs) = heading ++ join_by text (codes ",") (x ∷ xs)

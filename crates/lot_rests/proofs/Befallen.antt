@@ -36,7 +36,7 @@ use Rattle.steps_condvar.specs.declared.wait.WaitAt.{WaitAt}
 use Rattle.steps_condvar.specs.declared.wait.WaitAt.TheVariants as wait
 use Rattle.steps_condvar.specs.declared.places.CondvarPlace.{CondvarPlace}
 use Rattle.steps_condvar.specs.declared.places.CondvarPlace.TheVariants as condvar
-use Rattle.steps_condvar.specs.CondvarSteps.{behind_release, condvar_next, in_wait, relocked}
+use Rattle.steps_condvar.specs.CondvarSteps.{past_release, condvar_next, in_wait, relocked}
 use Rattle.steps_rwlock.specs.declared.places.Admission.{Admission}
 use Rattle.steps_rwlock.specs.declared.places.RwLockPlace.{RwLockPlace}
 use Rattle.steps_rwlock.specs.declared.places.RwLockAt.{RwLockAt}
@@ -196,10 +196,10 @@ semaphore_late l (semaphore.Release at) key h = absurd cc
 -- ---------------------------------------------------------------- a condition variable
 
 -- after its release a waiter has no more to do than one that sleeps
-pub behind_works : (s : Stands) → wait_work (behind_release s) ≤ 8
-behind_works (stands.Noted note.Normal) = omega arith
-behind_works (stands.Noted note.HandOff) = omega arith
-behind_works s = omega arith
+pub after_works : (s : Stands) → wait_work (past_release s) ≤ 8
+after_works (stands.Noted note.Normal) = omega arith
+after_works (stands.Noted note.HandOff) = omega arith
+after_works s = omega arith
 
 wait_kept : (m : ℕ) (timed : Bool) (at : WaitAt) (r : Reply) → Befalls r → work_then condvar_work
     (condvar_next (condvar.Wait m timed at) r) ≤ wait_work at
@@ -210,7 +210,7 @@ wait_kept m timed (wait.Release s at) (Woken n) b = omega arith
 wait_kept m timed (wait.Asleep s) (TakenBy t) b = omega arith
 wait_kept m timed (wait.Asleep s) (MovedTo key) b = omega arith
 wait_kept m timed (wait.Asleep s) (HandedBy t alone) b = omega arith
-wait_kept m timed (wait.Asleep s) (Woken n) b = behind_works (stands.Noted n)
+wait_kept m timed (wait.Asleep s) (Woken n) b = after_works (stands.Noted n)
 wait_kept m timed (wait.Lock late at) r b = subst (λ n. n ≤ mutex_work at)
     (sym (relock_works m timed late (mutex_next at r))) (mutex_kept at r b)
 wait_kept m timed at (TakenBy t) b = omega arith

@@ -23,12 +23,12 @@ use Rattle.steps_condvar.specs.declared.wait.WaitAt.{WaitAt}
 use Rattle.steps_condvar.specs.declared.wait.WaitAt.TheVariants as wait
 use Rattle.steps_condvar.specs.declared.places.CondvarPlace.{CondvarPlace}
 use Rattle.steps_condvar.specs.declared.places.CondvarPlace.TheVariants.{Wait, Look, Notify}
-use Rattle.steps_condvar.specs.CondvarSteps.{behind_release, comes_from_another, condvar_act, condvar_next}
+use Rattle.steps_condvar.specs.CondvarSteps.{past_release, comes_from_another, condvar_act, condvar_next}
 use Rattle.steps_condvar.specs.CondvarSteps.{in_notify, in_wait, is_shown, marks, move_act, moved_all}
 use Rattle.steps_condvar.specs.CondvarSteps.{moved_one, mutex_beside, mutex_shown, next_notify, notified}
 use Rattle.steps_condvar.specs.CondvarSteps.{notify_act, released, relocked, stands_after, wait_act}
 use Rattle.lot_machine.specs.Machine.{State, can_do, kind_at, queue_at, reply_to, word_at}
-use Rattle.lot_rests.proofs.Befallen.{behind_works}
+use Rattle.lot_rests.proofs.Befallen.{after_works}
 use Rattle.lot_rests.proofs.Mutexes.{mutex_row}
 use Rattle.lot_rests.proofs.Rows.{Goes, either_less, exchange_fails, is_still, nears, same}
 use Rattle.lot_rests.proofs.Work.{condvar_work, mutex_work, notify_work, wait_work, work_then}
@@ -94,7 +94,7 @@ module _ (w : State) (t c : ℕ) where
     released_row timed s a work ways (At at) some row = goes_more 8 work (mutex_work at) ways
         (mutex_ways word at) row
     released_row timed s a work ways (End answer) some row =
-        inl (let most : wait_work (behind_release s) ≤ 8 = behind_works s in omega arith)
+        inl (let most : wait_work (past_release s) ≤ 8 = after_works s in omega arith)
 
     release_row : (timed : Bool) (s : Stands) (at : MutexPlace) → can_do w (mutex_act m at) ≡ true
         → Leads (Wait m timed (wait.Release s at)) (mutex_act m at)

@@ -80,11 +80,11 @@ module _ (w : State) where
 
   -- ---------------------------------------------------------------- words
 
-  module _ (steady : IsInductive w) where
+  module _ (inductive : IsInductive w) where
     by_sort : (l : ℕ) (sort : Sort) → (rules_in w l).sort ≡ sort
         → word_at w l ≡ word_by sort (rules_in w l).limit (site_of w l).lock (site_of w l).aside_parked
         (site_of w l).parked
-    by_sort l sort is = steady.sites.word l
+    by_sort l sort is = inductive.sites.word l
         ∙ ap (λ s. word_by s (rules_in w l).limit (site_of w l).lock (site_of w l).aside_parked
         (site_of w l).parked) is
 
@@ -131,7 +131,7 @@ module _ (w : State) where
       place_row (RwLock l a c) single fits there can =
           rwlock_so l a (act_of (RwLock l a c)) (call_work c) (call_ways a (word_at w l) c)
           (call_next a c (reply_to w t (act_of (RwLock l a c))))
-          (call_row w t l fits.0.0 (word_small w l steady fits.0.0) there a c can)
+          (call_row w t l fits.0.0 (word_small w l inductive fits.0.0) there a c can)
       place_row (Condvar l at) single fits there can = absurd single
 
       -- a thread that releases its mutex may be told something by its own act, which changes nothing of this
@@ -182,10 +182,11 @@ pub goes : (w : State) (t : ℕ) → IsWorld w → t < length w.places → can_g
 goes w t h there can = elim (single_or_two (place_at w t)) [
   | inl single ↦ subst (λ q. Goes w (act_of (place_at w t)) (work (place_at w t)) (work q)
       (ways (word_at w) (place_at w t)) (ways (word_at w) q)) (sym (gone_place w t single there))
-      (place_row w h.steady t (place_at w t) single (h.steady.stands.calls t) (h.shaped.places t) can)
+      (place_row w h.inductive t (place_at w t) single (h.inductive.stands.calls t) (h.well_formed.places t)
+      can)
   | inr two ↦ subst (λ p. Goes w (act_of p) (work p) (work (place_at (state_after_going w t p) t))
       (ways (word_at w) p) (ways (word_at w) (place_at (state_after_going w t p) t))) (sym two.is)
-      (two_row w h.steady t there two.lock two.at two.is (fits_two w t h.steady two)
-      (subst (PlaceFits (length w.locks)) two.is (h.shaped.places t))
+      (two_row w h.inductive t there two.lock two.at two.is (fits_two w t h.inductive two)
+      (subst (PlaceFits (length w.locks)) two.is (h.well_formed.places t))
       (subst (λ p. can_do w (act_of p) ≡ true) two.is can))
 ]

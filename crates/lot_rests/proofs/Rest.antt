@@ -76,7 +76,7 @@ goes_then (t ∷ ts) us w = goes_then ts us (after w (go_of t))
 module _ (w : State) (h : IsWorld w) (stuck : NobodyGoes w) where
   nobody_may : (u : ℕ) → MayGo (locks_of w) u → ⊥
   nobody_may u may =
-      let can : can_go w u ≡ true = go_possible w u h.steady may in
+      let can : can_go w u ≡ true = go_possible w u h.inductive may in
       let there : u < length w.places = turner_there w u turn.Go may in
       let lt : nat_lt u (length w.places) ≡ true = grind (arith, nat_tests) in
       let possible : is_possible w (go_of u) ≡ true = rw (lt, can) refl in

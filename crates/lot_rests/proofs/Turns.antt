@@ -28,7 +28,7 @@ use Rattle.lot_machine.proofs.Shape.{after_size, both, performed_counts}
 use Rattle.lot_laws.specs.SitesOf.{IsWorld}
 use Rattle.lot_laws.specs.Refinement.{ChangesOneThing}
 use Rattle.lot_laws.proofs.calls.Closures.{RunsOne, closes_one}
-use Rattle.lot_laws.proofs.calls.Closings.{closing_there, goes_there, is_behind}
+use Rattle.lot_laws.proofs.calls.Closings.{closing_there, goes_there, is_after}
 use Rattle.lot_laws.proofs.calls.Looking.{closing_here}
 use Rattle.lot_laws.proofs.calls.OwnPlace.{goes_from_there}
 use Rattle.lot_laws.proofs.machine.KindsStay.{after_kinds}
@@ -273,7 +273,7 @@ module _ (w : State) (t : ℕ) (there : t < length w.places) (succeeded : Bool) 
 
   goes_so : closed ≡ put ended t (next_place ending (Value (word_at w runs.lock)))
   goes_so = goes_there w t there succeeded runs ∙ goes_from_there closing t ending
-      (closing_here w t there succeeded runs ∙ is_behind w t there succeeded runs) tt
+      (closing_here w t there succeeded runs ∙ is_after w t there succeeded runs) tt
 
   ended_there : t < length ended.places
   ended_there = subst (λ n. t < n) (sym (performed_counts closing t ending (act_of ending)).0)
@@ -330,5 +330,5 @@ step_falls w s h on can =
     subst (λ v. left v + 1 ≤ left w) (sym led)
     (turn_falls w s.thread s.turn h (ltb-true s.thread (length w.places) parts.0) parts.1 on
     (subst (SameSize w) led (after_size w s))
-    (subst (ChangesOneThing w s.thread) led (one_thing w s h.steady))
+    (subst (ChangesOneThing w s.thread) led (one_thing w s h.inductive))
     (λ k. subst (λ (v : State). kind_at v k ≡ kind_at w k) led (after_kinds w s k)))

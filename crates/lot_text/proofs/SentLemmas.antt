@@ -15,7 +15,7 @@ use Rattle.lot_text.specs.Sent.{Sends, SendsFront, Held, Puts, PutsWhere}
 pub sends_none : (a : Option (List ℕ)) (xs : List ℕ) → Sends a a xs xs
 sends_none a xs = record { taken = []; appended = Appends-nil a; whole = refl }
 
--- a text that was added later is sent behind what was held
+-- a text that was added later is sent after what was held
 pub sends_then : (a b c : Option (List ℕ)) (xs ys text zs : List ℕ) → Sends a b xs ys
     → Sends b c (ys ++ text) zs → Sends a c (xs ++ text) zs
 sends_then a b c xs ys text zs p q = record {

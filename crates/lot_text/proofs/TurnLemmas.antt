@@ -111,7 +111,7 @@ turn_begins text digits t len turn within e w =
       (omega (arith, long, is.few, plain_short turn), turn_means word t turn e is.digits),
     )
 
--- a text up to its first line feed, and behind it
+-- a text up to its first line feed, and after it
 pub text_begins : (text : List ℕ) (n : ℕ) → n ≤ length text → IsOneLine (take n text)
     → (n < length text → slice_index text n ≡ 10) → n ≢ length text → BeginsWithLine text Text (n + 1)
 text_begins text n within one feed some =

@@ -31,7 +31,7 @@ use Rattle.lot_text.specs.Names.{is_digit, name_of}
 abbrev pub words_of : List ℕ → List (List ℕ)
 words_of line = slice_split (λ b. b == 32) line
 
--- the number that digits spell behind the number n
+-- the number that digits spell after the number n
 abbrev pub digits_after : ℕ → List ℕ → Option ℕ
 digits_after n [] = Some n
 digits_after n (c ∷ cs) = if is_digit c then digits_after (n * 10 + (c - 48)) cs else None

@@ -31,7 +31,7 @@ abbrev pub NamesAreDistinct : List (List ℕ) → Type 0
 NamesAreDistinct names =
     (k : ℕ) → k < length names → lock_named names (slice_index_or names k []) ≡ Some k
 
--- a name is kept in 16 bytes, with zeros behind it
+-- a name is kept in 16 bytes, with zeros after it
 abbrev pub padded : List ℕ → List ℕ
 padded name = name ++ replicate (16 - length name) 0
 

@@ -285,7 +285,7 @@ fn rwlock_kind(word: &[u8], limit: u64) -> Option<Kind>
     }
 }
 
-/// The call that a word names, of the lock that is named behind it alone.
+/// The call that a word names, of the lock that is named after it alone.
 fn call(word: &[u8]) -> Option<NamedCall>
     ensures { result ≡ call_of word.now }
 {

@@ -18,7 +18,7 @@ const HINTS: usize = 1 << 12;
 /// The longest name.
 pub const NAME_LEN: usize = 16;
 
-/// A lock's name: a lower-case letter, and then lower-case letters or digits. Zeros stand behind
+/// A lock's name: a lower-case letter, and then lower-case letters or digits. Zeros stand after
 /// it.
 #[derive(Clone, Copy, PartialEq, Eq)]
 pub struct Name {
@@ -81,7 +81,7 @@ impl Name {
     }
 }
 
-/// The word with zeros behind it, where it is of lower-case letters and digits.
+/// The word with zeros after it, where it is of lower-case letters and digits.
 fn padded(word: &[u8]) -> Option<[u8; NAME_LEN]>
     requires { length word.now ≤ NAME_LEN }
     ensures { result ≡ if are_name_bytes word.now then Some (padded word.now) else None }

@@ -86,7 +86,7 @@ module _ (w : State) (t : ℕ) (c : Call) (x : Want) (fair : Bool) (h : IsDraini
 
   unshared : has_readers (rules_in v 0).sort ≡ false → Now v
   unshared e = another (rules_in v 0) (site_of v 0) (is_full (rules_in v 0) (site_of v 0).lock)
-      (order.world.steady.sites.site 0) (λ f. f) (λ f. inl (order.world.steady.sites.unfilled 0 e))
+      (order.world.inductive.sites.site 0) (λ f. f) (λ f. inl (order.world.inductive.sites.unfilled 0 e))
 
   shared : has_readers (rules_in w 0).sort ≡ true → Now v
   shared readers = by_possible (is_possible w (begin_of t c)) refl
@@ -100,7 +100,8 @@ module _ (w : State) (t : ℕ) (c : Call) (x : Want) (fair : Bool) (h : IsDraini
           let open_to = both (nat_lt l (length w.locks)) _ parts.1 in
           let right = both (has_call (kind_at w l) (calling.RwLock l k)) _ open_to.1 in
           let zero_is : l ≡ 0 = at_zero l (ltb-true l (length w.locks) open_to.0) in
-          let goes = rwlock_begins w t l k strict.ordered.world.steady there (idle_is (place_at w t) parts.0)
+          let goes = rwlock_begins w t l k strict.ordered.world.inductive there
+          (idle_is (place_at w t) parts.0)
           (calls_readers (kind_at w l) l k right.0) right.1 in
           subst (λ j. rules_in (state_after_begin w t (calling.RwLock l k)) j ≡ rules_in w j
           → Now (state_after_begin w t (calling.RwLock l k))) (sym zero_is)

@@ -21,7 +21,7 @@ use Rattle.lot_machine.specs.Machine.{State, after, can_begin, kind_at, place_at
 use Rattle.lot_machine.specs.Machine.{state_after_begin, word_at}
 use Rattle.lot_laws.specs.Refinement.{call_state, lock_state, locks_of}
 use Rattle.lot_laws.specs.SitesOf.{IsWorld, key_of, rules_in, site_of}
-use Rattle.lot_laws.specs.Solo.{EndsAlone, EndsBy, IsUnobstructed, locks_behind}
+use Rattle.lot_laws.specs.Solo.{EndsAlone, EndsBy, IsUnobstructed, locks_afterwards}
 use Rattle.lot_laws.proofs.calls.Begins.{begin_possible}
 use Rattle.lot_laws.proofs.machine.Parts.{IsSingle}
 use Rattle.lot_laws.proofs.alone.Rests.{ends_alone}
@@ -131,11 +131,11 @@ module _ (k : Kind) (v : ℕ) (w : State) (f : Passes k w Idle v) (c : Call) (he
   pub owns : Drains (rules_of k).sort → Owns (lock_state ended 0) 0 Exclusive
   owns drains =
       let ends : EndsAlone w1 0 (purpose_at (locks_of w1) c) (solo 64 w1 0 outcome.NotNow).outcome ended =
-      ends_alone w1 0 g.alone.shape g.alone.steady g.alone.counted g.alone.condvars g.alone.settled c
+      ends_alone w1 0 g.alone.shape g.alone.inductive g.alone.counted g.alone.condvars g.alone.settled c
       (g.alone.place ∙ ap (λ j. first_place j c) (sym kind_there)) way in
       let told : purpose_at (locks_of w1) c ≡ Some (Enters 0 Exclusive Patient) =
       ap (λ j. purpose_of j c) kind_there ∙ enters in
-      let by_right : EndsBy (word_at w1) (locks_behind w1 0) (locks_of w1) 0
+      let by_right : EndsBy (word_at w1) (locks_afterwards w1 0) (locks_of w1) 0
       (Some (Enters 0 Exclusive Patient)) (solo 64 w1 0 outcome.NotNow).outcome (locks_of ended) =
       subst (λ q. EndsAlone w1 0 q (solo 64 w1 0 outcome.NotNow).outcome ended) told ends in
       (by_right.owns (subst (λ j. MayEnter (rules_of j) (lock_state w1 0) Exclusive
@@ -186,12 +186,12 @@ drained k w drains f = record {
     idle (suc t) = f.others (suc t) (λ h. omega arith)
 
     coded : code (rules_of k) (site_of w 0) ≡ 0
-    coded = sym (ap (λ j. code (rules_of j) (site_of w 0)) f.kind) ∙ sym (f.alone.steady.sites.word 0)
+    coded = sym (ap (λ j. code (rules_of j) (site_of w 0)) f.kind) ∙ sym (f.alone.inductive.sites.word 0)
         ∙ f.alone.word
 
     free : IsFree (lock_state w 0)
     free = free_by_code k (site_of w 0) drains (subst (λ j. IsLockState (rules_of j) (lock_state w 0)) f.kind
-        (f.alone.steady.sites.site 0).state) coded
+        (f.alone.inductive.sites.site 0).state) coded
 
 pub record IsCleared (w : State) (d e : Progress) : Type 0 where
   pub gone : HasGone w 130 d e
@@ -211,8 +211,8 @@ module _ (w : State) (d : Progress) (ready : IsReady d.state) (over : IsAllOver 
   stands : (k : Kind) → kind_at s 0 ≡ k → (v : ℕ) → word_at s 0 ≡ v → Passes k s Idle v
   stands k e v is = record {
     alone = record {
-      shape = world.shaped;
-      steady = world.steady;
+      shape = world.well_formed;
+      inductive = world.inductive;
       counted = world.counted;
       condvars = world.condvars;
       settled = world.settled;
@@ -295,7 +295,7 @@ module _ (w : State) (d : Progress) (ready : IsReady d.state) (over : IsAllOver 
       by_word false e =
           let passed = by_kind (kind_at s 0) refl drains (word_at s 0) refl (λ z. let a : (word_at s 0 == 0)
           ≡ true = ap (λ n. n == 0) z in let b : true ≡ false = sym a ∙ e in cc)
-          (world.steady.sites.word 0) in
+          (world.inductive.sites.word 0) in
           record {
             gone = passed.0;
             drained = drained (kind_at s 0) (passed_through d (kind_at s 0)).state drains passed.1;

@@ -45,11 +45,11 @@ inside_there p (inr only) m e =
 module _ (w : State) (t : ℕ) (h : IsStrict w) (inside : section_at w 1 ≡ Some t) where
   at_second : (profile (place_at w t)).role.inside ≡ Some Second
   at_second = inside_there (place_at w t) (here w h.ordered t) Second
-      ((h.ordered.world.steady.stands.sections t 0 Second).1 inside)
+      ((h.ordered.world.inductive.stands.sections t 0 Second).1 inside)
 
   busy : place_at w t ≢ Idle
   busy e = outside_at (place_at w t) (here w h.ordered t) (inl e) Second
-      ((h.ordered.world.steady.stands.sections t 0 Second).1 inside)
+      ((h.ordered.world.inductive.stands.sections t 0 Second).1 inside)
 
   there : t < length w.places
   there = stands_there w.places t busy
@@ -106,7 +106,7 @@ second_left (suc n) w h strict few = by_inside (section_at w 1) refl (λ t. seco
 
 past : (w : State) → IsOrdered w → (key : ℕ) → section_at w (suc (suc key)) ≡ None
 past w h key = get_or_past w.sections (suc (suc key)) None (let n : length w.sections ≡ 2 * length w.locks =
-    h.world.shaped.sections in let one : length w.locks ≡ 1 = h.lock.one in omega arith)
+    h.world.well_formed.sections in let one : length w.locks ≡ 1 = h.lock.one in omega arith)
 
 module _ (w : State) (t : ℕ) (h : IsOrdered w) (second : section_at w 1 ≡ None) (inside : section_at w 0
     ≡ Some t) where
@@ -116,7 +116,7 @@ module _ (w : State) (t : ℕ) (h : IsOrdered w) (second : section_at w 1 ≡ No
   only (suc (suc key)) = inl (past w h key)
 
   standing : (location_at (place_at w t) 0).inside ≡ Some Main
-  standing = (h.world.steady.stands.sections t 0 Main).1 inside
+  standing = (h.world.inductive.stands.sections t 0 Main).1 inside
 
   under_way : IsUnderWay w t
   under_way = (
@@ -136,7 +136,8 @@ module _ (w : State) (t : ℕ) (h : IsOrdered w) (second : section_at w 1 ≡ No
       let kept = solo_keeps (OnlyInside t) t (only_step t) 64 w outcome.NotNow
       (record { ordered_now = h; only = only }) in
       all_free (after_alone w t) t kept.ordered_now
-      (solo_rests_there t 64 w outcome.NotNow h (λ r. r) (rests_alone w t h.world.shaped h.world.steady
+      (solo_rests_there t 64 w outcome.NotNow h (λ r. r) (rests_alone w t h.world.well_formed
+      h.world.inductive
       h.world.counted h.world.condvars h.world.settled under_way way))
       kept.only
 

@@ -158,4 +158,4 @@ module _ (w : State) (t : ℕ) (h : IsStrict w) (idle : place_at w t ≡ Idle)
 
 pub owners_may_release : OwnersMayRelease
 owners_may_release w t h idle some = by_kind w t h idle some (kind_at w 0) refl h.ordered.lock.sort
-    (h.ordered.world.steady.sites.site 0).state
+    (h.ordered.world.inductive.sites.site 0).state

@@ -137,7 +137,7 @@ module _ (w v : LocksState) (t : ℕ) (o : Outcome) (state : AreLockStates w) (o
   others_own u ne never = ap (λ (s : LockState). rights_of s u) (goes.locks 0)
       ∙ of_event goes.event u goes.may ne (in_no_hand u never)
 
-  -- a release gives its right up, and isn't pending behind that
+  -- a release gives its right up, and isn't pending after that
   by_release : (x : Want) (fair : Bool) (case : LockCase) → ReleasesBy x fair case
       → Needs (rules_at w 0) case (w.locks 0) t → (w.locks 0).taken t ≡ None
       → (rights_of (after_case (rules_at w 0) case (w.locks 0) t) t).pending

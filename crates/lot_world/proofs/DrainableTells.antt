@@ -235,9 +235,9 @@ owns_handed : (w : State) (t : ℕ) (e : Entry) (retries : Bool) (la : LockAt) �
     ≡ place.Mutex 0 (mutex.Lock e retries la) → OwnsHanded (mutex.Lock e retries la)
     (rights_of (lock_state w 0) t)
 owns_handed w t e retries (lock.Handed by) world is h = counts_itself (owners_at w 0).exclusive t
-    ((world.steady.sites.site 0).held t (Has Exclusive) (ap (λ p. (role_on p 0).claims) is))
+    ((world.inductive.sites.site 0).held t (Has Exclusive) (ap (λ p. (role_on p 0).claims) is))
 owns_handed w t e retries lock.Accept world is h = counts_itself (owners_at w 0).exclusive t
-    ((world.steady.sites.site 0).held t (Has Exclusive) (ap (λ p. (role_on p 0).claims) is))
+    ((world.inductive.sites.site 0).held t (Has Exclusive) (ap (λ p. (role_on p 0).claims) is))
 owns_handed w t e retries lock.First world is h = absurd cc
 owns_handed w t e retries lock.Load world is h = absurd cc
 owns_handed w t e retries (lock.Decide seen) world is h = absurd cc
@@ -269,7 +269,7 @@ one_tells : (w : State) (t : ℕ) → IsWorld w → HasOneLock w → (here w t �
     (λ l. rights_of (lock_state w l) t)
 one_tells w t world single =
     let own = of_owners (length w.locks) (kind_at w) (place_at w t) single.one single.sort
-    (world.shaped.places t) (world.shaped.kinds t) in
+    (world.well_formed.places t) (world.well_formed.kinds t) in
     holds_tells (place_at w t) (λ l. rights_of (lock_state w l) t) own (owns_at w t (place_at w t) world own
     refl)
 
@@ -287,7 +287,7 @@ past_rights w t world below past =
     let upgradable = past_thread o.upgradable n t (right (is_below (pending_thread o.pending) n)
     (is_below o.upgradable n) others) past in
     let shared : slice_index (shares_at w 0) t ≡ 0 = get_or_past (shares_at w 0) t 0
-    (omega (arith, world.steady.numbers.threads 0, past)) in
+    (omega (arith, world.inductive.numbers.threads 0, past)) in
     λ i. record { exclusive = exclusive i; pending = pending i; upgradable = upgradable i; shared = shared i }
 
 past_idle : (w : State) (t : ℕ) → length w.places ≤ t → place_at w t ≡ place.Idle

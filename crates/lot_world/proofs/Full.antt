@@ -103,7 +103,7 @@ module _ (w : State) (h : IsStrict w) where
           ap (λ (r : Rights). r.upgradable) (h.past u (grind (arith, nat_tests))) in omega arith)
 
   long : length s.shared ≡ length w.places
-  long = h.ordered.world.steady.numbers.threads 0
+  long = h.ordered.world.inductive.numbers.threads 0
 
   each : OneEach s
   each = record {
@@ -129,7 +129,7 @@ module _ (w : State) (h : IsStrict w) where
   ]
     where
       lines : times t (queue_at w (key_of 0 Main)) ≡ stood_in (location_at (place_at w t) 0).stands Main
-      lines = h.ordered.world.steady.stands.lines t 0 Main
+      lines = h.ordered.world.inductive.stands.lines t 0 Main
 
   module _ (full : is_full (rules_in w 0) s ≡ true) where
     shared_sort : (b : Bool) → has_readers (rules_in w 0).sort ≡ b → has_readers (rules_in w 0).sort ≡ true
@@ -149,10 +149,10 @@ module _ (w : State) (h : IsStrict w) where
         ap (times x.thread) e in omega arith) in
         let none = queued_none x.thread stands in
         let below : AllBelow (length w.places) (x ∷ q) = subst (AllBelow (length w.places)) e
-        (h.ordered.world.shaped.waiting (key_of 0 Main)) in
+        (h.ordered.world.well_formed.waiting (key_of 0 Main)) in
         let lt : x.thread < length w.places = below.0 in
         let room : length w.places ≤ (rules_in w 0).limit =
-        (h.ordered.world.steady.sites.limits 0 (shared_sort (has_readers (rules_in w 0).sort) refl)).0.2
+        (h.ordered.world.inductive.sites.limits 0 (shared_sort (has_readers (rules_in w 0).sort) refl)).0.2
         in
         let n = long in
         let owns = nobody_is_left_out (rules_in w 0) s x.thread (omega arith) each full (omega arith) in

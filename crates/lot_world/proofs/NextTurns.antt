@@ -259,7 +259,8 @@ pub may_release : (w : State) (s : Step) → IsStrict w → (b : BeginsRelease w
     → MayBegin (locks_of w) b.thread b.call
     × (purpose_at (locks_of w) b.call ≡ Some (Releases 0 b.gives.right b.gives.fair))
 may_release w s strict b = (
-  (begin_goes w b.thread b.call strict.ordered.world.shaped strict.ordered.world.steady b.there b.can).0,
+  (begin_goes w b.thread b.call strict.ordered.world.well_formed strict.ordered.world.inductive b.there
+      b.can).0,
   ap (λ l. purpose_of (kind_at w l) b.call) b.gives.here ∙ b.gives.purpose,
 )
 

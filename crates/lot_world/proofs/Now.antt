@@ -11,7 +11,7 @@ use Rattle.spec_locks.specs.Sites.{Site, IsSite, Deed, Begin, End, In, Out, Mark
 use Rattle.spec_locks.specs.Sites.{MarkOwned, MarkBrought, Bring, Send, LeaveLine, Case, Main, Second}
 use Rattle.spec_locks.specs.Sites.{has_readers, is_full, after_deed}
 use Rattle.spec_locks.proofs.Hands.{is_handed}
-use Rattle.lot_laws.specs.MutexDeeds.{Act}
+use Rattle.lot_laws.specs.ThreadDeeds.{Act}
 use Rattle.lot_laws.specs.SitesOf.{ActsNeeded, after_acts}
 use Rattle.lot_laws.proofs.sites.OneStep.{acts_keep}
 use Rattle.lot_world.proofs.AsNow.{another, led, needed_all, with_filled}
@@ -172,7 +172,7 @@ list_stays r (a ∷ ds) s one e = by_deed (λ v k f. list_stays r ds v k f) a.de
     by_deed rec MarkOwned more = rec (after_deed r MarkOwned s a.by) more e
     by_deed rec MarkBrought more = rec (after_deed r MarkBrought s a.by) more e
 
--- noted in these deeds, it is full behind them
+-- noted in these deeds, it is full after them
 list_noted : (r : Rules) (ds : List Act) (s : Site) → HasOneCase ds → s.filled ≡ false
     → is_full r (after_acts r ds s).lock ≡ false → (after_acts r ds s).filled ≡ false
 list_noted r [] s one none free = none

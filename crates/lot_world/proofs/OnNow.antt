@@ -32,8 +32,8 @@ use Rattle.lot_machine.specs.Machine.{unshared_then, word_at}
 use Rattle.lot_machine.specs.Fits.{IsWellFormed}
 use Rattle.lot_machine.proofs.Shape.{both}
 use Rattle.lot_laws.specs.Refinement.{taken_at}
-use Rattle.lot_laws.specs.MutexDeeds.{acts}
-use Rattle.lot_laws.specs.MutexDeeds as deeds
+use Rattle.lot_laws.specs.ThreadDeeds.{acts}
+use Rattle.lot_laws.specs.ThreadDeeds as deeds
 use Rattle.lot_laws.specs.SitesOf.{AreCounted, FitsItsLock, Goes, IsInductive, is_mutex, rules_in, site_of}
 use Rattle.lot_laws.proofs.hands.Kept.{claim_of, claims_given}
 use Rattle.lot_laws.proofs.hands.HandsOn.{hands_fails, hands_goes, hands_tell, whom}
@@ -91,12 +91,12 @@ one_of t (Send all ∷ ds) ys one keep = absurd one
 one_of t (LeaveLine ∷ ds) ys one keep = append_keep (acts t ds) ys (keep_of t ds one) keep
 one_of t (d ∷ ds) ys one keep = one_of t ds ys one keep
 
-nothing_behind : (xs : List deeds.Act) → xs ++ [] ≡ xs
-nothing_behind [] = refl
-nothing_behind (x ∷ xs) = ap (λ y. x ∷ y) (nothing_behind xs)
+nothing_after : (xs : List deeds.Act) → xs ++ [] ≡ xs
+nothing_after [] = refl
+nothing_after (x ∷ xs) = ap (λ y. x ∷ y) (nothing_after xs)
 
 one_alone : (t : ℕ) (ds : List Deed) → AreOneCase ds → HasOneCase (acts t ds)
-one_alone t ds one = subst HasOneCase (nothing_behind (acts t ds)) (one_of t ds [] one tt)
+one_alone t ds one = subst HasOneCase (nothing_after (acts t ds)) (one_of t ds [] one tt)
 
 -- those to which a lock is handed claim it
 claims_keep : (t : ℕ) (alone : Bool) (u : ℕ) (o : Option Taken) → AllKeep (claim_of t alone u o)
@@ -124,7 +124,7 @@ pub record Led (w v : State) (l : ℕ) : Type 0 where
   pub goes : Goes w v l ds
   pub one : HasOneCase ds
 
-module _ (w : State) (t l : ℕ) (a : Admission) (c : RwLockCallPlace) (steady : IsInductive w)
+module _ (w : State) (t l : ℕ) (a : Admission) (c : RwLockCallPlace) (inductive : IsInductive w)
     (shape : IsWellFormed w)
     (there : t < length w.places) (lt : l < length w.locks) (is : place_at w t ≡ RwLock l a c)
     (counted : AreCounted w) where
@@ -132,12 +132,12 @@ module _ (w : State) (t l : ℕ) (a : Admission) (c : RwLockCallPlace) (steady :
   leads y = go_by w t (RwLock l a c) y
 
   may : CallStands a c
-  may = stands w t l a c steady shape there lt is
+  may = stands w t l a c inductive shape there lt is
 
   plain : ((k : ℕ) (op : Op) → call_act l a c ≢ act.HandOver k op) → can_do w (call_act l a c) ≡ true
       → Led w (leads (call_act l a c)) l
   plain hands_nothing can =
-      let from = goes_unhanded w t l a c steady shape there lt is hands_nothing can in
+      let from = goes_unhanded w t l a c inductive shape there lt is hands_nothing can in
       record {
         ds = acts t (call_deeds a c from.whom (reply_to w t (call_act l a c)));
         goes = from.goes;
@@ -147,10 +147,11 @@ module _ (w : State) (t l : ℕ) (a : Admission) (c : RwLockCallPlace) (steady :
   module _ (k : Counted) (is_k : in_hand_of c ≡ Some k) (op : Op) (e : call_act l a c ≡ act.HandOver l op)
     where
       abbrev heir : Option ℕ
-      heir = whom w t l a c steady shape there lt is k is_k (counted t l a c k is is_k) op e
+      heir = whom w t l a c inductive shape there lt is k is_k (counted t l a c k is is_k) op e
 
       told_one : AreOneCase (call_deeds a c heir (Value (word_at w l)))
-      told_one = (hands_tell w t l a c steady shape there lt is k is_k (counted t l a c k is is_k) op e).one
+      told_one = (hands_tell w t l a c inductive shape there lt is k is_k (counted t l a c k is is_k) op
+          e).one
 
       abbrev given : List deeds.Act
       given = claims_given t (unshared_then w t l) (λ u. taken_at (place_at w u) l) (length w.places)
@@ -160,7 +161,8 @@ module _ (w : State) (t l : ℕ) (a : Admission) (c : RwLockCallPlace) (steady :
         ds = acts t (call_deeds a c heir (Value (word_at w l))) ++ given;
         goes = subst (λ q. Goes w (put (state_after_act w t (RwLock l a c) (act.HandOver l op)) t
             (next_place q (Value (word_at w l)))) l (acts t (call_deeds a c heir (Value (word_at w l)))
-            ++ given)) is (hands_goes w t l a c steady shape there lt is k is_k (counted t l a c k is is_k) op
+            ++ given)) is (hands_goes w t l a c inductive shape there lt is k is_k (counted t l a c k is is_k)
+            op
             e
             takes);
         one = one_of t (call_deeds a c heir (Value (word_at w l))) given told_one
@@ -170,7 +172,7 @@ module _ (w : State) (t l : ℕ) (a : Admission) (c : RwLockCallPlace) (steady :
         ds = acts t (call_deeds a c heir (Value (word_at w l)));
         goes = subst (λ q. Goes w (put (state_after_act w t (RwLock l a c) (act.HandOver l op)) t
             (next_place q (Value (word_at w l)))) l (acts t (call_deeds a c heir (Value (word_at w l))))) is
-            (hands_fails w t l a c steady shape there lt is k is_k (counted t l a c k is is_k) op e fails);
+            (hands_fails w t l a c inductive shape there lt is k is_k (counted t l a c k is is_k) op e fails);
         one = one_alone t (call_deeds a c heir (Value (word_at w l))) told_one;
       }
 
@@ -206,7 +208,7 @@ module _ (w : State) (t : ℕ) (h : IsDraining w) (strict : IsStrict w) where
   -- a lock that nobody shares was never full
   unshared : has_readers (rules_in v 0).sort ≡ false → Now v
   unshared e = another (rules_in v 0) (site_of v 0) (is_full (rules_in v 0) (site_of v 0).lock)
-      (order.world.steady.sites.site 0) (λ f. f) (λ f. inl (order.world.steady.sites.unfilled 0 e))
+      (order.world.inductive.sites.site 0) (λ f. f) (λ f. inl (order.world.inductive.sites.unfilled 0 e))
 
   -- the deeds say so
   pub by_deeds : (x : State) → rules_in x 0 ≡ rules_in w 0 → has_readers (rules_in w 0).sort ≡ true
@@ -233,8 +235,8 @@ module _ (w : State) (t : ℕ) (h : IsDraining w) (strict : IsStrict w) where
   shared readers = by_possible (is_possible w (go_of t)) refl
     where
       went : t < length w.places → can_go w t ≡ true → Now (state_after_go w t)
-      went there can = by_place (place_at w t) refl (strict.ordered.world.shaped.places t)
-          (strict.ordered.world.steady.stands.calls t)
+      went there can = by_place (place_at w t) refl (strict.ordered.world.well_formed.places t)
+          (strict.ordered.world.inductive.stands.calls t)
         where
           by_place : (p : Place) → place_at w t ≡ p → Rattle.lot_machine.specs.Fits.PlaceFits (length w.locks)
               p → FitsItsLock w p → Now (state_after_go w t)
@@ -247,11 +249,12 @@ module _ (w : State) (t : ℕ) (h : IsDraining w) (strict : IsStrict w) where
           by_place (RwLock l a c) is fits of =
               let zero_is : l ≡ 0 = (let n = strict.ordered.lock.one in omega arith) in
               let can_now : can_do w (call_act l a c) ≡ true = ap (λ q. can_do w (act_of q)) (sym is) ∙ can in
-              let there_led = led w t l a c strict.ordered.world.steady strict.ordered.world.shaped there fits
+              let there_led = led w t l a c strict.ordered.world.inductive strict.ordered.world.well_formed
+              there fits
               is strict.ordered.world.counted can_now in
               let at_zero : Led w (state_after_go w t) 0 = subst (Led w (state_after_go w t)) zero_is
-              (subst (λ x. Led w x l) (sym (goes_there w t l a c strict.ordered.world.steady
-              strict.ordered.world.shaped there fits is strict.ordered.world.counted can_now)) there_led)
+              (subst (λ x. Led w x l) (sym (goes_there w t l a c strict.ordered.world.inductive
+              strict.ordered.world.well_formed there fits is strict.ordered.world.counted can_now)) there_led)
               in
               by_deeds (state_after_go w t) (ap rules_of (at_zero.goes.follows.kinds 0)) readers at_zero
           by_place (Once l at) is fits of = absurd (elim (here w strict.ordered t) [

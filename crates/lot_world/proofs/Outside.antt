@@ -1,4 +1,4 @@
--- Nobody is inside behind a turn.
+-- Nobody is inside after a turn.
 use Rattle.std.proofs.Common.{ℕ, zero, suc, Option, Some, None, ◌≡◌, ◌*◌, ◌⊎◌, length, inl, inr, refl, sym}
 use Rattle.std.proofs.Common.{◌∙◌, ap, subst, arith}
 use Rattle.std.proofs.lemmas.List.{get_or_past}
@@ -55,14 +55,14 @@ module _ (w : State) (t : ℕ) (h : IsOrdered w) (rest : AtRest (place_at w t)) 
   by_line m = elim (only (key_of 0 m)) [
     | inl none ↦ none
     | inr mine ↦ absurd (outside_at (place_at w t) (here w h t) rest m
-        ((h.world.steady.stands.sections t 0 m).1 mine))
+        ((h.world.inductive.stands.sections t 0 m).1 mine))
   ]
 
   pub all_free : NobodyInside w
   all_free zero = by_line Main
   all_free (suc zero) = by_line Second
   all_free (suc (suc key)) = get_or_past w.sections (suc (suc key)) None (let n : length w.sections
-      ≡ 2 * length w.locks = h.world.shaped.sections in let one : length w.locks ≡ 1 = h.lock.one
+      ≡ 2 * length w.locks = h.world.well_formed.sections in let one : length w.locks ≡ 1 = h.lock.one
       in omega arith)
 
 pub each_turn_leaves : EachTurnLeaves

@@ -95,7 +95,7 @@ module _ (rights : ℕ → Rights) where
   unclaimed Runs e = nothing (rights 0) e
   unclaimed Ran e = nothing (rights 0) e
 
-  -- a release behind its step has what is left
+  -- a release after its step has what is left
   rest_few : (x : Want) → (rest : Rights) × IsPlain rest × (with_right x rest ≡ one_more_at 0 x rights 0)
       → IsFew (rights 0)
   rest_few x rest = subst IsFew (less x rest.0 (rights 0) (rest.2 ∙ here rights 0 _))

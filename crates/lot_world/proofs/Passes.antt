@@ -36,7 +36,7 @@ use Rattle.lot_machine.specs.Machine.{successor_from, successor_or, want_of_succ
 use Rattle.lot_machine.specs.Machine.{word_at}
 use Rattle.lot_machine.specs.Fits.{SameSize}
 use Rattle.lot_machine.proofs.Acted.{acted_keeps}
-use Rattle.lot_machine.proofs.Shape.{after_shaped, after_size}
+use Rattle.lot_machine.proofs.Shape.{after_well_formed, after_size}
 use Rattle.lot_laws.specs.SitesOf.{key_of}
 use Rattle.lot_laws.specs.Locations.{location, location_at}
 use Rattle.lot_laws.proofs.condvar.StepsKeep.{after_condvars}
@@ -47,7 +47,7 @@ use Rattle.lot_laws.proofs.alone.Leads.{LeadsSurely, surely_rest, surely_step}
 use Rattle.lot_laws.proofs.alone.TwoLines.{Comes, StepsAlone, enter_comes, hand_comes, leave_comes}
 use Rattle.lot_laws.proofs.alone.TwoLines.{take_comes, word_comes}
 use Rattle.lot_laws.proofs.mutex.FairMutexes.{settled_after}
-use Rattle.lot_laws.proofs.sites.TurnsKept.{after_steady}
+use Rattle.lot_laws.proofs.sites.TurnsKept.{after_inductive}
 use Rattle.lot_world.specs.Turns.{begin_of}
 
 abbrev pub no_lines : Line → List Waiter
@@ -80,7 +80,7 @@ same_lines : (w : State) (p : Place) (v : ℕ) (q : Line → List Waiter) → ((
     → StepsAlone w 0 0 p v q → StepsAlone w 0 0 p v no_lines
 same_lines w p v q e f = record {
   shape = f.shape;
-  steady = f.steady;
+  inductive = f.inductive;
   counted = f.counted;
   condvars = f.condvars;
   settled = f.settled;
@@ -143,7 +143,7 @@ module _ (k : Kind) (w : State) (p : Place) (v : ℕ) (f : Passes k w p v) where
       by_who : (who : Option ℕ) → section_at w 0 ≡ who → section_at w 0 ≡ None
       by_who None e = e
       by_who (Some u) e = absurd (let within : (location_at (place_at w u) 0).inside ≡ Some Main =
-          (f.alone.steady.stands.sections u 0 Main).1 e in
+          (f.alone.inductive.stands.sections u 0 Main).1 e in
           let out : (location_at (place_at w u) 0).inside ≡ None = out_there u in cc)
 
   -- into the section of the main line
@@ -280,13 +280,15 @@ module _ (k : Kind) (w : State) (v : ℕ) (f : Passes k w Idle v) (c : Call) (ca
     pub begins : IsSingle first → Passes k (after w (begin_of 0 c)) first v
     begins single = record {
       alone = record {
-        shape = after_shaped w (begin_of 0 c) f.alone.shape;
-        steady = after_steady w (begin_of 0 c) f.alone.shape f.alone.steady f.alone.counted f.alone.condvars;
-        counted = counted_after w (begin_of 0 c) f.alone.shape f.alone.steady f.alone.counted
+        shape = after_well_formed w (begin_of 0 c) f.alone.shape;
+        inductive = after_inductive w (begin_of 0 c) f.alone.shape f.alone.inductive f.alone.counted
             f.alone.condvars;
-        condvars = after_condvars w (begin_of 0 c) f.alone.shape f.alone.steady f.alone.counted
+        counted = counted_after w (begin_of 0 c) f.alone.shape f.alone.inductive f.alone.counted
             f.alone.condvars;
-        settled = settled_after w (begin_of 0 c) f.alone.shape f.alone.steady f.alone.counted f.alone.condvars
+        condvars = after_condvars w (begin_of 0 c) f.alone.shape f.alone.inductive f.alone.counted
+            f.alone.condvars;
+        settled = settled_after w (begin_of 0 c) f.alone.shape f.alone.inductive f.alone.counted
+            f.alone.condvars
             f.alone.settled;
         thread = let size : SameSize w (after w (begin_of 0 c)) = after_size w (begin_of 0 c)
             in rw size.threads f.alone.thread;

@@ -100,8 +100,8 @@ module _ (w : State) (draining : IsDraining w) (quiet : IsQuiet w) where
   rights t l = rights_of (lock_state w l) t
 
   here : (t : ℕ) → OnlyHere (place_at w t)
-  here t = only_here w draining.lock (place_at w t) (draining.world.shaped.places t)
-      (draining.world.steady.stands.calls t)
+  here t = only_here w draining.lock (place_at w t) (draining.world.well_formed.places t)
+      (draining.world.inductive.stands.calls t)
 
   -- a thread in no call, or asleep, with what its place says
   record Sleeps (t : ℕ) : Type 0 where
@@ -150,7 +150,7 @@ module _ (w : State) (draining : IsDraining w) (quiet : IsQuiet w) where
     | inl main ↦ inl main
     | inr more ↦ elim more [
       | inl second ↦ inr second
-      | inr held ↦ absurd (no_carrier held.0 held.1 (draining.world.steady.stands.hands.taken held.0 t 0
+      | inr held ↦ absurd (no_carrier held.0 held.1 (draining.world.inductive.stands.hands.taken held.0 t 0
           held.1 (ap (λ x. x.hand) (location_here t h) ∙ held.2)))
     ]
   ]
@@ -201,12 +201,12 @@ module _ (w : State) (draining : IsDraining w) (quiet : IsQuiet w) where
   -- how often it stands there
   stands_aside : (t : ℕ) → Sleeps t → (profile (place_at w t)).stands ≡ Some Second
       → times t (queue_at w (key_of 0 Second)) ≡ 1
-  stands_aside t h second = draining.world.steady.stands.lines t 0 Second ∙ ap (λ x. stood_in x Second)
+  stands_aside t h second = draining.world.inductive.stands.lines t 0 Second ∙ ap (λ x. stood_in x Second)
       (ap (λ x. x.stands) (location_here t h) ∙ second)
 
   stands_main : (t : ℕ) → Sleeps t → (profile (place_at w t)).stands ≡ Some Main
       → times t (queue_at w (key_of 0 Main)) ≡ 1
-  stands_main t h main = draining.world.steady.stands.lines t 0 Main ∙ ap (λ x. stood_in x Main)
+  stands_main t h main = draining.world.inductive.stands.lines t 0 Main ∙ ap (λ x. stood_in x Main)
       (ap (λ x. x.stands) (location_here t h) ∙ main)
 
   somebody_aside : (o : Option Pending) → s.pending ≡ o → s.pending ≢ None → s.aside ≢ None
@@ -235,7 +235,7 @@ module _ (w : State) (draining : IsDraining w) (quiet : IsQuiet w) where
   unfilled : (b : Bool) → has_readers rules.sort ≡ b → is_full rules s ≡ false
   unfilled false e = ap (λ b. b && nat_le rules.limit (count s)) e
   unfilled true e =
-      let room : 1 ≤ rules.limit = (draining.world.steady.sites.limits 0 e).0.0 in
+      let room : 1 ≤ rules.limit = (draining.world.inductive.sites.limits 0 e).0.0 in
       let up : one_if_some s.upgradable ≡ 0 = ap one_if_some owns_nothing.upgradable in
       let none : count s ≡ 0 = (let r = no_readers in omega arith) in
       grind (arith, nat_tests)

@@ -27,14 +27,14 @@ use Rattle.lot_steps.specs.declared.places.Place.TheVariants.{Idle}
 use Rattle.lot_machine.specs.Machine.{State, after, after_steps, opening, place_at, step_outcome}
 use Rattle.lot_machine.specs.Fits.{SameSize}
 use Rattle.lot_machine.proofs.Opening.{no_readers}
-use Rattle.lot_machine.proofs.Shape.{after_size, opening_shaped}
+use Rattle.lot_machine.proofs.Shape.{after_size, opening_well_formed}
 use Rattle.lot_laws.specs.Promises.{IsKept}
 use Rattle.lot_laws.specs.Refinement.{call_state, lock_state, locks_of}
 use Rattle.lot_laws.specs.SitesOf.{IsWorld}
 use Rattle.lot_laws.proofs.hands.CountsPut.{opening_counted}
 use Rattle.lot_laws.proofs.machine.KindsStay.{after_kinds}
 use Rattle.lot_laws.proofs.calls.LockSteps.{IsTurn, after_step}
-use Rattle.lot_laws.proofs.sites.Opening.{opening_condvars, opening_steady}
+use Rattle.lot_laws.proofs.sites.Opening.{opening_condvars, opening_inductive}
 use Rattle.lot_laws.proofs.machine.Possible.{turner_there}
 use Rattle.lot_laws.proofs.promises.Promises.{opening_is}
 use Rattle.lot_laws.proofs.mutex.FairMutexes.{opening_settled}
@@ -106,7 +106,8 @@ module _ (w : State) (h : IsReached w) (s : Step) where
   one : IsOfOneLock (locks_of w) 0
   one = record {
     calls = λ u p e. called_here (place_at w u) (λ l. rights_of (lock_state w l) u) p
-        (only_here w h.lock (place_at w u) (h.world.shaped.places u) (h.world.steady.stands.calls u)) e;
+        (only_here w h.lock (place_at w u) (h.world.well_formed.places u) (h.world.inductive.stands.calls u))
+        e;
     standing = λ u stands idle. subst (λ p. MayWait p 0) idle (kept.waiting u 0 stands);
   }
 
@@ -114,7 +115,7 @@ module _ (w : State) (h : IsReached w) (s : Step) where
   waiters u stands = kept.waiting u 0 stands
 
   stepped : IsTurn (locks_of w) s (step_outcome w s) (locks_of v)
-  stepped = after_step w s h.world.shaped h.world.steady h.world.counted h.world.condvars
+  stepped = after_step w s h.world.well_formed h.world.inductive h.world.counted h.world.condvars
 
   -- tells what is kept, but for the world and its lock
   record AreKept : Type 0 where
@@ -225,8 +226,8 @@ module _ (k : Kind) (threads : ℕ) (drains : Drains (rules_of k).sort) (some : 
   pub opening_reached : IsReached first
   opening_reached = record {
     world = record {
-      shaped = opening_shaped (k ∷ []) threads (omega arith);
-      steady = opening_steady (k ∷ []) threads some (one_fits k threads fit);
+      well_formed = opening_well_formed (k ∷ []) threads (omega arith);
+      inductive = opening_inductive (k ∷ []) threads some (one_fits k threads fit);
       counted = opening_counted (k ∷ []) threads;
       condvars = opening_condvars (k ∷ []) threads;
       settled = opening_settled (k ∷ []) threads;

@@ -186,7 +186,8 @@ module _ (w : State) (t : ℕ) (c : Call) (x : Want) (fair : Bool) (h : IsOrdere
   b = after w (begin_of t c)
 
   begun_step : IsTurn (locks_of w) (begin_of t c) (step_outcome w (begin_of t c)) (locks_of b)
-  begun_step = after_step w (begin_of t c) h.world.shaped h.world.steady h.world.counted h.world.condvars
+  begun_step = after_step w (begin_of t c) h.world.well_formed h.world.inductive h.world.counted
+      h.world.condvars
 
   pub begins : Stays (locks_of w) t (new_call (purpose_at (locks_of w) c) (rights_in (locks_of w) t))
       (step_outcome w (begin_of t c)) (locks_of b)

@@ -87,7 +87,7 @@ module _ (w : State) (world : IsWorld w) (h : IsDrainable w) where
       by_thread : (o : Option ℕ) → section_at w (key_of 0 m) ≡ o → section_at w (key_of 0 m) ≡ None
       by_thread None e = e
       by_thread (Some t) e = absurd (let a : (location_at (place_at w t) 0).inside ≡ Some m =
-          (world.steady.stands.sections t 0 m).1 e in
+          (world.inductive.stands.sections t 0 m).1 e in
           let b : (location_at Idle 0).inside ≡ Some m = subst (λ p. (location_at p 0).inside ≡ Some m)
           (over.over.idle t) a in
           let c : ◌≡◌ {A = Option Line} None (Some m) = b in cc)

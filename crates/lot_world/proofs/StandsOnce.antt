@@ -157,7 +157,7 @@ stand_once w world = record { once = once; nowhere_else = nowhere_else }
     counted : (t key : ℕ) → let k = key_at key in times t (queue_at w key)
         ≡ stood_in (location_at (place_at w t) k.lock).stands k.line
     counted t key = let k = key_at key in ap (λ n. times t (queue_at w n)) k.is
-        ∙ world.steady.stands.lines t k.lock k.line
+        ∙ world.inductive.stands.lines t k.lock k.line
 
     once : (t key : ℕ) → times t (queue_at w key) ≤ 1
     once t key = let k = key_at key in subst (λ n. n ≤ 1) (sym (counted t key))
@@ -187,4 +187,4 @@ pub stand_under : (w : State) → IsWorld w → (key : ℕ) → StandUnder key (
 stand_under w world key =
     let k = key_at key in
     subst (λ n. StandUnder n (queue_at w n)) (sym k.is) (keyed (locations_of (place_at w)) k.lock k.line
-    (queue_at w (key_of k.lock k.line)) (world.steady.stands.waits k.lock k.line))
+    (queue_at w (key_of k.lock k.line)) (world.inductive.stands.waits k.lock k.line))

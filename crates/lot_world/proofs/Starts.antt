@@ -113,12 +113,12 @@ module _ (w : State) (world : IsWorld w) (h : IsDrainable w) where
 
       by_claim : (o : Option Claim) → (profile (place_at w t)).role.claims ≡ o → IsJust o (rights t 0)
       by_claim None e = tt
-      by_claim (Some c) e = just_that s t c ((world.steady.sites.site 0).held t c (ap (λ d. d.claims) here
+      by_claim (Some c) e = just_that s t c ((world.inductive.sites.site 0).held t c (ap (λ d. d.claims) here
           ∙ e)) (h.few t)
 
   begun : (t : ℕ) → Begun (call_at w t) (rights t 0)
-  begun t = begun_at (place_at w t) (rights t) (only_here w h.lock (place_at w t) (world.shaped.places t)
-      (world.steady.stands.calls t))
+  begun t = begun_at (place_at w t) (rights t) (only_here w h.lock (place_at w t) (world.well_formed.places t)
+      (world.inductive.stands.calls t))
       (h.few t) (just t) (h.none_before t) (h.unpending t)
 
   not_full : is_full (rules_in w 0) s ≡ false
@@ -126,12 +126,12 @@ module _ (w : State) (world : IsWorld w) (h : IsDrainable w) where
     where
       by_full : (b : Bool) → is_full (rules_in w 0) s ≡ b → is_full (rules_in w 0) s ≡ false
       by_full false e = e
-      by_full true e = absurd (let f : filled_at w 0 ≡ true = (world.steady.sites.site 0).full e
+      by_full true e = absurd (let f : filled_at w 0 ≡ true = (world.inductive.sites.site 0).full e
           in let g : true ≡ false = sym f ∙ h.unfilled in cc)
 
   now : IsSite (rules_in w 0) (as_now (rules_in w 0) (site_of w 0))
   now = subst (λ b. IsSite (rules_in w 0) (record (site_of w 0) { filled = b })) (h.unfilled ∙ sym not_full)
-      (world.steady.sites.site 0)
+      (world.inductive.sites.site 0)
 
   pub draining : IsDraining w
   draining = record { world = world; lock = h.lock; few = λ t. (begun t).0; now = now }

@@ -53,7 +53,8 @@ use Rattle.lot_world.proofs.Waiting.{waiters_leave_others}
 -- ---------------------------------------------------------------- places of one lock
 
 pub here : (w : State) → IsOrdered w → (t : ℕ) → OnlyHere (place_at w t)
-here w h t = only_here w h.lock (place_at w t) (h.world.shaped.places t) (h.world.steady.stands.calls t)
+here w h t = only_here w h.lock (place_at w t) (h.world.well_formed.places t)
+    (h.world.inductive.stands.calls t)
 
 -- a thread is in no call exactly where its call is for nothing
 pub idle_call : (p : Place) (rights : ℕ → Rights) → OnlyHere p → is_idle p
@@ -114,7 +115,7 @@ module _ (w : State) (t : ℕ) (h : IsOrdered w) where
   v = after w (go_of t)
 
   pub stepped : IsTurn (locks_of w) (go_of t) (step_outcome w (go_of t)) (locks_of v)
-  stepped = after_step w (go_of t) h.world.shaped h.world.steady h.world.counted h.world.condvars
+  stepped = after_step w (go_of t) h.world.well_formed h.world.inductive h.world.counted h.world.condvars
 
   pub same_lock : HasOneLock v
   same_lock = record {
@@ -392,7 +393,8 @@ module _ (w : State) (t : ℕ) (h : IsOrdered w) (outside : NobodyInside w) (up 
       (Some u) = sym f ∙ inside in cc)
 
   pub rests : AtRest (place_at led t)
-  rests = solo_rests_there t 64 w outcome.NotNow h (λ r. r) (rests_alone w t h.world.shaped h.world.steady
+  rests = solo_rests_there t 64 w outcome.NotNow h (λ r. r) (rests_alone w t h.world.well_formed
+      h.world.inductive
       h.world.counted h.world.condvars h.world.settled under_way way)
 
   beside : Beside w t led

@@ -47,7 +47,7 @@ RestingIsEmpty =
 abbrev pub as_now : Rules → Site → Site
 as_now r s = record s { filled = is_full r s.lock }
 
--- a lock that is full now, and of which nobody waits behind a deed, was as good as never full
+-- a lock that is full now, and of which nobody waits after a deed, was as good as never full
 abbrev pub EachDeedKeepsNow : Type 0
 EachDeedKeepsNow =
     (r : Rules) (d : Deed) (s : Site) (t : ℕ) → IsSite r (as_now r s) → Needed r d s t

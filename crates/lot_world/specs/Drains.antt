@@ -34,7 +34,7 @@ abbrev pub AllPossible : State → List Step → Type 0
 AllPossible w [] = Unit {0}
 AllPossible w (s ∷ ss) = (step_outcome w s ≢ outcome.NotNow) × AllPossible (after w s) ss
 
--- few steps, each possible, behind which the world is drained; none where it is so already
+-- few steps, each possible, after which the world is drained; none where it is so already
 pub record IsDrain (w : State) (steps : List Step) : Type 0 where
   pub few : length steps ≤ 1000 * ((length w.places + 1) * (length w.places + 1))
   pub possible : AllPossible w steps

@@ -20,7 +20,7 @@ pub use Rattle.lot_laws.specs.Overtaking
 pub use Rattle.lot_laws.specs.WorldRuns
 pub use Rattle.lot_laws.specs.Solo
 pub use Rattle.lot_laws.specs.Locations
-pub use Rattle.lot_laws.specs.MutexDeeds
+pub use Rattle.lot_laws.specs.ThreadDeeds
 pub use Rattle.lot_laws.specs.SitesOf
 pub use Rattle.lot_laws.specs.Laws
 pub use Rattle.lot_rests.specs.Rests

@@ -10,7 +10,7 @@ use Rattle.spec_locks.specs.Locks.{Rules}
 use Rattle.spec_locks.specs.Sites.{Site, IsSite, Deed, Out, Bring, Send, LeaveLine, Case, has_readers}
 use Rattle.spec_locks.specs.Sites.{is_full}
 use Rattle.lot_machine.specs.Machine.{State, after, go_of}
-use Rattle.lot_laws.specs.MutexDeeds.{Act}
+use Rattle.lot_laws.specs.ThreadDeeds.{Act}
 use Rattle.lot_laws.specs.SitesOf.{ActsNeeded, after_acts}
 use Rattle.lot_world.specs.Drained.{as_now}
 use Rattle.lot_world.specs.Quiet.{IsDraining}

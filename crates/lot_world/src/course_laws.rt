@@ -27,7 +27,7 @@ pub fn each_turn_falls()
     ensures { EachTurnFalls }
 {}
 
-/// Shows that nobody is inside behind it.
+/// Shows that nobody is inside after it.
 pub fn each_turn_leaves()
     ensures { EachTurnLeaves }
 {}
@@ -38,7 +38,7 @@ pub fn each_release_falls()
     ensures { EachReleaseFalls }
 {}
 
-/// Shows that a thread inside the section of the second queue may go on, and is out behind three
+/// Shows that a thread inside the section of the second queue may go on, and is out after three
 /// steps.
 pub fn leaves_second()
     ensures { LeavesSecond }
@@ -70,12 +70,12 @@ pub fn draining_begins()
     ensures { DrainingBegins }
 {}
 
-/// Shows that all of it holds behind each turn of a drain.
+/// Shows that all of it holds after each turn of a drain.
 pub fn turns_keep_draining()
     ensures { TurnsKeepDraining }
 {}
 
-/// Shows that it holds behind each release.
+/// Shows that it holds after each release.
 pub fn releases_keep_draining()
     ensures { ReleasesKeepDraining }
 {}

@@ -66,7 +66,7 @@ impl<Q: Queues + Drop> Model for Drain<Q> {
 
 /// The steps that drain a machine. They are taken.
 pub fn schedule<Q: Queues + Drop>(alloc: Global, machine: Machine<Q>) -> Result<Vec<Step>, Fault>
-    requires shaped { IsWellFormed machine }
+    requires well_formed { IsWellFormed machine }
     requires one { length machine.locks ≡ 1 }
     ensures ok { IfOk result (λ steps. steps.items ≡ schedule_of machine) }
     ensures err { IfErr result (λ fault. fault ≡ Fault.NoMemory) }

@@ -54,7 +54,7 @@ fn give<R: Wait>(rt: &R, lock: &LeastLock, seat: &mut Seat<(), ()>)
 
 #[cold]
 #[inline(never)]
-fn enter_behind<R: Wait>(rt: &R, lock: &LeastLock, seat: &mut Seat<(), ()>) -> Seat<(), ()>
+fn enter_after<R: Wait>(rt: &R, lock: &LeastLock, seat: &mut Seat<(), ()>) -> Seat<(), ()>
     requires { IsSeatOfLeast lock.now seat.old }
     ensures { IsSeatOfLeast lock.now seat.new × IsSeatOfLeast lock.now result × (result.me.1 ≡ []) }
 {
@@ -70,7 +70,7 @@ fn enter<R: Wait>(rt: &R, lock: &LeastLock, seat: &mut Seat<(), ()>) -> Seat<(),
 {
     match lock.enter(seat) {
         Some(owner) => owner,
-        None => enter_behind(rt, lock, seat),
+        None => enter_after(rt, lock, seat),
     }
 }
 

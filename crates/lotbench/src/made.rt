@@ -1,6 +1,6 @@
 //! Things that were made, where nothing was refused.
 //!
-//! A function that makes several things returns early behind none of them: at each such return all
+//! A function that makes several things returns early after none of them: at each such return all
 //! that was made so far would have to be dropped, and that dropping proved.
 ghost use Rattle.std.specs.Prelude.{◌≡◌, IfOk, Ok};
 

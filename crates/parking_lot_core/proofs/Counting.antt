@@ -24,13 +24,14 @@ without_first x xs = ap (λ b. cond b xs (x ∷ without x xs)) (is_itself x)
 pub taken_in : (x : Ownership) (v w : View) → w ≡ takes_in v (piece x) → has x w.owns ≡ true
 taken_in x v w is = subst (λ (u : View). has x u.owns ≡ true) (sym is) (has_first x v.owns)
 
-module _ (m n said next : ℕ) (behind : n ≡ m + 1) (other : said ≢ next) where
+module _ (m n said next : ℕ) (rest_after : n ≡ m + 1) (other : said ≢ next) where
   abbrev x : ℕ → Ownership
   x count = owning_with (word_index m Mutex) count
 
   says : (owns : List Ownership) → says_instead (mutex_of_count (word_index n Count)) said next
       (x said ∷ owns) ≡ x next ∷ owns
-  says owns = let back : mutex_of_count (word_index n Count) ≡ word_index m Mutex = omega (arith, behind) in
+  says owns = let back : mutex_of_count (word_index n Count) ≡ word_index m Mutex = omega (arith, rest_after)
+      in
       ap (λ (i : ℕ). says_instead i said next (x said ∷ owns)) back
       ∙ (ap (λ b. cond b (x said ∷ owns) (x next ∷ without (x said) (x said ∷ owns))) (ne_eqb said next other)
       ∙ ap (λ os. x next ∷ os) (without_first (x said) owns))
@@ -38,19 +39,19 @@ module _ (m n said next : ℕ) (behind : n ≡ m + 1) (other : said ≢ next) wh
   module _ (v w u : View) (joined : w ≡ takes_in v (piece (x said))) (stepped : u ≡ after_step Count
       (word_index n Count) (Store next) said w) where
     -- after the store the thread says the new count
-    said_behind : u ≡ view (one_more_step v (word_index n Count) (Store next) said) (x next ∷ v.owns) v.drawn
+    said_after : u ≡ view (one_more_step v (word_index n Count) (Store next) said) (x next ∷ v.owns) v.drawn
         v.saw
-    said_behind = stepped ∙ (ap (λ (y : View). after_step Count (word_index n Count) (Store next) said y)
+    said_after = stepped ∙ (ap (λ (y : View). after_step Count (word_index n Count) (Store next) said y)
         joined
         ∙ ap (λ os. view (one_more_step v (word_index n Count) (Store next) said) os v.drawn v.saw)
         (says v.owns))
 
     pub says_next : has (x next) u.owns ≡ true
-    says_next = subst (λ (y : View). has (x next) y.owns ≡ true) (sym said_behind) (has_first (x next) v.owns)
+    says_next = subst (λ (y : View). has (x next) y.owns ≡ true) (sym said_after) (has_first (x next) v.owns)
 
     -- A thread without the share that it splits off owns what it did.
     pub splits_next : left_over (x next) u ≡ stepping v (word_index n Count) (Store next) said
-    splits_next = ap (λ (y : View). left_over (x next) y) said_behind
+    splits_next = ap (λ (y : View). left_over (x next) y) said_after
         ∙ ap (λ os. view (one_more_step v (word_index n Count) (Store next) said) os v.drawn v.saw)
         (without_first (x next) v.owns)
 
@@ -61,18 +62,18 @@ module _ (m n said : ℕ) (v w u : View)
   abbrev kept : Ownership
   kept = owning_with (word_index m Mutex) said
 
-  heard_behind : u ≡ view (one_more_step v (word_index n Count) Load said) (kept ∷ v.owns) v.drawn v.saw
-  heard_behind = stepped ∙ (ap (λ (y : View). after_step Count (word_index n Count) Load said y) joined
+  heard_after : u ≡ view (one_more_step v (word_index n Count) Load said) (kept ∷ v.owns) v.drawn v.saw
+  heard_after = stepped ∙ (ap (λ (y : View). after_step Count (word_index n Count) Load said y) joined
       ∙ ap (λ b. view (one_more_step v (word_index n Count) Load said) (cond b (kept ∷ v.owns)
       (owning_with (mutex_of_count (word_index n Count)) said ∷ without
       (owning_with (mutex_of_count (word_index n Count)) said) (kept ∷ v.owns))) v.drawn v.saw)
       (eq-eqb said said refl))
 
   pub says_still : has kept u.owns ≡ true
-  says_still = subst (λ (y : View). has kept y.owns ≡ true) (sym heard_behind) (has_first kept v.owns)
+  says_still = subst (λ (y : View). has kept y.owns ≡ true) (sym heard_after) (has_first kept v.owns)
 
   pub splits_still : left_over kept u ≡ stepping v (word_index n Count) Load said
-  splits_still = ap (λ (y : View). left_over kept y) heard_behind
+  splits_still = ap (λ (y : View). left_over kept y) heard_after
       ∙ ap (λ os. view (one_more_step v (word_index n Count) Load said) os v.drawn v.saw)
       (without_first kept v.owns)
 

@@ -49,7 +49,7 @@ none_left [] = refl
 none_left (x ∷ xs) = ap (less xs) (gone x xs (eq-eqb x x refl)) ∙ less_filter (λ y. not (y == x)) xs xs
     ∙ ap (filter (λ y. not (y == x))) (none_left xs)
 
--- one is given a right, and those behind it are left
+-- one is given a right, and those after it are left
 pub less_given : (ts taken : List ℕ) → taken ≡ ts → (k : ℕ) → k < length ts → (xs ys : List ℕ)
     → ys ≡ filter (λ x. not (x == slice_index taken k)) xs → less (drop k ts) xs ≡ []
     → less (drop (k + 1) ts) ys ≡ []
@@ -79,7 +79,7 @@ module _ (word : Word) (left : ℕ) (wants asked : List Want) (same : asked ≡ 
   same_rest new e = ap (less_each word left (drop (k + 1) wants)) e
       ∙ sym (ap (λ (l : List Want). less_each word left l v) next)
 
--- none is left behind the last
+-- none is left after the last
 pub all_split : (word : Word) (left : ℕ) (wants : List Want) (k : ℕ) (v old : View) → length wants ≤ k
     → less_each word left (drop k wants) v ≡ less_each word left wants old
     → shown v ≡ less_each word left wants old

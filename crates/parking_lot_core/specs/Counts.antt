@@ -6,7 +6,7 @@ use Rattle.core_words.specs.declared.words.Word.{Word}
 use Rattle.core_words.specs.declared.words.WordKind.TheVariants.{Mutex, Count}
 use Rattle.parking_lot_core.specs.declared.counts.Kept.{Kept}
 
--- a mutex, and the word behind it, on which it is counted
+-- a mutex, and the word after it, on which it is counted
 abbrev pub IsPair : Word → Word → Type 0
 IsPair mutex count = (mutex.kind ≡ Mutex) × (count.kind ≡ Count)
     × (count.number ≡ mutex.number + 1)

@@ -1,4 +1,4 @@
-//! Mutexes that their owners lock again: how often is counted on the word behind each.
+//! Mutexes that their owners lock again: how often is counted on the word after each.
 #![tactic(auto, unfolding(crate::specs::Tokens::view_of))]
 
 ghost use Rattle.std.specs.Prelude.{◌≡◌, ◌≢◌, ◌+◌, ◌/◌, ◌<◌, None};

@@ -25,7 +25,7 @@ use core_queues::{Queueing, bucket_among};
 use std::sync::{Mutex, MutexGuard, Wait};
 
 // How often a thread tries to enter a section before it sleeps until it may, and for how many
-// rounds it pauses behind a try: in all 5 microseconds, where a round takes 11 nanoseconds. Several
+// rounds it pauses after a try: in all 5 microseconds, where a round takes 11 nanoseconds. Several
 // sections take no longer, unless their threads do not run. The lock then spins for a microsecond
 // more and parks; neither yields.
 const TRIES: u32 = 40;

@@ -146,7 +146,7 @@ impl<'a> Section<'a> {
         self.first.note_line(&self.lot.stands, key);
     }
 
-    /// Puts a thread behind the last under a key, and gives the place. One that stands somewhere in
+    /// Puts a thread after the last under a key, and gives the place. One that stands somewhere in
     /// the buckets of the section leaves that place first. A thread that parks stands nowhere else.
     pub fn append(&mut self, key: Key, thread: usize, want: Want) -> QueuePlace<'a>
         requires key { IsKeyOf self.old.keys key }
@@ -256,7 +256,7 @@ impl<'a> Section<'a> {
         tell_taken(&self.first, self.did, 0, &mut self.told);
     }
 
-    /// Moves waiters from under one of its keys behind the last under the other. Those that are
+    /// Moves waiters from under one of its keys after the last under the other. Those that are
     /// moved want to own alone from then on. It answers the thread that was taken, if any, and how
     /// many were moved.
     pub fn requeue(&mut self, from: Key, to: Key, op: Requeue) -> (Option<usize>, usize)

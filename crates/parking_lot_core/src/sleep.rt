@@ -15,7 +15,7 @@ use core_base::{Clock, Key, Keys, Note, Want};
 use core_words::{Right, Word};
 use std::sync::Wait;
 
-// How often a thread polls its note before it parks, and the rounds of the pause behind each poll:
+// How often a thread polls its note before it parks, and the rounds of the pause after each poll:
 // in all 0.8 microseconds, where a round takes 11 nanoseconds, and up to four times as long on other
 // processors. A thread that is answered at once sees it meanwhile. A longer spin takes time from the
 // thread that is waited for, where each processor has more than one to run. It never yields: beside

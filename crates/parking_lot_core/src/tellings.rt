@@ -13,7 +13,7 @@ use std::marker::Model;
 /// An act of a thread on the queues, with what it found or did there.
 #[derive(Clone, Copy)]
 pub enum Telling {
-    /// This thread stood behind the last under the key.
+    /// This thread stood after the last under the key.
     Stood {
         key: Key,
         thread: usize,

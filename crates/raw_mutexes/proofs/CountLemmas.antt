@@ -104,9 +104,10 @@ pub seen_last : (at seen : ℕ) (before : List ℕ) (start loop new : List WordS
     ++ load_steps at before → new ≡ loop ++ load_steps at (seen ∷ []) → new ≡ start ++ load_steps at
     (before ++ seen ∷ [])
 seen_last at seen before start loop new saw looked = looked
-    ∙ (ap (λ (steps : List WordStep). steps ++ load_steps at (seen ∷ [])) saw ∙ behind start)
+    ∙ (ap (λ (steps : List WordStep). steps ++ load_steps at (seen ∷ [])) saw ∙ afterwards start)
   where
-    behind : (steps : List WordStep) → (steps ++ load_steps at before) ++ load_steps at (seen ∷ []) ≡ steps
+    afterwards : (steps : List WordStep) → (steps ++ load_steps at before) ++ load_steps at (seen ∷ [])
+        ≡ steps
         ++ load_steps at (before ++ seen ∷ [])
-    behind [] = sym (looks_more at seen before)
-    behind (step ∷ steps) = ap (λ (more : List WordStep). step ∷ more) (behind steps)
+    afterwards [] = sym (looks_more at seen before)
+    afterwards (step ∷ steps) = ap (λ (more : List WordStep). step ∷ more) (afterwards steps)

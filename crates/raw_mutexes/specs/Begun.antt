@@ -18,7 +18,7 @@ owns_between n UnlockFair owns = mutex_ownership n ∷ owns
 owns_between n Bump owns = mutex_ownership n ∷ owns
 owns_between n _ owns = owns
 
--- the call has more to do behind the value that its first step saw; an owner that has more to do
+-- the call has more to do after the value that its first step saw; an owner that has more to do
 -- saw a waiter
 abbrev pub HasMore : ℕ → MutexCall → ℕ → List Ownership → Type 0
 HasMore n Unlock seen owns = seen ≡ locked_and_parked

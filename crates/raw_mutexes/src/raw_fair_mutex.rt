@@ -149,7 +149,7 @@ impl lock_raw::RawMutex for RawFairMutex {
     }
 
     fn unlock_slow<R: Wait>(&self, rt: &R, token: &mut Token, seen: u64) {
-        self.raw.unlock_fair_behind(rt, token, seen);
+        self.raw.unlock_fair_after(rt, token, seen);
     }
 
     fn has_two_guards(&self, token: &mut Token, one: RawGuard, other: RawGuard) -> ! {

@@ -15,7 +15,7 @@ ghost use Rattle.run_locks.specs.MutexCourses.{locked_and_parked};
 ghost use Rattle.raw_mutexes.specs.Begun.{HasBegun};
 ghost use Rattle.core_words.specs.declared.views.WordStep.{WordStep};
 ghost use Rattle.run_base.specs.Calls.{MeetAt, purpose_in, IsUnfinished, HasWalkedMutex, SawWhetherLocked};
-ghost use Rattle.run_base.specs.Calls.{TookIfSeen, WalksBehind};
+ghost use Rattle.run_base.specs.Calls.{TookIfSeen, WalksAfter};
 ghost use Rattle.run_base.specs.Drawing.{Drew, FoundFull};
 ghost use Rattle.raw_mutexes.specs.MutexGuards.{IsGuardOf, IsGuardOf-prop, IsOpenGuardOf};
 ghost use Rattle.raw_mutexes.specs.MutexGuards.{IsOpenGuardOf-prop, permit_in, StaysAs, StaysAs-on};
@@ -124,7 +124,7 @@ impl RawMutex {
     }
 
     // The rest of a fair release.
-    pub(crate) fn unlock_fair_behind<R: Wait>(&self, rt: &R, token: &mut Token, seen: u64)
+    pub(crate) fn unlock_fair_after<R: Wait>(&self, rt: &R, token: &mut Token, seen: u64)
         requires token { IsTokenOf (lot_of self.now) token.old }
         requires begun { (before : Token)
             × HasBegun (word_of self.now).number UnlockFair seen before token.old }
@@ -148,7 +148,7 @@ impl RawMutex {
         requires goes_on { IsUnfinished (word_of self.now).number call seen
             (view_of token.old).owns }
         ensures own { IsSameThread (lot_of self.now) token.old token.new }
-        ensures path { WalksBehind (word_of self.now).number call seen token.old token.new result }
+        ensures path { WalksAfter (word_of self.now).number call seen token.old token.new result }
         ensures rest { (more : List WordStep) × (steps_of token.new ≡ steps_of token.old ++ more) }
         ensures over { IsMutexOver ⊥ (word_of self.now).number (owns_of token.old)
             (purpose_in call) result
@@ -181,7 +181,7 @@ impl RawMutex {
     fn wake_first<R: Wait>(&self, rt: &R, token: &mut Token)
         requires own { MeetAt (lot_of self.now) token.old (word_of self.now) }
         ensures own { IsSameThread (lot_of self.now) token.old token.new }
-        ensures path { WalksBehind
+        ensures path { WalksAfter
             (word_of self.now).number Unlock locked_and_parked token.old token.new ok }
         ensures rest { (more : List WordStep) × (steps_of token.new ≡ steps_of token.old ++ more) }
         ensures over { IsMutexOver ⊥ (word_of self.now).number (owns_of token.old) to_release ok
@@ -389,7 +389,7 @@ impl lock_raw::RawMutexFair for RawMutex {
     #[inline]
     fn unlock_fair<R: Wait>(&self, rt: &R, token: &mut Token, guard: RawGuard) {
         if let Some(seen) = self.unlock_fair_fast(&self.lot, token, guard) {
-            self.unlock_fair_behind(rt, token, seen);
+            self.unlock_fair_after(rt, token, seen);
         }
     }
 

@@ -114,7 +114,7 @@ module _ (at : ℕ → ℕ) (me : ℕ) where
     },
   )
 
-  -- a step on a word behind which nobody is queued tells nothing
+  -- a step on a word after which nobody is queued tells nothing
   pub steps_first : (p : Place) (l : ℕ) (op : Op) (seen : ℕ) → act_of p ≡ act.TheVariants.Word l op
       → is_queued (next_place p (Value seen)) ≡ false → BringsTold at me p (one (at l) op seen) (Value seen)
   steps_first p l op seen is calm = (
@@ -155,11 +155,11 @@ module _ (at : ℕ → ℕ) (me : ℕ) where
   over_at_once p l op seen old new answer is calm e ends = arrives p p old old new (Value seen)
       (one (at l) op seen) answer (begins p old) e (steps_first p l op seen is calm) ends
 
-  pub courses_behind : (p : Place) (l : ℕ) (op : Op) (seen : ℕ) (old mid new : Trail) (answer : Answer)
+  pub courses_after : (p : Place) (l : ℕ) (op : Op) (seen : ℕ) (old mid new : Trail) (answer : Answer)
       → act_of p ≡ act.TheVariants.Word l op → is_queued (next_place p (Value seen)) ≡ false
       → mid ≡ joined old (one (at l) op seen) → Courses at me (next_place p (Value seen)) mid new answer
       → Courses at me p old new answer
-  courses_behind p l op seen old mid new answer is calm e rest = courses_on p (next_place p (Value seen)) old
+  courses_after p l op seen old mid new answer is calm e rest = courses_on p (next_place p (Value seen)) old
       mid new answer (goes_on p p (next_place p (Value seen)) old old mid (Value seen) (one (at l) op seen)
       (begins p old) e (steps_first p l op seen is calm) refl) rest
 
@@ -171,9 +171,9 @@ module _ (at : ℕ → ℕ) (me : ℕ) where
   courses_rest p l op seen old mid new answer is calm e (inl ended) =
       over_at_once p l op seen old new answer is calm (ended.0 ∙ e) ended.1
   courses_rest p l op seen old mid new answer is calm e (inr rest) =
-      courses_behind p l op seen old mid new answer is calm e rest
+      courses_after p l op seen old mid new answer is calm e rest
 
-  -- one course behind another
+  -- one course after another
   pub comes_after : (p q r : Place) (old mid new : Trail) → ComesBy at me p old mid q
       → ComesBy at me q mid new r → ComesBy at me p old new r
   comes_after p q r old mid new c d = (

@@ -269,7 +269,7 @@ module _ (up : Type 0) (n : ℕ) (base : List Ownership) (st : Stage) where
       lock_leads (lock.TheVariants.Handed by) f reply b = absurd f
       lock_leads at f reply b = absurd b
 
-    -- a release behind its subtraction
+    -- a release after its subtraction
     unlock_leads : (at : UnlockAt) → FitsUnlock n base at st → (reply : Reply)
         → Became up mutexes (at_mutex n) (sleeper_at (Mutex n (at_mutex_place.Unlock at))) st
         (unlock_act n at) reply new → Reached up base (Mutex n (at_mutex_place.Unlock at)) reply new

@@ -25,4 +25,4 @@ pub mod Tellings
 pub mod Turning
 pub mod TurnsOn
 pub mod TakesFew
-pub mod Behind
+pub mod Afterwards

@@ -38,7 +38,7 @@ use Rattle.core_words.proofs.OnceSteps.{each_once_code, once_steps}
 use Rattle.parking_lot_core.specs.declared.tokens.Did.TheVariants.{TakeAll}
 use Rattle.run_base.specs.Fitting.{Fits, LooksLeadOn, Reached, ReachedBy, call_purpose, answer_of, of_once}
 use Rattle.run_base.specs.Fitting.{sleeper_at}
-use Rattle.run_base.specs.OnceFitting.{FitsLook, FitsOnce, FitsRun, OwnsBehind, StandsOutside, StandsWithin}
+use Rattle.run_base.specs.OnceFitting.{FitsLook, FitsOnce, FitsRun, OwnsAfter, StandsOutside, StandsWithin}
 use Rattle.run_base.specs.OnceFitting.{goes_on, knowing}
 use Rattle.run_base.specs.Paths.{once_at, onces, at_once, step}
 use Rattle.core_words.specs.declared.views.WordStep.{WordStep}
@@ -324,23 +324,23 @@ module _ (l : ℕ) (base : List Ownership) (st : Stage) where
     look_leads c r (look.Taken by) f reply b = absurd f
     look_leads c r at f reply b = absurd b
 
-    same_behind : (succeeded : Bool) → OwnsBehind l succeeded base st.owns → new.owns ≡ st.owns
-        → OwnsBehind l succeeded base new.owns
-    same_behind succeeded f e = subst (OwnsBehind l succeeded base) (sym e) f
+    same_after : (succeeded : Bool) → OwnsAfter l succeeded base st.owns → new.owns ≡ st.owns
+        → OwnsAfter l succeeded base new.owns
+    same_after succeeded f e = subst (OwnsAfter l succeeded base) (sym e) f
 
     run_leads : (forced : Bool) (at : RunAt) → FitsRun l base at st → (reply : Reply)
         → Became up onces (at_once l) (sleeper_at (Once l (Run forced at))) st (run_act l at) reply new
         → Reached up base (Once l (Run forced at)) reply new
     run_leads forced (run.Enter succeeded) f Done b =
-        ((same_behind succeeded f.0 (owns_of _ b), inside_of _ b), refl)
+        ((same_after succeeded f.0 (owns_of _ b), inside_of _ b), refl)
     run_leads forced (run.Take succeeded) f (Took any left) b = (
-      (same_behind succeeded f.0 b.1, b.0.0, b.0.1, b.0.2 ∙ ap (took_as (TakeAll (2 * l)) b.0.0) f.1),
+      (same_after succeeded f.0 b.1, b.0.0, b.0.1, b.0.2 ∙ ap (took_as (TakeAll (2 * l)) b.0.0) f.1),
       refl,
     )
     run_leads forced (run.Leave succeeded any) f Done b = (
       b.1,
       refl,
-      same_behind succeeded f.0 b.0,
+      same_after succeeded f.0 b.0,
       has_done _ _ _ f.3 b.2,
     )
     run_leads forced (run.Take succeeded) f reply b = absurd b.0

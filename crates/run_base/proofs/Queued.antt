@@ -527,10 +527,10 @@ queued_from p q (inl e) queued = subst (λ (r : Place). is_queued r ≡ true) e 
 queued_from p q (inr e) queued = none_needed (sym (ap (if_there is_queued) e) ∙ looks_off p) queued
 
 -- a step on a word queues nobody
-pub unqueued_behind : (p : Place) (seen : ℕ)
+pub unqueued_after : (p : Place) (seen : ℕ)
     → (GoesOn (is_queued p) (is_queued (next_place p (Value seen))) (act_of p) (Value seen))
     → is_queued p ≡ false → is_queued (next_place p (Value seen)) ≡ false
-unqueued_behind p seen goes calm = not_true (is_queued (next_place p (Value seen)))
+unqueued_after p seen goes calm = not_true (is_queued (next_place p (Value seen)))
     (λ queued. by_goes (goes queued))
   where
     not_true : (b : Bool) → (b ≡ true → ⊥) → b ≡ false

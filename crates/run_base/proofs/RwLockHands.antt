@@ -1,5 +1,5 @@
 -- An owner that leaves the word of all that it took of a reader-writer lock's queue has the right that each
--- of them wants behind that step, so that it can hand it on: an owner alone stores that word, and an
+-- of them wants after that step, so that it can hand it on: an owner alone stores that word, and an
 -- upgradable one exchanges it for the word that it saw.
 use Rattle.std.proofs.lemmas.Bool.{eqb-true}
 use Rattle.std.proofs.lemmas.Bool.Decides.{nat_tests}
@@ -83,23 +83,24 @@ module _ (at : ℕ) where
   skips Upgradable more rest = rw (eq-eqb at at refl) refl
   skips o more rest = absurd more
 
-  stays_behind : (o : Owner) → IsMore o → (rest : List Ownership)
+  stays_afterwards : (o : Owner) → IsMore o → (rest : List Ownership)
       → without (owning at o) (owning at Shared ∷ rest) ≡ owning at Shared ∷ without (owning at o) rest
-  stays_behind Exclusive more rest = rw (eq-eqb at at refl) refl
-  stays_behind Pending more rest = rw (eq-eqb at at refl) refl
-  stays_behind Upgradable more rest = rw (eq-eqb at at refl) refl
-  stays_behind o more rest = absurd more
+  stays_afterwards Exclusive more rest = rw (eq-eqb at at refl) refl
+  stays_afterwards Pending more rest = rw (eq-eqb at at refl) refl
+  stays_afterwards Upgradable more rest = rw (eq-eqb at at refl) refl
+  stays_afterwards o more rest = absurd more
 
-  has_behind : (o : Owner) → IsMore o → (n : ℕ) (rest : List Ownership) → has (owning at o) rest ≡ true
+  has_after : (o : Owner) → IsMore o → (n : ℕ) (rest : List Ownership) → has (owning at o) rest ≡ true
       → has (owning at o) (shared n rest) ≡ true
-  has_behind o more zero rest h = h
-  has_behind o more (suc n) rest h = skips o more (shared n rest) ∙ has_behind o more n rest h
+  has_after o more zero rest h = h
+  has_after o more (suc n) rest h = skips o more (shared n rest) ∙ has_after o more n rest h
 
-  goes_behind : (o : Owner) → IsMore o → (n : ℕ) (rest : List Ownership) → without (owning at o)
+  goes_afterwards : (o : Owner) → IsMore o → (n : ℕ) (rest : List Ownership) → without (owning at o)
       (shared n rest) ≡ shared n (without (owning at o) rest)
-  goes_behind o more zero rest = refl
-  goes_behind o more (suc n) rest = stays_behind o more (shared n rest) ∙ ap (λ xs. owning at Shared ∷ xs)
-      (goes_behind o more n rest)
+  goes_afterwards o more zero rest = refl
+  goes_afterwards o more (suc n) rest = stays_afterwards o more (shared n rest)
+      ∙ ap (λ xs. owning at Shared ∷ xs)
+      (goes_afterwards o more n rest)
 
   -- all share
   all_share : (m : ℕ) (ws : List Want) (rest : List Ownership) → more_in ws ≡ 0
@@ -120,18 +121,18 @@ module _ (at : ℕ) where
   one_more m o more (wants.Exclusive ∷ ws) rest one given there_is = hands_there m wants.Exclusive ws o
       (shared (sharers_in ws) rest) (without (owning at o) rest)
       (shared (sharers_in ws) (without (owning at o) rest))
-      (given wants.Exclusive refl) (has_behind o more (sharers_in ws) rest there_is)
-      (goes_behind o more (sharers_in ws) rest) (all_share m ws (without (owning at o) rest)
+      (given wants.Exclusive refl) (has_after o more (sharers_in ws) rest there_is)
+      (goes_afterwards o more (sharers_in ws) rest) (all_share m ws (without (owning at o) rest)
       (omega arith))
   one_more m o more (wants.Upgradable ∷ ws) rest one given there_is = hands_there m wants.Upgradable ws o
       (shared (sharers_in ws) rest) (without (owning at o) rest)
       (shared (sharers_in ws) (without (owning at o) rest))
-      (given wants.Upgradable refl) (has_behind o more (sharers_in ws) rest there_is)
-      (goes_behind o more (sharers_in ws) rest) (all_share m ws (without (owning at o) rest)
+      (given wants.Upgradable refl) (has_after o more (sharers_in ws) rest there_is)
+      (goes_afterwards o more (sharers_in ws) rest) (all_share m ws (without (owning at o) rest)
       (omega arith))
   one_more m o more (x ∷ ws) rest one given there_is = hands_there m x ws o (shared (sharers_in ws) rest)
       (without (owning at o) rest) (shared (sharers_in ws) (without (owning at o) rest))
-      (given x refl) (has_behind o more (sharers_in ws) rest there_is) (goes_behind o more (sharers_in ws)
+      (given x refl) (has_after o more (sharers_in ws) rest there_is) (goes_afterwards o more (sharers_in ws)
       rest) (all_share m ws (without (owning at o) rest) (omega arith))
 
   -- A greater right stands before the shared ones.
@@ -425,9 +426,9 @@ upgradable_word : (n : ℕ) (none_left : Bool) → n < 2 ^ 60 - 1
 upgradable_word n true few = record { fits = omega arith; stand = omega arith }
 upgradable_word n false few = record { fits = omega arith; stand = omega arith }
 
--- the word of them behind that of an upgradable owner, and the one in which that has only given its right up
-abbrev pub word_behind : ℕ → ℕ → Option Want → Bool → ℕ
-word_behind seen n successor none_left = with_taken access.Upgradable (record {
+-- the word of them after that of an upgradable owner, and the one in which that has only given its right up
+abbrev pub word_after : ℕ → ℕ → Option Want → Bool → ℕ
+word_after seen n successor none_left = with_taken access.Upgradable (record {
   sharers = n;
   successor = successor;
   none_left = none_left;
@@ -481,21 +482,21 @@ module _ (seen : ℕ) (own : IsUpgradableWord seen) where
       stand = omega arith;
     }
 
-    pub shared_behind : (none_left : Bool) → seen / 16 - 1 + n ≤ limit
-        → QuartersFrom seen (word_behind seen n None none_left) (4 * n)
-    shared_behind none_left h = stands 0 (4 * n) (plus (without_right access.Upgradable seen)
+    pub shared_after : (none_left : Bool) → seen / 16 - 1 + n ≤ limit
+        → QuartersFrom seen (word_after seen n None none_left) (4 * n)
+    shared_after none_left h = stands 0 (4 * n) (plus (without_right access.Upgradable seen)
         (plus ((n * 16) % 2 ^ 64) 0)) none_left (summed 0 (omega arith) (omega arith) (omega arith))
         (let small = own.0 in omega arith) (omega arith) refl
 
-    pub writer_behind : (none_left : Bool) → seen / 16 - 1 + n ≤ limit
-        → QuartersFrom seen (word_behind seen n (Some wants.Exclusive) none_left) (4 * n + 2)
-    writer_behind none_left h = stands 8 (4 * n + 2) (plus (without_right access.Upgradable seen)
+    pub writer_after : (none_left : Bool) → seen / 16 - 1 + n ≤ limit
+        → QuartersFrom seen (word_after seen n (Some wants.Exclusive) none_left) (4 * n + 2)
+    writer_after none_left h = stands 8 (4 * n + 2) (plus (without_right access.Upgradable seen)
         (plus ((n * 16) % 2 ^ 64) 8)) none_left (summed 8 (omega arith) (omega arith) (omega arith))
         (let small = own.0 in omega arith) (omega arith) refl
 
-    pub upgradable_behind : (none_left : Bool) → seen / 16 - 1 + (n + 1) ≤ limit
-        → QuartersFrom seen (word_behind seen n (Some wants.Upgradable) none_left) (4 * n + 5)
-    upgradable_behind none_left h = stands 20 (4 * n + 5) (plus (without_right access.Upgradable seen)
+    pub upgradable_after : (none_left : Bool) → seen / 16 - 1 + (n + 1) ≤ limit
+        → QuartersFrom seen (word_after seen n (Some wants.Upgradable) none_left) (4 * n + 5)
+    upgradable_after none_left h = stands 20 (4 * n + 5) (plus (without_right access.Upgradable seen)
         (plus ((n * 16) % 2 ^ 64) 20)) none_left (summed 20 (omega arith) (omega arith) (omega arith))
         (let small = own.0 in omega arith) (omega arith) refl
 
@@ -629,14 +630,14 @@ module _ (at : ℕ) (owns : List Ownership) (mine : has (owning at Upgradable) o
           small not_one
 
       writer_exchanged : (y : Want) → IsWriter y → successor_in ws ≡ Some y → seen / 16 - 1 + sharers_in ws
-          ≤ limit → ExchangeHands at seen (word_behind seen (sharers_in ws) (Some wants.Exclusive) none_left)
+          ≤ limit → ExchangeHands at seen (word_after seen (sharers_in ws) (Some wants.Exclusive) none_left)
           owns ws
-      writer_exchanged y w e h = let some = some_more ws y e in let q = writer_behind seen own (sharers_in ws)
+      writer_exchanged y w e h = let some = some_more ws y e in let q = writer_after seen own (sharers_in ws)
           limit room none_left h in record {
-            may = may_hand (word_behind seen (sharers_in ws) (Some wants.Exclusive) none_left)
+            may = may_hand (word_after seen (sharers_in ws) (Some wants.Exclusive) none_left)
                 (4 * sharers_in ws
                 + 2) q (omega arith) (λ z. omega arith);
-            hands = λ code. to_writer at seen (word_behind seen (sharers_in ws) (Some wants.Exclusive)
+            hands = λ code. to_writer at seen (word_after seen (sharers_in ws) (Some wants.Exclusive)
                 none_left)
                 owns code mine ws y w (omega arith) e q.stand;
           }
@@ -645,23 +646,23 @@ module _ (at : ℕ) (owns : List Ownership) (mine : has (owning at Upgradable) o
         sharers = sharers_in ws;
         successor = o;
         none_left = none_left;
-      }) seen ≡ true → ExchangeHands at seen (word_behind seen (sharers_in ws) o none_left) owns ws
+      }) seen ≡ true → ExchangeHands at seen (word_after seen (sharers_in ws) o none_left) owns ws
       exchange_hands_by None e fits = let h = at_most (seen / 16 - 1 + (sharers_in ws + 0)) limit fits
-          in let q = shared_behind seen own (sharers_in ws) limit room none_left (omega arith) in record {
-            may = may_hand (word_behind seen (sharers_in ws) None none_left) (4 * sharers_in ws) q
+          in let q = shared_after seen own (sharers_in ws) limit room none_left (omega arith) in record {
+            may = may_hand (word_after seen (sharers_in ws) None none_left) (4 * sharers_in ws) q
                 (omega arith)
                 (λ z. omega arith);
-            hands = λ code. to_sharers at seen (word_behind seen (sharers_in ws) None none_left) owns code
+            hands = λ code. to_sharers at seen (word_after seen (sharers_in ws) None none_left) owns code
                 mine ws
                 (none_more ws e) q.stand;
           }
       exchange_hands_by (Some wants.Upgradable) e fits = let some = some_more ws wants.Upgradable e in let h =
           at_most (seen / 16 - 1 + (sharers_in ws + 1)) limit fits in let q =
-          upgradable_behind seen own (sharers_in ws) limit room none_left h in record {
-            may = may_hand (word_behind seen (sharers_in ws) (Some wants.Upgradable) none_left)
+          upgradable_after seen own (sharers_in ws) limit room none_left h in record {
+            may = may_hand (word_after seen (sharers_in ws) (Some wants.Upgradable) none_left)
                 (4 * sharers_in ws
                 + 5) q (omega arith) (λ z. omega arith);
-            hands = λ code. to_upgradable at seen (word_behind seen (sharers_in ws) (Some wants.Upgradable)
+            hands = λ code. to_upgradable at seen (word_after seen (sharers_in ws) (Some wants.Upgradable)
                 none_left) owns code mine ws (omega arith) e q.stand;
           }
       exchange_hands_by (Some wants.Shared) e fits = absurd (no_sharer ws e)

@@ -165,7 +165,7 @@ module _ (up : Type 0) (l : ℕ) (a : Admission) (base : List Ownership) (q : Rw
     small : (op : Op) (seen : ℕ) → Step op seen → seen < 2 ^ 64
     small op seen b = fits (rwlock_at l) seen st.owns b.0
 
-    -- tells what is claimed behind a step
+    -- tells what is claimed after a step
     claims_now : (op : Op) (seen : ℕ) (c : Option Claim) → Step op seen → OwnsBeside l c base
         (owns_after_step kinds.RwLock (rwlock_at l) op seen st.owns) → OwnsBeside l c base new.owns
     claims_now op seen c b = subst (OwnsBeside l c base) (sym (owns_now op seen b))
@@ -901,11 +901,11 @@ module _ (up : Type 0) (l : ℕ) (a : Admission) (base : List Ownership) (q : Rw
     -- ---------------------------------------------------------------- giving up, and waking others
 
     -- after a roll-back the right that it falls back to is kept, and those that wait are woken
-    wakes_behind : (seen : ℕ) (c : Option Claim) → Fits at.RollBack → kept_claim (start_of q) ≡ c
+    wakes_after : (seen : ℕ) (c : Option Claim) → Fits at.RollBack → kept_claim (start_of q) ≡ c
         → OwnsBeside l c base new.owns → new.inside ≡ None
         → (has_parked seen ≡ false → Answers up l base a q No new)
         → Reach (if has_parked seen then stays (of at.RollBack) (wakes Main) else End No)
-    wakes_behind seen c f claims owns none over = either (has_parked seen) refl
+    wakes_after seen c f claims owns none over = either (has_parked seen) refl
       where
         either : (b : Bool) → has_parked seen ≡ b → Reach (if b then stays (of at.RollBack) (wakes Main)
             else End No)
@@ -942,7 +942,7 @@ module _ (up : Type 0) (l : ℕ) (a : Admission) (base : List Ownership) (q : Rw
             → Step (rollback_op r) seen → Reach (rolled_back (of at.RollBack) seen)
         by_purpose (purpose.Enter access.Exclusive how) is stands owns late b = let left =
             claims_now (Sub 8) seen None b (keeping.rolls_back l base st.owns seen b.0 owns) in
-            wakes_behind seen None f (ap (λ (r : RwLockPurpose). kept_claim (start_of r)) is) left
+            wakes_after seen None f (ap (λ (r : RwLockPurpose). kept_claim (start_of r)) is) left
             (inside_now (Sub 8) seen b ∙ f.within)
             (λ clear. subst (λ (r : RwLockPurpose). Answers up l base a r No new) (sym is)
             (inr (inl (
@@ -957,7 +957,7 @@ module _ (up : Type 0) (l : ℕ) (a : Admission) (base : List Ownership) (q : Rw
         by_purpose (purpose.Upgrade Timed) is stands owns late b = let left =
             claims_now (Add 12) seen (Some (Has wants.Upgradable)) b (keeping.falls_back l base st.owns seen
             b.0 owns) in
-            wakes_behind seen (Some (Has wants.Upgradable)) f
+            wakes_after seen (Some (Has wants.Upgradable)) f
             (ap (λ (r : RwLockPurpose). kept_claim (start_of r)) is) left (inside_now (Add 12) seen b
             ∙ f.within)
             (λ clear. subst (λ (r : RwLockPurpose). Answers up l base a r No new) (sym is)

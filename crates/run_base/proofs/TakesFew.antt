@@ -10,17 +10,17 @@ use Rattle.core_queues.specs.Wants.{wants_of}
 use Rattle.spec_locks.proofs.HandsTaken.{one_more_picked, wanting_more}
 use Rattle.run_base.specs.Takes.{more_in}
 
-one_behind : (x : Waiter) (xs : List Waiter) → more_in (wants_of xs) ≡ wanting_more xs → (y : Want)
+one_after : (x : Waiter) (xs : List Waiter) → more_in (wants_of xs) ≡ wanting_more xs → (y : Want)
     → x.want ≡ y → more_in (wants_of (x ∷ xs)) ≡ wanting_more (x ∷ xs)
-one_behind x xs h wants.Shared e = rw e (omega arith)
-one_behind x xs h wants.Exclusive e = rw e (omega arith)
-one_behind x xs h wants.Upgradable e = rw e (omega arith)
-one_behind x xs h wants.Wait e = rw e (omega arith)
-one_behind x xs h wants.CallOnce e = rw e (omega arith)
+one_after x xs h wants.Shared e = rw e (omega arith)
+one_after x xs h wants.Exclusive e = rw e (omega arith)
+one_after x xs h wants.Upgradable e = rw e (omega arith)
+one_after x xs h wants.Wait e = rw e (omega arith)
+one_after x xs h wants.CallOnce e = rw e (omega arith)
 
 same_number : (xs : List Waiter) → more_in (wants_of xs) ≡ wanting_more xs
 same_number [] = refl
-same_number (x ∷ xs) = one_behind x xs (same_number xs) x.want refl
+same_number (x ∷ xs) = one_after x xs (same_number xs) x.want refl
 
 pub picked_few : (start : Option Want) (recursive : Bool) (xs : List Waiter)
     → more_in (wants_of (lock_picked start recursive xs)) ≤ 1

@@ -46,10 +46,11 @@ use Rattle.run_base.specs.Paths.{is_wordless, is_valueless}
 use Rattle.run_base.specs.Stages.{Stage, Became, Stepped, Adds, stage, stage_of, section_view}
 use Rattle.run_base.specs.Sleepers.{late_key_at}
 
-wordless : (at : ℕ → ℕ) (p : Place) (a : Act) (reply : Reply) (before behind : List WordStep) → act_of p ≡ a
-    → is_wordless a ≡ true → is_valueless reply ≡ true → MayReply p reply → behind ≡ before
-    → Told at p reply before behind
-wordless at p a reply before behind is quiet valueless may e = (
+wordless : (at : ℕ → ℕ) (p : Place) (a : Act) (reply : Reply) (before afterwards : List WordStep)
+    → act_of p ≡ a
+    → is_wordless a ≡ true → is_valueless reply ≡ true → MayReply p reply → afterwards ≡ before
+    → Told at p reply before afterwards
+wordless at p a reply before afterwards is quiet valueless may e = (
   [],
   e ∙ sym (append-nil before),
   other p reply (ap is_wordless is ∙ quiet) valueless may,
@@ -71,53 +72,58 @@ some_closure : {state : OnceState} → Some state ≡ None → ⊥
 some_closure e = cc
 
 pub told : (up : Type 0) (at : ℕ → ℕ) (kinds : ℕ → WordKind) (p : Place) (a : Act) → act_of p ≡ a
-    → closure_of a ≡ None → (st new : Stage) (reply : Reply) (before behind : List WordStep)
-    → Became up kinds at (sleeper_at p) st a reply new → Adds at a reply before behind
-    → Told at p reply before behind
-told up at kinds p (act.TheVariants.Word l op) is runs st new (Value seen) before behind b e =
+    → closure_of a ≡ None → (st new : Stage) (reply : Reply) (before afterwards : List WordStep)
+    → Became up kinds at (sleeper_at p) st a reply new → Adds at a reply before afterwards
+    → Told at p reply before afterwards
+told up at kinds p (act.TheVariants.Word l op) is runs st new (Value seen) before afterwards b e =
     (step (at l) op seen, e, word p l op seen is)
-told up at kinds p (act.TheVariants.HandOver l op) is runs st new (Value seen) before behind b e =
+told up at kinds p (act.TheVariants.HandOver l op) is runs st new (Value seen) before afterwards b e =
     (step (at l) op seen, e, hands p l op seen is)
-told up at kinds p (act.TheVariants.Park l key check want) is runs st new (Parked parked) before behind b e = (
-  step (at l) Load e.0,
-  e.2,
-  subst (λ (x : Bool). Brings at p (step (at l) Load e.0) (Parked x)) (sym e.1)
-      (parks p l key check want e.0 is),
-)
-told up at kinds p (act.TheVariants.Enter keys) is runs st new Done before behind b e =
-    wordless at p (act.TheVariants.Enter keys) Done before behind is refl refl tt e
-told up at kinds p (act.TheVariants.Stand key want) is runs st new Done before behind b e =
-    wordless at p (act.TheVariants.Stand key want) Done before behind is refl refl tt e
+told up at kinds p (act.TheVariants.Park l key check want) is runs st new (Parked parked) before afterwards b
+    e = (
+      step (at l) Load e.0,
+      e.2,
+      subst (λ (x : Bool). Brings at p (step (at l) Load e.0) (Parked x)) (sym e.1)
+          (parks p l key check want e.0 is),
+    )
+told up at kinds p (act.TheVariants.Enter keys) is runs st new Done before afterwards b e =
+    wordless at p (act.TheVariants.Enter keys) Done before afterwards is refl refl tt e
+told up at kinds p (act.TheVariants.Stand key want) is runs st new Done before afterwards b e =
+    wordless at p (act.TheVariants.Stand key want) Done before afterwards is refl refl tt e
 told up at kinds p (act.TheVariants.Take key whom.TheVariants.First) is runs st new (Took any left) before
-    behind b e = wordless at p (act.TheVariants.Take key whom.TheVariants.First) (Took any left) before behind
+    afterwards b e = wordless at p (act.TheVariants.Take key whom.TheVariants.First) (Took any left) before
+    afterwards
     is refl refl tt e
 told up at kinds p (act.TheVariants.Take key whom.TheVariants.All) is runs st new (Took any left) before
-    behind b e = wordless at p (act.TheVariants.Take key whom.TheVariants.All) (Took any left) before behind
+    afterwards b e = wordless at p (act.TheVariants.Take key whom.TheVariants.All) (Took any left) before
+    afterwards
     is refl refl tt e
 told up at kinds p (act.TheVariants.Take key (whom.TheVariants.Picked start recursive)) is runs st new
-    (Picked sharers successor left) before behind b e =
+    (Picked sharers successor left) before afterwards b e =
     wordless at p (act.TheVariants.Take key (whom.TheVariants.Picked start recursive))
-    (Picked sharers successor left) before behind is refl refl tt e
-told up at kinds p (act.TheVariants.Take key who) is runs st new reply before behind b e = absurd b.0
-told up at kinds p (act.TheVariants.Requeue from to how) is runs st new (Requeued number left) before behind b
-    e = wordless at p (act.TheVariants.Requeue from to how) (Requeued number left) before behind is refl refl
+    (Picked sharers successor left) before afterwards is refl refl tt e
+told up at kinds p (act.TheVariants.Take key who) is runs st new reply before afterwards b e = absurd b.0
+told up at kinds p (act.TheVariants.Requeue from to how) is runs st new (Requeued number left) before
+    afterwards b
+    e = wordless at p (act.TheVariants.Requeue from to how) (Requeued number left) before afterwards is refl
+    refl
     tt e
-told up at kinds p (act.TheVariants.Remove key) is runs st new (Removed left) before behind b e =
-    wordless at p (act.TheVariants.Remove key) (Removed left) before behind is refl refl tt e
-told up at kinds p (act.TheVariants.Leave keys wakes) is runs st new Done before behind b e =
-    wordless at p (act.TheVariants.Leave keys wakes) Done before behind is refl refl tt e
-told up at kinds p act.TheVariants.Sleep is runs st new (Woken note) before behind b e =
-    wordless at p act.TheVariants.Sleep (Woken note) before behind is refl refl tt e
-told up at kinds p act.TheVariants.Sleep is runs st new Late before behind b e =
-    wordless at p act.TheVariants.Sleep Late before behind is refl refl (has_deadline p b.0 b.1.0) e
-told up at kinds p act.TheVariants.Sleep is runs st new (MovedTo key) before behind b e =
-    wordless at p act.TheVariants.Sleep (MovedTo key) before behind is refl refl
+told up at kinds p (act.TheVariants.Remove key) is runs st new (Removed left) before afterwards b e =
+    wordless at p (act.TheVariants.Remove key) (Removed left) before afterwards is refl refl tt e
+told up at kinds p (act.TheVariants.Leave keys wakes) is runs st new Done before afterwards b e =
+    wordless at p (act.TheVariants.Leave keys wakes) Done before afterwards is refl refl tt e
+told up at kinds p act.TheVariants.Sleep is runs st new (Woken note) before afterwards b e =
+    wordless at p act.TheVariants.Sleep (Woken note) before afterwards is refl refl tt e
+told up at kinds p act.TheVariants.Sleep is runs st new Late before afterwards b e =
+    wordless at p act.TheVariants.Sleep Late before afterwards is refl refl (has_deadline p b.0 b.1.0) e
+told up at kinds p act.TheVariants.Sleep is runs st new (MovedTo key) before afterwards b e =
+    wordless at p act.TheVariants.Sleep (MovedTo key) before afterwards is refl refl
     (λ none. b.2 (is_late_at p ∙ none)) e
-told up at kinds p act.TheVariants.Accept is runs st new Done before behind b e =
-    wordless at p act.TheVariants.Accept Done before behind is refl refl tt e
-told up at kinds p (act.TheVariants.Closure state) is runs st new reply before behind b e =
+told up at kinds p act.TheVariants.Accept is runs st new Done before afterwards b e =
+    wordless at p act.TheVariants.Accept Done before afterwards is refl refl tt e
+told up at kinds p (act.TheVariants.Closure state) is runs st new reply before afterwards b e =
     absurd (some_closure runs)
-told up at kinds p a is runs st new reply before behind b e = absurd b
+told up at kinds p a is runs st new reply before afterwards b e = absurd b
 
 -- the words of a call serve it to its end
 pub words_on : (p : Place) (reply : Reply) (kinds : ℕ → WordKind) (at : ℕ → ℕ) → AreWordsFor p kinds at

@@ -1,4 +1,4 @@
--- Turns one behind another, up to the end of their call.
+-- Turns one after another, up to the end of their call.
 use Rattle.std.proofs.Common.{ℕ, ◌≡◌, true, None, Some, List, Option, refl, sym, ap, ◌∙◌, subst}
 use Rattle.core_base.specs.declared.ops.Op.{Op}
 use Rattle.steps_base.specs.declared.acts.Act.{Act}

@@ -29,14 +29,14 @@ use Rattle.lot_steps.specs.declared.places.Place.TheVariants.{Mutex, RwLock, Onc
 use Rattle.run_base.specs.Queued.{is_queued}
 use Rattle.run_base.specs.RwLockCalls.{rwlock_begin, rwlock_deciding}
 use Rattle.run_base.proofs.Queued.{call_same, condvar_same, mutex_same, once_same, semaphore_same}
-use Rattle.run_base.proofs.Queued.{unqueued_behind}
+use Rattle.run_base.proofs.Queued.{unqueued_after}
 use Rattle.run_base.proofs.Queueing.{CallMayGo, CondvarMayGo, MutexInNoHand, OnceInNoHand, SemaphoreInNoHand}
 use Rattle.run_base.proofs.Queueing.{call_on, call_queued, condvar_on, condvar_queued, mutex_on, mutex_queued}
 use Rattle.run_base.proofs.Queueing.{once_on, once_queued, same, semaphore_on, semaphore_queued}
 
 unqueued_mutex : (n : ℕ) (place : MutexPlace) (seen : ℕ) → MutexInNoHand place → mutex_queued place ≡ false
     → is_queued (next_place (Mutex n place) (Value seen)) ≡ false
-unqueued_mutex n place seen free calm = unqueued_behind (Mutex n place) seen
+unqueued_mutex n place seen free calm = unqueued_after (Mutex n place) seen
     (same _ _ _ _ _ _ refl (mutex_same n (mutex_next place (Value seen))) (mutex_on n place (Value seen)
     free)) calm
 
@@ -51,7 +51,7 @@ after_first n calls.Bump seen = unqueued_mutex n (mutex_first false calls.Bump) 
 
 pub unqueued_call : (n : ℕ) (a : Admission) (c : RwLockCallPlace) (seen : ℕ) → CallMayGo c (Value seen)
     → call_queued a c ≡ false → is_queued (next_place (RwLock n a c) (Value seen)) ≡ false
-unqueued_call n a c seen may calm = unqueued_behind (RwLock n a c) seen (same _ _ _ _ _ _ refl
+unqueued_call n a c seen may calm = unqueued_after (RwLock n a c) seen (same _ _ _ _ _ _ refl
     (call_same n a (call_next a c (Value seen))) (call_on n a c (Value seen) may)) calm
 
 pub after_decision : (n : ℕ) (a : Admission) (q : RwLockPurpose) (expected seen : ℕ)
@@ -97,7 +97,7 @@ after_begin n a (purpose.Upgrade Try) seen = unqueued_call n a (plain_first (pur
 
 pub unqueued_once : (n : ℕ) (place : OncePlace) (seen : ℕ) → OnceInNoHand place → once_queued place ≡ false
     → is_queued (next_place (Once n place) (Value seen)) ≡ false
-unqueued_once n place seen free calm = unqueued_behind (Once n place) seen
+unqueued_once n place seen free calm = unqueued_after (Once n place) seen
     (same _ _ _ _ (once_act n place) (Value seen) refl (once_same n (once_next place (Value seen)))
     (once_on n place (Value seen) (λ e. cc) free)) calm
 
@@ -107,13 +107,13 @@ after_once n c seen = unqueued_once n (once_first c) seen tt refl
 
 pub unqueued_semaphore : (n : ℕ) (place : SemaphorePlace) (seen : ℕ) → SemaphoreInNoHand place
     → semaphore_queued place ≡ false → is_queued (next_place (Semaphore n place) (Value seen)) ≡ false
-unqueued_semaphore n place seen free calm = unqueued_behind (Semaphore n place) seen
+unqueued_semaphore n place seen free calm = unqueued_after (Semaphore n place) seen
     (same _ _ _ _ (semaphore_act n place) (Value seen) refl
     (semaphore_same n (semaphore_next place (Value seen)))
     (semaphore_on n place (Value seen) (λ e. cc) free)) calm
 
 pub after_condvar : (n : ℕ) (place : CondvarPlace) (seen : ℕ) → CondvarMayGo place (Value seen)
     → condvar_queued place ≡ false → is_queued (next_place (Condvar n place) (Value seen)) ≡ false
-after_condvar n place seen may calm = unqueued_behind (Condvar n place) seen
+after_condvar n place seen may calm = unqueued_after (Condvar n place) seen
     (same _ _ _ _ _ _ refl (condvar_same n (condvar_next place (Value seen)))
     (condvar_on n place (Value seen) may)) calm

@@ -51,7 +51,7 @@ purpose_in call.UnlockFair = to_hand_over
 purpose_in call.Bump = to_enter entry.TheVariants.Bump
 purpose_in _ = to_release
 
--- it goes on behind the value that its first operation saw; a thread that is to hand the mutex over owns it
+-- it goes on after the value that its first operation saw; a thread that is to hand the mutex over owns it
 abbrev pub IsUnfinished : ℕ → MutexCall → ℕ → List Ownership → Type 0
 IsUnfinished n call.Lock seen owns = 0 < seen
 IsUnfinished n call.LockTimed seen owns = 0 < seen
@@ -92,9 +92,9 @@ abbrev pub HasWalkedMutex : ℕ → MutexCall → Answer → Token → Token →
 HasWalkedMutex n c answer old new =
     Courses (at_mutex n) old.number (beginning n c) (trail_of old None) (trail_of new None) answer
 
--- The call's steps and tellings behind its first step, which was taken before and saw this.
-abbrev pub WalksBehind : ℕ → MutexCall → ℕ → Token → Token → Answer → Type 0
-WalksBehind n c seen old new answer = (before : Token) → old.number ≡ before.number
+-- The call's steps and tellings after its first step, which was taken before and saw this.
+abbrev pub WalksAfter : ℕ → MutexCall → ℕ → Token → Token → Answer → Type 0
+WalksAfter n c seen old new answer = (before : Token) → old.number ≡ before.number
     → steps_of old ≡ steps_of before ++ step (mutex_at n) (first_op c) seen
     → told_of old ≡ told_of before
     → HasWalkedMutex n c answer before new

@@ -68,7 +68,7 @@ TellsFound key who (Picked sharers successor none_left) tellings = (taken left :
     × (tellings ≡ taking key who taken left) × (none_left ≡ (left == 0))
 TellsFound key who reply tellings = ⊥
 
--- the tellings of an act of this thread bring the reply: a thread that parked or stands did so behind
+-- the tellings of an act of this thread bring the reply: a thread that parked or stands did so after
 -- the last, and one that was woken may have left the queue by itself
 abbrev pub Tells : ℕ → Act → Reply → List Telling → Type 0
 Tells me (act.TheVariants.Park lock key check want) (Parked parked) tellings =

@@ -74,7 +74,7 @@ HasTook n any owns st = (first : Option Waiter) × (any ≡ is_there first)
 abbrev pub TookAt : ℕ → Option SectionRecord → Type 0
 TookAt n last = HasDone (2 * n) (TakeFirst (2 * n)) last
 
--- a release, behind its subtraction
+-- a release, after its subtraction
 abbrev pub FitsUnlock : ℕ → List Ownership → UnlockAt → Stage → Type 0
 FitsUnlock n base unlock.TheVariants.Subtract st = ⊥
 FitsUnlock n base unlock.TheVariants.Enter st = Outside base st
@@ -82,7 +82,7 @@ FitsUnlock n base unlock.TheVariants.Take st = Within n base st
 FitsUnlock n base (unlock.TheVariants.Clear any) st = HasTook n any base st
 FitsUnlock n base (unlock.TheVariants.Leave any) st = HasTook n any base st
 
--- an owner that saw a waiter, until its store, and behind that
+-- an owner that saw a waiter, until its store, and after that
 abbrev pub FitsHandOff : ℕ → List Ownership → HandOffAt → Stage → Type 0
 FitsHandOff n base hand_off.TheVariants.Enter st = (has (mutex_ownership n) base ≡ true) × Outside base st
 FitsHandOff n base hand_off.TheVariants.Take st = (has (mutex_ownership n) base ≡ true) × Within n base st

@@ -38,9 +38,9 @@ abbrev pub KnowsIt : ℕ → List Ownership → List Ownership → Type 0
 KnowsIt l base owns = (times : ℕ) × (owns ≡ knowing l (suc times) base)
 
 -- A thread that ran a `Once` well owns what it did before.
-abbrev pub OwnsBehind : ℕ → Bool → List Ownership → List Ownership → Type 0
-OwnsBehind l true base owns = KnowsIt l base owns
-OwnsBehind l false base owns = OwnsKnowing l base owns
+abbrev pub OwnsAfter : ℕ → Bool → List Ownership → List Ownership → Type 0
+OwnsAfter l true base owns = KnowsIt l base owns
+OwnsAfter l false base owns = OwnsKnowing l base owns
 
 abbrev pub StandsOutside : ℕ → List Ownership → Stage → Type 0
 StandsOutside l base st = OwnsKnowing l base st.owns × (st.inside ≡ None)
@@ -76,10 +76,10 @@ TookEach l waiters inside =
 abbrev pub FitsRun : ℕ → List Ownership → RunAt → Stage → Type 0
 FitsRun l base (run.Closure poisoned) st = OwnsRun l base st.owns × (st.inside ≡ None)
 FitsRun l base (run.Close succeeded) st = ⊥
-FitsRun l base (run.Enter succeeded) st = OwnsBehind l succeeded base st.owns × (st.inside ≡ None)
+FitsRun l base (run.Enter succeeded) st = OwnsAfter l succeeded base st.owns × (st.inside ≡ None)
 FitsRun l base (run.Take succeeded) st =
-    OwnsBehind l succeeded base st.owns × (st.inside ≡ entered_now (One (2 * l)))
-FitsRun l base (run.Leave succeeded any) st = OwnsBehind l succeeded base st.owns
+    OwnsAfter l succeeded base st.owns × (st.inside ≡ entered_now (One (2 * l)))
+FitsRun l base (run.Leave succeeded any) st = OwnsAfter l succeeded base st.owns
     × (waiters : List Waiter) × (any ≡ not (length waiters == 0)) × TookEach l waiters st.inside
 
 -- the ownership of a thread in a call of a `Once`, beside what it owned as it began; `up` says that the time
@@ -93,7 +93,7 @@ FitsOnce up l base (GiveUp retries at) st = up × StandsWithin l base st
 abbrev pub WokeAll : ℕ → Option SectionRecord → Type 0
 WokeAll l last = HasDone (2 * l) (TakeAll (2 * l)) last
 
--- the facts behind the answer of a call that runs nothing, by the section that was left last
+-- the facts after the answer of a call that runs nothing, by the section that was left last
 abbrev pub LooksAnswer : Type 0 → ℕ → OnceCall → List Ownership → Answer → List Ownership
     → Option SectionRecord → Type 0
 LooksAnswer up l c base answers.Ok owns last = (is_timed c ≡ false) × KnowsIt l base owns
@@ -111,4 +111,4 @@ IsLookOver up l c base answer st =
 -- A run is over that saw waiters.
 abbrev pub IsRunOver : ℕ → Bool → List Ownership → Answer → Stage → Type 0
 IsRunOver l succeeded base answer st = (st.inside ≡ None) × (answer ≡ ended succeeded)
-    × OwnsBehind l succeeded base st.owns × WokeAll l st.last
+    × OwnsAfter l succeeded base st.owns × WokeAll l st.last

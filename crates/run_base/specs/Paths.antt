@@ -123,8 +123,8 @@ pub data Brings (at : ℕ → ℕ) : Place → List WordStep → Reply → Type 
 
 -- these steps were added, and bring the reply
 abbrev pub Told : (ℕ → ℕ) → Place → Reply → List WordStep → List WordStep → Type 0
-Told at p reply before behind =
-    (then : List WordStep) × (behind ≡ before ++ then) × Brings at p then reply
+Told at p reply before afterwards =
+    (then : List WordStep) × (afterwards ≡ before ++ then) × Brings at p then reply
 
 -- where a thread goes on from: where it stands, or from where it looks
 abbrev pub GoesFrom : Place → Place → Type 0

@@ -45,7 +45,7 @@ abbrev pub FitsTry : List Ownership → TryAt → Stage → Type 0
 FitsTry base tries.Load st = Outside base st
 FitsTry base (tries.Decide seen) st = (is_free seen ≡ true) × Outside base st
 
--- a release, behind its addition
+-- a release, after its addition
 abbrev pub FitsRelease : ℕ → List Ownership → ReleaseAt → Stage → Type 0
 FitsRelease l base release.Add st = ⊥
 FitsRelease l base release.Enter st = Outside base st

@@ -66,7 +66,7 @@ is_empty_at key section = length (line_in key section) == 0
 abbrev pub AreQueued : List Waiter → Option Section → Type 0
 AreQueued waiters section = lines (waiting_of section) ≡ lines waiters
 
--- the thread stands behind the last of a queue
+-- the thread stands after the last of a queue
 abbrev pub StandsLast : ℕ → ℕ → Want → Option Section → Option Section → Type 0
 StandsLast key thread want old new =
     AreQueued (without thread (waiting_of old) ++ waiter key thread want ∷ []) new

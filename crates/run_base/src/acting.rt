@@ -47,7 +47,7 @@ pub(crate) fn note_of(wakes: Wakes) -> Note
     }
 }
 
-// Loads the word inside the section, and where the check holds stands behind the last of the queue.
+// Loads the word inside the section, and where the check holds stands after the last of the queue.
 fn park<'a>(
     lot: &ParkingLot,
     token: &mut Token,
@@ -86,7 +86,7 @@ fn park<'a>(
     }
 }
 
-// Stands behind the last of the queue.
+// Stands after the last of the queue.
 pub(crate) fn stand<'a>(
     lot: &ParkingLot,
     token: &Token,

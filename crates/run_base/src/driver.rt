@@ -8,7 +8,7 @@ ghost use Rattle.core_words.specs.declared.owners.Ownership.{Ownership};
 ghost use Rattle.core_words.specs.declared.views.WordStep.{WordStep};
 ghost use Rattle.core_words.specs.declared.words.WordKind.TheVariants.{Mutex};
 ghost use Rattle.parking_lot_core.specs.Tokens.{IsTokenOf, IsSameThread, view_of, last_of, told_of};
-ghost use Rattle.run_base.specs.Calls.{MeetAt, beginning, purpose_in, IsUnfinished, WalksBehind};
+ghost use Rattle.run_base.specs.Calls.{MeetAt, beginning, purpose_in, IsUnfinished, WalksAfter};
 ghost use Rattle.run_base.specs.Fitting.{PlacesLead, AreWordsFor, AreWordsAfter, Fits, IsStopped, Reached};
 ghost use Rattle.run_base.specs.Fitting.{answer_of, call_purpose};
 ghost use Rattle.run_base.specs.MutexFitting.{IsMutexOver};
@@ -59,7 +59,7 @@ pub const FOR_EVER: &Option<(&'static NoClock, u64)> = &None;
 pub enum Stop {
     /// The call is over.
     Ended(Answer),
-    /// The closure of the call is to run, with this state. The call goes on behind the place, by a
+    /// The closure of the call is to run, with this state. The call goes on after the place, by a
     /// run of its own.
     Paused { place: Place, state: OnceState },
 }
@@ -260,7 +260,7 @@ pub fn run<R: Wait, C: Clock>(
 }
 
 // Where a call goes on whose first step saw this.
-fn place_behind(word: Word, call: MutexCall, seen: u64) -> Place
+fn place_after(word: Word, call: MutexCall, seen: u64) -> Place
     ensures { result ≡ next_place (beginning word.number call) (Value seen) }
 {
     let first = Place::Mutex {
@@ -285,12 +285,12 @@ pub fn call_slow<R: Wait, C: Clock>(
     requires own { MeetAt lot.now token.old word }
     requires goes_on { IsUnfinished word.number call seen (view_of token.old).owns }
     ensures own { IsSameThread lot.now token.old token.new }
-    ensures path { WalksBehind word.number call seen token.old token.new result }
+    ensures path { WalksAfter word.number call seen token.old token.new result }
     ensures rest { (more : List WordStep) × (steps_of token.new ≡ steps_of token.old ++ more) }
     ensures over { IsMutexOver (IsUp C.tells limit.entry) word.number (owns_of token.old)
         (purpose_in call) result (stage_of token.new None) }
 {
-    let start = place_behind(word, call, seen);
+    let start = place_after(word, call, seen);
     match run(rt, lot, token, Words::alone(word), limit, start) {
         Stop::Ended(answer) => answer,
         // No call of a mutex runs a closure.

@@ -59,7 +59,7 @@ pub fn turn_enter<'a, R: Wait, C: Clock>(
     enter(rt, lot, token, section, keys);
 }
 
-/// A turn that stands behind the last of a queue. It gives the thread's place there.
+/// A turn that stands after the last of a queue. It gives the thread's place there.
 #[inline]
 pub fn turn_stand<'a, C: Clock>(
     lot: &ParkingLot,

@@ -99,7 +99,7 @@ module _ (c m : ℕ) where
       by_owner true one = rw (ne_eqb found seen ne, e, one) refl
       by_owner false one = rw (ne_eqb found seen ne, e, one) refl
 
-  -- a release goes on behind its take
+  -- a release goes on after its take
   pub took_on : (timed any none_left : Bool)
       → (next_place (wait_at c m timed (releases_at unlock.Take)) (Took any none_left) ≡ wait_at c m timed
       (releases_at (taken_on any none_left)))

@@ -1,4 +1,4 @@
--- The first step of a notification, and the rest behind it.
+-- The first step of a notification, and the rest after it.
 use Rattle.std.proofs.Common.{ℕ, false, true, not, ◌&&◌, ◌≡◌, ◌≢◌, ◌==◌, ◌+◌, ◌-◌, ◌++◌, Bool, List, None}
 use Rattle.std.proofs.Common.{if◌then◌else◌, inl, inr, sym, refl, ap, ◌∙◌, subst, eq-eqb, ne_eqb, arith}
 use Rattle.std.proofs.lemmas.Bool.{false≢true}
@@ -65,14 +65,14 @@ module _ (n : ℕ) (all : Bool) (seen : ℕ) (answer : Answer) (old mid : Token)
   -- A notification that did nothing saw that no mutex is shown.
   pub some_wait : (m : ℕ) → m ≢ n → seen ≡ m + 1 → (new : Token) → HasNotified n m all answer mid new
       → NotifiesBy n all answer old new
-  some_wait m ne shown new behind = (
+  some_wait m ne shown new afterwards = (
     m,
     courses_from (at_condvar n m) old.number (notify_begin n all) n Load seen (steps_of old) (steps_of mid)
         (told_of old) (told_of mid) (trail_of new None) answer refl looked_off (beside m ne) untold
         (subst (λ (p : Place). Courses (at_condvar n m) old.number p (trail_of mid None) (trail_of new None)
         answer) (sym (leads m shown))
         (subst (λ (me : ℕ). Courses (at_condvar n m) me (notify_slow n m all) (trail_of mid None)
-        (trail_of new None) answer) same behind)),
+        (trail_of new None) answer) same afterwards)),
   )
 
 -- a value that shows another mutex than one is another value
@@ -83,7 +83,7 @@ shows_else m first seen shown other same =
     let back : (seen - 1 == m) ≡ true = eq-eqb (seen - 1) m (omega arith) in
     false≢true (sym other ∙ ap (λ (b : Bool). not b && (seen - 1 == m)) some ∙ back)
 
--- tells what its sections tell of a notification that goes on behind its first look
+-- tells what its sections tell of a notification that goes on after its first look
 pub tells_moved : (n m : ℕ) (all : Bool) (first : ℕ) (answer : Answer) (old new : Token) → first ≡ m + 1
     → (more : List WordStep) × (steps_of new ≡ steps_of old ++ more) → AnswersBy n m all answer (last_of new)
     (steps_of new) → TellsMoved n all first answer old new

@@ -42,7 +42,7 @@ use Rattle.run_base.specs.Stages.{Stage, Stepped, stage_of}
 use Rattle.run_base.specs.Telling.{steps_of}
 use Rattle.run_base.specs.Words.{single_word, at_in, kind_in}
 use Rattle.run_base.proofs.Ending.{end_of}
-use Rattle.run_base.proofs.Courses.{courses_behind, one_more, over_at_once}
+use Rattle.run_base.proofs.Courses.{courses_after, one_more, over_at_once}
 use Rattle.run_base.proofs.RwLockBeginning.{Begun, begins_with, begun, may_begin}
 use Rattle.run_base.proofs.RwLockGoing as leading
 use Rattle.run_base.proofs.Turning.{by_stage, words_on}
@@ -218,7 +218,7 @@ module _ (l : ℕ) (a : Admission) (c : RwLockPurpose) (seen : ℕ) (answer : An
       → Courses (at_rwlock l) mid.number (next_place (rwlock_begin l a c) (Value seen))
       (trail_of mid None) (trail_of new None) answer
       → HasWalkedRwLock l a c answer old new
-  path_later new same rest = courses_behind (at_rwlock l) old.number (rwlock_begin l a c) l (first_op c)
+  path_later new same rest = courses_after (at_rwlock l) old.number (rwlock_begin l a c) l (first_op c)
       seen (trail_of old None) (trail_of mid None) (trail_of new None) answer (begins_with l a c)
       (after_begin l a c seen) (one_more old mid (rwlock_at l) (first_op c) seen saw untold)
       (subst (λ (me : ℕ). Courses (at_rwlock l) me (next_place (rwlock_begin l a c) (Value seen))
@@ -274,7 +274,7 @@ module _ (up : Type 0) (l : ℕ) (base : List Ownership) (a : Admission) (x : Ac
     | inr (inr full) ↦ full
   ]
 
--- a call that goes on behind its first step
+-- a call that goes on after its first step
 module _ (up : Type 0) (word : Word) (is : word.kind ≡ kinds.RwLock) (a : Admission) (room : a.limit
     < 2 ^ 60 - 1) (c : RwLockPurpose) (op : Op) (seen : ℕ) (old mid : Token) (first : op ≡ first_op c)
     (stepped : view_of mid ≡ after_step word.kind (word_index word.number word.kind) op seen (view_of old))

@@ -47,7 +47,7 @@ use Rattle.run_base.proofs.RwLockLeading.{rwlock_place_leads}
 abbrev pub decides : RwLockPurpose → ℕ → RwLockPlace
 decides c seen = record { purpose = c; retries = false; at = at.Decide seen }
 
--- where the first step led, by what the call does behind it
+-- where the first step led, by what the call does after it
 abbrev pub Led : Decision → RwLockPurpose → ℕ → Course → Next RwLockPlace → Type 0
 Led d c seen (Ends answer) n = n ≡ End answer
 Led d c seen Takes n = (n ≡ At (decides c seen)) × (d ≡ decisions.Take)

@@ -52,7 +52,7 @@ use Rattle.run_base.specs.RwLockCalls.{LeftFairly, TookUnlessFree}
 use Rattle.run_base.specs.RwLockFitting.{Answers, IsBeside, IsCounted, OwnsRight, TookWoken}
 use Rattle.run_base.specs.Stages.{Stage, Stepped, stage_of}
 use Rattle.run_base.specs.Telling.{steps_of}
-use Rattle.run_base.proofs.Courses.{courses_behind, one, one_more, over_at_once}
+use Rattle.run_base.proofs.Courses.{courses_after, one, one_more, over_at_once}
 use Rattle.run_base.proofs.RwLockKeeping.{alone_pends, kept, look_alone, look_upgradable, missed_looks}
 use Rattle.run_base.proofs.RwLockKeeping.{missed_same}
 use Rattle.run_base.proofs.RwLockNeeds.{has_right, left_beside}
@@ -177,7 +177,7 @@ module _ (l : ℕ) (a : Admission) (seen : ℕ) (old mid : Token)
   pub path_handing : (new : Token) → mid.number ≡ old.number → seen ≢ 8
       → Courses (at_rwlock l) mid.number hands (trail_of mid None) (trail_of new None) Ok
       → Courses (at_rwlock l) old.number frees (trail_of old None) (trail_of new None) Ok
-  path_handing new same other rest = courses_behind (at_rwlock l) old.number frees l (Exchange 8 0) seen
+  path_handing new same other rest = courses_after (at_rwlock l) old.number frees l (Exchange 8 0) seen
       (trail_of old None) (trail_of mid None) (trail_of new None) Ok refl calm gave
       (subst (λ (p : Place). Courses (at_rwlock l) old.number p (trail_of mid None) (trail_of new None) Ok)
       (sym (ap (λ (b : Bool). rwlock_goes l a
@@ -242,7 +242,7 @@ module _ (l : ℕ) (a : Admission) (x : Access) (seen : ℕ) (old mid : Token)
       → glance_next a x seen ≡ At c
       → Courses (at_rwlock l) mid.number (RwLock l a c) (trail_of mid None) (trail_of new None) answer
       → Courses (at_rwlock l) old.number glance (trail_of old None) (trail_of new None) answer
-  bump_goes_on new c same e rest = courses_behind (at_rwlock l) old.number glance l Load seen
+  bump_goes_on new c same e rest = courses_after (at_rwlock l) old.number glance l Load seen
       (trail_of old None) (trail_of mid None) (trail_of new None) answer refl unqueued looked
       (subst (λ (p : Place). Courses (at_rwlock l) old.number p (trail_of mid None) (trail_of new None)
       answer)

@@ -41,12 +41,12 @@ module _ (up : Type 0) (word : Word) (is : word.kind ≡ kinds.RwLock) (a : Admi
 
   -- tells what the rest of a call does from where its first step has led it
   module _ (old mid : Token) (stepped : SteppedAndFound word (first_op c) seen old mid) (goes : came) where
-    pub fits_behind : (base : List Ownership) → begins old base
+    pub fits_after : (base : List Ownership) → begins old base
         → Fits up base (next_place (rwlock_begin word.number a c) (Value seen)) (stage_of mid None)
-    fits_behind base b = (rest_fits up word is a room c (first_op c) seen old mid refl stepped.1 stepped.2
+    fits_after base b = (rest_fits up word is a room c (first_op c) seen old mid refl stepped.1 stepped.2
         stepped.3 goes base b).0
 
-    pub ended_behind : (answer : Answer) (new : Token) → new.number ≡ old.number → (base : List Ownership)
+    pub ended_after : (answer : Answer) (new : Token) → new.number ≡ old.number → (base : List Ownership)
         → begins old base
         → RestCourse mid new answer
         → ((more : List Ownership) → Fits up more (next_place (rwlock_begin word.number a c) (Value seen))
@@ -54,7 +54,7 @@ module _ (up : Type 0) (word : Word) (is : word.kind ≡ kinds.RwLock) (a : Admi
         → IsOver up more (call_purpose (next_place (rwlock_begin word.number a c) (Value seen))) answer
         (stage_of new None))
         → HasEndedRwLock up word a c answer old new
-    ended_behind answer new same base b walks over = (
+    ended_after answer new same base b walks over = (
       same,
       rest_path up word is a room c (first_op c) seen old mid refl stepped.1 stepped.2 stepped.3 goes answer
           new stepped.4 stepped.0 walks,
@@ -68,7 +68,7 @@ module _ (up : Type 0) (word : Word) (is : word.kind ≡ kinds.RwLock) (a : Admi
   pub fits_on : (old mid : Token) → HasBegunRwLock word a c (GoesOn seen) old mid → (base : List Ownership)
       → begins old base → Fits up base (next_place (rwlock_begin word.number a c) (Value seen))
       (stage_of mid None)
-  fits_on old mid begun = fits_behind old mid begun.0 (waits_at word.number a c seen begun.1)
+  fits_on old mid begun = fits_after old mid begun.0 (waits_at word.number a c seen begun.1)
 
   pub ended_on_going : (old mid new : Token) (answer : Answer) → HasBegunRwLock word a c (GoesOn seen) old mid
       → new.number ≡ mid.number → (base : List Ownership) → begins old base
@@ -78,7 +78,7 @@ module _ (up : Type 0) (word : Word) (is : word.kind ≡ kinds.RwLock) (a : Admi
       → IsOver up more (call_purpose (next_place (rwlock_begin word.number a c) (Value seen))) answer
       (stage_of new None))
       → HasEndedRwLock up word a c answer old new
-  ended_on_going old mid new answer begun same = ended_behind old mid begun.0
+  ended_on_going old mid new answer begun same = ended_after old mid begun.0
       (waits_at word.number a c seen begun.1) answer new (subst (λ (n : ℕ). new.number ≡ n) begun.0.0 same)
 
   module _ (found : ℕ) (old last : Token) (begun : HasBegunRwLock word a c (Missed seen found) old last) where
@@ -89,7 +89,7 @@ module _ (up : Type 0) (word : Word) (is : word.kind ≡ kinds.RwLock) (a : Admi
         → Reached up base (rwlock_deciding word.number a c seen) (Value found) (stage_of last None)
     reached_missed base b = let step = begun.3 in
         word_takes_on word is a c seen begun.2 (Exchange seen (word_taken c seen)) refl found mid last step.1
-        step.2 step.3 up base (fits_behind old mid begun.1 (takes_at word.number a c seen begun.2) base b)
+        step.2 step.3 up base (fits_after old mid begun.1 (takes_at word.number a c seen begun.2) base b)
 
     pub ended_missed : (new : Token) (answer : Answer) → new.number ≡ last.number → (base : List Ownership)
         → begins old base
@@ -100,7 +100,7 @@ module _ (up : Type 0) (word : Word) (is : word.kind ≡ kinds.RwLock) (a : Admi
         → IsOver up more (of_rwlock word.number a c) answer (stage_of new None))
         → HasEndedRwLock up word a c answer old new
     ended_missed new answer same base b rests over = let step = begun.3 in
-        ended_behind old mid begun.1 (takes_at word.number a c seen begun.2) answer new
+        ended_after old mid begun.1 (takes_at word.number a c seen begun.2) answer new
         (subst (λ (n : ℕ). new.number ≡ n) begun.1.0 (subst (λ (n : ℕ). new.number ≡ n) step.0 same)) base b
         (path_missed word is a c seen begun.2 (Exchange seen (word_taken c seen)) refl found mid last step.1
         step.2 step.3 answer new step.4 step.0 rests)

@@ -1,4 +1,4 @@
--- A thread's rights behind calls of a reader-writer lock.
+-- A thread's rights after calls of a reader-writer lock.
 use Rattle.std.proofs.Common.{ℕ, Bool, true, false, List, ◌∷◌, Some, None, ◌≡◌, ◌==◌, ◌<◌, ◌-◌, ◌^◌}
 use Rattle.std.proofs.Common.{if◌then◌else◌, inl, inr, refl, ap, ◌∙◌, sym, eq-eqb}
 use Rattle.core_base.specs.declared.ops.Op.TheVariants.{Exchange}

@@ -1,4 +1,4 @@
--- A call that takes its right behind its first step.
+-- A call that takes its right after its first step.
 use Rattle.std.proofs.Common.{ℕ, List, ◌++◌, Option, None, ◌≡◌, ap, ◌∙◌, sym, subst}
 use Rattle.steps_base.specs.declared.acts.Reply.TheVariants.{Value}
 use Rattle.core_base.specs.declared.ops.Op.{Op}

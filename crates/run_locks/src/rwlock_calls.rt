@@ -72,7 +72,7 @@ pub(crate) fn run_out<R: Wait, C: Clock>(
 }
 
 // Where a call goes on whose first step saw this.
-fn place_behind(lock: usize, admission: Admission, purpose: RwLockPurpose, seen: u64) -> Place
+fn place_after(lock: usize, admission: Admission, purpose: RwLockPurpose, seen: u64) -> Place
     ensures { result ≡ next_place (rwlock_begin lock admission purpose) (Value seen) }
 {
     let first = Place::RwLock {
@@ -192,7 +192,7 @@ fn rest_slow<R: Wait, C: Clock>(
         → IsOver (IsUp C.tells limit.now) base
         (call_purpose (next_place (rwlock_begin word.now.number admission.now purpose.now) (Value seen))) result (stage_of token.new None) }
 {
-    let start = place_behind(word.number(), *admission, *purpose, seen);
+    let start = place_after(word.number(), *admission, *purpose, seen);
     run_out(rt, lot, token, *word, *limit, start)
 }
 
@@ -307,7 +307,7 @@ pub fn missed<R: Wait, C: Clock>(
 }
 
 /// The fast half of a call of a thread that has the right that it needs: a step or two, which are
-/// all where it meets nobody. Else it answers what is left to `behind` or `missed`.
+/// all where it meets nobody. Else it answers what is left to `afterwards` or `missed`.
 #[inline(always)]
 pub fn call_fast<C: Clock>(
     lot: &ParkingLot,

@@ -3,7 +3,7 @@ ghost use Rattle.std.specs.Prelude.{◌≡◌, ◌<◌, ◌++◌, None, List};
 ghost use Rattle.core_base.specs.Clocks.{IsUp};
 ghost use Rattle.spec_locks.specs.declared.calls.MutexCall.TheVariants.{Unlock};
 ghost use Rattle.spec_locks.specs.declared.outcomes.Answer.TheVariants.{Ok as ok};
-ghost use Rattle.run_base.specs.Calls.{MeetAt, WalksBehind};
+ghost use Rattle.run_base.specs.Calls.{MeetAt, WalksAfter};
 ghost use Rattle.run_base.specs.MutexFitting.{IsMutexOver, to_release};
 ghost use Rattle.run_base.specs.Stages.{stage_of};
 ghost use Rattle.run_base.specs.Telling.{owns_of, steps_of};
@@ -90,7 +90,7 @@ fn unlock_through<R: Wait>(rt: &R, lot: &ParkingLot, token: &mut Token, words: W
 pub fn unlock_slow<R: Wait>(rt: &R, lot: &ParkingLot, token: &mut Token, word: Word)
     requires own { MeetAt lot.now token.old word }
     ensures own { IsSameThread lot.now token.old token.new }
-    ensures path { WalksBehind word.number Unlock locked_and_parked token.old token.new ok }
+    ensures path { WalksAfter word.number Unlock locked_and_parked token.old token.new ok }
     ensures rest { (more : List WordStep) × (steps_of token.new ≡ steps_of token.old ++ more) }
     ensures over { IsMutexOver ⊥ word.number (owns_of token.old) to_release ok
         (stage_of token.new None) }

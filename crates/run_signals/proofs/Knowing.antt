@@ -1,4 +1,4 @@
--- A thread's knowledge and rights behind a call of a `Once`.
+-- A thread's knowledge and rights after a call of a `Once`.
 use Rattle.std.specs.Prelude.{IfOk, MatchResult}
 use Rattle.std.specs.declared.result.Result.{Result}
 use Rattle.std.proofs.Common.{ℕ, zero, suc, ◌≡◌, Bool, true, false, List, ◌∷◌, Option, None, refl, sym, ap}
@@ -22,7 +22,7 @@ use Rattle.spec_locks.specs.declared.calls.OnceCall.TheVariants.{CallOnce, Wait,
 use Rattle.spec_locks.specs.declared.outcomes.OnceState.{OnceState}
 use Rattle.lot_steps.specs.Steps.{next_place}
 use Rattle.run_base.specs.Fitting.{ReachedBy, call_purpose, answer_of}
-use Rattle.run_base.specs.OnceFitting.{LooksAnswer, OwnsBehind, OwnsKnowing, OwnsRun, knowing}
+use Rattle.run_base.specs.OnceFitting.{LooksAnswer, OwnsAfter, OwnsKnowing, OwnsRun, knowing}
 use Rattle.run_base.specs.Paths.{once_at}
 use Rattle.run_base.specs.Stages.{stage_of}
 use Rattle.run_base.specs.Courses.{trail_of}
@@ -55,12 +55,12 @@ module _ (n : ℕ) where
   again (suc more) times base = let rest = again more times base
       in (suc rest.0, ap (λ (owns : List Ownership). owning (once_at n) Witness ∷ owns) rest.1)
 
-  stays_of : (s : Bool) (base owns : List Ownership) → OwnsBehind n s base owns → OwnsKnowing n base owns
+  stays_of : (s : Bool) (base owns : List Ownership) → OwnsAfter n s base owns → OwnsKnowing n base owns
   stays_of true base owns k = (suc k.0, k.1)
   stays_of false base owns k = k
 
-  on_base : (s : Bool) (base owns : List Ownership) (times : ℕ) → OwnsBehind n s (knowing n times base) owns
-      → OwnsBehind n s base owns
+  on_base : (s : Bool) (base owns : List Ownership) (times : ℕ) → OwnsAfter n s (knowing n times base) owns
+      → OwnsAfter n s base owns
   on_base true base owns times k = let rest = again k.0 times base
       in (rest.0, k.1 ∙ ap (λ (owns : List Ownership). owning (once_at n) Witness ∷ owns) rest.1)
   on_base false base owns times k = let rest = again k.0 times base in (rest.0, k.1 ∙ rest.1)
@@ -71,13 +71,13 @@ module _ (n : ℕ) where
   has_run base owns r = subst (λ (l : List Ownership). has (owning (once_at n) Runner) l ≡ true) (sym r.2)
       (has_first (once_at n) Runner r.0)
 
-  pub behind_run : (s : Bool) (base mid owns : List Ownership) → OwnsRun n base mid
-      → OwnsBehind n s (without (owning (once_at n) Runner) mid) owns → OwnsBehind n s base owns
+  pub after_run : (s : Bool) (base mid owns : List Ownership) → OwnsRun n base mid
+      → OwnsAfter n s (without (owning (once_at n) Runner) mid) owns → OwnsAfter n s base owns
       × OwnsKnowing n base owns
-  behind_run s base mid owns r b = let rest : without (owning (once_at n) Runner) mid ≡ knowing n r.1.0 base =
+  after_run s base mid owns r b = let rest : without (owning (once_at n) Runner) mid ≡ knowing n r.1.0 base =
       ap (without (owning (once_at n) Runner)) r.2 ∙ first_goes (once_at n) Runner r.0 ∙ r.1.1 in
-      let behind = on_base s base owns r.1.0 (subst (λ (l : List Ownership). OwnsBehind n s l owns) rest b)
-      in (behind, stays_of s base owns behind)
+      let afterwards = on_base s base owns r.1.0 (subst (λ (l : List Ownership). OwnsAfter n s l owns) rest b)
+      in (afterwards, stays_of s base owns afterwards)
 
   answer_stays : (up : Type 0) (c : OnceCall) (base owns : List Ownership) (answer : Answer)
       (last : Option SectionRecord) → LooksAnswer up n c base answer owns last → OwnsKnowing n base owns

@@ -13,7 +13,7 @@ use Rattle.steps_base.specs.declared.acts.Next as next
 use Rattle.steps_base.specs.declared.acts.Reply.TheVariants.{Value}
 use Rattle.steps_condvar.specs.declared.places.CondvarPlace.TheVariants as waiting
 use Rattle.steps_once.specs.OnceSteps.{course_act, course_of, ended, give_up_act, in_look, in_run, look_act}
-use Rattle.steps_once.specs.OnceSteps.{looked_by, state_before, when_done, word_behind}
+use Rattle.steps_once.specs.OnceSteps.{looked_by, state_before, when_done, word_after}
 use Rattle.steps_once.specs.declared.look.Course.{Course}
 use Rattle.steps_once.specs.declared.look.Course.TheVariants.{Ends, Runs, Marks, Parks}
 use Rattle.steps_once.specs.declared.look.LookAt.{LookAt}
@@ -38,7 +38,7 @@ use Rattle.core_words.specs.declared.words.Word.{Word}
 use Rattle.core_words.specs.declared.words.WordKind as kinds
 use Rattle.core_words.proofs.Trades.{owned_some}
 use Rattle.run_base.specs.Fitting.{IsStopped, Reached, ReachedBy, answer_of, of_once, of_run}
-use Rattle.run_base.specs.OnceFitting.{LooksAnswer, OwnsBehind, OwnsRun}
+use Rattle.run_base.specs.OnceFitting.{LooksAnswer, OwnsAfter, OwnsRun}
 use Rattle.run_base.specs.Courses.{Course as Way, Courses, Trail, joined, trail_of}
 use Rattle.run_base.specs.Paths.{at_once, once_at, onces, step}
 use Rattle.run_base.specs.Telling.{steps_of}
@@ -48,7 +48,7 @@ use Rattle.run_base.specs.declared.driver.Stop.TheVariants.{Paused}
 use Rattle.core_words.proofs.OnceSteps.{each_once_code}
 use Rattle.run_base.proofs.OnceLeading.{lands}
 use Rattle.run_base.proofs.Unqueued.{after_once, unqueued_once}
-use Rattle.run_base.proofs.Courses.{begins, comes_after, courses_behind, goes_on, one, one_more, over_at_once}
+use Rattle.run_base.proofs.Courses.{begins, comes_after, courses_after, goes_on, one, one_more, over_at_once}
 use Rattle.run_base.proofs.Courses.{steps_first}
 use Rattle.run_base.proofs.RwLockLeading.{rwlock_no_closure}
 use Rattle.run_base.proofs.SemaphoreLeading.{semaphore_no_closure}
@@ -156,7 +156,7 @@ module _ (n : ℕ) where
       → Courses (at_once n) old.number (next_place (once_begin n c) (Value seen)) (trail_of mid None) new
       answer
       → Courses (at_once n) old.number (once_begin n c) (trail_of old None) new answer
-  looks_on c seen old mid new answer e told rest = courses_behind (at_once n) old.number (once_begin n c) n
+  looks_on c seen old mid new answer e told rest = courses_after (at_once n) old.number (once_begin n c) n
       Load seen (trail_of old None) (trail_of mid None) new answer refl (after_once n c seen)
       (one_more _ _ _ _ _ e told) rest
 
@@ -213,41 +213,41 @@ module _ (n : ℕ) where
       by_answer answers.Poisoned h = h
       by_answer answer h = absurd h
 
-  -- tells what is owned behind the step that ends a run
-  abbrev Behind : Bool → List Ownership → ℕ → Type 0
-  Behind s owns seen = seen / 4 % 2 ≡ 1 → OwnsBehind n s (without (owning (once_at n) Runner) owns)
-      (owns_after_step kinds.TheVariants.Once (once_at n) (Swap (word_behind s)) seen owns)
+  -- tells what is owned after the step that ends a run
+  abbrev Afterwards : Bool → List Ownership → ℕ → Type 0
+  Afterwards s owns seen = seen / 4 % 2 ≡ 1 → OwnsAfter n s (without (owning (once_at n) Runner) owns)
+      (owns_after_step kinds.TheVariants.Once (once_at n) (Swap (word_after s)) seen owns)
 
-  pub swapped : (s : Bool) (owns : List Ownership) (seen : ℕ) → IsOnceWord seen → Behind s owns seen
-  swapped true owns = each_once_code (Behind true owns) (λ h. absurd (omega arith))
+  pub swapped : (s : Bool) (owns : List Ownership) (seen : ℕ) → IsOnceWord seen → Afterwards s owns seen
+  swapped true owns = each_once_code (Afterwards true owns) (λ h. absurd (omega arith))
       (λ h. absurd (omega arith)) (λ h. absurd (omega arith)) (λ h. (0, refl)) (λ h. absurd (omega arith))
       (λ h. absurd (omega arith)) (λ h. (0, refl))
-  swapped false owns = each_once_code (Behind false owns) (λ h. absurd (omega arith))
+  swapped false owns = each_once_code (Afterwards false owns) (λ h. absurd (omega arith))
       (λ h. absurd (omega arith)) (λ h. absurd (omega arith)) (λ h. (0, refl)) (λ h. absurd (omega arith))
       (λ h. absurd (omega arith)) (λ h. (0, refl))
 
   -- the step that ends a run, and the rest
   pub closes_at_once : (forced s : Bool) (seen me : ℕ) (old new : Trail) → is_marked seen ≡ false
-      → new ≡ joined old (one (once_at n) (Swap (word_behind s)) seen) → EndsRun n me forced s old new
+      → new ≡ joined old (one (once_at n) (Swap (word_after s)) seen) → EndsRun n me forced s old new
   closes_at_once forced s seen me old new unmarked e = over_at_once (at_once n) me (run_end n forced s) n
-      (Swap (word_behind s)) seen old new (ended s) refl (unqueued_once n (Run forced (run.Close s)) seen tt
+      (Swap (word_after s)) seen old new (ended s) refl (unqueued_once n (Run forced (run.Close s)) seen tt
       refl) e
       (ap (λ (b : Bool). once_does n (in_run forced (if b then next.TheVariants.At (run.Enter s)
       else next.TheVariants.End (ended s)))) unmarked)
 
   pub closes_on : (forced s : Bool) (seen me : ℕ) (old mid new : Trail) (answer : Answer) → is_marked seen
-      ≡ true → mid ≡ joined old (one (once_at n) (Swap (word_behind s)) seen) → answer ≡ ended s
+      ≡ true → mid ≡ joined old (one (once_at n) (Swap (word_after s)) seen) → answer ≡ ended s
       → Courses (at_once n) me (Once n (Run forced (run.Enter s))) mid new answer
       → EndsRun n me forced s old new
-  closes_on forced s seen me old mid new answer marked e is rest = courses_behind (at_once n) me
-      (run_end n forced s) n (Swap (word_behind s)) seen old mid new (ended s) refl
+  closes_on forced s seen me old mid new answer marked e is rest = courses_after (at_once n) me
+      (run_end n forced s) n (Swap (word_after s)) seen old mid new (ended s) refl
       (unqueued_once n (Run forced (run.Close s)) seen tt refl) e
       (subst (λ (p : Place). Courses (at_once n) me p mid new (ended s))
       (sym (ap (λ (b : Bool). once_goes n (in_run forced (if b then next.TheVariants.At (run.Enter s)
       else next.TheVariants.End (ended s)))) marked))
       (subst (Courses (at_once n) me (Once n (Run forced (run.Enter s))) mid new) is rest))
 
-  pub word_left : (s : Bool) → (word_behind s ≡ 1) ⊎ (word_behind s ≡ 2)
+  pub word_left : (s : Bool) → (word_after s ≡ 1) ⊎ (word_after s ≡ 2)
   word_left true = inl refl
   word_left false = inr refl
 

@@ -100,7 +100,7 @@ module _ (n : ℕ) (timed : Bool) (seen found : ℕ) (me : ℕ) (old mid new : T
   act_there free = ap (λ (b : Bool). if b then act.Word n (Exchange seen (seen - 2)) else if seen == 0
       then act.Word n (Exchange 0 1) else act.Enter (One (2 * n))) free
 
-  -- the call goes on behind its first look
+  -- the call goes on after its first look
   pub waits_on : (answer : Answer) → mid ≡ joined old (one (semaphore_at n) Load seen)
       → Courses (at_semaphore n) me (deciding n timed seen) mid new answer
       → Courses (at_semaphore n) me (waiting n timed) old new answer

@@ -5,7 +5,7 @@ use Rattle.steps_base.specs.declared.acts.Reply.TheVariants.{Value}
 use Rattle.core_base.specs.declared.ops.Op.TheVariants.{Load, Swap}
 use Rattle.spec_locks.specs.declared.calls.OnceCall.{OnceCall}
 use Rattle.spec_locks.specs.declared.calls.OnceCall.TheVariants.{CallOnce}
-use Rattle.steps_once.specs.OnceSteps.{ended, once_first, state_before, word_behind}
+use Rattle.steps_once.specs.OnceSteps.{ended, once_first, state_before, word_after}
 use Rattle.steps_once.specs.declared.run.RunAt.TheVariants as run
 use Rattle.steps_once.specs.declared.places.OncePlace.TheVariants.{Run}
 use Rattle.lot_steps.specs.declared.places.Place.{Place}
@@ -73,7 +73,7 @@ WokeIfMarked n false more last = (more ≡ []) × (last ≡ None)
 -- a run ended by one step, and woke each thread that waited then
 abbrev pub EndedAndWoke : ℕ → Bool → List WordStep → List WordStep → Option SectionRecord → Type 0
 EndedAndWoke n succeeded old new last = (seen : ℕ) × (more : List WordStep)
-    × (new ≡ (old ++ step (once_at n) (Swap (word_behind succeeded)) seen) ++ more)
+    × (new ≡ (old ++ step (once_at n) (Swap (word_after succeeded)) seen) ++ more)
     × WokeIfMarked n (is_marked seen) more last
 
 -- the trail of a thread that ends a run leads from the end of its closure to the answer

@@ -13,7 +13,7 @@ ghost use Rattle.core_words.specs.declared.words.WordKind.TheVariants as kinds;
 ghost use Rattle.core_words.specs.declared.owners.Ownership.{Ownership};
 ghost use Rattle.parking_lot_core.specs.Tokens.{IsTokenOf, last_of, view_of};
 ghost use Rattle.run_base.specs.Drawing.{FoundFull};
-ghost use Rattle.run_base.specs.OnceFitting.{OwnsBehind, OwnsKnowing, OwnsRun};
+ghost use Rattle.run_base.specs.OnceFitting.{OwnsAfter, OwnsKnowing, OwnsRun};
 ghost use Rattle.run_base.specs.Stages.{TookNobodyAt};
 ghost use Rattle.run_base.specs.Courses.{trail_of};
 ghost use Rattle.run_base.specs.Telling.{owns_of, steps_of};
@@ -271,7 +271,7 @@ impl Once {
             (steps_of token.new) (last_of token.new) }
         ensures owns { (base : List Ownership)
             → OwnsRun (number_of self.now) base (owns_of token.old)
-            → OwnsBehind (number_of self.now) succeeded base (owns_of token.new)
+            → OwnsAfter (number_of self.now) succeeded base (owns_of token.new)
             × OwnsKnowing (number_of self.now) base (owns_of token.new) }
     {
         close(rt, &self.lot, token, self.word, forced, succeeded);

@@ -1,7 +1,7 @@
-//! The calls of a `Once`: up to its closure, and from behind that to its end.
+//! The calls of a `Once`: up to its closure, and from after that to its end.
 ghost use Rattle.std.specs.Prelude.{◌≡◌, List, None, true};
 ghost use Rattle.core_base.specs.Clocks.{IsUp};
-ghost use Rattle.steps_once.specs.OnceSteps.{word_behind};
+ghost use Rattle.steps_once.specs.OnceSteps.{word_after};
 ghost use Rattle.steps_once.specs.declared.places.OncePlace.TheVariants.{Run};
 ghost use Rattle.steps_once.specs.declared.run.RunAt.TheVariants.{Enter};
 ghost use Rattle.lot_steps.specs.declared.places.Place.TheVariants.{Once};
@@ -11,7 +11,7 @@ ghost use Rattle.core_words.specs.declared.owners.Owner.TheVariants.{Runner};
 ghost use Rattle.core_words.specs.declared.owners.Ownership.{Ownership};
 ghost use Rattle.parking_lot_core.specs.Tokens.{IsSameThread, last_of};
 ghost use Rattle.parking_lot_core.specs.declared.tokens.Token.{Token};
-ghost use Rattle.run_base.specs.OnceFitting.{IsRunOver, OwnsBehind};
+ghost use Rattle.run_base.specs.OnceFitting.{IsRunOver, OwnsAfter};
 ghost use Rattle.run_base.specs.Courses.{Courses, trail_of};
 ghost use Rattle.run_base.specs.Paths.{at_once, once_at};
 ghost use Rattle.run_base.specs.Stages.{stage_of};
@@ -96,13 +96,13 @@ fn wake<R: Wait>(
 ) -> Answer
     requires own { MeetsOnce lot.now token.old word }
     requires owns { (base : List Ownership)
-        × OwnsBehind word.number succeeded base (owns_of token.old) }
+        × OwnsAfter word.number succeeded base (owns_of token.old) }
     ensures own { IsSameThread lot.now token.old token.new }
     ensures path { Courses (at_once word.number) token.old.number
         (Once word.number (Run forced (Enter succeeded)))
         (trail_of token.old None) (trail_of token.new None) result }
     ensures over { (base : List Ownership)
-        → OwnsBehind word.number succeeded base (owns_of token.old)
+        → OwnsAfter word.number succeeded base (owns_of token.old)
         → IsRunOver word.number succeeded base result (stage_of token.new None) }
 {
     let start = Place::Once {
@@ -119,8 +119,8 @@ fn wake<R: Wait>(
     }
 }
 
-fn word_behind(succeeded: bool) -> u64
-    ensures { result ≡ word_behind succeeded }
+fn word_after(succeeded: bool) -> u64
+    ensures { result ≡ word_after succeeded }
 {
     if succeeded { DONE } else { POISONED }
 }
@@ -141,11 +141,11 @@ pub(crate) fn close<R: Wait>(
         (trail_of token.old None) (trail_of token.new None) }
     ensures closed { EndedAndWoke word.number succeeded (steps_of token.old) (steps_of token.new)
         (last_of token.new) }
-    ensures owns { OwnsBehind word.number succeeded
+    ensures owns { OwnsAfter word.number succeeded
         (without (owning (once_at word.number) Runner) (owns_of token.old))
         (owns_of token.new) }
 {
-    let seen = lot.word(token, word, Op::Swap(word_behind(succeeded)));
+    let seen = lot.word(token, word, Op::Swap(word_after(succeeded)));
     if is_marked(seen) {
         wake(rt, lot, token, word, forced, succeeded);
     }

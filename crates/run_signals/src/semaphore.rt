@@ -89,7 +89,7 @@ impl Semaphore {
         Ok(Semaphore { lot, word, permits })
     }
 
-    // The end of a call that tried again, behind an exchange that found this.
+    // The end of a call that tried again, after an exchange that found this.
     #[cold]
     #[inline(never)]
     fn retry<'a, R: Wait>(&'a self, rt: &R, token: &mut Token, found: u64) -> Option<Permit<'a>>
@@ -162,19 +162,19 @@ impl Semaphore {
         let lot: &ParkingLot = &self.lot;
         let seen = look(lot, token, self.word);
         if free_permits(seen) == 0 {
-            return self.wait_behind(rt, token, limit, timed, seen);
+            return self.wait_after(rt, token, limit, timed, seen);
         }
         let found = take(lot, token, self.word, seen);
         if found == seen {
             return Some(self.split(token));
         }
-        self.wait_behind(rt, token, limit, timed, found)
+        self.wait_after(rt, token, limit, timed, found)
     }
 
-    // The slow half of a call that waits, behind a step that saw this.
+    // The slow half of a call that waits, after a step that saw this.
     #[cold]
     #[inline(never)]
-    fn wait_behind<'a, R: Wait, C: Clock>(
+    fn wait_after<'a, R: Wait, C: Clock>(
         &'a self,
         rt: &R,
         token: &mut Token,

@@ -41,7 +41,7 @@ pub(crate) fn look(lot: &ParkingLot, token: &mut Token, word: Word) -> u64
     lot.load(token, word)
 }
 
-/// The exchange that takes a permit, behind a look that saw one free. It answers what it found: it
+/// The exchange that takes a permit, after a look that saw one free. It answers what it found: it
 /// took one only where that is what the look saw.
 #[inline(always)]
 pub(crate) fn take(lot: &ParkingLot, token: &mut Token, word: Word, seen: u64) -> u64
@@ -170,7 +170,7 @@ pub(crate) fn try_slow<R: Wait>(
     run_out(rt, lot, token, word, NO_LIMIT, start)
 }
 
-/// Wakes up the first waiter, behind an addition that saw that a thread may be parked.
+/// Wakes up the first waiter, after an addition that saw that a thread may be parked.
 #[cold]
 #[inline(never)]
 pub(crate) fn wake_first<R: Wait>(rt: &R, lot: &ParkingLot, token: &mut Token, word: Word) -> Answer

@@ -15,7 +15,7 @@ use Rattle.spec_locks.specs.Locks as locks
 use Rattle.spec_locks.specs.Locks.{LockState, LockCase, Mutex, Queued, Rules, Taken, Needs, Enter, Pend}
 use Rattle.spec_locks.specs.Locks.{Settle, Leave, Convert, Park, Aside, TakeFirst, TakeAside, TakePicked}
 use Rattle.spec_locks.specs.Locks.{Wake, HandOff, Late, Rollback, OfOnce, OfCondvar, SeeOwner, IsLockState}
-use Rattle.spec_locks.specs.Locks.{Owns, after_case, keep_from, left_behind, let_go, one_if_some, putting}
+use Rattle.spec_locks.specs.Locks.{Owns, after_case, keep_from, left_after, let_go, one_if_some, putting}
 use Rattle.spec_locks.specs.Locks.{standing, taking, times}
 use Rattle.spec_locks.specs.Runs.{LocksState, AreLockStates, Event, Nothing, AtLock, Moves, GoesOn, Does}
 use Rattle.spec_locks.specs.Runs.{MayHappen, Turned, is_among, joined_by, locks_after, rules_at}
@@ -25,12 +25,12 @@ use Rattle.spec_locks.proofs.Runs.{needs_of, step_keeps}
 
 -- ---------------------------------------------------------------- lines
 
--- a thread that joins stands behind
+-- a thread that joins stands after
 ahead_more : (t : ℕ) (q r : List Queued) → 1 ≤ times t q → ahead t (q ++ r) ≡ ahead t q
 ahead_more t [] r h = absurd (let e : 1 ≤ 0 = h in omega arith)
 ahead_more t (x ∷ q) r h = grind (arith, nat_tests, ahead_more t q r)
 
--- a thread that leaves lets those behind come closer
+-- a thread that leaves lets those after come closer
 ahead_without : (t u : ℕ) (q : List Queued) → ahead t (locks.without u q) ≤ ahead t q ⊎ (u ≡ t)
 ahead_without t u q = elim (cases_eq u t) [
   | inl e ↦ inr e
@@ -271,7 +271,7 @@ module _ (w : LocksState) (u n t l : ℕ) (all : AreLockStates w) (mutex : (rule
       moved : List Queued
       moved = moved_of every (w.locks c).queue
 
-      at_condvar : (b : Bool) → (l == c) ≡ b → Costs n t (w.locks l) (if b then left_behind every (w.locks c)
+      at_condvar : (b : Bool) → (l == c) ≡ b → Costs n t (w.locks l) (if b then left_after every (w.locks c)
           else w.locks l)
       at_condvar false e = costs_same n t (w.locks l) (w.locks l) refl refl refl
       at_condvar true e = absurd (let same : l ≡ c = eqb-true l c e in let f : Mutex ≡ locks.Condvar =
@@ -296,9 +296,9 @@ module _ (w : LocksState) (u n t l : ℕ) (all : AreLockStates w) (mutex : (rule
 
       at_mutex : (b : Bool) → (l == m) ≡ b
           → Goes n t (w.locks l) (if b then joined_by locked u moved (w.locks m) else putting w.locks c
-          (left_behind every (w.locks c)) l)
+          (left_after every (w.locks c)) l)
           → Costs n t (w.locks l) (if b then joined_by locked u moved (w.locks m) else putting w.locks c
-          (left_behind every (w.locks c)) l)
+          (left_after every (w.locks c)) l)
       at_mutex false e goes = at_condvar (l == c) refl
       at_mutex true e goes = let same : l ≡ m = eqb-true l m e in
           let hands : taking u (taken_of locked moved) (w.locks m).taken ≡ (w.locks m).taken =

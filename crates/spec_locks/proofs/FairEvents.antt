@@ -16,7 +16,7 @@ use Rattle.spec_locks.specs.Locks as locks
 use Rattle.spec_locks.specs.Locks.{LockState, LockCase, Mutex, Queued, Rules, Taken, Needs, Enter, Pend}
 use Rattle.spec_locks.specs.Locks.{Settle, Leave, Convert, Park, Aside, TakeFirst, TakeAside, TakePicked}
 use Rattle.spec_locks.specs.Locks.{Wake, HandOff, Late, Rollback, OfOnce, OfCondvar, SeeOwner, IsLockState}
-use Rattle.spec_locks.specs.Locks.{Owns, after_case, keep_from, left_behind, let_go, putting, taking, times}
+use Rattle.spec_locks.specs.Locks.{Owns, after_case, keep_from, left_after, let_go, putting, taking, times}
 use Rattle.spec_locks.specs.Purposes.{Purpose, Enters, Releases, Converts, Bumps, CallsOnce, Awaits, Waits}
 use Rattle.spec_locks.specs.Purposes.{Notifies, Recall, IsMadeOf}
 use Rattle.spec_locks.specs.Runs.{LocksState, AreLockStates, Event, Nothing, AtLock, Moves, Does, GoesOn}
@@ -332,14 +332,14 @@ module _ (w : LocksState) (t l : ℕ) (all : AreLockStates w) (mutex : (rules_at
   by_event (Moves c m every locked n) may = at_mutex (l == m) refl
     where
       at_condvar : (b : Bool) → (l == c) ≡ b → Goes (Moves c m every locked n)
-          (if b then left_behind every (w.locks c) else w.locks l)
+          (if b then left_after every (w.locks c) else w.locks l)
       at_condvar false e = stays (Moves c m every locked n)
       at_condvar true e = absurd (let f : Mutex ≡ locks.Condvar = sym mutex
           ∙ ap (λ j. (rules_at w j).sort) (eqb-true l c e) ∙ may.sorts.0 in cc)
 
       at_mutex : (b : Bool) → (l == m) ≡ b
           → Goes (Moves c m every locked n) (if b then joined_by locked t (moved_of every (w.locks c).queue)
-          (w.locks m) else putting w.locks c (left_behind every (w.locks c)) l)
+          (w.locks m) else putting w.locks c (left_after every (w.locks c)) l)
       at_mutex false e = at_condvar (l == c) refl
       at_mutex true e = absurd (not_moved c m every locked n may (eqb-true l m e))
 

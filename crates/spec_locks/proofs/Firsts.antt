@@ -16,7 +16,7 @@ use Rattle.spec_locks.specs.Locks.{Recursive, Semaphore, Once, Condvar, Taken, N
 use Rattle.spec_locks.specs.Locks.{Leave, Convert, Park, Aside, TakeFirst, TakeAside, TakePicked, Wake}
 use Rattle.spec_locks.specs.Locks.{HandOff, Late, Rollback, OfOnce, OfCondvar, SeeOwner, Look, Show, Hide}
 use Rattle.spec_locks.specs.Locks.{IsLockState, Knows, TakesOneAtATime, after_case, converted, falling_back}
-use Rattle.spec_locks.specs.Locks.{first_thread, handed, keep_from, left_behind, let_go, pending_for, putting}
+use Rattle.spec_locks.specs.Locks.{first_thread, handed, keep_from, left_after, let_go, pending_for, putting}
 use Rattle.spec_locks.specs.Locks.{succeeding, taking, with_owner, without_owner}
 use Rattle.spec_locks.specs.Purposes.{Waits}
 use Rattle.spec_locks.specs.Runs.{LocksState, AreLockStates, Event, Nothing, AtLock, Moves, Does, GoesOn}
@@ -158,13 +158,13 @@ module _ (w v : LocksState) (t : ℕ) (o : Outcome) (all : AreLockStates w) (u :
   by_event (Moves c m every owned n) may l one some = at_mutex (l == m) refl some
     where
       at_condvar : (b : Bool) → (l == c) ≡ b
-          → (if b then left_behind every (w.locks c) else w.locks l).taken u ≢ None → First l
+          → (if b then left_after every (w.locks c) else w.locks l).taken u ≢ None → First l
       at_condvar false e some = inl some
       at_condvar true e some = inl (subst (λ k. (w.locks k).taken u ≢ None) (sym (eqb-true l c e)) some)
 
       at_mutex : (b : Bool) → (l == m) ≡ b
           → (if b then joined_by owned t (moved_of every (w.locks c).queue) (w.locks m) else putting w.locks
-          c (left_behind every (w.locks c)) l).taken u ≢ None → First l
+          c (left_after every (w.locks c)) l).taken u ≢ None → First l
       at_mutex false e some = at_condvar (l == c) refl some
       at_mutex true e some =
           subst First (sym (eqb-true l m e)) (brought c m n every owned may (w.locks c).queue refl some)

@@ -109,10 +109,10 @@ passes_on sort start t (x ∷ q) taken none knows left once = either (wants_shar
         × (counts_taken sort t (taking t (picked sort start q)
         (putting taken x.thread (Some (record { by = t; want = x.want }))) u) ≡ true))
         → (u : ℕ) × (counts_taken sort t (taking t (picked sort start (x ∷ q)) taken u) ≡ true)
-    either true shares behind = rw (sharer_picked sort start x q shares)
-        (behind (λ e. left (sharer_unpicked sort start x q shares ∙ e)) (λ u. let a = once u
+    either true shares afterwards = rw (sharer_picked sort start x q shares)
+        (afterwards (λ e. left (sharer_unpicked sort start x q shares ∙ e)) (λ u. let a = once u
         in grind (arith, nat_tests)))
-    either false more behind =
+    either false more afterwards =
         let first = unshared_picked sort start x q more none in
         let gone : times x.thread first.rest ≡ 0 = (let a = once x.thread in let b = first.few x.thread
         in grind (arith, nat_tests)) in (

@@ -49,11 +49,11 @@ woken_goes w t (AtLock l Wake) u c = either (is_taken_by t ((w.locks l).taken u)
   where
     either : (b : Bool) → CallGoesOn c (if b then record c {
       retries = Some l;
-      recalls = Rattle.spec_locks.specs.Runs.behind_wake c.recalls;
+      recalls = Rattle.spec_locks.specs.Runs.after_wake c.recalls;
     } else c)
         × ((if b then record c {
           retries = Some l;
-          recalls = Rattle.spec_locks.specs.Runs.behind_wake c.recalls;
+          recalls = Rattle.spec_locks.specs.Runs.after_wake c.recalls;
         } else c).gave_up ≡ c.gave_up)
     either true = (call_same c _ refl refl refl (λ h. h), refl)
     either false = (call_stays c, refl)
@@ -61,11 +61,11 @@ woken_goes w t (AtLock l (HandOff x y)) u c = either (is_taken_by t ((w.locks l)
   where
     either : (b : Bool) → CallGoesOn c (if b then record c {
       retries = None;
-      recalls = Rattle.spec_locks.specs.Runs.behind_wake c.recalls;
+      recalls = Rattle.spec_locks.specs.Runs.after_wake c.recalls;
     } else c)
         × ((if b then record c {
           retries = None;
-          recalls = Rattle.spec_locks.specs.Runs.behind_wake c.recalls;
+          recalls = Rattle.spec_locks.specs.Runs.after_wake c.recalls;
         } else c).gave_up ≡ c.gave_up)
     either true = (call_same c _ refl refl refl (λ h. h), refl)
     either false = (call_stays c, refl)
@@ -155,11 +155,11 @@ module _ (w v : LocksState) (t : ℕ) (o : Outcome) where
   ]
     where
       own : ((a : Answer) → o ≢ outcome.TheVariants.End a) → CallGoesOn (w.calls t) (v.calls t)
-      own n = let behind = woken_goes w t g.event t (going_on g.event (w.calls t)) in
+      own n = let afterwards = woken_goes w t g.event t (going_on g.event (w.calls t)) in
           subst (CallGoesOn (w.calls t)) (sym (own_then g ∙ unless_same o _ n))
           (call_then (w.calls t) (going_on g.event (w.calls t))
           (woken w t g.event t (going_on g.event (w.calls t))) (going_goes w t g.event g.may)
-          (sym behind.1) behind.0)
+          (sym afterwards.1) afterwards.0)
 
   stay_goes : (c : CallState) → Stays w t c o v → (u : ℕ) → u ≢ t → CallGoesOn (w.calls u) (v.calls u)
   stay_goes c s u ne = subst (CallGoesOn (w.calls u))

@@ -13,7 +13,7 @@ use Rattle.spec_locks.specs.Locks as locks
 use Rattle.spec_locks.specs.Locks.{LockState, LockCase, Queued, Rules, Taken, Needs, Enter, Pend, Settle}
 use Rattle.spec_locks.specs.Locks.{Leave, Convert, Park, Aside, TakeFirst, TakeAside, TakePicked, Wake}
 use Rattle.spec_locks.specs.Locks.{HandOff, Late, Rollback, OfOnce, OfCondvar, SeeOwner, Look, Show, Hide}
-use Rattle.spec_locks.specs.Locks.{after_case, left_behind, putting, taking, times}
+use Rattle.spec_locks.specs.Locks.{after_case, left_after, putting, taking, times}
 use Rattle.spec_locks.specs.Onces.{OnceCase, Start, Finish, Fail, Rest, TakeAll}
 use Rattle.spec_locks.specs.Purposes.{Notifies, Purpose, Waits, WasMoved}
 use Rattle.spec_locks.specs.Runs.{LocksState, CallState, Event, Nothing, AtLock, Moves, Does, GoesOn}
@@ -173,20 +173,20 @@ module _ (w v : LocksState) (t : ℕ) (o : Outcome) (u l : ℕ) (some : 1 ≤ ti
     by_event (Moves c m every locked n) h may none = at_mutex (l == m) refl none
       where
         at_condvar : (b : Bool) → (l == c) ≡ b
-            → times u (if b then left_behind every (w.locks c) else w.locks l).queue ≡ 0
-            → Leaves (if b then left_behind every (w.locks c) else w.locks l)
+            → times u (if b then left_after every (w.locks c) else w.locks l).queue ≡ 0
+            → Leaves (if b then left_after every (w.locks c) else w.locks l)
         at_condvar false e none = same (w.locks l) refl none
         at_condvar true e none = let there : c ≡ l = sym (eqb-true l c e) in
             inr (inr (moved_call m n every locked (h ∙ ap (λ j. Moves j m every locked n) there)
             (subst (λ j. MayHappen w t (Moves j m every locked n)) there may)
             (left_all every (w.locks l).queue some
-            (subst (λ j. times u (left_behind every (w.locks j)).queue ≡ 0) there none))))
+            (subst (λ j. times u (left_after every (w.locks j)).queue ≡ 0) there none))))
 
         at_mutex : (b : Bool) → (l == m) ≡ b
             → times u (if b then joined_by locked t (moved_of every (w.locks c).queue) (w.locks m) else
-            putting w.locks c (left_behind every (w.locks c)) l).queue ≡ 0
+            putting w.locks c (left_after every (w.locks c)) l).queue ≡ 0
             → Leaves (if b then joined_by locked t (moved_of every (w.locks c).queue) (w.locks m) else
-            putting w.locks c (left_behind every (w.locks c)) l)
+            putting w.locks c (left_after every (w.locks c)) l)
         at_mutex false e none = at_condvar (l == c) refl none
         at_mutex true e none = absurd (let there : l ≡ m = eqb-true l m e in
             let before : 1 ≤ times u (w.locks m).queue = subst (λ j. 1 ≤ times u (w.locks j).queue) there

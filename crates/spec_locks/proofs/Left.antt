@@ -1,6 +1,6 @@
 -- Those that a notification moves leave the list of a condition variable, and what holds of it holds again.
 use Rattle.std.proofs.Common.{ℕ, Bool, true, false, ◌≡◌, ◌≤◌, List, [], ◌∷◌, drop, refl, arith, if◌then◌else◌}
-use Rattle.spec_locks.specs.Locks.{LockState, Queued, Rules, IsLockState, KnowsAll, left_behind, times}
+use Rattle.spec_locks.specs.Locks.{LockState, Queued, Rules, IsLockState, KnowsAll, left_after, times}
 
 pub left_none : (all : Bool) (q : List Queued) → q ≡ [] → (if all then [] else drop 1 q) ≡ []
 left_none true q e = refl
@@ -13,7 +13,7 @@ left_fewer false u [] = grind arith
 left_fewer false u (x ∷ q) = grind arith
 
 pub left_keeps : (r : Rules) (all : Bool) (s : LockState) → IsLockState r s
-    → IsLockState r (left_behind all s)
+    → IsLockState r (left_after all s)
 left_keeps r all s c = record {
   exclusive_alone = c.exclusive_alone;
   pending_alone = c.pending_alone;

@@ -58,7 +58,7 @@ known_taking sort t [] taken all known = known
 known_taking sort t (x ∷ xs) taken all known = known_taking sort t xs _ all.1
     (λ u h e. grind (arith, nat_tests))
 
--- a thread takes the first m of the first n, and of those behind them each thread that p picks; the others
+-- a thread takes the first m of the first n, and of those after them each thread that p picks; the others
 -- stay in order
 takes : (r : Rules) (s : LockState) (t m n : ℕ) (p : Queued → Bool) → IsLockState r s
     → IsLockState r (record s {

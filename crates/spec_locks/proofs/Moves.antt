@@ -2,7 +2,7 @@
 use Rattle.std.proofs.Common.{ℕ, Bool, true, ◌≡◌, ◌≤◌, ◌+◌, List, sym, ap, ◌∙◌, arith}
 use Rattle.std.proofs.lemmas.Bool.Decides.{nat_tests}
 use Rattle.spec_locks.specs.Condvars.{line_of, moved_of, taken_of}
-use Rattle.spec_locks.specs.Locks.{LockState, Queued, Rules, Mutex, IsLockState, KnowsAll, left_behind}
+use Rattle.spec_locks.specs.Locks.{LockState, Queued, Rules, Mutex, IsLockState, KnowsAll, left_after}
 use Rattle.spec_locks.specs.Locks.{standing, times}
 use Rattle.spec_locks.specs.Runs.{LocksState, AreLockStates, MayMove, is_among, joined_by, rules_at}
 use Rattle.spec_locks.proofs.CondvarKeeps.{all_known, moved_fewer, parts, times_in_line}
@@ -48,7 +48,7 @@ joined_keeps r owned t moved s mutex c one nowhere = record {
 
 module _ (w : LocksState) (t c m : ℕ) (all owned : Bool) (n : ℕ) (states : AreLockStates w)
     (may : MayMove w t c m all owned n) where
-  pub condvar_keeps : IsLockState (rules_at w c) (left_behind all (w.locks c))
+  pub condvar_keeps : IsLockState (rules_at w c) (left_after all (w.locks c))
   condvar_keeps = left_keeps (rules_at w c) all (w.locks c) (states c)
 
   pub mutex_keeps : IsLockState (rules_at w m) (joined_by owned t (moved_of all (w.locks c).queue)

@@ -14,19 +14,19 @@ use Rattle.spec_locks.specs.Onces as onces
 use Rattle.spec_locks.specs.Purposes.{Blank, HasMoved, Notifies, Recall, Saw, SawOwner, Waits, WasMoved}
 use Rattle.spec_locks.specs.Purposes.{WasNotified}
 use Rattle.spec_locks.specs.Runs.{AtLock, CallState, Does, Event, GoesOn, IsNotified, LocksState, MayHappen}
-use Rattle.spec_locks.specs.Runs.{Moves, Nothing, Stays, behind_wake, calls_after, gives_up, going_on}
+use Rattle.spec_locks.specs.Runs.{Moves, Nothing, Stays, after_wake, calls_after, gives_up, going_on}
 use Rattle.spec_locks.specs.Runs.{is_among, is_taken_by, unless_ended, woken}
 use Rattle.spec_locks.specs.UserLaws.{OfEachStep}
 use Rattle.spec_locks.specs.CondvarLaws.{IsNotifier, NobodyWakesByItself}
 
 -- each thread that is woken was notified only where it was
-behind_wake_none : (r : Recall) → (IsNotified r → ⊥) → IsNotified (behind_wake r) → ⊥
-behind_wake_none Blank none h = h
-behind_wake_none (Saw m) none h = h
-behind_wake_none (SawOwner m owned) none h = h
-behind_wake_none (HasMoved m number) none h = h
-behind_wake_none WasMoved none h = none tt
-behind_wake_none WasNotified none h = none tt
+after_wake_none : (r : Recall) → (IsNotified r → ⊥) → IsNotified (after_wake r) → ⊥
+after_wake_none Blank none h = h
+after_wake_none (Saw m) none h = h
+after_wake_none (SawOwner m owned) none h = h
+after_wake_none (HasMoved m number) none h = h
+after_wake_none WasMoved none h = none tt
+after_wake_none WasNotified none h = none tt
 
 -- nor does a thread notify itself
 gives_up_none : (l : ℕ) (r : Recall) (c : CallState) → c.recalls ≡ r → (IsNotified r → ⊥)
@@ -89,9 +89,9 @@ module _ (w : LocksState) (a t : ℕ) where
   woken_none : (b : Bool) (c : CallState) (retries : Option ℕ) → Unnotified c
       → Unnotified (if b then record c {
         retries = retries;
-        recalls = behind_wake c.recalls;
+        recalls = after_wake c.recalls;
       } else c)
-  woken_none true c retries none = behind_wake_none c.recalls none
+  woken_none true c retries none = after_wake_none c.recalls none
   woken_none false c retries none = none
 
   -- only a move does

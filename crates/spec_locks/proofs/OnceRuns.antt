@@ -10,7 +10,7 @@ use Rattle.spec_locks.specs.declared.outcomes.OnceState.TheVariants as once_stat
 use Rattle.spec_locks.specs.declared.outcomes.Outcome.{Outcome}
 use Rattle.spec_locks.specs.declared.outcomes.Outcome as outcome
 use Rattle.spec_locks.specs.Condvars.{moved_of}
-use Rattle.spec_locks.specs.Locks.{LockState, OfOnce, after_case, left_behind, putting}
+use Rattle.spec_locks.specs.Locks.{LockState, OfOnce, after_case, left_after, putting}
 use Rattle.spec_locks.specs.Onces.{Phase, New, Poisoned, InProgress, Done, OnceCase, Start, Finish, Fail}
 use Rattle.spec_locks.specs.Onces.{Rest, TakeAll, MayStart}
 use Rattle.spec_locks.specs.Purposes.{Purpose, Enters, Releases, Converts, Bumps, CallsOnce, Awaits, Waits}
@@ -171,13 +171,13 @@ module _ (w v : LocksState) (t : ℕ) (o : Outcome) (l : ℕ) (done : (w.locks l
   done_by (Moves c m every owned n) may = at_mutex (l == m) refl
     where
       at_condvar : (b : Bool) → (l == c) ≡ b
-          → (if b then left_behind every (w.locks c) else w.locks l).phase ≡ Done
+          → (if b then left_after every (w.locks c) else w.locks l).phase ≡ Done
       at_condvar false e = done
       at_condvar true e = ap (λ k. (w.locks k).phase) (sym (eqb-true l c e)) ∙ done
 
       at_mutex : (b : Bool) → (l == m) ≡ b
           → (if b then joined_by owned t (moved_of every (w.locks c).queue) (w.locks m) else putting w.locks
-          c (left_behind every (w.locks c)) l).phase ≡ Done
+          c (left_after every (w.locks c)) l).phase ≡ Done
       at_mutex false e = at_condvar (l == c) refl
       at_mutex true e = ap (λ k. (w.locks k).phase) (sym (eqb-true l m e)) ∙ done
   done_by (AtLock k case) may = either (l == k) refl

@@ -22,19 +22,19 @@ use Rattle.spec_locks.specs.Picks.{PickersPickAsTheLocksSay, queue_under}
 ahead_of_more : (x : Queued) (q : List Queued) → wants_shared x.want ≡ false → ahead_of_unshared (x ∷ q) ≡ 0
 ahead_of_more x q more = grind arith
 
-behind_sharer : (x : Queued) (q : List Queued) → wants_shared x.want ≡ true → ahead_of_unshared (x ∷ q)
+after_sharer : (x : Queued) (q : List Queued) → wants_shared x.want ≡ true → ahead_of_unshared (x ∷ q)
     ≡ suc (ahead_of_unshared q)
-behind_sharer x q shares = grind arith
+after_sharer x q shares = grind arith
 
 -- where more than a shared right is kept, each thread that wants to share is picked
 sharers_from : (q : List Queued) → take (ahead_of_unshared q) q ++ sharers (drop (ahead_of_unshared q) q)
     ≡ sharers q
 sharers_from [] = refl
-sharers_from (x ∷ q) = grind (arith, ahead_of_more x q, behind_sharer x q, sharers_from q)
+sharers_from (x ∷ q) = grind (arith, ahead_of_more x q, after_sharer x q, sharers_from q)
 
 others_from : (q : List Queued) → others (drop (ahead_of_unshared q) q) ≡ others q
 others_from [] = refl
-others_from (x ∷ q) = grind (arith, ahead_of_more x q, behind_sharer x q, others_from q)
+others_from (x ∷ q) = grind (arith, ahead_of_more x q, after_sharer x q, others_from q)
 
 keeper_picked : (sort : Sort) (start : Option Want) (q : List Queued) → keeps_more start ≡ true
     → locks.picked sort start q ≡ sharers q
@@ -72,7 +72,7 @@ sharer_unpicked : (sort : Sort) (start : Option Want) (x : Queued) (q : List Que
     ≡ true → locks.unpicked sort start (x ∷ q) ≡ locks.unpicked sort start q
 sharer_unpicked sort start x q shares = grind arith
 
--- a writer is picked, and nobody behind it
+-- a writer is picked, and nobody after it
 writer_picked : (sort : Sort) (start : Option Want) (x : Queued) (q : List Queued) → x.want ≡ Exclusive
     → is_recursive sort ≡ false → keeps_more start ≡ false → locks.picked sort start (x ∷ q) ≡ x ∷ []
 writer_picked sort start x q writes normal none = grind arith

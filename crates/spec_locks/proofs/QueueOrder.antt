@@ -1,4 +1,4 @@
--- Each step keeps the order of each queue: those that stay keep theirs, and a thread that joins stands behind
+-- Each step keeps the order of each queue: those that stay keep theirs, and a thread that joins stands after
 -- them.
 use Rattle.std.proofs.Common.{ℕ, zero, suc, Bool, true, false, Option, Some, None, if◌then◌else◌, ◌==◌, ◌≡◌}
 use Rattle.std.proofs.Common.{◌≤◌, ◌+◌, inl, inr, List, [], ◌∷◌, ◌++◌, refl, sym, ◌∙◌, ap, subst, arith}
@@ -18,7 +18,7 @@ use Rattle.spec_locks.specs.Locks as locks
 use Rattle.spec_locks.specs.Locks.{LockState, LockCase, Queued, Rules, Needs, OnceNeeds, Enter, Pend, Settle}
 use Rattle.spec_locks.specs.Locks.{Leave, Convert, Park, Aside, TakeFirst, TakeAside, TakePicked, Wake}
 use Rattle.spec_locks.specs.Locks.{HandOff, Late, Rollback, OfOnce, OfCondvar, SeeOwner, Look, Show, Hide}
-use Rattle.spec_locks.specs.Locks.{after_case, left_behind, putting, standing, times, wants_shared}
+use Rattle.spec_locks.specs.Locks.{after_case, left_after, putting, standing, times, wants_shared}
 use Rattle.spec_locks.specs.Runs.{LocksState, CallState, Event, Nothing, AtLock, Moves, GoesOn, Stays, Does}
 use Rattle.spec_locks.specs.Runs.{MayHappen, Turned, IsStep, is_among, joined_by, locks_after, rules_at}
 use Rattle.spec_locks.specs.EachStep.{IsPartOf, KeepsOrderOf, QueuesKeepOrder}
@@ -53,9 +53,10 @@ filtered_rest p zero q = filtered p q
 filtered_rest p (suc n) [] = tt
 filtered_rest p (suc n) (x ∷ q) = skip x (filter p (drop n q)) q (filtered_rest p n q)
 
-behind : (x : Queued) (xs q : List Queued) → IsPartOf xs q → (more : List Queued) → IsPartOf xs (more ++ q)
-behind x xs q h [] = h
-behind x xs q h (y ∷ more) = skip y xs (more ++ q) (behind x xs q h more)
+afterwards : (x : Queued) (xs q : List Queued) → IsPartOf xs q → (more : List Queued)
+    → IsPartOf xs (more ++ q)
+afterwards x xs q h [] = h
+afterwards x xs q h (y ∷ more) = skip y xs (more ++ q) (afterwards x xs q h more)
 
 both : (xs ys q r : List Queued) → IsPartOf xs q → IsPartOf ys r → IsPartOf (xs ++ ys) (q ++ r)
 both [] [] [] r h g = tt
@@ -208,17 +209,17 @@ event_orders w t Nothing may l = same_so (w.locks l).queue _ refl
 event_orders w t (Moves c m every owned n) may l = at_mutex (l == m) refl
   where
     at_condvar : (b : Bool) → (l == c) ≡ b → KeepsOrderOf (w.locks l).queue
-        (if b then left_behind every (w.locks c) else w.locks l).queue
+        (if b then left_after every (w.locks c) else w.locks l).queue
     at_condvar false e = same_so (w.locks l).queue _ refl
     at_condvar true e = let same : l ≡ c = eqb-true l c e in rw same (left every)
       where
-        left : (b : Bool) → KeepsOrderOf (w.locks c).queue (left_behind b (w.locks c)).queue
+        left : (b : Bool) → KeepsOrderOf (w.locks c).queue (left_after b (w.locks c)).queue
         left true = part_so (w.locks c).queue [] tt
         left false = part_so (w.locks c).queue _ (dropped 1 (w.locks c).queue)
 
     at_mutex : (b : Bool) → (l == m) ≡ b
         → KeepsOrderOf (w.locks l).queue (if b then joined_by owned t (moved_of every (w.locks c).queue)
-        (w.locks m) else putting w.locks c (left_behind every (w.locks c)) l).queue
+        (w.locks m) else putting w.locks c (left_after every (w.locks c)) l).queue
     at_mutex false e = at_condvar (l == c) refl
     at_mutex true e = let same : l ≡ m = eqb-true l m e in rw same (record {
       left = (w.locks m).queue;

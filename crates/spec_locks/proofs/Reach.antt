@@ -15,13 +15,13 @@ use Rattle.spec_locks.specs.Condvars.{moved_of}
 use Rattle.spec_locks.specs.Locks as locks
 use Rattle.spec_locks.specs.Locks.{LockState, LockCase, Condvar, Mutex, Enter, Pend, Settle, Leave, Convert}
 use Rattle.spec_locks.specs.Locks.{Park, Aside, TakeFirst, TakeAside, TakePicked, Wake, HandOff, Late}
-use Rattle.spec_locks.specs.Locks.{Rollback, OfOnce, OfCondvar, SeeOwner, Look, Show, Hide, left_behind}
+use Rattle.spec_locks.specs.Locks.{Rollback, OfOnce, OfCondvar, SeeOwner, Look, Show, Hide, left_after}
 use Rattle.spec_locks.specs.Locks.{putting, standing, times}
 use Rattle.spec_locks.specs.Purposes.{MayWait, Purpose, Notifies, Recall, Blank, Saw, SawOwner, HasMoved}
 use Rattle.spec_locks.specs.Purposes.{WasMoved, WasNotified, Waits}
 use Rattle.spec_locks.specs.Runs.{LocksState, CallState, AnswerHolds, Event, Nothing, AtLock, Moves, Does}
 use Rattle.spec_locks.specs.Runs.{GoesOn, IsBeingEmptied, IsStep, MayDo, MayHappen, MovedNobody}
-use Rattle.spec_locks.specs.Runs.{NotifiesAnswer, ShowsWaiters, Stays, Turned, behind_wake, gives_up}
+use Rattle.spec_locks.specs.Runs.{NotifiesAnswer, ShowsWaiters, Stays, Turned, after_wake, gives_up}
 use Rattle.spec_locks.specs.Runs.{going_on, is_among, is_taken_by, joined_by, locks_after, no_call, rules_at}
 use Rattle.spec_locks.specs.Runs.{unless_ended, woken}
 use Rattle.spec_locks.specs.GuaranteeLaws.{GoesOnSo, IsToBeReached, NotificationsReach}
@@ -46,7 +46,7 @@ still w v c t (HasMoved m n) e h = absurd h
 still w v c t WasMoved e h = absurd h
 still w v c t WasNotified e h = absurd h
 
-woken_keeps : (w : LocksState) (c t : ℕ) (r : Recall) → Recalled w c t r → Recalled w c t (behind_wake r)
+woken_keeps : (w : LocksState) (c t : ℕ) (r : Recall) → Recalled w c t r → Recalled w c t (after_wake r)
 woken_keeps w c t Blank h = tt
 woken_keeps w c t (Saw m) h = h
 woken_keeps w c t (SawOwner m b) h = h
@@ -81,7 +81,7 @@ module _ (w v : LocksState) (c t u : ℕ) (now : IsToBeReached w c t u) (stands 
       where
         either : (b : Bool) → Recalled w c t (if b then record call {
           retries = Some l;
-          recalls = behind_wake call.recalls;
+          recalls = after_wake call.recalls;
         } else call).recalls
         either true = woken_keeps w c t call.recalls h
         either false = h
@@ -89,7 +89,7 @@ module _ (w v : LocksState) (c t u : ℕ) (now : IsToBeReached w c t u) (stands 
       where
         either : (b : Bool) → Recalled w c t (if b then record call {
           retries = None;
-          recalls = behind_wake call.recalls;
+          recalls = after_wake call.recalls;
         } else call).recalls
         either true = woken_keeps w c t call.recalls h
         either false = h
@@ -133,9 +133,9 @@ module _ (w v : LocksState) (c t u : ℕ) (now : IsToBeReached w c t u) (stands 
         let here : (c == d) ≡ true = ap (λ k. c == k) (sym same) ∙ same_number c in
         let gone : (v.locks c).queue ≡ [] = ap (λ (s : LockState). s.queue) (locks_then c)
         ∙ ap (λ (b : Bool). (if b then joined_by owned u (moved_of all (w.locks d).queue) (w.locks m)
-        else putting w.locks d (left_behind all (w.locks d)) c).queue) apart
-        ∙ ap (λ (b : Bool). (if b then left_behind all (w.locks d) else w.locks c).queue) here
-        ∙ ap (λ (b : Bool). (left_behind b (w.locks d)).queue) (sym every) in
+        else putting w.locks d (left_after all (w.locks d)) c).queue) apart
+        ∙ ap (λ (b : Bool). (if b then left_after all (w.locks d) else w.locks c).queue) here
+        ∙ ap (λ (b : Bool). (left_after b (w.locks d)).queue) (sym every) in
         let none : 1 ≤ times t [] = subst (λ q. 1 ≤ times t q) gone stands in omega arith)
 
     own_recalls : (e : Event) → MayHappen w u e → ((l : ℕ) → v.locks l ≡ locks_after w u e l)

@@ -10,14 +10,14 @@ use Rattle.spec_locks.specs.declared.outcomes.Outcome as outcome
 use Rattle.spec_locks.specs.Condvars.{moved_of}
 use Rattle.spec_locks.specs.Locks.{LockState, LockCase, Queued, Mutex, Condvar, Enter, Pend, Settle, Leave}
 use Rattle.spec_locks.specs.Locks.{Convert, Park, Aside, TakeFirst, TakeAside, TakePicked, Wake, HandOff}
-use Rattle.spec_locks.specs.Locks.{Late, Rollback, OfOnce, OfCondvar, SeeOwner, Look, Show, Hide, left_behind}
+use Rattle.spec_locks.specs.Locks.{Late, Rollback, OfOnce, OfCondvar, SeeOwner, Look, Show, Hide, left_after}
 use Rattle.spec_locks.specs.Locks.{putting}
 use Rattle.spec_locks.specs.Onces.{InProgress, Poisoned, Start, Finish, Fail, Rest, TakeAll}
 use Rattle.spec_locks.specs.Purposes.{Purpose, Enters, Releases, Converts, Bumps, CallsOnce, Awaits, Waits}
 use Rattle.spec_locks.specs.Purposes.{Notifies, Recall, Blank, Saw, SawOwner, HasMoved, WasMoved, WasNotified}
 use Rattle.spec_locks.specs.Purposes.{IsMadeOf}
 use Rattle.spec_locks.specs.Runs.{LocksState, CallState, Event, Nothing, AtLock, Moves, Does, GoesOn, MayDo}
-use Rattle.spec_locks.specs.Runs.{MayHappen, Stays, Turned, behind_wake, gives_up, going_on, if_moved}
+use Rattle.spec_locks.specs.Runs.{MayHappen, Stays, Turned, after_wake, gives_up, going_on, if_moved}
 use Rattle.spec_locks.specs.Runs.{is_among, is_taken_by, joined_by, rules_at, unless_ended, woken}
 use Rattle.spec_locks.specs.EachStep.{RecallsTruly}
 use Rattle.spec_locks.proofs.Idle.{differs, other_then, own_then, same_number, stay_own}
@@ -88,29 +88,29 @@ module _ (w v : LocksState) where
   saw_owner : (u m : ℕ) (b : Bool) → Notes w v u (SawOwner m b)
   saw_owner u m b = record { saw = λ k f. absurd cc; moved = λ k n f. absurd cc }
 
-  behind : (u : ℕ) (r : Recall) → Notes w v u r → Notes w v u (behind_wake r)
-  behind u WasMoved h = was_notified u
-  behind u Blank h = h
-  behind u (Saw m) h = h
-  behind u (SawOwner m b) h = h
-  behind u (HasMoved m n) h = h
-  behind u WasNotified h = h
+  afterwards : (u : ℕ) (r : Recall) → Notes w v u r → Notes w v u (after_wake r)
+  afterwards u WasMoved h = was_notified u
+  afterwards u Blank h = h
+  afterwards u (Saw m) h = h
+  afterwards u (SawOwner m b) h = h
+  afterwards u (HasMoved m n) h = h
+  afterwards u WasNotified h = h
 
   woken_so : (t : ℕ) (e : Event) (u : ℕ) (c : CallState) → Notes w v u c.recalls
       → Notes w v u (woken w t e u c).recalls
   woken_so t (AtLock l Wake) u c h = either (is_taken_by t ((w.locks l).taken u))
     where
       either : (b : Bool)
-          → Notes w v u (if b then record c { retries = Some l; recalls = behind_wake c.recalls } else
+          → Notes w v u (if b then record c { retries = Some l; recalls = after_wake c.recalls } else
           c).recalls
-      either true = behind u c.recalls h
+      either true = afterwards u c.recalls h
       either false = h
   woken_so t (AtLock l (HandOff x y)) u c h = either (is_taken_by t ((w.locks l).taken u))
     where
       either : (b : Bool)
-          → Notes w v u (if b then record c { retries = None; recalls = behind_wake c.recalls } else
+          → Notes w v u (if b then record c { retries = None; recalls = after_wake c.recalls } else
           c).recalls
-      either true = behind u c.recalls h
+      either true = afterwards u c.recalls h
       either false = h
   woken_so t (Moves l m every owned n) u c h = either (is_among u (moved_of every (w.locks l).queue))
     where
@@ -124,14 +124,14 @@ module _ (w v : LocksState) where
   woken_failed t (AtLock l Wake) u c = either (is_taken_by t ((w.locks l).taken u))
     where
       either : (b : Bool)
-          → (if b then record c { retries = Some l; recalls = behind_wake c.recalls } else c).failed ≡
+          → (if b then record c { retries = Some l; recalls = after_wake c.recalls } else c).failed ≡
           c.failed
       either true = refl
       either false = refl
   woken_failed t (AtLock l (HandOff x y)) u c = either (is_taken_by t ((w.locks l).taken u))
     where
       either : (b : Bool)
-          → (if b then record c { retries = None; recalls = behind_wake c.recalls } else c).failed ≡ c.failed
+          → (if b then record c { retries = None; recalls = after_wake c.recalls } else c).failed ≡ c.failed
       either true = refl
       either false = refl
   woken_failed t (Moves l m every owned n) u c = either (is_among u (moved_of every (w.locks l).queue))
@@ -163,7 +163,7 @@ module _ (w v : LocksState) where
     number_of false (x ∷ q) n some e = grind arith
 
     left_of : (c : ℕ) (every : Bool)
-        → (left_behind every (w.locks c)).queue ≡ (if every then [] else drop 1 (w.locks c).queue)
+        → (left_after every (w.locks c)).queue ≡ (if every then [] else drop 1 (w.locks c).queue)
     left_of c every = refl
 
     apart : (c m n : ℕ) (every owned : Bool) → MayHappen w t (Moves c m every owned n) → c ≢ m
@@ -191,9 +191,9 @@ module _ (w v : LocksState) where
             ap (λ (s : LockState). s.queue)
             (g.locks c ∙ ap (λ x. Rattle.spec_locks.specs.Runs.locks_after w t x c) e
             ∙ ap (λ (b : Bool). if b then joined_by owned t (moved_of every (w.locks c).queue)
-            (w.locks m) else putting w.locks c (left_behind every (w.locks c)) c)
+            (w.locks m) else putting w.locks c (left_after every (w.locks c)) c)
             (differs c m (apart c m n every owned may))
-            ∙ ap (λ (b : Bool). if b then left_behind every (w.locks c) else w.locks c) (same_number c))
+            ∙ ap (λ (b : Bool). if b then left_after every (w.locks c) else w.locks c) (same_number c))
 
     by_event : (e : Event) → g.event ≡ e → MayHappen w t e → Notes w v t (going_on e (w.calls t)).recalls
     by_event Nothing h may = stays_so t _ refl

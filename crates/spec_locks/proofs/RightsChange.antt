@@ -14,7 +14,7 @@ use Rattle.spec_locks.specs.Locks as locks
 use Rattle.spec_locks.specs.Locks.{LockState, LockCase, Queued, Rules, Taken, Needs, Enter, Pend, Settle}
 use Rattle.spec_locks.specs.Locks.{Leave, Convert, Park, Aside, TakeFirst, TakeAside, TakePicked, Wake}
 use Rattle.spec_locks.specs.Locks.{HandOff, Late, Rollback, OfOnce, OfCondvar, SeeOwner, Look, Show, Hide}
-use Rattle.spec_locks.specs.Locks.{IsLockState, after_case, left_behind, one_if_some, putting, rights_of}
+use Rattle.spec_locks.specs.Locks.{IsLockState, after_case, left_after, one_if_some, putting, rights_of}
 use Rattle.spec_locks.specs.Locks.{sharing_from, standing}
 use Rattle.spec_locks.specs.Purposes.{MayWait, Purpose, Enters, Releases, Converts, Bumps, CallsOnce, Awaits}
 use Rattle.spec_locks.specs.Purposes.{Waits, Notifies, Recall, AwaitsBy, CallsOnceBy, IsMadeOf}
@@ -248,13 +248,13 @@ module _ (w v : LocksState) (t : ℕ) (o : Outcome) (all : AreLockStates w)
   event_rights (Moves c m every owned n) may u l = inl (at_mutex (l == m) refl)
     where
       at_condvar : (b : Bool) → (l == c) ≡ b
-          → rights_of (if b then left_behind every (w.locks c) else w.locks l) u ≡ rights_in w u l
+          → rights_of (if b then left_after every (w.locks c) else w.locks l) u ≡ rights_in w u l
       at_condvar false e = refl
       at_condvar true e = ap (λ k. rights_of (w.locks k) u) (sym (eqb-true l c e))
 
       at_mutex : (b : Bool) → (l == m) ≡ b
           → rights_of (if b then joined_by owned t (moved_of every (w.locks c).queue) (w.locks m) else
-          putting w.locks c (left_behind every (w.locks c)) l) u ≡ rights_in w u l
+          putting w.locks c (left_after every (w.locks c)) l) u ≡ rights_in w u l
       at_mutex false e = at_condvar (l == c) refl
       at_mutex true e = ap (λ k. rights_of (w.locks k) u) (sym (eqb-true l m e))
   event_rights (AtLock k case) may u l = either (l == k) refl

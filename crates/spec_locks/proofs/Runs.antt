@@ -6,7 +6,7 @@ use Rattle.spec_locks.specs.declared.calls.Turn.{Turn}
 use Rattle.spec_locks.specs.declared.calls.Turn as turn
 use Rattle.spec_locks.specs.declared.calls.Step.{Step}
 use Rattle.spec_locks.specs.declared.outcomes.Outcome.{Outcome}
-use Rattle.spec_locks.specs.Locks.{LockCase, Needs, IsLockState, left_behind, putting}
+use Rattle.spec_locks.specs.Locks.{LockCase, Needs, IsLockState, left_after, putting}
 use Rattle.spec_locks.specs.Locks as locks
 use Rattle.spec_locks.specs.Purposes.{Purpose}
 use Rattle.spec_locks.specs.Runs.{LocksState, Event, Nothing, AtLock, Moves, joined_by, CallState}
@@ -27,14 +27,14 @@ event_keeps w t Nothing all may l = all l
 event_keeps w t (Moves c m every owned n) all may l = at_mutex (l == m) refl
   where
     at_condvar : (b : Bool) → (l == c) ≡ b
-        → IsLockState (rules_at w l) (if b then left_behind every (w.locks c) else w.locks l)
+        → IsLockState (rules_at w l) (if b then left_after every (w.locks c) else w.locks l)
     at_condvar false e = all l
     at_condvar true e = let same : l ≡ c = eqb-true l c e
         in rw same (condvar_keeps w t c m every owned n all may)
 
     at_mutex : (b : Bool) → (l == m) ≡ b
         → IsLockState (rules_at w l) (if b then joined_by owned t (moved_of every (w.locks c).queue)
-        (w.locks m) else putting w.locks c (left_behind every (w.locks c)) l)
+        (w.locks m) else putting w.locks c (left_after every (w.locks c)) l)
     at_mutex false e = at_condvar (l == c) refl
     at_mutex true e = let same : l ≡ m = eqb-true l m e in rw same (mutex_keeps w t c m every owned n all may)
 event_keeps w t (AtLock k case) all may l = either (l == k) refl

@@ -5,7 +5,7 @@ use Rattle.std.proofs.lemmas.Bool.Decides.{nat_tests}
 use Rattle.core_base.specs.declared.wants.Want.TheVariants.{Exclusive, Upgradable, Shared}
 use Rattle.spec_locks.specs.Locks.{LockState, Queued, Taken, Rules, Late, IsLockState, KnowsAll, Mutex, times}
 use Rattle.spec_locks.specs.Locks.{taking, standing, one_if_thread, one_if_some, readers, putting, Condvar}
-use Rattle.spec_locks.specs.Locks.{left_behind}
+use Rattle.spec_locks.specs.Locks.{left_after}
 use Rattle.spec_locks.specs.Sites.{Line, Main, Second, Claim, Site, IsSite, Bring, Send, LeaveLine, Needed}
 use Rattle.spec_locks.specs.Sites.{after_deed, IsEmpty, IsOpen, IsDebtorRole, bringing, Has, Pends, Runs, Ran}
 use Rattle.spec_locks.specs.Sites.{Holds, counts_taken}
@@ -176,14 +176,14 @@ module _ (r : Rules) (s : Site) (t : ℕ) (h : IsSite r s) where
     others_hold = λ u c ne e. still_held u c e;
     others_carry = λ x u ne e. e;
     taken_by = λ x a e. grind (arith, h.carried x);
-    main = λ e free room. absurd (let none : IsOpen Condvar (left_behind all s.lock) = rw n.0 at free
+    main = λ e free room. absurd (let none : IsOpen Condvar (left_after all s.lock) = rw n.0 at free
         in none);
-    main_brought = λ e apart free room. absurd (let none : IsOpen Condvar (left_behind all s.lock) =
+    main_brought = λ e apart free room. absurd (let none : IsOpen Condvar (left_after all s.lock) =
         rw n.0 at free in none);
     second = λ e none. grind arith;
   })
     where
-      still_empty : (m : Line) → IsEmpty s.lock m → IsEmpty (left_behind all s.lock) m
+      still_empty : (m : Line) → IsEmpty s.lock m → IsEmpty (left_after all s.lock) m
       still_empty Main e = left_none all s.lock.queue e
       still_empty Second e = e
 
@@ -192,10 +192,10 @@ module _ (r : Rules) (s : Site) (t : ℕ) (h : IsSite r s) where
           × ((s.role t).sets ≡ false)))
       still_parked some = grind arith
 
-      stood : (u : ℕ) → 1 ≤ standing u (left_behind all s.lock) → 1 ≤ standing u s.lock
+      stood : (u : ℕ) → 1 ≤ standing u (left_after all s.lock) → 1 ≤ standing u s.lock
       stood u e = let a = left_fewer all u s.lock.queue in omega arith
 
-      still_held : (u : ℕ) (c : Claim) → Holds s.lock u c → Holds (left_behind all s.lock) u c
+      still_held : (u : ℕ) (c : Claim) → Holds s.lock u c → Holds (left_after all s.lock) u c
       still_held u (Has Exclusive) e = e
       still_held u (Has Upgradable) e = e
       still_held u (Has Shared) e = e

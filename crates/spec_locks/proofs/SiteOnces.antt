@@ -17,7 +17,7 @@ module _ (r : Rules) (s : Site) (t : ℕ) (h : IsSite r s) where
   all_taken : (u : ℕ) → standing u (once_after TakeAll s.lock t) ≤ standing u s.lock
   all_taken u = let a = times_taking u t s.lock.queue s.lock.taken in omega arith
 
-  -- a thread that comes to wait stands behind the last: while nobody runs it, another waited to run it
+  -- a thread that comes to wait stands after the last: while nobody runs it, another waited to run it
   -- already
   rests_local : (wanted : Want) (forced : Bool) (n : Needed r (Case (OfOnce (Rest wanted forced))) s t)
       → Local r s (done r (OfOnce (Rest wanted forced)) s t (once_after (Rest wanted forced) s.lock t)) t

@@ -17,7 +17,7 @@ use Rattle.spec_locks.specs.Locks.{LockState, LockCase, MayConvert, Enter, Pend,
 use Rattle.spec_locks.specs.Locks.{Aside, TakeFirst, TakePicked, Wake, HandOff, Late, Rollback, OfOnce}
 use Rattle.spec_locks.specs.Locks.{once_after, Needs, IsLockState, Rules, Normal, Recursive, Queued, Pending}
 use Rattle.spec_locks.specs.Locks.{Rights, rights_of, Owns, readers, sharers, times, after_case, wants_shared}
-use Rattle.spec_locks.specs.Locks.{OfCondvar, putting, left_behind}
+use Rattle.spec_locks.specs.Locks.{OfCondvar, putting, left_after}
 use Rattle.spec_locks.specs.Onces.{OnceCase, Start, Finish, Fail, Rest, TakeAll}
 use Rattle.spec_locks.specs.Locks as locks
 use Rattle.spec_locks.specs.Purposes.{Purpose, Converts, ConvertsBy, Patience}
@@ -54,7 +54,7 @@ module _ (w : LocksState) (t l : ℕ) where
   happened Nothing may = None_ refl
   happened (Moves c m all owned n) may = at_mutex (l == m) refl
     where
-      at_condvar : (b : Bool) → (l == c) ≡ b → Change w t l (if b then left_behind all (w.locks c)
+      at_condvar : (b : Bool) → (l == c) ≡ b → Change w t l (if b then left_after all (w.locks c)
           else w.locks l)
       at_condvar false e = None_ refl
       at_condvar true e = let same : l ≡ c = eqb-true l c e in rw same (Moved (rw may.sorts.0 refl) (record {
@@ -66,7 +66,7 @@ module _ (w : LocksState) (t l : ℕ) where
 
       at_mutex : (b : Bool) → (l == m) ≡ b
           → Change w t l (if b then joined_by owned t (moved_of all (w.locks c).queue) (w.locks m)
-          else putting w.locks c (left_behind all (w.locks c)) l)
+          else putting w.locks c (left_after all (w.locks c)) l)
       at_mutex false e = at_condvar (l == c) refl
       at_mutex true e = let same : l ≡ m = eqb-true l m e in rw same (Moved (rw may.sorts.1 refl) (record {
         exclusive = refl;

@@ -10,7 +10,7 @@ use Rattle.spec_locks.specs.Sites.{Main, Site, Bring, Needed, is_empty}
 pub data CondvarStage : Type 0 where
   -- nothing: it has come, or has done what it came for
   NothingToDo : CondvarStage
-  -- it has shown its mutex, and is to stand behind the last
+  -- it has shown its mutex, and is to stand after the last
   ToStandLast : (m : ℕ) → CondvarStage
   -- another mutex than its own is shown
   SeesOther : (m : ℕ) → CondvarStage
@@ -82,7 +82,7 @@ pub data CondvarDeed : Type 0 where
   -- it shows its mutex, or sees another
   Show : (m : ℕ) → CondvarDeed
   SeeOther : (m : ℕ) → CondvarDeed
-  -- it stands behind the last waiter
+  -- it stands after the last waiter
   StandLast : CondvarDeed
   -- a notification sees the mutex again that it saw first, or does not
   SeeAgain : (m : ℕ) → CondvarDeed

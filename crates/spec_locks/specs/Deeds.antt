@@ -4,7 +4,7 @@ use Rattle.spec_locks.specs.Locks.{LockState, LockCase, Late, Rules, Wake, Needs
 use Rattle.spec_locks.specs.Sites.{Site, Deed, Out, Bring, Send, LeaveLine, Case, Needed, after_deed}
 use Rattle.spec_locks.specs.Runs.{Event, Nothing, AtLock, Moves}
 
--- the site behind them
+-- the site after them
 abbrev pub after_all : Rules → List Deed → Site → ℕ → Site
 after_all r [] s t = s
 after_all r (d ∷ ds) s t = after_all r ds (after_deed r d s t) t

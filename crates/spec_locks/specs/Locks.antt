@@ -245,8 +245,8 @@ is_recursive Semaphore = false
 is_recursive Once = false
 is_recursive Condvar = false
 
--- where the picking stops: behind that first one, where it is a writer, the lock isn't recursive
--- and no more than a shared right is kept; else behind the last
+-- where the picking stops: after that first one, where it is a writer, the lock isn't recursive
+-- and no more than a shared right is kept; else after the last
 abbrev pub stop_of : Sort → Option Want → List Queued → ℕ
 stop_of sort start q =
     if is_writer (first_unshared q) && (not (is_recursive sort) && not (keeps_more start))
@@ -256,15 +256,15 @@ stop_of sort start q =
 abbrev pub before_stop : Sort → Option Want → List Queued → List Queued
 before_stop sort start q = take (stop_of sort start q) q
 
-abbrev pub behind_stop : Sort → Option Want → List Queued → List Queued
-behind_stop sort start q = drop (stop_of sort start q) q
+abbrev pub after_stop : Sort → Option Want → List Queued → List Queued
+after_stop sort start q = drop (stop_of sort start q) q
 
 -- the front, each of which is picked: all ahead of that first one, and it too unless more than a shared right
 -- is kept
 abbrev pub front_of : Option Want → List Queued → ℕ
 front_of start q = if keeps_more start then ahead_of_unshared q else 1 + ahead_of_unshared q
 
--- before the stop: those at the front, and behind them each thread that wants to share
+-- before the stop: those at the front, and after them each thread that wants to share
 abbrev pub picked : Sort → Option Want → List Queued → List Queued
 picked sort start q =
     take (front_of start q) (before_stop sort start q)
@@ -273,7 +273,7 @@ picked sort start q =
 -- The waiters that a picker leaves, in order.
 abbrev pub unpicked : Sort → Option Want → List Queued → List Queued
 unpicked sort start q = others (drop (front_of start q) (before_stop sort start q))
-    ++ behind_stop sort start q
+    ++ after_stop sort start q
 
 -- ---------------------------------------------------------------- the cases
 
@@ -299,7 +299,7 @@ pub data LockCase : Type 0 where
   Leave : (right : Want) → LockCase
   -- it turns one right into another without letting anyone in between
   Convert : (right want : Want) → LockCase
-  -- it stands in the queue, behind the last
+  -- it stands in the queue, after the last
   Park : (want : Want) → LockCase
   -- the pending writer stands aside
   Aside : LockCase
@@ -447,8 +447,8 @@ condvar_after (Show m) s = record s { shown = Some m }
 condvar_after Hide s = record s { shown = None }
 
 -- those that a notification moves, the first or all, leave the list of the condition variable
-abbrev pub left_behind : Bool → LockState → LockState
-left_behind all s = record s { queue = if all then [] else drop 1 s.queue }
+abbrev pub left_after : Bool → LockState → LockState
+left_after all s = record s { queue = if all then [] else drop 1 s.queue }
 
 abbrev pub IsSomePending : Option Pending → ℕ → Type 0
 IsSomePending None t = ⊥

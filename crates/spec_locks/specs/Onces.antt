@@ -16,7 +16,7 @@ pub data OnceCase : Type 0 where
   -- its closure answered well, or an error
   Finish : OnceCase
   Fail : OnceCase
-  -- it stands behind the last waiter
+  -- it stands after the last waiter
   Rest : (want : Want) → (forced : Bool) → OnceCase
   -- it takes all waiters
   TakeAll : OnceCase

@@ -29,7 +29,7 @@ use Rattle.spec_locks.specs.Locks.{LockState, Queued, taking, Taken, LockCase, E
 use Rattle.spec_locks.specs.Locks.{Park, Aside, Wake, HandOff, Late, OfOnce, Look, OfCondvar, SeeOwner}
 use Rattle.spec_locks.specs.Locks.{Condvar, Rules, Rights, Mutex, Needs, after_case, rights_of, with_right}
 use Rattle.spec_locks.specs.Locks.{without_right, Owns, IsFree, IsBlocked, count, readers, putting, standing}
-use Rattle.spec_locks.specs.Locks.{HasTakenNobody, IsLockState, left_behind, opening_lock, times}
+use Rattle.spec_locks.specs.Locks.{HasTakenNobody, IsLockState, left_after, opening_lock, times}
 use Rattle.spec_locks.specs.Purposes.{Purpose, Enters, Releases, Converts, Bumps, CallsOnce, Awaits, Waits}
 use Rattle.spec_locks.specs.Purposes.{Notifies, Recall, Blank, Saw, SawOwner, HasMoved, WasMoved, WasNotified}
 use Rattle.spec_locks.specs.Purposes.{Patience, Patient, Timed, Try, lock_for, purpose_of, rules_of, MayWait}
@@ -127,7 +127,7 @@ pub data Event : Type 0 where
   AtLock : (lock : ℕ) → LockCase → Event
   Moves : (condvar mutex : ℕ) → (all owned : Bool) → (number : ℕ) → Event
 
--- those that it moves stand behind the last that waits for the mutex; of a free one the first of
+-- those that it moves stand after the last that waits for the mutex; of a free one the first of
 -- them is in its hand
 abbrev pub joined_by : Bool → ℕ → List Queued → LockState → LockState
 joined_by owned t moved s =
@@ -140,7 +140,7 @@ abbrev pub locks_after : LocksState → ℕ → Event → ℕ → LockState
 locks_after w t Nothing = w.locks
 locks_after w t (AtLock l case) = putting w.locks l (after_case (rules_at w l) case (w.locks l) t)
 locks_after w t (Moves c m all owned number) =
-    putting (putting w.locks c (left_behind all (w.locks c))) m
+    putting (putting w.locks c (left_after all (w.locks c))) m
     (joined_by owned t (moved_of all (w.locks c).queue) (w.locks m))
 
 -- its time is up, and it leaves the queue of this lock: a wait that was moved to the queue of its
@@ -172,9 +172,9 @@ is_taken_by t None = false
 is_taken_by t (Some h) = h.by == t
 
 -- a waiter was notified that was moved to the queue of its mutex, and is woken or handed it
-abbrev pub behind_wake : Recall → Recall
-behind_wake WasMoved = WasNotified
-behind_wake recalls = recalls
+abbrev pub after_wake : Recall → Recall
+after_wake WasMoved = WasNotified
+after_wake recalls = recalls
 
 abbrev pub is_among : ℕ → List Queued → Bool
 is_among u q = nat_le 1 (times u q)
@@ -188,10 +188,10 @@ if_moved u moved c = if is_among u moved then record c { recalls = WasMoved } el
 abbrev pub woken : LocksState → ℕ → Event → ℕ → CallState → CallState
 woken w t (AtLock l Wake) u c =
     if is_taken_by t ((w.locks l).taken u)
-    then record c { retries = Some l; recalls = behind_wake c.recalls } else c
+    then record c { retries = Some l; recalls = after_wake c.recalls } else c
 woken w t (AtLock l (HandOff x successor)) u c =
     if is_taken_by t ((w.locks l).taken u)
-    then record c { retries = None; recalls = behind_wake c.recalls }
+    then record c { retries = None; recalls = after_wake c.recalls }
     else c
 woken w t (Moves l m all owned number) u c = if_moved u (moved_of all (w.locks l).queue) c
 woken w t event u c = c
@@ -575,7 +575,7 @@ pub record LeavesOthers (w : LocksState) (t : ℕ) (v : LocksState) : Type 0 whe
       ⊎ (((w.stances u).asleep ≡ true) × MayWake w t u)
   -- nobody sleeps with a mutex that it is to release
   pub lets_go : LetsGo v t
-  -- No waiter of a condition variable is left behind.
+  -- No waiter of a condition variable is left after.
   pub shown : (c : ℕ) → (rules_at v c).sort ≡ Condvar → ShowsWaiters v c
 
 abbrev pub IsStep : LocksState → Step → Outcome → LocksState → Type 0

@@ -11,7 +11,7 @@ use Rattle.spec_locks.specs.Locks.{Semaphore, Once, Condvar, Rules, LockCase, En
 use Rattle.spec_locks.specs.Locks.{Convert, Park, Aside, TakeFirst, TakeAside, TakePicked, Wake, HandOff}
 use Rattle.spec_locks.specs.Locks.{Late, Rollback, OfOnce, OfCondvar, SeeOwner, Needs, Owns, NoWriter}
 use Rattle.spec_locks.specs.Locks.{IsLockState, KnowsAll, putting, taking, readers, count, times, standing}
-use Rattle.spec_locks.specs.Locks.{has_caller, keeps_more, wants_shared, left_behind, let_go, opening_lock}
+use Rattle.spec_locks.specs.Locks.{has_caller, keeps_more, wants_shared, left_after, let_go, opening_lock}
 use Rattle.spec_locks.specs.Onces.{InProgress, Done, IsRunning, OnceCase, Start, Finish, Fail, Rest, TakeAll}
 use Rattle.spec_locks.specs.Locks as locks
 
@@ -202,7 +202,7 @@ pub data Deed : Type 0 where
   FindNobody : Line → Deed
   -- a notification sets the parked bit of a mutex that somebody owns
   MarkOwned : Deed
-  -- it brings waiters of a condition variable: it takes some, and the others stand behind the last
+  -- it brings waiters of a condition variable: it takes some, and the others stand after the last
   Bring : (taken moved : List Queued) → Deed
   -- The deed sets the bit for waiters that were brought to a mutex that nobody owned.
   MarkBrought : Deed
@@ -374,7 +374,7 @@ after_deed r (Bring taken moved) s t = record s {
   lock = record s.lock { queue = s.lock.queue ++ moved; taken = taking t taken s.lock.taken };
   role = putting s.role t (bringing taken moved (s.role t));
 }
-after_deed r (Send all) s t = record s { lock = left_behind all s.lock }
+after_deed r (Send all) s t = record s { lock = left_after all s.lock }
 after_deed r LeaveLine s t = record s { lock = locks.after_case r Late s.lock t }
 after_deed r (Case case) s t = done r case s t (locks.after_case r case s.lock t)
 

@@ -64,7 +64,7 @@ pub enum RwLockCall {
     Enter { access: Access, patience: Patience },
     /// Needs the right that it gives up.
     Release(Access),
-    /// Needs the greater right, and has the lesser one behind it.
+    /// Needs the greater right, and has the lesser one after it.
     Downgrade(Downgrade),
     /// Turns the upgradable right, which it needs, into the exclusive one.
     Upgrade(Patience),

@@ -164,7 +164,7 @@ pub fn no_notification_is_lost()
 {}
 
 /// Proves that each queue is first in, first out: those that stay keep their order, and a thread
-/// that joins stands behind them.
+/// that joins stands after them.
 pub fn queues_keep_order()
     ensures { OfEachStep QueuesKeepOrder }
 {}

@@ -93,7 +93,7 @@ AreLeaving (Out ∷ []) = Unit {0}
 AreLeaving (Out ∷ End ∷ []) = Unit {0}
 AreLeaving ds = ⊥
 
--- a thread stands behind the last of a line
+-- a thread stands after the last of a line
 abbrev pub parks_in : Line → Want → Deed
 parks_in Main x = Case (Park x)
 parks_in Second x = Case Aside
@@ -120,7 +120,7 @@ pub record GoesIn (x : Move) (hears : Hears) (m : Line) (told : Reply) : Type 0 
   pub goes : location_then x told ≡ record (location_of x) { inside = Some m }
   pub may : (r : Rules) (s : Site) (t : ℕ) → IsSectionFree s m → hears r s t None told
 
--- where the test holds, it stands behind the last
+-- where the test holds, it stands after the last
 pub record Parks (x : Move) (hears : Hears) (m : Line) (check : Check) (want : Want) : Type 0 where
   pub was : location_of x ≡ inside_of m
   pub parks : x.deeds None (Parked true) ≡ parks_in m want ∷ []
@@ -186,7 +186,7 @@ abbrev pub heir_of : Option ℕ → Option Want → Option Queued
 heir_of (Some u) (Some x) = Some (record { thread = u; want = x })
 heir_of whom x = None
 
--- the bit of the main line behind it, which stands where somebody is left
+-- the bit of the main line after it, which stands where somebody is left
 abbrev pub bit_left : Bool → Deed
 bit_left none_left = if none_left then Clear Main else Mark Main
 

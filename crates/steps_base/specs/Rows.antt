@@ -26,7 +26,7 @@ abbrev pub IsDowngrade : Option Purpose → ℕ → Type 0
 IsDowngrade (Some (Converts k x y how)) l = (k ≡ l) × (y ≢ Exclusive)
 IsDowngrade purpose l = ⊥
 
--- a bump of a shared right, which wakes the writer aside behind its release
+-- a bump of a shared right, which wakes the writer aside after its release
 abbrev pub WakesAside : Option Purpose → ℕ → Line → Type 0
 WakesAside purpose l Main = ⊥
 WakesAside (Some (Bumps k Shared)) l Second = k ≡ l

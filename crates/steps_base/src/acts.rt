@@ -57,7 +57,7 @@ pub enum Act {
     },
     /// Enters sections. All of them have to be free.
     Enter(Keys),
-    /// Loads the word inside the section, and where the check holds stands behind the last of the
+    /// Loads the word inside the section, and where the check holds stands after the last of the
     /// queue.
     Park {
         lock: usize,
@@ -65,7 +65,7 @@ pub enum Act {
         check: Check,
         want: Want,
     },
-    /// Stands behind the last of the queue, whatever the word is.
+    /// Stands after the last of the queue, whatever the word is.
     Stand {
         key: Key,
         want: Want,
@@ -75,7 +75,7 @@ pub enum Act {
         key: Key,
         whom: Whom,
     },
-    /// Moves waiters of a queue behind the last of another, and may take the first of them.
+    /// Moves waiters of a queue after the last of another, and may take the first of them.
     Requeue {
         from: Key,
         to: Key,

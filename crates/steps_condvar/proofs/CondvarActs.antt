@@ -41,7 +41,7 @@ use Rattle.steps_condvar.specs.declared.wait.Stands.{Stands}
 use Rattle.steps_condvar.specs.declared.wait.Stands.TheVariants as stands
 use Rattle.steps_condvar.specs.declared.wait.WaitAt.{WaitAt}
 use Rattle.steps_condvar.specs.declared.wait.WaitAt.TheVariants as wait
-use Rattle.steps_condvar.specs.CondvarSteps.{in_lock as in_lock_once, behind_release, condvar_act, in_notify}
+use Rattle.steps_condvar.specs.CondvarSteps.{in_lock as in_lock_once, past_release, condvar_act, in_notify}
 use Rattle.steps_condvar.specs.CondvarSteps.{in_wait, is_shown, marks, moved_one, mutex_shown, notified}
 use Rattle.steps_condvar.specs.CondvarSteps.{released, relocked}
 use Rattle.steps_condvar.specs.CondvarProfiles.{has_moved, mutex_side, condvar_profile}
@@ -70,22 +70,22 @@ module _ (c m : ℕ) (timed : Bool) where
   releasing st at = place (wait.Release st (mutex.Unlock at))
 
   -- after it, it is where what befell it says
-  behind_there : (st : Stands) → there (place (behind_release st)) ≡ there (releasing st unlock.Subtract)
-  behind_there stands.Listed = refl
-  behind_there stands.Moved = refl
-  behind_there (stands.InHand by) = refl
-  behind_there (stands.Handed by) = refl
-  behind_there (stands.Noted note.Normal) = refl
-  behind_there (stands.Noted note.HandOff) = refl
+  after_there : (st : Stands) → there (place (past_release st)) ≡ there (releasing st unlock.Subtract)
+  after_there stands.Listed = refl
+  after_there stands.Moved = refl
+  after_there (stands.InHand by) = refl
+  after_there (stands.Handed by) = refl
+  after_there (stands.Noted note.Normal) = refl
+  after_there (stands.Noted note.HandOff) = refl
 
-  behind_beside : (st : Stands) → location_by (mutex_side (place (behind_release st))) ≡ location_by
+  after_beside : (st : Stands) → location_by (mutex_side (place (past_release st))) ≡ location_by
       (mutex_side (releasing st unlock.Subtract))
-  behind_beside stands.Listed = refl
-  behind_beside stands.Moved = refl
-  behind_beside (stands.InHand by) = refl
-  behind_beside (stands.Handed by) = refl
-  behind_beside (stands.Noted note.Normal) = refl
-  behind_beside (stands.Noted note.HandOff) = refl
+  after_beside stands.Listed = refl
+  after_beside stands.Moved = refl
+  after_beside (stands.InHand by) = refl
+  after_beside (stands.Handed by) = refl
+  after_beside (stands.Noted note.Normal) = refl
+  after_beside (stands.Noted note.HandOff) = refl
 
   subtracts : (st : Stands) (seen : ℕ) → StaysThere (releasing st unlock.Subtract) (Value seen)
       × StaysPutBeside (move_beside [] (releasing st unlock.Subtract)) (Value seen)
@@ -101,13 +101,13 @@ module _ (c m : ℕ) (timed : Bool) where
           (in_wait m timed (At (released st (in_unlock (if b then At unlock.Enter else Over answer.Ok)))))
           ≡ there (releasing st unlock.Subtract)
       by_there true = refl
-      by_there false = behind_there st
+      by_there false = after_there st
 
       by_beside : (b : Bool) → beside_next
           (in_wait m timed (At (released st (in_unlock (if b then At unlock.Enter else Over answer.Ok)))))
           ≡ location_by (mutex_side (releasing st unlock.Subtract))
       by_beside true = refl
-      by_beside false = behind_beside st
+      by_beside false = after_beside st
 
       by_deeds : (b : Bool) → StayBeside
           (waits.unended (Case (Leave Exclusive) ∷ (if b then [] else End ∷ [])))
@@ -163,12 +163,12 @@ module _ (c m : ℕ) (timed : Bool) where
     refl,
     record {
       deeds = tt;
-      goes = behind_there st;
+      goes = after_there st;
     },
-    record { any = any; notes = refl; inside = refl; carries = refl; deeds = tt; goes = behind_beside st },
+    record { any = any; notes = refl; inside = refl; carries = refl; deeds = tt; goes = after_beside st },
   ))
 
-  -- ---------------------------------------------------------------- the lock behind it
+  -- ---------------------------------------------------------------- the lock after it
 
   module _ (timed_out retries : Bool) where
     abbrev locking : LockAt → CondvarPlace
@@ -209,8 +209,8 @@ module _ (c m : ℕ) (timed : Bool) where
         by_beside true = refl
         by_beside false = refl
 
-    abbrev behind_exchange : ℕ → Bool → Bool → Next LockAt
-    behind_exchange seen same locked = if not same then At (lock.Decide seen) else if locked
+    abbrev after_exchange : ℕ → Bool → Bool → Next LockAt
+    after_exchange seen same locked = if not same then At (lock.Decide seen) else if locked
         then At (lock.Decide 3) else Over (entered entry.Lock)
 
     exchanges : (expected seen : ℕ) → StayBoth (lock.Decide expected) (Value seen)
@@ -226,12 +226,12 @@ module _ (c m : ℕ) (timed : Bool) where
     )
       where
         deeds_there : (same locked : Bool)
-            → StayThere (relocked_deeds (in_lock entry.Lock retries (behind_exchange seen same locked)))
+            → StayThere (relocked_deeds (in_lock entry.Lock retries (after_exchange seen same locked)))
         deeds_there false locked = tt
         deeds_there true true = tt
         deeds_there true false = tt
 
-        by_there : (same locked : Bool) → there_next (lock_next (behind_exchange seen same locked)) ≡ nowhere
+        by_there : (same locked : Bool) → there_next (lock_next (after_exchange seen same locked)) ≡ nowhere
         by_there false locked = refl
         by_there true true = refl
         by_there true false = refl
@@ -242,7 +242,7 @@ module _ (c m : ℕ) (timed : Bool) where
         deeds_by true true = tt
         deeds_by true false = tt
 
-        by_beside : (same locked : Bool) → beside_next (lock_next (behind_exchange seen same locked))
+        by_beside : (same locked : Bool) → beside_next (lock_next (after_exchange seen same locked))
             ≡ nowhere
         by_beside false locked = refl
         by_beside true true = refl
@@ -489,8 +489,8 @@ module _ (c m : ℕ) (q : List Queued) where
       sections true = refl
       sections false = refl
 
-  abbrev again_behind : Bool → Bool → Next CondvarPlace
-  again_behind all b = At (notifying all (if not b then notify.Leave false 0 else if all then notify.Hide
+  abbrev again_after : Bool → Bool → Next CondvarPlace
+  again_after all b = At (notifying all (if not b then notify.Leave false 0 else if all then notify.Hide
       else notify.Mark))
 
   sees : (all : Bool) (seen : ℕ) → Stays all notify.Again (Value seen)
@@ -506,12 +506,12 @@ module _ (c m : ℕ) (q : List Queued) where
       deeds_there true = tt
       deeds_there false = tt
 
-      by_there : (all b : Bool) → there_next (again_behind all b) ≡ inside_of Main
+      by_there : (all b : Bool) → there_next (again_after all b) ≡ inside_of Main
       by_there true true = refl
       by_there false true = refl
       by_there all false = refl
 
-      by_beside : (all b : Bool) → beside_next (again_behind all b) ≡ inside_of Main
+      by_beside : (all b : Bool) → beside_next (again_after all b) ≡ inside_of Main
       by_beside true true = refl
       by_beside false true = refl
       by_beside all false = refl
@@ -672,8 +672,8 @@ module _ (c m : ℕ) (q : List Queued) where
 pub notifies_move : NotifiesMove
 notifies_move c m q all at reached = notifies_so c m q all at
 
-abbrev look_behind : Bool → ℕ → Bool → Next CondvarPlace
-look_behind all seen b = if b then Over (notified all 0) else At (Notify all (mutex_shown seen) notify.Enter)
+abbrev look_after : Bool → ℕ → Bool → Next CondvarPlace
+look_after all seen b = if b then Over (notified all 0) else At (Notify all (mutex_shown seen) notify.Enter)
 
 pub looks_move : LooksMove
 looks_move c m all = (
@@ -687,11 +687,11 @@ looks_move c m all = (
   ),
 )
   where
-    by_there : (seen : ℕ) (b : Bool) → there_next (look_behind all seen b) ≡ nowhere
+    by_there : (seen : ℕ) (b : Bool) → there_next (look_after all seen b) ≡ nowhere
     by_there seen true = refl
     by_there seen false = refl
 
-    by_beside : (seen : ℕ) (b : Bool) → beside_next (look_behind all seen b) ≡ nowhere
+    by_beside : (seen : ℕ) (b : Bool) → beside_next (look_after all seen b) ≡ nowhere
     by_beside seen true = refl
     by_beside seen false = refl
 

@@ -39,7 +39,7 @@ use Rattle.steps_condvar.specs.declared.wait.Stands.{Stands}
 use Rattle.steps_condvar.specs.declared.wait.Stands.TheVariants as stands
 use Rattle.steps_condvar.specs.declared.wait.WaitAt.{WaitAt}
 use Rattle.steps_condvar.specs.declared.wait.WaitAt.TheVariants as wait
-use Rattle.steps_condvar.specs.CondvarSteps.{stands_after, comes_from_another, behind_release, condvar_act}
+use Rattle.steps_condvar.specs.CondvarSteps.{stands_after, comes_from_another, past_release, condvar_act}
 use Rattle.steps_condvar.specs.CondvarSteps.{condvar_owners, in_notify, in_wait, is_shown, marks}
 use Rattle.steps_condvar.specs.CondvarSteps.{mutex_beside, mutex_shown, notified, released, relocked}
 use Rattle.steps_condvar.specs.CondvarSteps.{shown_as}
@@ -53,8 +53,8 @@ times_gone : (t : ℕ) (q : List Queued) → times t (without t q) ≡ 0
 times_gone t [] = refl
 times_gone t (x ∷ q) = grind (arith, nat_tests, times_gone t q)
 
-times_behind : (t : ℕ) (q : List Queued) → times t q ≡ 0 → times t (q ++ queued_to_wait t ∷ []) ≡ 1
-times_behind t q e = grind (arith, nat_tests, times_append t q (queued_to_wait t ∷ []))
+times_after : (t : ℕ) (q : List Queued) → times t q ≡ 0 → times t (q ++ queued_to_wait t ∷ []) ≡ 1
+times_after t q e = grind (arith, nat_tests, times_append t q (queued_to_wait t ∷ []))
 
 times_rest : (t : ℕ) (q : List Queued) → times t q ≡ 0 → times t (drop 1 q) ≡ 0
 times_rest t [] e = refl
@@ -101,7 +101,7 @@ some_left (x ∷ q) ne = grind (arith, nat_tests)
 pub not_none : (n : ℕ) → n ≢ 0 → (n == 0) ≡ false
 not_none n ne = grind (arith, nat_tests)
 
--- deeds may be done, and the thread is there behind them
+-- deeds may be done, and the thread is there after them
 record Does (c : CondvarSite) (t : ℕ) (ds : List CondvarDeed) (n : Next CondvarPlace) : Type 0 where
   pub needed : AllCondvarNeeded ds c t
   pub next : IsAtNext (after_condvar_deeds ds c t) t n
@@ -136,18 +136,27 @@ module _ (c : CondvarSite) (t : ℕ) (site : IsCondvar c) where
       next = record { stage = refl; listed = a.listed; names = a.names };
     }
 
-    goes_behind : (s : Stands) → IsInsideNot c.inside t → IsListed c t (is_listed s) → c.waits_with t ≡ Some m
-        → IsAt c t (Wait m timed (behind_release s))
-    goes_behind stands.Listed out listed names = record { stage = out; listed = listed; names = names }
-    goes_behind stands.Moved out listed names = record { stage = out; listed = listed; names = names }
-    goes_behind (stands.InHand by) out listed names = record { stage = out; listed = listed; names = names }
-    goes_behind (stands.Handed by) out listed names = record { stage = out; listed = listed; names = names }
-    goes_behind (stands.Noted note.Normal) out listed names = record {
+    goes_afterwards : (s : Stands) → IsInsideNot c.inside t → IsListed c t (is_listed s) → c.waits_with t
+        ≡ Some m
+        → IsAt c t (Wait m timed (past_release s))
+    goes_afterwards stands.Listed out listed names = record { stage = out; listed = listed; names = names }
+    goes_afterwards stands.Moved out listed names = record { stage = out; listed = listed; names = names }
+    goes_afterwards (stands.InHand by) out listed names = record {
       stage = out;
       listed = listed;
       names = names;
     }
-    goes_behind (stands.Noted note.HandOff) out listed names = record {
+    goes_afterwards (stands.Handed by) out listed names = record {
+      stage = out;
+      listed = listed;
+      names = names;
+    }
+    goes_afterwards (stands.Noted note.Normal) out listed names = record {
+      stage = out;
+      listed = listed;
+      names = names;
+    }
+    goes_afterwards (stands.Noted note.HandOff) out listed names = record {
       stage = out;
       listed = listed;
       names = names;
@@ -158,7 +167,7 @@ module _ (c : CondvarSite) (t : ℕ) (site : IsCondvar c) where
         → IsAt c t (Wait m timed (if b then wait.Release s2 at else released s n))
     releases s s2 at a true n e = absurd cc
     releases s s2 at a false (At q) e = record { stage = a.stage; listed = a.listed; names = a.names }
-    releases s s2 at a false (End answer) e = goes_behind s a.stage a.listed a.names
+    releases s s2 at a false (End answer) e = goes_afterwards s a.stage a.listed a.names
 
     leaves_list : IsAt c t (Wait m timed wait.Remove) → (b : Bool) → b ≡ is_empty (without t c.waiters)
         → IsAtNext (condvar_leads LeaveList c t) t
@@ -203,7 +212,7 @@ module _ (c : CondvarSite) (t : ℕ) (site : IsCondvar c) where
         })
     waits wait.Stand reply.Done a h = record {
       needed = (((m, a.stage), a.listed), tt);
-      next = record { stage = refl; listed = times_behind t c.waiters a.listed; names = a.names };
+      next = record { stage = refl; listed = times_after t c.waiters a.listed; names = a.names };
     }
     waits wait.Leave reply.Done a h = record {
       needed = (may_go NothingToDo a.stage tt, tt);

@@ -47,14 +47,14 @@ one_taken : (q : List Queued) → q ≢ [] → not (is_empty (taken_of false q))
 one_taken [] ne = absurd (ne refl)
 one_taken (x ∷ q) ne = refl
 
-none_behind : (q : List Queued) → is_empty (line_of false (moved_of false q)) ≡ true
-none_behind [] = refl
-none_behind (x ∷ q) = refl
+none_afterwards : (q : List Queued) → is_empty (line_of false (moved_of false q)) ≡ true
+none_afterwards [] = refl
+none_afterwards (x ∷ q) = refl
 
-some_behind : (q : List Queued) → not (is_empty (line_of false q)) ≡ nat_lt 1 (length q)
-some_behind [] = refl
-some_behind (x ∷ []) = refl
-some_behind (x ∷ y ∷ q) = grind (arith, nat_tests)
+some_after : (q : List Queued) → not (is_empty (line_of false q)) ≡ nat_lt 1 (length q)
+some_after [] = refl
+some_after (x ∷ []) = refl
+some_after (x ∷ y ∷ q) = grind (arith, nat_tests)
 
 module _ (r : Rules) (s : Site) (c : CondvarSite) (t m : ℕ) (sort : r.sort ≡ Mutex) where
   marked : (all : Bool) (v : ℕ) → s.role t ≡ inside → (b : Bool) → s.role t
@@ -171,7 +171,8 @@ module _ (r : Rules) (s : Site) (c : CondvarSite) (t m : ℕ) (sort : r.sort ≡
       record {
         needed = (fits.may, tt);
         role = moved (taken_of false q) (line_of false q) false true false is (one_taken q fits.some)
-            (ap not (none_behind c.waiters)) ∙ ap (λ x. has_moved x false) (sym h.0) ∙ one_row any none_left;
+            (ap not (none_afterwards c.waiters)) ∙ ap (λ x. has_moved x false) (sym h.0)
+            ∙ one_row any none_left;
       }
   notifies false (notify.Move true) (Requeued number none_left) is h =
       let q = moved_of false c.waiters in
@@ -191,7 +192,7 @@ module _ (r : Rules) (s : Site) (c : CondvarSite) (t m : ℕ) (sort : r.sort ≡
       record {
         needed = (fits.may, tt);
         role = moved (taken_of false c.waiters) (line_of false c.waiters) false true (nat_lt 1 number) is
-            (one_taken c.waiters fits.some) (some_behind c.waiters ∙ ap (λ n. nat_lt 1 n) (sym h.0))
+            (one_taken c.waiters fits.some) (some_after c.waiters ∙ ap (λ n. nat_lt 1 n) (sym h.0))
             ∙ moved_some false number (ap (λ n. n == 0) h.0 ∙ some_left c.waiters fits.some)
             (nat_lt 1 number);
       }

@@ -38,7 +38,7 @@ use Rattle.steps_condvar.specs.declared.wait.Stands.{Stands}
 use Rattle.steps_condvar.specs.declared.wait.Stands.TheVariants as stands
 use Rattle.steps_condvar.specs.declared.wait.WaitAt.TheVariants as wait
 use Rattle.core_base.specs.declared.notes.Note.TheVariants as note
-use Rattle.steps_condvar.specs.CondvarSteps.{behind_release, stands_after, comes_from_another, condvar_next}
+use Rattle.steps_condvar.specs.CondvarSteps.{past_release, stands_after, comes_from_another, condvar_next}
 use Rattle.steps_condvar.specs.CondvarSteps.{in_notify, in_wait, is_shown, marks, moved_one, mutex_shown}
 use Rattle.steps_condvar.specs.CondvarSteps.{notified, released, relocked}
 use Rattle.steps_condvar.specs.CondvarProfiles.{has_mutex, may_give_up}
@@ -247,13 +247,13 @@ looks_tell v s t c all = looks v s t c all (word_showing v.shown) (word_showing 
 
 -- ---------------------------------------------------------------- the places that calls come to
 
-goes_behind : (m : ℕ) (timed : Bool) (st : Stands) → IsReached (Wait m timed (behind_release st))
-goes_behind m timed stands.Listed = tt
-goes_behind m timed stands.Moved = tt
-goes_behind m timed (stands.InHand by) = tt
-goes_behind m timed (stands.Handed by) = tt
-goes_behind m timed (stands.Noted note.Normal) = ((λ e. cc), tt)
-goes_behind m timed (stands.Noted note.HandOff) = ((λ e. cc), tt)
+goes_afterwards : (m : ℕ) (timed : Bool) (st : Stands) → IsReached (Wait m timed (past_release st))
+goes_afterwards m timed stands.Listed = tt
+goes_afterwards m timed stands.Moved = tt
+goes_afterwards m timed (stands.InHand by) = tt
+goes_afterwards m timed (stands.Handed by) = tt
+goes_afterwards m timed (stands.Noted note.Normal) = ((λ e. cc), tt)
+goes_afterwards m timed (stands.Noted note.HandOff) = ((λ e. cc), tt)
 
 -- after its first step it owns the mutex no more
 abbrev OwnsNot : Stands → Next UnlockAt → Type 0
@@ -282,7 +282,7 @@ releases : (m : ℕ) (timed : Bool) (st st2 : Stands) (at : UnlockAt) (b : Bool)
     (in_unlock n)))
 releases m timed st st2 at true n e h = absurd cc
 releases m timed st st2 at false (At q) e h = (tt, h)
-releases m timed st st2 at false (Over answer) e h = goes_behind m timed st
+releases m timed st st2 at false (Over answer) e h = goes_afterwards m timed st
 
 abbrev AreLocks : Next LockAt → Type 0
 AreLocks (At at) = IsLockOf at

@@ -39,7 +39,7 @@ use Rattle.steps_condvar.specs.declared.wait.Stands.{Stands}
 use Rattle.steps_condvar.specs.declared.wait.Stands.TheVariants as stands
 use Rattle.steps_condvar.specs.declared.wait.WaitAt.{WaitAt}
 use Rattle.steps_condvar.specs.declared.wait.WaitAt.TheVariants as wait
-use Rattle.steps_condvar.specs.CondvarSteps.{behind_release, condvar_next, in_wait, is_shown, released}
+use Rattle.steps_condvar.specs.CondvarSteps.{past_release, condvar_next, in_wait, is_shown, released}
 use Rattle.steps_condvar.specs.CondvarSteps.{relocked, waited}
 use Rattle.steps_condvar.specs.CondvarProfiles.{condvar_profile, has_mutex, wait_row}
 use Rattle.steps_condvar.specs.CondvarDeeds.{IsAt, condvar_deeds, relocked_deeds}
@@ -147,7 +147,7 @@ module _ (v : CondvarSite) (limit : ℕ) (s : Site) (t c m : ℕ) (timed : Bool)
   wakes : (st : Stands) (any : Bool) (shown : Option ℕ) (s2 : LockState) → rights_of s2 t ≡ rights_of s.lock t
       → CallOfTwoFollows c m (releasing st (unlock.Leave any)) Done
       (or_else (event_of m (in_hand any false) (Out ∷ [])) Nothing) shown s.lock s2 t
-      (At (place (behind_release st)))
+      (At (place (past_release st)))
   wakes stands.Listed true shown s2 stay = keeps c m t _ _ Done (AtLock m Wake) shown s.lock s2
       (inr (refl, inl (inl refl)), tt) stay (λ rights. refl)
   wakes stands.Listed false shown s2 stay = keeps c m t _ _ Done Nothing shown s.lock s2 tt stay
@@ -214,7 +214,7 @@ module _ (v : CondvarSite) (limit : ℕ) (s : Site) (t c m : ℕ) (timed : Bool)
   releases st (unlock.Leave any) whom Done is f = wakes st any v.shown _ refl
   releases st at whom told is f = absurd f
 
-  -- ---------------------------------------------------------------- the lock behind it
+  -- ---------------------------------------------------------------- the lock after it
 
   module _ (e : Entry) (retries timed_out : Bool) (late : timed_out ≡ true → timed ≡ true) where
     abbrev locking : LockAt → CondvarPlace

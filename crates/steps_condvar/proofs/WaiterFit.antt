@@ -44,7 +44,7 @@ use Rattle.steps_condvar.specs.declared.wait.Stands.{Stands}
 use Rattle.steps_condvar.specs.declared.wait.Stands.TheVariants as stands
 use Rattle.steps_condvar.specs.declared.wait.WaitAt.{WaitAt}
 use Rattle.steps_condvar.specs.declared.wait.WaitAt.TheVariants as wait
-use Rattle.steps_condvar.specs.CondvarSteps.{behind_release, is_shown, released, relocked, wait_act}
+use Rattle.steps_condvar.specs.CondvarSteps.{past_release, is_shown, released, relocked, wait_act}
 use Rattle.steps_condvar.specs.CondvarProfiles.{befell, has_mutex, wait_row}
 use Rattle.steps_condvar.specs.CondvarWaits.{LeavesMutex, MayHearLocking, MayHearReleasing, MayHearWaiter}
 use Rattle.steps_condvar.specs.CondvarWaits.{TakesFirst, WaiterFollows, WaitersCode, WaitersFollow}
@@ -94,19 +94,19 @@ first_is [] u k e = absurd cc
 first_is (x ∷ q) u k e = let same : x.thread ≡ u = cc in ap (λ y. y ∷ q) (exclusive_wanted x k.0
     ∙ ap queued same)
 
-behind_row : (m : ℕ) (st : Stands) → (wait_row m (behind_release st)).role ≡ befell st idle
-behind_row m stands.Listed = refl
-behind_row m stands.Moved = refl
-behind_row m (stands.InHand by) = refl
-behind_row m (stands.Handed by) = refl
-behind_row m (stands.Noted note.Normal) = refl
-behind_row m (stands.Noted note.HandOff) = refl
+after_row : (m : ℕ) (st : Stands) → (wait_row m (past_release st)).role ≡ befell st idle
+after_row m stands.Listed = refl
+after_row m stands.Moved = refl
+after_row m (stands.InHand by) = refl
+after_row m (stands.Handed by) = refl
+after_row m (stands.Noted note.Normal) = refl
+after_row m (stands.Noted note.HandOff) = refl
 
 module _ (limit : ℕ) (s : Site) (t m : ℕ) (h : IsSite (record { sort = Mutex; limit = limit }) s) where
   abbrev r : Rules
   r = record { sort = Mutex; limit = limit }
 
-  -- deeds may be done, and the thread stands so behind them
+  -- deeds may be done, and the thread stands so after them
   abbrev Does : List Deed → Role → Type 0
   Does ds d = AllNeeded r ds s t × ((after_all r ds s t).role t ≡ itself_woken t s ds d)
 
@@ -141,7 +141,7 @@ module _ (limit : ℕ) (s : Site) (t m : ℕ) (h : IsSite (record { sort = Mutex
     )
     subtracts is without false e = (
       ((owns is, ap (λ (d : Role). d.wakes) is), tt),
-      left_mutex is without false e ∙ sym (behind_row m st),
+      left_mutex is without false e ∙ sym (after_row m st),
     )
 
     took : (any : Bool) (b : Bool) → befell st (record carrying { empty = found Main b }) ≡ waiter_next m
@@ -225,11 +225,11 @@ module _ (limit : ℕ) (s : Site) (t m : ℕ) (h : IsSite (record { sort = Mutex
         tt,
       );
       role = ap (λ d. wakened t (s.lock.taken t) d) (put_same s.role t _ ∙ ap leaves is
-          ∙ sym (behind_row m st));
+          ∙ sym (after_row m st));
     }
     releases timed at whom told is f = absurd f
 
-  -- ---------------------------------------------------------------- the lock behind it
+  -- ---------------------------------------------------------------- the lock after it
 
   module _ (e : Entry) (retries timed timed_out : Bool) where
     abbrev Locks : List Deed → Bool → Next LockAt → Type 0

@@ -20,7 +20,7 @@ use Rattle.spec_locks.specs.Locks.{LockCase, LockState, Mutex, OfCondvar, Park, 
 use Rattle.spec_locks.specs.Locks.{rights_of}
 use Rattle.spec_locks.specs.Purposes.{Notifies, SawOwner, WasMoved}
 use Rattle.spec_locks.specs.Runs.{AnswerHolds, AtLock, CallState, Event, LocksState, Moves, Nothing}
-use Rattle.spec_locks.specs.Runs.{behind_wake, going_on, one_more_at, rights_in}
+use Rattle.spec_locks.specs.Runs.{after_wake, going_on, one_more_at, rights_in}
 use Rattle.spec_locks.specs.Sites.{IsSite, Site}
 use Rattle.steps_mutex.specs.declared.lock.Entry.TheVariants as entry
 use Rattle.steps_mutex.specs.declared.lock.LockAt.{LockAt}
@@ -47,7 +47,7 @@ use Rattle.steps_condvar.specs.CondvarWaits.{MayBefall, MayHearWaiter, waiter_de
 
 -- ---------------------------------------------------------------- the effects on the two locks
 
--- at the condition variable: a mutex is shown, or none, and a thread stands behind the last, or
+-- at the condition variable: a mutex is shown, or none, and a thread stands after the last, or
 -- leaves
 abbrev pub case_there : List CondvarDeed → Option LockCase
 case_there (Show m ∷ ds) = Some (OfCondvar (locks.Show m))
@@ -220,9 +220,9 @@ abbrev pub told_call : ℕ → WaitAt → Reply → CallState → CallState
 told_call m (wait.Release stands.Listed at) told call = record call { recalls = WasMoved }
 told_call m (wait.Asleep stands.Listed) told call = record call { recalls = WasMoved }
 told_call m at (HandedBy u alone) call =
-    record call { retries = None; recalls = behind_wake call.recalls }
+    record call { retries = None; recalls = after_wake call.recalls }
 told_call m at (Woken Normal) call =
-    record call { retries = Some m; recalls = behind_wake call.recalls }
+    record call { retries = Some m; recalls = after_wake call.recalls }
 told_call m at told call = call
 
 abbrev pub told_rights : ℕ → Reply → (ℕ → Rights) → ℕ → Rights

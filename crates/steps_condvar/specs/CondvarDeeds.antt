@@ -67,7 +67,7 @@ condvar_deeds (Wait m timed at) told = wait_deeds m at told
 condvar_deeds (Look all) told = []
 condvar_deeds (Notify all m at) told = notify_deeds all m at told
 
--- the condition variable behind deeds of one thread, each of them allowed where it is done
+-- the condition variable after deeds of one thread, each of them allowed where it is done
 abbrev pub after_condvar_deeds : List CondvarDeed → CondvarSite → ℕ → CondvarSite
 after_condvar_deeds [] c t = c
 after_condvar_deeds (d ∷ ds) c t = after_condvar_deeds ds (condvar_leads d c t) t
@@ -149,7 +149,7 @@ MayHear c t (Look all) (Value seen) = Unit {0}
 MayHear c t (Look all) told = ⊥
 MayHear c t (Notify all m at) told = MayHearNotifying c all at told
 
--- the deeds may be done, and behind them the thread is where its next place says
+-- the deeds may be done, and after them the thread is where its next place says
 pub record Follows (c : CondvarSite) (t : ℕ) (p : CondvarPlace) (told : Reply) : Type 0 where
   pub needed : AllCondvarNeeded (condvar_deeds p told) c t
   pub next : IsAtNext (after_condvar_deeds (condvar_deeds p told) c t) t (condvar_next p told)
@@ -160,7 +160,7 @@ CondvarStepsFollow =
     → MayHear c t p told
     → Follows c t p told
 
--- each step on its word, which is no word of the mutex beside it, leaves that word behind the deeds
+-- each step on its word, which is no word of the mutex beside it, leaves that word after the deeds
 abbrev pub CondvarStepsCode : Type 0
 CondvarStepsCode =
     (c : CondvarSite) (t k : ℕ) (p : CondvarPlace) (f : Op) → condvar_act k p ≡ act.Word k f

@@ -105,7 +105,7 @@ pub record GoesInThere (p : CondvarPlace) (told : Reply) : Type 0 where
   pub deeds : condvar_deeds p told ≡ GoIn ∷ []
   pub goes : there_then p told ≡ record (there p) { inside = Some Main }
 
--- it stands behind the last, and waits to be notified
+-- it stands after the last, and waits to be notified
 pub record StandsThere (p : CondvarPlace) : Type 0 where
   pub was : there p ≡ inside_of Main
   pub deeds : condvar_deeds p Done ≡ StandLast ∷ []

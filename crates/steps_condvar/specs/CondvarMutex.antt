@@ -57,7 +57,7 @@ abbrev pub role_next : Bool → ℕ → Next NotifyAt → Role
 role_next all m (At at) = (notify_row all m at).role
 role_next all m (Over answer) = idle
 
--- the deeds may be done, and the next place says what the thread does about the mutex behind them
+-- the deeds may be done, and the next place says what the thread does about the mutex after them
 pub record FollowsBeside (r : Rules) (s : Site) (c : CondvarSite) (t m : ℕ) (all : Bool)
     (at : NotifyAt) (told : Reply) : Type 0 where
   pub needed : AllNeeded r (beside_deeds all c.waiters at told) s t

@@ -97,7 +97,7 @@ befell s d = record d {
   claims = if has_mutex s then Some (Has wants.Exclusive) else d.claims;
 }
 
--- it stands somewhere since it stood behind the last
+-- it stands somewhere since it stood after the last
 abbrev pub standing_row : Stands → CondvarRow → CondvarRow
 standing_row s row = record row {
   listed = is_listed s;

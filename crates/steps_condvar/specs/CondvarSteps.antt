@@ -135,10 +135,10 @@ abbrev pub first_lock : Bool → MutexPlace
 first_lock retries = mutex.Lock entry.Lock retries lock.First
 
 -- after its release: with a normal note it locks the mutex again, with that of a hand-off it has it
-abbrev pub behind_release : Stands → WaitAt
-behind_release (stands.Noted note.Normal) = wait.Lock false (first_lock true)
-behind_release (stands.Noted note.HandOff) = wait.Lock false (mutex.Lock entry.Lock false lock.Accept)
-behind_release s = wait.Asleep s
+abbrev pub past_release : Stands → WaitAt
+past_release (stands.Noted note.Normal) = wait.Lock false (first_lock true)
+past_release (stands.Noted note.HandOff) = wait.Lock false (mutex.Lock entry.Lock false lock.Accept)
+past_release s = wait.Asleep s
 
 -- its time is up: it leaves the queue in which it stands
 abbrev pub late_place : Stands → WaitAt
@@ -155,7 +155,7 @@ waited timed timed_out =
 
 abbrev pub released : Stands → Next MutexPlace → WaitAt
 released s (At at) = wait.Release s at
-released s (End answer) = behind_release s
+released s (End answer) = past_release s
 
 abbrev pub relocked : Bool → Bool → Next MutexPlace → Next WaitAt
 relocked timed timed_out (At at) = At (wait.Lock timed_out at)
@@ -163,7 +163,7 @@ relocked timed timed_out (End answer) = End (waited timed timed_out)
 
 abbrev pub asleep_next : Stands → Reply → WaitAt
 asleep_next s Late = late_place s
-asleep_next s reply = behind_release (stands_after s reply)
+asleep_next s reply = past_release (stands_after s reply)
 
 abbrev pub release_next : Stands → MutexPlace → Reply → WaitAt
 release_next s at reply =

@@ -114,7 +114,7 @@ abbrev pub itself_woken : ℕ → Site → List Deed → Role → Role
 itself_woken t s (Out ∷ ds) d = wakened t (s.lock.taken t) d
 itself_woken t s ds d = d
 
--- the deeds may be done, and the next place says what the thread does about the mutex behind them
+-- the deeds may be done, and the next place says what the thread does about the mutex after them
 pub record WaiterFollows (r : Rules) (s : Site) (t m : ℕ) (timed : Bool) (at : WaitAt)
     (whom : Option ℕ) (told : Reply) : Type 0 where
   pub needed : AllNeeded r (waiter_deeds at whom told) s t
@@ -128,7 +128,7 @@ WaitersFollow =
     → IsSite r s → s.role t ≡ (wait_row m at).role → MayHearWaiter r s t at whom told
     → WaiterFollows r s t m timed at whom told
 
--- its steps on the word of the mutex leave the word of the mutex behind the deeds, and the owner
+-- its steps on the word of the mutex leave the word of the mutex after the deeds, and the owner
 pub record LeavesMutex (r : Rules) (s : Site) (t m : ℕ) (timed : Bool) (at : WaitAt) (f : Op)
     (o : Owners) : Type 0 where
   pub word : apply f (code r s) ≡ code r (after_all r (waiter_deeds at None (Value (code r s))) s t)

@@ -9,7 +9,7 @@ ghost use Rattle.steps_condvar.specs.CondvarMutex.{NotifiersCode, NotifiersFollo
 ghost use Rattle.steps_condvar.specs.CondvarWaits.{WaitersCode, WaitersFollow, WaitersHear};
 
 /// Each step of a thread may do to the condition variable what its deeds say, and its next place
-/// says where the thread is behind them.
+/// says where the thread is after them.
 pub fn condvar_steps_follow()
     ensures { CondvarStepsFollow }
 {}

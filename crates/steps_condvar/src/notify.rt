@@ -7,7 +7,7 @@
 //! | `Again` | loads the word of the condition variable | `Leave` where another mutex is shown, or none; else `Mark`, or `Hide` for all |
 //! | `Hide` | stores 0 | `Mark` |
 //! | `Mark` | loads the word of the mutex | `Set` where somebody owns it, else `Move` |
-//! | `Set(v)` | exchanges `v` for 3 | `Move`; where that failed, as behind `Mark` |
+//! | `Set(v)` | exchanges `v` for 3 | `Move`; where that failed, as after `Mark` |
 //! | `Move`, owned | moves the first, or all, to the mutex | `Clear` where it was the last one, else `Leave` |
 //! | `Move`, unlocked | takes the first, and for all moves the rest | `Clear` where it was the last one, `MarkMoved` where some were moved, else `Leave` |
 //! | `Clear` | stores 0 | `Leave` |

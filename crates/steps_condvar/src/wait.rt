@@ -4,7 +4,7 @@
 //! |---|---|---|
 //! | `Enter` | enters the section of the condition variable | `Show` |
 //! | `Show` | exchanges 0 for its mutex | `Stand` where it saw 0 or its mutex, else `Refuse` |
-//! | `Stand` | stands behind the last of the queue | `Leave` |
+//! | `Stand` | stands after the last of the queue | `Leave` |
 //! | `Leave` | leaves the section | `Release` |
 //! | `Refuse` | leaves the section | ends with `TwoMutexes`, and owns its mutex |
 //! | `Release` | releases its mutex, as `unlock` does | `Asleep`, or `Lock` where it has a note by then |
@@ -17,7 +17,7 @@
 //! | `Lock` | locks its mutex, as `lock` does | ends |
 ghost use Rattle.std.specs.Prelude.{◌≡◌, ◌<◌, ◌^◌};
 ghost use Rattle.steps_condvar.specs.CondvarProfiles.{is_woken, taker_of, want_of, wait_row};
-ghost use Rattle.steps_condvar.specs.CondvarSteps.{comes_from_another, behind_release, first_lock};
+ghost use Rattle.steps_condvar.specs.CondvarSteps.{comes_from_another, past_release, first_lock};
 ghost use Rattle.steps_condvar.specs.CondvarSteps.{late_place, relocked, released, waited, stands_after};
 ghost use Rattle.steps_condvar.specs.CondvarSteps.{asleep_next, next_wait, wait_act};
 
@@ -59,7 +59,7 @@ pub enum WaitAt {
     Remove,
     /// Late, and none is left in the queue.
     Hide,
-    /// Late, behind its removal.
+    /// Late, after its removal.
     GiveUp,
     /// Late, inside the section of its mutex, and still in that queue.
     RemoveMoved,
@@ -137,7 +137,7 @@ pub(super) fn comes_from_another(reply: Reply) -> bool
     )
 }
 
-/// How a thread stands behind what befell it.
+/// How a thread stands after what befell it.
 pub(super) fn stands_after(stands: Stands, reply: Reply) -> Stands
     ensures { result ≡ stands_after stands reply }
 {
@@ -162,8 +162,8 @@ pub(super) fn first_lock(retries: bool) -> MutexPlace
 }
 
 /// Where a thread goes that has released its mutex.
-fn behind(stands: Stands) -> WaitAt
-    ensures { result ≡ behind_release stands }
+fn afterwards(stands: Stands) -> WaitAt
+    ensures { result ≡ past_release stands }
 {
     match stands {
         Stands::Noted(Note::Normal) => WaitAt::Lock {
@@ -212,7 +212,7 @@ fn released(stands: Stands, next: Next<MutexPlace>) -> WaitAt
 {
     match next {
         Next::At(at) => WaitAt::Release { stands, at },
-        Next::End(_) => behind(stands),
+        Next::End(_) => afterwards(stands),
     }
 }
 
@@ -232,7 +232,7 @@ fn asleep_next(stands: Stands, reply: Reply) -> WaitAt
 {
     match reply {
         Reply::Late => late_place(stands),
-        reply => behind(stands_after(stands, reply)),
+        reply => afterwards(stands_after(stands, reply)),
     }
 }
 

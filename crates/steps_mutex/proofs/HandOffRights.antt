@@ -1,4 +1,4 @@
--- The rights behind a hand-off: its thread gives its right up, the heir has it, and nobody else's change.
+-- The rights after a hand-off: its thread gives its right up, the heir has it, and nobody else's change.
 use Rattle.std.proofs.Common.{ℕ, false, Option, Some, None, if◌then◌else◌, ◌==◌, ◌≡◌, ◌≢◌, ◌+◌, List, refl}
 use Rattle.std.proofs.Common.{sym, ◌∙◌, ap, arith}
 use Rattle.std.proofs.lemmas.Bool.Decides.{nat_tests}

@@ -1,4 +1,4 @@
--- Each operation of a mutex leaves the word of the mutex behind its deeds, and the owner.
+-- Each operation of a mutex leaves the word of the mutex after its deeds, and the owner.
 use Rattle.std.proofs.Common.{ℕ, Bool, true, false, Option, Some, None, if◌then◌else◌, ◌==◌, ◌≡◌, ◌+◌, ◌*◌}
 use Rattle.std.proofs.Common.{List, [], ◌∷◌, refl, sym, ap, ◌∙◌, subst, arith}
 use Rattle.std.proofs.lemmas.Bool.{eqb-true}
@@ -171,7 +171,7 @@ module _ (limit : ℕ) (s : Site) (t l : ℕ) (h : IsSite (record { sort = Mutex
 
   -- ---------------------------------------------------------------- the heir
 
-  -- the lock behind a hand-off, by what is shared
+  -- the lock after a hand-off, by what is shared
   abbrev freed : List ℕ → LockState
   freed shared = record (without_owner t Exclusive s.lock) { shared = shared; taken = let_go t s.lock.taken }
 

@@ -39,7 +39,7 @@ module _ (limit : ℕ) (s : Site) (t : ℕ) (h : IsSite (record { sort = Mutex; 
   abbrev r : Rules
   r = record { sort = Mutex; limit = limit }
 
-  -- deeds may be done, and the thread stands so behind them
+  -- deeds may be done, and the thread stands so after them
   abbrev Does : List Deed → Next MutexPlace → Type 0
   Does ds n = AllNeeded r ds s t × ((after_all r ds s t).role t ≡ role_next n)
 

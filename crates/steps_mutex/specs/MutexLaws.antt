@@ -1,5 +1,5 @@
 -- The laws of each step of a mutex, at one lock and in no machine: it may do what its deeds say, its
--- next place says what the thread does then, and it leaves the word and the owner behind them.
+-- next place says what the thread does then, and it leaves the word and the owner after them.
 use Rattle.std.specs.Prelude.{ℕ, Bool, true, Option, Some, None, ◌==◌, not, ◌≡◌, ◌≢◌, drop, is_none}
 use Rattle.core_base.specs.declared.ops.Op.{Op}
 use Rattle.core_base.specs.Words.{apply}
@@ -122,7 +122,7 @@ MutexStepsFollow =
     → MayHear r s t p whom told
     → Follows r s t p whom told
 
--- the word that an operation leaves is the mutex's behind the deeds
+-- the word that an operation leaves is the mutex's after the deeds
 abbrev pub LeavesWord : Rules → Site → ℕ → MutexPlace → Option ℕ → Op → Type 0
 LeavesWord r s t p whom op =
     apply op (code r s) ≡ code r (after_all r (mutex_deeds p whom (Value (code r s))) s t)

@@ -89,7 +89,7 @@ lock_row timed retries lock.GiveUp =
 
 -- ---------------------------------------------------------------- calls that release
 
--- a fair release, or a bump, which enters again behind it
+-- a fair release, or a bump, which enters again after it
 abbrev pub release_purpose : ℕ → Bool → Purpose
 release_purpose l bumps = if bumps then Bumps l Exclusive else Releases l Exclusive true
 
@@ -114,7 +114,7 @@ unlock_row (unlock.Leave any) =
       released = true;
     }
 
--- whether nobody is left behind a take
+-- whether nobody is left after a take
 abbrev pub seen_empty : Bool → Bool → Bool
 seen_empty any none_left = if any then none_left else true
 

@@ -8,7 +8,7 @@ pub fn mutex_steps_follow()
     ensures { MutexStepsFollow }
 {}
 
-/// The word and the owner that an operation leaves are those of the mutex behind its deeds.
+/// The word and the owner that an operation leaves are those of the mutex after its deeds.
 pub fn mutex_steps_code()
     ensures { MutexStepsCode }
 {}

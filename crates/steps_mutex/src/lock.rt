@@ -7,7 +7,7 @@
 //! | `Decide(v)`, unlocked | exchanges `v` for `v + LOCKED` | owns it, or `Decide` again |
 //! | `Decide(1)` | exchanges 1 for 3, or goes on from `Load` as it spins | `Decide` |
 //! | `Decide(3)` | enters the section of the queue | `Check` |
-//! | `Check` | stands behind the last of the queue, if the word is still 3 | `Leave` |
+//! | `Check` | stands after the last of the queue, if the word is still 3 | `Leave` |
 //! | `Leave` | leaves the section | `Asleep`, or `Load` where it doesn't stand in the queue |
 //! | `Asleep` | sleeps | `Taken`, or `Remove` where its time is up |
 //! | `Taken` | sleeps | `Load` at a normal wake, or `Handed` |
@@ -44,7 +44,7 @@ pub enum LockAt {
     Decide(u64),
     /// Inside the section, before the check.
     Check,
-    /// Inside the section, behind the check.
+    /// Inside the section, after the check.
     Leave { parked: bool },
     /// In the queue.
     Asleep,
@@ -59,7 +59,7 @@ pub enum LockAt {
     Remove,
     /// Late, and none is left in the queue.
     Clear,
-    /// Late, behind its removal.
+    /// Late, after its removal.
     GiveUp,
 }
 

@@ -1,4 +1,4 @@
--- Each step on the word of a `Once` may do to it what its deeds say, and leaves the word and the phase behind
+-- Each step on the word of a `Once` may do to it what its deeds say, and leaves the word and the phase after
 -- them.
 use Rattle.std.proofs.Common.{ℕ, Bool, true, false, Option, Some, None, if◌then◌else◌, ◌==◌, ◌≡◌, List, []}
 use Rattle.std.proofs.Common.{◌∷◌, refl, sym, ap, ◌∙◌, subst, arith}
@@ -33,7 +33,7 @@ use Rattle.steps_once.specs.declared.places.TheConstants.{NOT_PARKED}
 use Rattle.steps_once.specs.declared.places.OncePlace.TheVariants.{Look, Run, GiveUp}
 use Rattle.steps_once.specs.OnceSteps.{is_forced, course_of, course_act, is_run, is_mark, started, marked}
 use Rattle.steps_once.specs.OnceSteps.{closure_begun, looked_by, in_look, in_run, ended, once_act}
-use Rattle.steps_once.specs.OnceSteps.{once_owners, phase_behind, word_behind}
+use Rattle.steps_once.specs.OnceSteps.{once_owners, phase_afterwards, word_after}
 use Rattle.steps_once.specs.OnceProfiles.{with_retry, retried_want, running_role, taking_role}
 use Rattle.steps_once.specs.OnceDeeds.{once_deeds, looked_deeds, exchanged_deeds, run_ending, closes}
 use Rattle.steps_once.specs.OnceDeeds.{role_next, IsAt, Follows, OnceStepsFollow, OnceStepsCode}
@@ -44,7 +44,7 @@ use Rattle.steps_once.proofs.OnceWords.{unmarked_is}
 put_same : {A : Type 0} (f : ℕ → A) (t : ℕ) (x : A) → putting f t x t ≡ x
 put_same f t x = grind (arith, nat_tests)
 
--- some deeds may be done, and the thread stands so behind them
+-- some deeds may be done, and the thread stands so after them
 record Does (r : Rules) (s : Site) (t : ℕ) (ds : List Deed) (n : Next OncePlace) : Type 0 where
   pub needed : AllNeeded r ds s t
   pub role : (after_all r ds s t).role t ≡ role_next n
@@ -254,7 +254,7 @@ module _ (r : Rules) (s : Site) (t l : ℕ) (a : r.sort ≡ Once) where
   exchanged_word c expected f false e is = lost expected f (course_of c expected) e is
       ∙ sym (lost_word c (course_of c v))
 
-  closed_word : (succeeded b : Bool) → word_behind succeeded ≡ word_of (after_all r (closes succeeded b) s t)
+  closed_word : (succeeded b : Bool) → word_after succeeded ≡ word_of (after_all r (closes succeeded b) s t)
   closed_word true true = refl
   closed_word true false = refl
   closed_word false true = refl
@@ -270,7 +270,7 @@ module _ (r : Rules) (s : Site) (t l : ℕ) (a : r.sort ≡ Once) where
   leaves_word (Look c retries (look.Leave parked)) f is = absurd cc
   leaves_word (Look c retries look.Asleep) f is = absurd cc
   leaves_word (Look c retries (look.Taken by)) f is = absurd cc
-  leaves_word (Run forced (run.Close succeeded)) f is = let e : op.Swap (word_behind succeeded) ≡ f = cc
+  leaves_word (Run forced (run.Close succeeded)) f is = let e : op.Swap (word_after succeeded) ≡ f = cc
       in rw (← e) (closed_word succeeded (is_marked v))
   leaves_word (Run forced (run.Closure poisoned)) f is = absurd cc
   leaves_word (Run forced (run.Enter succeeded)) f is = absurd cc
@@ -312,7 +312,7 @@ module _ (r : Rules) (s : Site) (t l v : ℕ) (shared : List ℕ) (o : Owners) (
   looked_lock Marks = sym e
   looked_lock Parks = sym e
 
-  closed_lock : (succeeded b : Bool) → seen (record o { phase = phase_behind succeeded })
+  closed_lock : (succeeded b : Bool) → seen (record o { phase = phase_afterwards succeeded })
       ≡ (after_all r (closes succeeded b) s t).lock
   closed_lock true true = ap (λ (x : LockState). record x { phase = Done }) (sym e)
   closed_lock true false = ap (λ (x : LockState). record x { phase = Done }) (sym e)

@@ -109,7 +109,7 @@ OnceStepsFollow =
     → once_act l p ≡ act.Word l op
     → Follows r s t p (reply.Value (code r s))
 
--- the word that it leaves is the word of the `Once` behind its deeds
+-- the word that it leaves is the word of the `Once` after its deeds
 abbrev pub OnceStepsCode : Type 0
 OnceStepsCode =
     (r : Rules) (s : Site) (t l : ℕ) (p : OncePlace) (op : Op) → IsAt r s t p

@@ -34,8 +34,8 @@ once_move p = record {
 abbrev pub once_hears : OncePlace → Hears
 once_hears p r s t whom told = MayHear r s t p told
 
--- where it still has to wait it stands behind the last
-pub record RestsBehind (x : Move) (hears : Hears) (check : Check) (want : Want) : Type 0 where
+-- where it still has to wait it stands after the last
+pub record RestsAfter (x : Move) (hears : Hears) (check : Check) (want : Want) : Type 0 where
   pub forced : Bool
   pub was : location_of x ≡ inside_of Main
   pub rests : x.deeds None (Parked true) ≡ Case (OfOnce (Rest want forced)) ∷ []
@@ -57,17 +57,17 @@ pub record TakesAll (x : Move) (hears : Hears) : Type 0 where
   pub may : (r : Rules) (s : Site) (t : ℕ) (any none_left : Bool) → HasTakenNobody s.lock t
       → hears r s t None (Took any none_left)
 
--- its closure answers, and it stands nowhere before and behind
+-- its closure answers, and it stands nowhere before and after
 pub record ClosureAnswers (x : Move) : Type 0 where
   pub was : location_of x ≡ nowhere
   pub deeds : (succeeded : Bool) → x.deeds None (Closed succeeded) ≡ []
   pub goes : (succeeded : Bool) → location_then x (Closed succeeded) ≡ nowhere
   pub role : (succeeded : Bool) → (x.next (Closed succeeded)).role ≡ x.row.role
 
--- by its act, as in any call; or it stands behind the last, takes all, or runs its closure
+-- by its act, as in any call; or it stands after the last, takes all, or runs its closure
 abbrev pub OnceMoves : ℕ → Move → Hears → Act → Type 0
 OnceMoves l x hears (act.Park k key check want) =
-    (k ≡ l) × (key ≡ key_of l Main) × RestsBehind x hears check want
+    (k ≡ l) × (key ≡ key_of l Main) × RestsAfter x hears check want
 OnceMoves l x hears (act.Take key All) = (key ≡ key_of l Main) × TakesAll x hears
 OnceMoves l x hears (act.Closure state) = ClosureAnswers x
 OnceMoves l x hears act = MovesByAct l false x hears act

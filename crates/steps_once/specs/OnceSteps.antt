@@ -126,12 +126,12 @@ look_act l c (look.Taken by) = act.Sleep
 abbrev pub state_before : Bool → OnceState
 state_before poisoned = if poisoned then state.Poisoned else state.New
 
-abbrev pub word_behind : Bool → ℕ
-word_behind succeeded = if succeeded then 1 else 2
+abbrev pub word_after : Bool → ℕ
+word_after succeeded = if succeeded then 1 else 2
 
 abbrev pub run_act : ℕ → RunAt → Act
 run_act l (run.Closure poisoned) = act.Closure (state_before poisoned)
-run_act l (run.Close succeeded) = act.Word l (op.Swap (word_behind succeeded))
+run_act l (run.Close succeeded) = act.Word l (op.Swap (word_after succeeded))
 run_act l (run.Enter succeeded) = act.Enter (One (2 * l))
 run_act l (run.Take succeeded) = act.Take (2 * l) All
 run_act l (run.Leave succeeded any) = act.Leave (One (2 * l)) (wakes_taken any Normal)
@@ -237,14 +237,14 @@ once_looking at = None
 
 -- ---------------------------------------------------------------- how far it has come
 
-abbrev pub phase_behind : Bool → Phase
-phase_behind succeeded = if succeeded then phase.Done else phase.Poisoned
+abbrev pub phase_afterwards : Bool → Phase
+phase_afterwards succeeded = if succeeded then phase.Done else phase.Poisoned
 
 -- the state after an operation on the word that saw this value
 abbrev pub once_owners : OncePlace → ℕ → ℕ → Owners → Owners
 once_owners (Look c retries at) t seen owners =
     if begins_run c at (Value seen) then record owners { phase = phase.InProgress t } else owners
 once_owners (Run forced (run.Close succeeded)) t seen owners =
-    record owners { phase = phase_behind succeeded }
+    record owners { phase = phase_afterwards succeeded }
 once_owners (Run forced at) t seen owners = owners
 once_owners (GiveUp retries at) t seen owners = owners

@@ -7,7 +7,7 @@
 //! | `Decide(v)`, to be run | exchanges `v` for the word of a run | runs its closure, or as by `Load` |
 //! | `Decide(v)`, without `PARKED` | exchanges `v` for `v + PARKED`, or goes on from `Load` as it spins | `Decide` |
 //! | `Decide(v)` with `PARKED` | enters the section of the queue | `Check` |
-//! | `Check` | stands behind the last of the queue, if it still has to wait | `Leave` |
+//! | `Check` | stands after the last of the queue, if it still has to wait | `Leave` |
 //! | `Leave` | leaves the section | `Asleep`, or `Load` where it doesn't stand in the queue |
 //! | `Asleep` | sleeps | `Taken`, or it gives up where its time is up |
 //! | `Taken` | sleeps | `Load` at a wake |
@@ -30,7 +30,7 @@ pub enum LookAt {
     Decide(u64),
     /// Inside the section, before the check.
     Check,
-    /// Inside the section, behind the check.
+    /// Inside the section, after the check.
     Leave { parked: bool },
     /// In the queue.
     Asleep,

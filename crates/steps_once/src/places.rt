@@ -19,7 +19,7 @@ use crate::look::{
     Course, LookAt, begins_run, course_of, gives_up, is_forced, is_timed, look_act, next_look,
     still_retries, want_of,
 };
-use crate::run::{RunAt, next_run, phase_behind, run_act, state_before};
+use crate::run::{RunAt, next_run, phase_afterwards, run_act, state_before};
 use core_base::{Line, Want};
 use spec_locks::{OnceCall, Outcome};
 use steps_base::bits::{is_poisoned, is_running};
@@ -152,7 +152,7 @@ impl OncePlace {
             OncePlace::Run {
                 at: RunAt::Close { succeeded },
                 ..
-            } => owners.with_phase(phase_behind(succeeded)),
+            } => owners.with_phase(phase_afterwards(succeeded)),
             OncePlace::Run { .. } | OncePlace::GiveUp { .. } => owners,
         }
     }

@@ -8,7 +8,8 @@
 //! | `Take` | takes all waiters | `Leave` |
 //! | `Leave` | leaves the section, and wakes them | ends |
 ghost use Rattle.std.specs.Prelude.{◌≡◌, ◌<◌, ◌^◌};
-ghost use Rattle.steps_once.specs.OnceSteps.{closure_begun, state_before, phase_behind, word_behind, ended};
+ghost use Rattle.steps_once.specs.OnceSteps.{closure_begun, state_before, phase_afterwards, word_after};
+ghost use Rattle.steps_once.specs.OnceSteps.{ended};
 ghost use Rattle.steps_once.specs.OnceSteps.{next_run, run_act};
 
 use crate::places::{DONE, POISONED};
@@ -54,9 +55,9 @@ pub(super) fn state_before(poisoned: bool) -> OnceState
     }
 }
 
-/// How far the `Once` has come behind the run.
-pub(super) fn phase_behind(succeeded: bool) -> Phase
-    ensures { result ≡ phase_behind succeeded }
+/// How far the `Once` has come after the run.
+pub(super) fn phase_afterwards(succeeded: bool) -> Phase
+    ensures { result ≡ phase_afterwards succeeded }
 {
     if succeeded {
         Phase::Done
@@ -65,8 +66,8 @@ pub(super) fn phase_behind(succeeded: bool) -> Phase
     }
 }
 
-fn word_behind(succeeded: bool) -> u64
-    ensures { result ≡ word_behind succeeded }
+fn word_after(succeeded: bool) -> u64
+    ensures { result ≡ word_after succeeded }
 {
     if succeeded { DONE } else { POISONED }
 }
@@ -112,7 +113,7 @@ pub(super) fn run_act(lock: usize, at: RunAt) -> Act
         RunAt::Closure { poisoned } => Act::Closure(state_before(poisoned)),
         RunAt::Close { succeeded } => Act::Word {
             lock,
-            op: Op::Swap(word_behind(succeeded)),
+            op: Op::Swap(word_after(succeeded)),
         },
         RunAt::Enter { .. } => Act::Enter(Keys::One(main_key(lock))),
         RunAt::Take { .. } => Act::Take {

@@ -40,7 +40,7 @@ use Rattle.spec_locks.specs.Runs.{CallState, AtLock, going_on, EntersAnswer, Con
 use Rattle.spec_locks.specs.Sites.{Role, Has, Site, IsSite, Deed, Case}
 use Rattle.spec_locks.proofs.Rights.{regained}
 
--- a thread that wakes others behind a downgrade owns what it got by it
+-- a thread that wakes others after a downgrade owns what it got by it
 abbrev KeepsRight : LockState → ℕ → RwLockPurpose → RwLockAt → Type 0
 KeepsRight s t (purpose.Downgrade d) (at.Wake m to) = Owns s t (wanted (to_of d))
 KeepsRight s t q to = Unit {0}

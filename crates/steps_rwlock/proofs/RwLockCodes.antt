@@ -1,4 +1,4 @@
--- Each step on the word of a reader-writer lock leads to the word of the lock behind it.
+-- Each step on the word of a reader-writer lock leads to the word of the lock after it.
 use Rattle.std.proofs.Common.{ℕ, Bool, true, false, Some, None, List, [], ◌∷◌, if◌then◌else◌, ◌==◌, ◌&&◌}
 use Rattle.std.proofs.Common.{◌||◌, ◌≡◌, ◌+◌, ◌*◌, ◌-◌, ◌%◌, ◌^◌, ◌≤◌, ◌<◌, not, refl, ap, ◌∙◌, sym, length}
 use Rattle.std.proofs.Common.{arith, nat_le}
@@ -55,109 +55,109 @@ module _ (r : Rules) (s : Site) (t : ℕ) (rw_sort : has_readers r.sort ≡ true
   coded : (x : Site) → code r x ≡ rw_code x
   coded x = rw_is r.sort r.limit x rw_sort
 
-  -- the word behind deeds
-  abbrev behind : List Deed → ℕ
-  behind ds = code r (after_all r ds s t)
+  -- the word after deeds
+  abbrev afterwards : List Deed → ℕ
+  afterwards ds = code r (after_all r ds s t)
 
-  behind_end : behind (End ∷ []) ≡ code r s
-  behind_end = coded (after_deed r End s t) ∙ sym (coded s)
+  past_end : afterwards (End ∷ []) ≡ code r s
+  past_end = coded (after_deed r End s t) ∙ sym (coded s)
 
   -- a case, at the end of its call or not
-  behind_case : (c : LockCase) → Needed r (Case c) s t → (IsHandOff c → ⊥)
+  past_case : (c : LockCase) → Needed r (Case c) s t → (IsHandOff c → ⊥)
       → code r (after_deed r (Case c) s t) + lost s.lock.pending c ≡ code r s + rolled s.lock.pending c
-  behind_case c n other = rw (coded (after_deed r (Case c) s t), coded s) (follows r s t rw_sort there h c n
+  past_case c n other = rw (coded (after_deed r (Case c) s t), coded s) (follows r s t rw_sort there h c n
       other)
 
-  behind_case_end : (c : LockCase) → Needed r (Case c) s t → (IsHandOff c → ⊥)
+  after_case_end : (c : LockCase) → Needed r (Case c) s t → (IsHandOff c → ⊥)
       → code r (after_deed r End (after_deed r (Case c) s t) t) + lost s.lock.pending c ≡ code r s
       + rolled s.lock.pending c
-  behind_case_end c n other = rw (coded (after_deed r End (after_deed r (Case c) s t) t), coded s)
+  after_case_end c n other = rw (coded (after_deed r End (after_deed r (Case c) s t) t), coded s)
       (follows r s t rw_sort there h c n other)
 
-  behind_looks : (d : Decision) → behind (looked_deeds d) ≡ code r s
-  behind_looks (decisions.Refuse answer) = behind_end
-  behind_looks decisions.Take = refl
-  behind_looks decisions.Mark = refl
-  behind_looks decisions.Park = refl
+  after_looks : (d : Decision) → afterwards (looked_deeds d) ≡ code r s
+  after_looks (decisions.Refuse answer) = past_end
+  after_looks decisions.Take = refl
+  after_looks decisions.Mark = refl
+  after_looks decisions.Park = refl
 
-  behind_missed : (how : Patience) → behind (missed_deeds how) ≡ code r s
-  behind_missed Try = behind_end
-  behind_missed Patient = refl
-  behind_missed Timed = refl
+  after_missed : (how : Patience) → afterwards (missed_deeds how) ≡ code r s
+  after_missed Try = past_end
+  after_missed Patient = refl
+  after_missed Timed = refl
 
-  marked : s.parked ≡ false → behind (Mark Main ∷ []) ≡ code r s + 1
+  marked : s.parked ≡ false → afterwards (Mark Main ∷ []) ≡ code r s + 1
   marked e = rw (coded (after_deed r (Mark Main) s t), coded s) (grind (arith, e))
 
-  marked_aside : s.aside_parked ≡ false → behind (Mark Second ∷ []) ≡ code r s + 2
+  marked_aside : s.aside_parked ≡ false → afterwards (Mark Second ∷ []) ≡ code r s + 2
   marked_aside e = rw (coded (after_deed r (Mark Second) s t), coded s) (grind (arith, e))
 
-  clears : (m : Line) → apply (unparked m) (code r s) ≡ behind (Clear m ∷ [])
+  clears : (m : Line) → apply (unparked m) (code r s) ≡ afterwards (Clear m ∷ [])
   clears Main = rw (coded (after_deed r (Clear Main) s t), coded s) (let a =
       clears_low (rw_code s) (rw (coded s) at small) in let b = low_is r s h in omega arith)
   clears Second = rw (coded (after_deed r (Clear Second) s t), coded s) (let a =
       clears_second (rw_code s) (rw (coded s) at small) in let b = second_is r s h in omega arith)
 
-  comes : (x : Access) → AllNeeded r (enters_deeds (wanted x)) s t → behind (enters_deeds (wanted x))
+  comes : (x : Access) → AllNeeded r (enters_deeds (wanted x)) s t → afterwards (enters_deeds (wanted x))
       ≡ code r s + token (wanted x)
-  comes access.Exclusive n = let e = behind_case Pend n.0 (λ f. f) in omega arith
-  comes access.Upgradable n = let e = behind_case_end (Enter Upgradable) n.0 (λ f. f) in omega arith
-  comes access.Shared n = let e = behind_case_end (Enter Shared) n.0 (λ f. f) in omega arith
+  comes access.Exclusive n = let e = past_case Pend n.0 (λ f. f) in omega arith
+  comes access.Upgradable n = let e = after_case_end (Enter Upgradable) n.0 (λ f. f) in omega arith
+  comes access.Shared n = let e = after_case_end (Enter Shared) n.0 (λ f. f) in omega arith
 
   counts : (b : Bool) → AllNeeded r (if b then Case Settle ∷ End ∷ [] else []) s t
-      → behind (if b then Case Settle ∷ End ∷ [] else []) ≡ code r s
-  counts true n = let e = behind_case_end Settle n.0 (λ f. f) in omega arith
+      → afterwards (if b then Case Settle ∷ End ∷ [] else []) ≡ code r s
+  counts true n = let e = after_case_end Settle n.0 (λ f. f) in omega arith
   counts false n = refl
 
   gives : (x : Access) (b : Bool) → AllNeeded r (does_and_wakes b (Case (Leave (wanted x)))) s t
-      → behind (does_and_wakes b (Case (Leave (wanted x)))) + token (wanted x) ≡ code r s
-  gives access.Shared true n = let e = behind_case (Leave Shared) n.0 (λ f. f) in omega arith
-  gives access.Shared false n = let e = behind_case_end (Leave Shared) n.0 (λ f. f) in omega arith
-  gives access.Exclusive true n = let e = behind_case (Leave Exclusive) n.0 (λ f. f) in omega arith
-  gives access.Exclusive false n = let e = behind_case_end (Leave Exclusive) n.0 (λ f. f) in omega arith
-  gives access.Upgradable true n = let e = behind_case (Leave Upgradable) n.0 (λ f. f) in omega arith
-  gives access.Upgradable false n = let e = behind_case_end (Leave Upgradable) n.0 (λ f. f) in omega arith
+      → afterwards (does_and_wakes b (Case (Leave (wanted x)))) + token (wanted x) ≡ code r s
+  gives access.Shared true n = let e = past_case (Leave Shared) n.0 (λ f. f) in omega arith
+  gives access.Shared false n = let e = after_case_end (Leave Shared) n.0 (λ f. f) in omega arith
+  gives access.Exclusive true n = let e = past_case (Leave Exclusive) n.0 (λ f. f) in omega arith
+  gives access.Exclusive false n = let e = after_case_end (Leave Exclusive) n.0 (λ f. f) in omega arith
+  gives access.Upgradable true n = let e = past_case (Leave Upgradable) n.0 (λ f. f) in omega arith
+  gives access.Upgradable false n = let e = after_case_end (Leave Upgradable) n.0 (λ f. f) in omega arith
 
   -- a writer that falls back to nothing
   rolls : (b : Bool) → s.lock.pending ≡ Some (record {
     thread = t;
     falls_back = false;
-  }) → AllNeeded r (does_and_wakes b (Case Rollback)) s t → behind (does_and_wakes b (Case Rollback)) + 8
+  }) → AllNeeded r (does_and_wakes b (Case Rollback)) s t → afterwards (does_and_wakes b (Case Rollback)) + 8
       ≡ code r s
-  rolls true e n = let f = behind_case Rollback n.0 (λ g. g) in let k : rolled s.lock.pending Rollback ≡ 0 =
+  rolls true e n = let f = past_case Rollback n.0 (λ g. g) in let k : rolled s.lock.pending Rollback ≡ 0 =
       rw e refl in omega arith
-  rolls false e n = let f = behind_case_end Rollback n.0 (λ g. g) in let k : rolled s.lock.pending Rollback
+  rolls false e n = let f = after_case_end Rollback n.0 (λ g. g) in let k : rolled s.lock.pending Rollback
       ≡ 0 = rw e refl in omega arith
 
   -- A pending writer falls back to the upgradable right.
   falls : (b : Bool) → s.lock.pending ≡ Some (record { thread = t; falls_back = true })
-      → AllNeeded r (does_and_wakes b (Case Rollback)) s t → behind (does_and_wakes b (Case Rollback))
+      → AllNeeded r (does_and_wakes b (Case Rollback)) s t → afterwards (does_and_wakes b (Case Rollback))
       ≡ code r s + 12
-  falls true e n = let f = behind_case Rollback n.0 (λ g. g) in let k : rolled s.lock.pending Rollback ≡ 20 =
+  falls true e n = let f = past_case Rollback n.0 (λ g. g) in let k : rolled s.lock.pending Rollback ≡ 20 =
       rw e refl in omega arith
-  falls false e n = let f = behind_case_end Rollback n.0 (λ g. g) in let k : rolled s.lock.pending Rollback
+  falls false e n = let f = after_case_end Rollback n.0 (λ g. g) in let k : rolled s.lock.pending Rollback
       ≡ 20 = rw e refl in omega arith
 
   -- conversions
   to_shared : (b : Bool) → AllNeeded r (does_and_wakes b (Case (Convert Exclusive Shared))) s t
-      → behind (does_and_wakes b (Case (Convert Exclusive Shared))) ≡ code r s + 8
-  to_shared true n = let e = behind_case (Convert Exclusive Shared) n.0 (λ f. f) in omega arith
-  to_shared false n = let e = behind_case_end (Convert Exclusive Shared) n.0 (λ f. f) in omega arith
+      → afterwards (does_and_wakes b (Case (Convert Exclusive Shared))) ≡ code r s + 8
+  to_shared true n = let e = past_case (Convert Exclusive Shared) n.0 (λ f. f) in omega arith
+  to_shared false n = let e = after_case_end (Convert Exclusive Shared) n.0 (λ f. f) in omega arith
 
   to_upgradable : (b : Bool) → AllNeeded r (does_and_wakes b (Case (Convert Exclusive Upgradable))) s t
-      → behind (does_and_wakes b (Case (Convert Exclusive Upgradable))) ≡ code r s + 12
-  to_upgradable true n = let e = behind_case (Convert Exclusive Upgradable) n.0 (λ f. f) in omega arith
-  to_upgradable false n = let e = behind_case_end (Convert Exclusive Upgradable) n.0 (λ f. f) in omega arith
+      → afterwards (does_and_wakes b (Case (Convert Exclusive Upgradable))) ≡ code r s + 12
+  to_upgradable true n = let e = past_case (Convert Exclusive Upgradable) n.0 (λ f. f) in omega arith
+  to_upgradable false n = let e = after_case_end (Convert Exclusive Upgradable) n.0 (λ f. f) in omega arith
 
   upgradable_to_shared : (b : Bool) → AllNeeded r (does_and_wakes b (Case (Convert Upgradable Shared))) s t
-      → behind (does_and_wakes b (Case (Convert Upgradable Shared))) + 4 ≡ code r s
-  upgradable_to_shared true n = let e = behind_case (Convert Upgradable Shared) n.0 (λ f. f) in omega arith
-  upgradable_to_shared false n = let e = behind_case_end (Convert Upgradable Shared) n.0 (λ f. f)
+      → afterwards (does_and_wakes b (Case (Convert Upgradable Shared))) + 4 ≡ code r s
+  upgradable_to_shared true n = let e = past_case (Convert Upgradable Shared) n.0 (λ f. f) in omega arith
+  upgradable_to_shared false n = let e = after_case_end (Convert Upgradable Shared) n.0 (λ f. f)
       in omega arith
 
   upgrades : (b : Bool) → AllNeeded r (does_and_wakes b (Case (Convert Upgradable Exclusive))) s t
-      → behind (does_and_wakes b (Case (Convert Upgradable Exclusive))) + 12 ≡ code r s
-  upgrades true n = let e = behind_case (Convert Upgradable Exclusive) n.0 (λ f. f) in omega arith
-  upgrades false n = let e = behind_case_end (Convert Upgradable Exclusive) n.0 (λ f. f) in omega arith
+      → afterwards (does_and_wakes b (Case (Convert Upgradable Exclusive))) + 12 ≡ code r s
+  upgrades true n = let e = past_case (Convert Upgradable Exclusive) n.0 (λ f. f) in omega arith
+  upgrades false n = let e = after_case_end (Convert Upgradable Exclusive) n.0 (λ f. f) in omega arith
 
   -- beside an exclusive owner nobody shares
   lone : Owns s.lock t Exclusive → code r s < 16
@@ -246,7 +246,7 @@ module _ (r : Rules) (a : Admission) (s : Site) (t l : ℕ) (f : Op) (admits : A
   fewer : a.limit < 2 ^ 60
   fewer = omega arith
 
-  -- the operation leads to the word behind deeds that are needed
+  -- the operation leads to the word after deeds that are needed
   abbrev Leads : List Deed → Type 0
   Leads ds = AllNeeded r ds s t → apply f v ≡ code r (after_all r ds s t)
 
@@ -268,7 +268,7 @@ module _ (r : Rules) (a : Admission) (s : Site) (t l : ℕ) (f : Op) (admits : A
 
     looks_same : AllNeeded r (looked_deeds (decision a (wanted x) how v)) s t
         → code r (after_all r (looked_deeds (decision a (wanted x) how v)) s t) ≡ v
-    looks_same n = behind_looks r s t admits.0 h tells there small (decision a (wanted x) how v)
+    looks_same n = after_looks r s t admits.0 h tells there small (decision a (wanted x) how v)
 
     decides : (expected : ℕ) (d : Decision) → decision a (wanted x) how expected ≡ d
         → decided_act l (purpose.Enter x how) expected d ≡ act.Word l f → (b : Bool) → (v == expected) ≡ b
@@ -310,8 +310,8 @@ module _ (r : Rules) (a : Admission) (s : Site) (t l : ℕ) (f : Op) (admits : A
         → rwlock_act l a (place to) ≡ act.Word l f → Leads (rwlock_deeds a (place to) None (reply.Value v))
     enters_code at.First fits is e n = let same : f ≡ op.Exchange 0 8 = cc
         in exchanged 0 8 same (Case (Enter Exclusive) ∷ End ∷ []) (missed_deeds how) (v == 0) refl
-        (λ same k. let g = behind_case_end r s t admits.0 h tells there small (Enter Exclusive) k.0 (λ g. g)
-        in omega arith) (λ k. behind_missed r s t admits.0 h tells there small how) n
+        (λ same k. let g = after_case_end r s t admits.0 h tells there small (Enter Exclusive) k.0 (λ g. g)
+        in omega arith) (λ k. after_missed r s t admits.0 h tells there small how) n
     enters_code at.Load fits is e n = let same : f ≡ op.Load = cc in rw same (sym (looks_same n))
     enters_code (at.Decide expected) fits is e n = decides expected (decision a (wanted x) how expected) refl
         e (v == expected) refl n
@@ -417,7 +417,7 @@ module _ (r : Rules) (a : Admission) (s : Site) (t l : ℕ) (f : Op) (admits : A
       looks_up : (b : Bool) → code r
           (after_all r (looked_deeds (if b then decisions.Take else decisions.Refuse No)) s t) ≡ v
       looks_up true = refl
-      looks_up false = behind_end r s t admits.0 h tells there small
+      looks_up false = past_end r s t admits.0 h tells there small
 
       takes_up : (expected : ℕ) (b : Bool) → (count_in expected == 1) ≡ b
           → decided_act l (purpose.Upgrade how) expected (if b then decisions.Take else decisions.Refuse No)

@@ -46,7 +46,7 @@ use Rattle.steps_rwlock.specs.RwLockDeeds.{looked_deeds, enters_deeds, exchanged
 use Rattle.steps_rwlock.specs.RwLockDeeds.{sees_waiter, rwlock_deeds, after_all, AtFits, IsAt}
 use Rattle.steps_rwlock.specs.RwLockDeeds.{RwLockOwnersFollow}
 
--- the lock behind what an operation does to its owners
+-- the lock after what an operation does to its owners
 abbrev lock_after : Change → ℕ → LockState → LockState
 lock_after changes.Nothing t s = s
 lock_after (changes.Enter x) t s = with_owner t (wanted x) s
@@ -104,28 +104,28 @@ module _ (r : Rules) (a : Admission) (s : Site) (t l : ℕ) (f : Op) (h : IsSite
   abbrev v : ℕ
   v = code r s
 
-  -- the lock behind deeds
-  abbrev behind : List Deed → LockState
-  behind ds = (after_all r ds s t).lock
+  -- the lock after deeds
+  abbrev afterwards : List Deed → LockState
+  afterwards ds = (after_all r ds s t).lock
 
-  looks_same : (d : Decision) → behind (looked_deeds d) ≡ s.lock
+  looks_same : (d : Decision) → afterwards (looked_deeds d) ≡ s.lock
   looks_same (decisions.Refuse answer) = refl
   looks_same decisions.Take = refl
   looks_same decisions.Mark = refl
   looks_same decisions.Park = refl
 
-  missed_same : (how : Patience) → behind (missed_deeds how) ≡ s.lock
+  missed_same : (how : Patience) → afterwards (missed_deeds how) ≡ s.lock
   missed_same Try = refl
   missed_same Patient = refl
   missed_same Timed = refl
 
-  came : (x : Access) → behind (enters_deeds (wanted x)) ≡ lock_after (enters_by x) t s.lock
+  came : (x : Access) → afterwards (enters_deeds (wanted x)) ≡ lock_after (enters_by x) t s.lock
   came access.Exclusive = refl
   came access.Upgradable = refl
   came access.Shared = refl
 
   exchanged : (x : Access) (how : Patience) (d now : Decision) (b : Bool)
-      → behind (exchanged_deeds (purpose.Enter x how) d b now) ≡ lock_after
+      → afterwards (exchanged_deeds (purpose.Enter x how) d b now) ≡ lock_after
       (if b then came_change (purpose.Enter x how) d else changes.Nothing) t s.lock
   exchanged x how decisions.Take now true = came x
   exchanged x how decisions.Mark now true = refl
@@ -136,24 +136,26 @@ module _ (r : Rules) (a : Admission) (s : Site) (t l : ℕ) (f : Op) (h : IsSite
   exchanged x how decisions.Park now false = looks_same now
   exchanged x how (decisions.Refuse answer) now false = looks_same now
 
-  first : (how : Patience) (b : Bool) → behind (if b then Case (locks.Enter Exclusive) ∷ End ∷ []
+  first : (how : Patience) (b : Bool) → afterwards (if b then Case (locks.Enter Exclusive) ∷ End ∷ []
       else missed_deeds how) ≡ lock_after (if b then changes.Enter access.Exclusive else changes.Nothing) t
       s.lock
   first how true = refl
   first how false = missed_same how
 
-  settled : (b : Bool) → behind (if b then Case Settle ∷ End ∷ [] else [])
+  settled : (b : Bool) → afterwards (if b then Case Settle ∷ End ∷ [] else [])
       ≡ lock_after (if b then changes.Settle else changes.Nothing) t s.lock
   settled true = refl
   settled false = refl
 
-  counts : (b c : Bool) → behind (if b then Mark Second ∷ [] else if c then Case Settle ∷ End ∷ [] else [])
+  counts : (b c : Bool) → afterwards (if b then Mark Second ∷ [] else if c then Case Settle ∷ End ∷ []
+      else [])
       ≡ lock_after (if b then changes.Nothing else if c then changes.Settle else changes.Nothing) t s.lock
   counts true c = refl
   counts false c = settled c
 
   -- a case, at the end of its call or not
-  does : (b : Bool) (c : locks.LockCase) → behind (does_and_wakes b (Case c)) ≡ locks.after_case r c s.lock t
+  does : (b : Bool) (c : locks.LockCase) → afterwards (does_and_wakes b (Case c)) ≡ locks.after_case r c
+      s.lock t
   does true c = refl
   does false c = refl
 
@@ -161,19 +163,19 @@ module _ (r : Rules) (a : Admission) (s : Site) (t l : ℕ) (f : Op) (h : IsSite
   rolled : (b : Bool) → s.lock.pending ≡ Some (record {
     thread = t;
     falls_back = false;
-  }) → behind (does_and_wakes b (Case Rollback)) ≡ lock_after (changes.RollBack false) t s.lock
+  }) → afterwards (does_and_wakes b (Case Rollback)) ≡ lock_after (changes.RollBack false) t s.lock
   rolled b e = does b Rollback ∙ rw e refl
 
   fell : (b : Bool) → s.lock.pending ≡ Some (record { thread = t; falls_back = true })
-      → behind (does_and_wakes b (Case Rollback)) ≡ lock_after (changes.RollBack true) t s.lock
+      → afterwards (does_and_wakes b (Case Rollback)) ≡ lock_after (changes.RollBack true) t s.lock
   fell b e = does b Rollback ∙ rw e refl
 
-  left : (x : Access) (b : Bool) → behind (does_and_wakes b (Case (Leave (wanted x)))) ≡ lock_after
+  left : (x : Access) (b : Bool) → afterwards (does_and_wakes b (Case (Leave (wanted x)))) ≡ lock_after
       (changes.Leave x) t s.lock
   left x b = does b (Leave (wanted x))
 
   downgraded : (d : Downgrade) (b : Bool)
-      → behind (does_and_wakes b (Case (Convert (wanted (from_of d)) (wanted (to_of d))))) ≡ lock_after
+      → afterwards (does_and_wakes b (Case (Convert (wanted (from_of d)) (wanted (to_of d))))) ≡ lock_after
       (changes.Downgrade d) t s.lock
   downgraded downgrade.ToShared b = does b (Convert Exclusive Shared)
   downgraded downgrade.ToUpgradable b = does b (Convert Exclusive Upgradable)
@@ -181,7 +183,7 @@ module _ (r : Rules) (a : Admission) (s : Site) (t l : ℕ) (f : Op) (h : IsSite
 
   -- an upgrade owns where it sees one reader, itself
   upgraded : (b c : Bool) → (readers s.lock == 0) ≡ c
-      → behind (does_and_wakes b (Case (Convert Upgradable Exclusive))) ≡ lock_after (changes.Upgrade c) t
+      → afterwards (does_and_wakes b (Case (Convert Upgradable Exclusive))) ≡ lock_after (changes.Upgrade c) t
       s.lock
   upgraded b true e = does b (Convert Upgradable Exclusive) ∙ rw e refl
   upgraded b false e = does b (Convert Upgradable Exclusive) ∙ rw e refl
@@ -197,9 +199,9 @@ module _ (r : Rules) (a : Admission) (s : Site) (t l : ℕ) (f : Op) (h : IsSite
       abbrev of : RwLockPurpose → RwLockAt → RwLockPlace
       of q to = record { purpose = q; retries = again; at = to }
 
-      -- the owners behind a step at a place
+      -- the owners after a step at a place
       abbrev Owned : RwLockPlace → Type 0
-      Owned p = behind (rwlock_deeds a p None (reply.Value v)) ≡ lock_after (change a p v) t s.lock
+      Owned p = afterwards (rwlock_deeds a p None (reply.Value v)) ≡ lock_after (change a p v) t s.lock
 
       enters_owners : (x : Access) (how : Patience) (to : RwLockAt) → AtFits (purpose.Enter x how) to
           → s.role t ≡ rwlock_role (of (purpose.Enter x how) to)
@@ -248,7 +250,7 @@ module _ (r : Rules) (a : Admission) (s : Site) (t l : ℕ) (f : Op) (h : IsSite
       pending_owners how (at.Wake Main to) fits is e = absurd cc
       pending_owners how to fits is e = absurd fits
 
-      looks_up : (b : Bool) → behind (looked_deeds (if b then decisions.Take else decisions.Refuse No))
+      looks_up : (b : Bool) → afterwards (looked_deeds (if b then decisions.Take else decisions.Refuse No))
           ≡ s.lock
       looks_up true = refl
       looks_up false = refl
@@ -256,7 +258,8 @@ module _ (r : Rules) (a : Admission) (s : Site) (t l : ℕ) (f : Op) (h : IsSite
       takes_up : (how : Patience) (expected : ℕ) (b : Bool) → (count_in expected == 1) ≡ b
           → decided_act l (purpose.Upgrade how) expected (if b then decisions.Take else decisions.Refuse No)
           ≡ act.Word l f → (c : Bool) → (v == expected) ≡ c → Owns s.lock t Upgradable
-          → behind (exchanged_deeds (purpose.Upgrade how) (if b then decisions.Take else decisions.Refuse No)
+          → afterwards (exchanged_deeds (purpose.Upgrade how) (if b then decisions.Take else decisions.Refuse
+          No)
           c (if count_in v == 1 then decisions.Take else decisions.Refuse No)) ≡ lock_after
           (if c then came_change (purpose.Upgrade how) (if b then decisions.Take else decisions.Refuse No)
           else changes.Nothing) t s.lock

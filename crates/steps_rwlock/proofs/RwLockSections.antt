@@ -69,7 +69,7 @@ module _ (r : Rules) (s : Site) (t : ℕ) (rw_sort : has_readers r.sort ≡ true
         ∙ put_same s.role t _ ∙ ap leaves is;
   }
 
-  -- it stands behind the last, where it found what it waits for
+  -- it stands after the last, where it found what it waits for
   parks : (x : Want) (again : Option Want)
       → (has_parked (code r s) && is_blocked (is_recursive r.sort) x (code r s)) ≡ true → s.role t
       ≡ within Main again None → standing t s.lock ≡ 0 → Knows r.sort x → Follows r s t (Case (Park x) ∷ [])

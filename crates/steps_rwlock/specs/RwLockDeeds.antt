@@ -367,7 +367,7 @@ RwLockSectionsFollow =
 
 -- ---------------------------------------------------------------- owners
 
--- each step on the word leaves the owners and shares of the lock behind its deeds; a number of
+-- each step on the word leaves the owners and shares of the lock after its deeds; a number of
 -- shares wraps, as a word does, and none comes near
 abbrev pub RwLockOwnersFollow : Type 0
 RwLockOwnersFollow =

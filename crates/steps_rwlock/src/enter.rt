@@ -124,7 +124,7 @@ fn came_in(place: RwLockPlace) -> Next<RwLockPlace>
     }
 }
 
-/// Where a thread goes behind its exchange, by the value that was there.
+/// Where a thread goes after its exchange, by the value that was there.
 fn exchanged(
     place: RwLockPlace,
     admission: Admission,

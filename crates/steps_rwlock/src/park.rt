@@ -2,7 +2,7 @@
 //!
 //! | place | does | then |
 //! |---|---|---|
-//! | `Check` | stands behind the last, if the word still bars its way | `Leave` |
+//! | `Check` | stands after the last, if the word still bars its way | `Leave` |
 //! | `Leave` | leaves the section | `Asleep`, or looks again where it doesn't stand in the queue |
 //! | `Asleep` | sleeps | `Taken`, or `Remove` where its time is up |
 //! | `Taken` | sleeps | looks again at its wake |
@@ -25,7 +25,7 @@ use steps_base::{Act, Check, Next, Reply, Wakes};
 pub enum ParkAt {
     /// Inside the section, before the check.
     Check,
-    /// Inside the section, behind the check.
+    /// Inside the section, after the check.
     Leave { parked: bool },
     /// In the queue.
     Asleep,
@@ -35,7 +35,7 @@ pub enum ParkAt {
     Remove,
     /// Late, and none is left in the queue.
     Clear,
-    /// Late, behind its removal.
+    /// Late, after its removal.
     GiveUp,
 }
 
@@ -145,7 +145,7 @@ pub(super) fn clears(line: Line, none_left: bool) -> bool
     }
 }
 
-/// Where a thread goes whose time was up, behind the section.
+/// Where a thread goes whose time was up, after the section.
 fn gave_up(place: RwLockPlace, line: Line) -> Next<RwLockPlace>
     ensures { result ≡ gave_up place line }
 {

@@ -1,4 +1,4 @@
--- Each step on the word of a fair release or of a bump leads to the word of the lock behind it.
+-- Each step on the word of a fair release or of a bump leads to the word of the lock after it.
 use Rattle.std.proofs.Common.{ℕ, Bool, true, false, None, if◌then◌else◌, ◌==◌, ◌≡◌, ◌⊎◌, ◌+◌, ◌-◌, ◌%◌, ◌^◌}
 use Rattle.std.proofs.Common.{◌≤◌, ◌<◌, inl, inr, refl, ap, sym, ◌∙◌, length, arith}
 use Rattle.std.proofs.lemmas.Bool.{eqb-true}
@@ -33,7 +33,7 @@ use Rattle.steps_rwlock_fair.specs.FairSteps.{hand_over_act}
 use Rattle.steps_rwlock_fair.specs.FairDeeds.{leaves_over, exchanged_deeds, freed_deeds, glance_deeds}
 use Rattle.steps_rwlock_fair.specs.FairDeeds.{call_deeds}
 use Rattle.steps_rwlock_fair.specs.FairCalls.{HandsOverAt}
-use Rattle.steps_rwlock_fair.specs.FairLaws.{behind_call, FairStepsCode}
+use Rattle.steps_rwlock_fair.specs.FairLaws.{after_call, FairStepsCode}
 use Rattle.steps_rwlock_fair.proofs.FairFit.{fair_steps_follow}
 use Rattle.steps_rwlock_fair.proofs.HandOvers.{settles}
 
@@ -61,8 +61,8 @@ module _ (r : Rules) (a : Admission) (s : Site) (t l : ℕ) (op : Op) (rw_sort :
   coded : (x : Site) → code r x ≡ rw_code x
   coded x = rw_is r.sort r.limit x rw_sort
 
-  behind_end : code r (after_deed r End s t) ≡ v
-  behind_end = coded (after_deed r End s t) ∙ sym (coded s)
+  past_end : code r (after_deed r End s t) ≡ v
+  past_end = coded (after_deed r End s t) ∙ sym (coded s)
 
   -- a right is given up, at the end of its call or not
   gives : (x : Access) (b : Bool) → (x ≡ access.Exclusive) ⊎ (x ≡ access.Upgradable)
@@ -80,7 +80,7 @@ module _ (r : Rules) (a : Admission) (s : Site) (t l : ℕ) (op : Op) (rw_sort :
 
   glanced : (b : Bool) → op ≡ operation.Load → apply op v ≡ code r (after_all r (glance_deeds b) s t)
   glanced true e = rw e refl
-  glanced false e = rw e (sym behind_end)
+  glanced false e = rw e (sym past_end)
 
   freed : (x : Access) (b : Bool) (expected : ℕ) → (x ≡ access.Exclusive) ⊎ (x ≡ access.Upgradable)
       → op ≡ operation.Exchange expected (word_without x expected) → (won : Bool) → (v == expected) ≡ won
@@ -121,7 +121,7 @@ module _ (r : Rules) (a : Admission) (s : Site) (t l : ℕ) (op : Op) (rw_sort :
 
   abbrev Leads : RwLockCallPlace → Type 0
   Leads c = AllNeeded r (call_deeds a c None (reply.Value v)) s t → apply op v
-      ≡ code r (behind_call r a s t c None (reply.Value v))
+      ≡ code r (after_call r a s t c None (reply.Value v))
 
   hand_over_code : (x : Access) (b : Bool) (to : HandOverAt) → HandsOverAt x to → hand_over_act l a x to
       ≡ act.Word l op → Leads (HandOver x b to)

@@ -1,4 +1,4 @@
--- Each step on the word of a call that may hand the lock over leaves the owners of the lock behind it.
+-- Each step on the word of a call that may hand the lock over leaves the owners of the lock after it.
 use Rattle.std.proofs.Common.{ℕ, Bool, true, false, Option, None, List, if◌then◌else◌, ◌==◌, ◌≡◌, refl, sym}
 use Rattle.std.proofs.Common.{ap, ◌∙◌}
 use Rattle.core_base.specs.declared.ops.Op.{Op}
@@ -31,7 +31,7 @@ use Rattle.steps_rwlock_fair.specs.FairSteps.{has_room, with_taken, parked_as, w
 use Rattle.steps_rwlock_fair.specs.FairSteps.{gives_way, hand_over_act, call_owners}
 use Rattle.steps_rwlock_fair.specs.FairDeeds.{freed_deeds, exchanged_deeds, glance_deeds}
 use Rattle.steps_rwlock_fair.specs.FairCalls.{HandsOverAt}
-use Rattle.steps_rwlock_fair.specs.FairLaws.{behind_call, FairOwnersFollow, GiversKeep}
+use Rattle.steps_rwlock_fair.specs.FairLaws.{after_call, FairOwnersFollow, GiversKeep}
 use Rattle.steps_rwlock_fair.proofs.HandOverCodes.{settled_lock}
 
 module _ (r : Rules) (a : Admission) (s : Site) (t l : ℕ) (op : Op) (shared : List ℕ) (o : Owners)
@@ -73,7 +73,7 @@ module _ (r : Rules) (a : Admission) (s : Site) (t l : ℕ) (op : Op) (shared : 
 
   hand_over_owners : (x : Access) (b : Bool) (to : HandOverAt) → HandsOverAt x to → hand_over_act l a x to
       ≡ act.Word l op → Seen (call_owners a (HandOver x b to) t (code r s) o)
-      (behind_call r a s t (HandOver x b to) None (reply.Value (code r s))).lock
+      (after_call r a s t (HandOver x b to) None (reply.Value (code r s))).lock
   hand_over_owners x b handing.Load fits e = sym is
   hand_over_owners x b (handing.Look k) fits e = sym is
   hand_over_owners access.Exclusive b (handing.Free expected) fits e = freed access.Exclusive b

@@ -60,7 +60,7 @@ module _ (l t : ℕ) (s s2 : LockState) (x : Want) where
         → one_more_at l x (rights_in v t) k ≡ before_release was x l rights k
     loses e = agree rights l _ _ _ _ (changed rights l (with_right x) (rights_in v t) _ has) had e
 
--- ---------------------------------------------------------------- the giver behind a hand-over
+-- ---------------------------------------------------------------- the giver after a hand-over
 
 -- a thread that isn't in hand shares as it did
 shares_same : (t u i : ℕ) (taken : ℕ → Option TakenBy) (ns : List ℕ) → taken (i + u) ≡ None

@@ -1,4 +1,4 @@
--- The step that hands a lock over leaves its word as the lock behind it has it, and keeps its limit.
+-- The step that hands a lock over leaves its word as the lock after it has it, and keeps its limit.
 use Rattle.std.proofs.Common.{ℕ, Bool, true, false, Option, Some, if◌then◌else◌, ◌==◌, ◌≡◌, ◌+◌, ◌-◌, ◌*◌}
 use Rattle.std.proofs.Common.{◌%◌, ◌^◌, ◌≤◌, ◌<◌, refl, ap, sym, subst, ◌∙◌, arith}
 use Rattle.std.proofs.lemmas.Bool.{eqb-true}
@@ -27,7 +27,7 @@ use Rattle.steps_rwlock_fair.specs.FairSteps.{tokens, token_of, count_of_taken, 
 use Rattle.steps_rwlock_fair.specs.FairSteps.{parked_as, word_without, with_taken, call_act}
 use Rattle.steps_rwlock_fair.specs.FairDeeds.{holding_role, exchanged_deeds}
 use Rattle.steps_rwlock_fair.specs.FairCalls.{IsInCall, HasInHand, in_hand_of}
-use Rattle.steps_rwlock_fair.specs.FairLaws.{behind_call, HandOversCode, HandOversKeepLimit}
+use Rattle.steps_rwlock_fair.specs.FairLaws.{after_call, HandOversCode, HandOversKeepLimit}
 use Rattle.steps_rwlock_fair.proofs.HandOvers.{WantsMore, wants_more, adds, counts, lasting, exclusive_gone}
 use Rattle.steps_rwlock_fair.proofs.HandOvers.{upgradable_gone, settles, token_even, token_small, token_top}
 use Rattle.steps_rwlock_fair.proofs.HandOverFit.{fits}
@@ -75,7 +75,7 @@ module _ (r : Rules) (s : Site) (t : ℕ) (whom : Option ℕ) (rw_sort : has_rea
   more : WantsMore k.successor
   more = wants_more r s t k whom rw_sort h hand
 
-  -- the site behind the hand-over, before its bit is set anew
+  -- the site after the hand-over, before its bit is set anew
   abbrev after_hand : Want → Site
   after_hand x = after_deed r (Case (HandOff x (heir_of whom k.successor))) s t
 
@@ -172,7 +172,7 @@ module _ (r : Rules) (a : Admission) (s : Site) (t l : ℕ) (op : Op) (whom : Op
   room_is seen e = let m = admits.2 in grind (arith, nat_tests)
 
   abbrev Leads : RwLockCallPlace → Type 0
-  Leads c = apply op (code r s) ≡ code r (behind_call r a s t c whom (reply.Value (code r s)))
+  Leads c = apply op (code r s) ≡ code r (after_call r a s t c whom (reply.Value (code r s)))
 
   stores : s.role t ≡ holding_role Exclusive k → op ≡ operation.Store (parked_as k.none_left (tokens k))
       → k.sharers < 2 ^ 60 - 1 → Leads (HandOver access.Exclusive false (handing.Store k))
@@ -215,7 +215,7 @@ hand_overs_code r a s t l c op whom over e lt small few limit = by_place c over.
 
     by_place : (c : RwLockCallPlace) → IsInCall r a s t c → in_hand_of c ≡ Some k → call_act l a c
         ≡ act.HandOver l op → apply op (code r s) ≡ code r
-        (behind_call r a s t c whom (reply.Value (code r s)))
+        (after_call r a s t c whom (reply.Value (code r s)))
     by_place (HandOver access.Exclusive b (handing.Store j)) call is e =
         let same : k ≡ j = cc in let f : op ≡ operation.Store (parked_as j.none_left (tokens j)) = cc in
         stores r a s t l op whom call.admits call.site j (subst (λ (i : Taken). HasInHand s.lock t i whom)
@@ -238,7 +238,7 @@ hand_overs_keep_limit r a s t l c op whom over e lt limit = by_place c over.call
     k = over.taken
 
     by_place : (c : RwLockCallPlace) → IsInCall r a s t c → in_hand_of c ≡ Some k → call_act l a c
-        ≡ act.HandOver l op → HasLimit r (behind_call r a s t c whom (reply.Value (code r s))).lock
+        ≡ act.HandOver l op → HasLimit r (after_call r a s t c whom (reply.Value (code r s))).lock
     by_place (HandOver access.Exclusive b (handing.Store j)) call is e =
         let same : k ≡ j = cc in let hand = subst (λ (i : Taken). HasInHand s.lock t i whom) same over.in_hand
         in let m = call.admits.2 in

@@ -31,7 +31,7 @@ use Rattle.steps_rwlock_fair.specs.FairLaws.{FollowsInCall, HandOversFollow}
 use Rattle.steps_rwlock_fair.proofs.HandOvers.{WantsMore, wants_more, counts, upgradable_gone}
 
 module _ (r : Rules) (s : Site) (t : ℕ) (rw_sort : has_readers r.sort ≡ true) (h : IsSite r s) where
-  -- a hand-over is allowed where the limit holds behind it
+  -- a hand-over is allowed where the limit holds after it
   hands : (x : Want) (k : Taken) (whom : Option ℕ) (none_left : Bool) → (x ≡ Exclusive) ⊎ (x ≡ Upgradable)
       → HasInHand s.lock t k whom → HandOffFits r x (handed t x (heir_of whom k.successor) s.lock)
       → s.role t ≡ record idle {

@@ -35,7 +35,7 @@ wants_more r s t k whom rw_sort h hand = by_want k.successor whom hand.named han
     by_want (Some x) None named is = absurd named
     by_want (Some x) (Some u) named is = let g = (is u x).0 refl in known x (h.state.known_taken u _ g.0) g.1
 
--- ---------------------------------------------------------------- owners behind it
+-- ---------------------------------------------------------------- owners after it
 
 -- a lock that nobody has more of than a share
 pub record HasNoWriter (s : LockState) : Type 0 where

@@ -83,7 +83,7 @@ module _ (t u : ℕ) (s : LockState) (mine : IsTaken s t u Shared) (there : u < 
           (shared_kept successor (sharing_handed t (without_owner t x s)) wants_more)
           ∙ given_one t s.taken 0 u s.shared there one
 
--- a fact of the lock behind each hand-over that there is holds behind this one
+-- a fact of the lock after each hand-over that there is holds after this one
 module _ (r : Rules) (a : Admission) (s : Site) (t l : ℕ) (c : RwLockCallPlace) (op : Op) (whom : Option ℕ)
     (over : StandsToHandOver r a s t c whom)
     (e : call_act l a c ≡ act.HandOver l op) (won : takes_effect op (code r s) ≡ true) (P : LockState

@@ -46,8 +46,8 @@ abbrev pub FollowsInCall : Rules → Admission → Site → ℕ → RwLockCallPl
 FollowsInCall r a s t c whom told =
     Follows r s t (call_deeds a c whom told) (call_role_next (call_next a c told))
 
-abbrev pub behind_call : Rules → Admission → Site → ℕ → RwLockCallPlace → Option ℕ → Reply → Site
-behind_call r a s t c whom told = after_all r (call_deeds a c whom told) s t
+abbrev pub after_call : Rules → Admission → Site → ℕ → RwLockCallPlace → Option ℕ → Reply → Site
+after_call r a s t c whom told = after_all r (call_deeds a c whom told) s t
 
 -- ---------------------------------------------------------------- steps on the word
 
@@ -66,7 +66,7 @@ FairStepsCode =
     → IsInCall r a s t c
     → standing t s.lock ≡ 0 → call_act l a c ≡ act.Word l op
     → code r s < 2 ^ 64 → a.limit < 2 ^ 60 - 1 → HasLimit r s.lock
-    → apply op (code r s) ≡ code r (behind_call r a s t c None (reply.Value (code r s)))
+    → apply op (code r s) ≡ code r (after_call r a s t c None (reply.Value (code r s)))
 
 -- ---------------------------------------------------------------- the step that hands over
 
@@ -87,14 +87,14 @@ HandOversFollow =
     (whom : Option ℕ) → StandsToHandOver r a s t c whom
     → call_act l a c ≡ act.HandOver l op → FollowsInCall r a s t c whom (reply.Value (code r s))
 
--- the word that it leaves is the word of the lock behind it, where fewer are in hand than may share
+-- the word that it leaves is the word of the lock after it, where fewer are in hand than may share
 abbrev pub HandOversCode : Type 0
 HandOversCode =
     (r : Rules) (a : Admission) (s : Site) (t l : ℕ) (c : RwLockCallPlace) (op : Op)
     (whom : Option ℕ) (hands : StandsToHandOver r a s t c whom)
     → call_act l a c ≡ act.HandOver l op → hands.taken.sharers < a.limit
     → code r s < 2 ^ 64 → a.limit < 2 ^ 60 - 1 → HasLimit r s.lock
-    → apply op (code r s) ≡ code r (behind_call r a s t c whom (reply.Value (code r s)))
+    → apply op (code r s) ≡ code r (after_call r a s t c whom (reply.Value (code r s)))
 
 -- A hand-over keeps the limit.
 abbrev pub HandOversKeepLimit : Type 0
@@ -102,11 +102,11 @@ HandOversKeepLimit =
     (r : Rules) (a : Admission) (s : Site) (t l : ℕ) (c : RwLockCallPlace) (op : Op)
     (whom : Option ℕ) (hands : StandsToHandOver r a s t c whom)
     → call_act l a c ≡ act.HandOver l op → hands.taken.sharers < a.limit → HasLimit r s.lock
-    → HasLimit r (behind_call r a s t c whom (reply.Value (code r s))).lock
+    → HasLimit r (after_call r a s t c whom (reply.Value (code r s))).lock
 
--- the lock behind it
+-- the lock after it
 abbrev pub lock_slow : Rules → Admission → Site → ℕ → RwLockCallPlace → Option ℕ → LockState
-lock_slow r a s t c whom = (behind_call r a s t c whom (reply.Value (code r s))).lock
+lock_slow r a s t c whom = (after_call r a s t c whom (reply.Value (code r s))).lock
 
 -- ---------------------------------------------------------------- steps into a section, in it, and out of it
 
@@ -234,7 +234,7 @@ FairLooksStand =
     (a : Admission) (c d : RwLockCallPlace) → call_looking a c ≡ Some d
     → (call_profile a d ≡ call_profile a c) × (CallStands a c → CallStands a d)
 
--- each step on the word that hands nothing over leaves the owners and shares of the lock behind its
+-- each step on the word that hands nothing over leaves the owners and shares of the lock after its
 -- deeds
 abbrev pub FairOwnersFollow : Type 0
 FairOwnersFollow =
@@ -244,7 +244,7 @@ FairOwnersFollow =
     → s.lock ≡ lock_seen shared o main second taken
     → lock_seen (shares_then shared t (call_shares a c (code r s) (slice_index shared t)))
     (call_owners a c t (code r s) o) main second taken
-    ≡ (behind_call r a s t c None (reply.Value (code r s))).lock
+    ≡ (after_call r a s t c None (reply.Value (code r s))).lock
 
 -- A thread that gives a right up by a hand-over leaves the owners of the lock without it, before the others
 -- have theirs.

@@ -113,7 +113,7 @@ pub fn handed_move()
     ensures { HandedMove }
 {}
 
-/// Each step on the word that hands nothing over leaves the owners of the lock behind its deeds.
+/// Each step on the word that hands nothing over leaves the owners of the lock after its deeds.
 pub fn fair_owners_follow()
     ensures { FairOwnersFollow }
 {}

@@ -1,4 +1,4 @@
--- Each operation of a semaphore leaves the word of the semaphore behind its deeds, and the permits.
+-- Each operation of a semaphore leaves the word of the semaphore after its deeds, and the permits.
 use Rattle.std.proofs.Common.{ℕ, Bool, true, false, Option, Some, None, if◌then◌else◌, ◌==◌, ◌≡◌, ◌<◌, ◌≤◌}
 use Rattle.std.proofs.Common.{◌+◌, ◌-◌, ◌*◌, ◌%◌, ◌^◌, List, [], ◌∷◌, refl, sym, ap, ◌∙◌, subst, arith}
 use Rattle.std.proofs.Common.{length, slice_index}

@@ -42,7 +42,7 @@ module _ (limit : ℕ) (s : Site) (t : ℕ) (h : IsSite (record { sort = Semapho
   abbrev v : ℕ
   v = word_of (free_in limit s) s.parked
 
-  -- deeds may be done, and the thread stands so behind them
+  -- deeds may be done, and the thread stands so after them
   abbrev Does : List Deed → Next SemaphorePlace → Type 0
   Does ds n = AllNeeded r ds s t × ((after_all r ds s t).role t ≡ role_next n)
 

@@ -1,5 +1,5 @@
 -- The laws of each step of a semaphore, at one lock and in no machine: it may do what its deeds say,
--- its next place says what the thread does then, and it leaves the word and the permits behind them.
+-- its next place says what the thread does then, and it leaves the word and the permits after them.
 use Rattle.std.specs.Prelude.{ℕ, Bool, true, Option, None, ◌==◌, not, ◌≡◌, ◌≢◌, ◌<◌, ◌≤◌, ◌^◌, drop, is_none}
 use Rattle.std.specs.Prelude.{length, slice_index}
 use Rattle.core_base.specs.declared.ops.Op.{Op}
@@ -105,7 +105,7 @@ SemaphoreStepsFollow =
     → IsAt r s t p → MayHear r s t p whom told
     → Follows r s t p whom told
 
--- the word that an operation leaves is the semaphore's behind the deeds, and so are the permits that
+-- the word that an operation leaves is the semaphore's after the deeds, and so are the permits that
 -- each thread holds
 pub record LeavesWord (r : Rules) (s : Site) (t : ℕ) (p : SemaphorePlace) (whom : Option ℕ)
     (op : Op) : Type 0 where

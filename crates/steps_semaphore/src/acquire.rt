@@ -6,7 +6,7 @@
 //! | `Decide(v)`, a permit free | exchanges `v` for `v - 2` | holds it, or `Decide` again |
 //! | `Decide(0)` | exchanges 0 for `PARKED`, or goes on from `Load` as it spins | `Decide` |
 //! | `Decide(1)` | enters the section of the queue | `Check` |
-//! | `Check` | stands behind the last of the queue, if the word is still 1 | `Leave` |
+//! | `Check` | stands after the last of the queue, if the word is still 1 | `Leave` |
 //! | `Leave` | leaves the section | `Asleep`, or `Load` where it doesn't stand in the queue |
 //! | `Asleep` | sleeps | `Taken`, or `Remove` where its time is up |
 //! | `Taken` | sleeps | `Load` at a wake |
@@ -30,7 +30,7 @@ pub enum AcquireAt {
     Decide(u64),
     /// Inside the section, before the check.
     Check,
-    /// Inside the section, behind the check.
+    /// Inside the section, after the check.
     Leave { parked: bool },
     /// In the queue.
     Asleep,
@@ -40,7 +40,7 @@ pub enum AcquireAt {
     Remove,
     /// Late, and none is left in the queue.
     Clear,
-    /// Late, behind its removal.
+    /// Late, after its removal.
     GiveUp,
 }
 
@@ -155,7 +155,7 @@ fn decided(lock: usize, seen: u64) -> Act
     Act::Enter(Keys::One(main_key(lock)))
 }
 
-/// How many permits a thread holds behind an operation on the word that saw this value.
+/// How many permits a thread holds after an operation on the word that saw this value.
 pub(super) fn acquire_shares(at: AcquireAt, seen: u64, shares: usize) -> Option<usize>
     ensures { result ≡ acquire_shares at seen shares }
 {

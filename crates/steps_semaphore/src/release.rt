@@ -76,7 +76,7 @@ pub(super) fn release_act(lock: usize, at: ReleaseAt) -> Act
     }
 }
 
-/// How many permits the thread holds behind an operation on the word.
+/// How many permits the thread holds after an operation on the word.
 pub(super) fn release_shares(at: ReleaseAt, shares: usize) -> Option<usize>
     ensures { result ≡ release_shares at shares }
 {

@@ -65,7 +65,7 @@ pub(super) fn try_act(lock: usize, at: TryAt) -> Act
     }
 }
 
-/// How many permits the thread holds behind an operation on the word that saw this value.
+/// How many permits the thread holds after an operation on the word that saw this value.
 pub(super) fn try_shares(at: TryAt, seen: u64, shares: usize) -> Option<usize>
     ensures { result ≡ try_shares at seen shares }
 {

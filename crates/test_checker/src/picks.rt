@@ -19,7 +19,7 @@ struct Picks {
 impl Picks {
     /// Whether the next waiter is let in: a thread that wants to share is, up to the stop; of the
     /// others the first is, where nothing more is kept. Where that one is a writer of a lock that
-    /// isn't recursive, the stop stands behind it.
+    /// isn't recursive, the stop stands after it.
     fn takes(&mut self, want: Want) -> bool {
         if self.has_stopped {
             return false;

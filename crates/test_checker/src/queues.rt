@@ -19,16 +19,16 @@ pub fn check_queues(before: &Seen, mover: usize, after: &Seen) -> Result<(), Vio
     Ok(())
 }
 
-/// Those that stay keep their order, and new ones stand behind them.
+/// Those that stay keep their order, and new ones stand after them.
 fn check_order(lock: usize, old: &SeenLock, new: &SeenLock) -> Result<(), Violation> {
     let mut kept = old.main.iter().filter(|waiter| new.queues(waiter.thread));
-    let mut is_behind = false;
+    let mut is_after = false;
     for waiter in new.main.iter() {
         if !old.queues(waiter.thread) {
-            is_behind = true;
+            is_after = true;
             continue;
         }
-        if is_behind || kept.next() != Some(waiter) {
+        if is_after || kept.next() != Some(waiter) {
             return Err(Violation::OutOfOrder(lock));
         }
     }

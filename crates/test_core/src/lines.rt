@@ -26,7 +26,7 @@ pub fn next_of(lot: &ParkingLot, tickets: &mut Vec<Ticket>) -> Option<Ticket>
     tickets.pop()
 }
 
-/// Stands behind the last under a key. It gives the thread's place there.
+/// Stands after the last under a key. It gives the thread's place there.
 pub fn line_up<'a, R: Wait>(
     rt: &R,
     lot: &'a ParkingLot,

@@ -136,7 +136,7 @@ const UPGRADABLE: [bool; 5] = [true, false, true, false, false];
 
 const WRITTEN: [bool; 5] = [true, true, false, false, false];
 
-// Checks all that is seen beside a reader, and behind it.
+// Checks all that is seen beside a reader, and after it.
 fn sees_readers<R: Wait>(rt: &R, lock: &AnyRwLock, token: &mut Token) -> bool
     requires { IsTokenOf (lot_of lock.now) token.old }
     ensures { IsTokenOf (lot_of lock.now) token.new }
@@ -289,9 +289,9 @@ fn fills<R: Wait>(rt: &R, lock: &AnyRwLock, token: &mut Token) -> bool
         }
         Err(_) => false,
     };
-    let behind = is_full(rt, lock, token);
+    let afterwards = is_full(rt, lock, token);
     lock.unlock_upgradable(rt, token, first);
-    filled && !before && !behind
+    filled && !before && !afterwards
 }
 
 #[test]

@@ -36,7 +36,7 @@ r 48 own=1s,1s,1s retry=2
 ",
         status: 0,
     },
-    // A fair release of the upgradable right hands it over, and leaves a thread that is behind.
+    // A fair release of the upgradable right hands it over, and leaves a thread that is after.
     Schedule {
         name: "a fair release of the upgradable right",
         lines: b"threads 3

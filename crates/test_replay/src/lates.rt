@@ -37,7 +37,7 @@ c 0
 ",
         status: 0,
     },
-    // Timed waiters give up in the queue of their mutex, stand there again behind the others, and
+    // Timed waiters give up in the queue of their mutex, stand there again after the others, and
     // can be late no more.
     Schedule {
         name: "moved waiters give up and stand again",
@@ -285,7 +285,7 @@ c 0
 ",
         status: 0,
     },
-    // Where the waiter has given up behind their look, notifications find none.
+    // Where the waiter has given up after their look, notifications find none.
     Schedule {
         name: "a waiter gives up behind a notification's look",
         lines: b"threads 3

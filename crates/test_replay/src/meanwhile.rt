@@ -313,7 +313,7 @@ c 0
 ",
         status: 0,
     },
-    // Another sets the bit of the mutex first, and stands behind the one that is moved.
+    // Another sets the bit of the mutex first, and stands after the one that is moved.
     Schedule {
         name: "another sets the bit of the mutex first",
         lines: b"threads 4

@@ -78,7 +78,7 @@ r 32 own=0s,2s
 ",
         status: 0,
     },
-    // A release wakes a reader and a thread that wants more, and leaves the reader behind them.
+    // A release wakes a reader and a thread that wants more, and leaves the reader after them.
     Schedule {
         name: "a release wakes a reader and an upgrader",
         lines: b"threads 4
@@ -402,7 +402,7 @@ b 0
 ",
         status: 0,
     },
-    // A pending writer spins before it sets its parked bit, and no more behind it.
+    // A pending writer spins before it sets its parked bit, and no more after it.
     Schedule {
         name: "a pending writer spins before it sets its bit",
         lines: b"threads 2

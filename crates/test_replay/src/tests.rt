@@ -121,7 +121,7 @@ fn answers_inputs_of_fair_releases_and_bumps(rt: HostRuntime) {
     answers(&rt, rt.alloc(), &FAIR_RELEASES);
 }
 
-/// Returns the end of a replay whose input comes in pieces, and breaks off behind them, if it is
+/// Returns the end of a replay whose input comes in pieces, and breaks off after them, if it is
 /// to.
 fn replayed_in_pieces(alloc: Global, bytes: &[u8], len: usize, is_broken: bool) -> (Vec<u8>, u8) {
     let pieces = Pieces {

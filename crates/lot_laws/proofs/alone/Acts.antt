@@ -43,10 +43,10 @@ use Rattle.spec_locks.specs.Sites.{Main}
 use Rattle.lot_laws.specs.Solo.{EntersSection}
 use Rattle.lot_laws.specs.Locations.{location, location_at}
 use Rattle.lot_laws.specs.SitesOf.{AreCondvars, AreCounted, IsInductive}
-use Rattle.lot_machine.proofs.Shape.{after_shaped, after_size, main_key_there, main_line_there}
+use Rattle.lot_machine.proofs.Shape.{after_well_formed, after_size, main_key_there, main_line_there}
 use Rattle.lot_laws.proofs.condvar.StepsKeep.{after_condvars}
 use Rattle.lot_laws.proofs.hands.CountsKept.{counted_after}
-use Rattle.lot_laws.proofs.sites.TurnsKept.{after_steady}
+use Rattle.lot_laws.proofs.sites.TurnsKept.{after_inductive}
 use Rattle.lot_laws.proofs.machine.AtPlaces.{same_without}
 use Rattle.lot_laws.proofs.promises.ExclusiveOwners.{mutex_is, mutex_owner_after}
 use Rattle.steps_base.specs.declared.owners.Owners.{Owners}
@@ -60,7 +60,7 @@ use Rattle.lot_steps.specs.Steps.{owners_after}
 pub record Facing (w : State) (t l : ℕ) (p : Place) (v : ℕ) (o : Option ℕ) (s : Option ℕ)
     (q : List Waiter) : Type 0 where
   pub shape : IsWellFormed w
-  pub steady : IsInductive w
+  pub inductive : IsInductive w
   pub counted : AreCounted w
   pub condvars : AreCondvars w
   pub thread : t < length w.places
@@ -100,10 +100,10 @@ module _ (w : State) (t l : ℕ) (p : Place) (v : ℕ) (o s : Option ℕ) (q : L
       → section_at b (2 * l) ≡ s2
       → queue_at b (2 * l) ≡ q2 → Facing (after w (go_of t)) t l p2 v2 o2 s2 q2
   faces b p2 v2 o2 s2 q2 can does places to word owner section queue = record {
-    shape = after_shaped w (go_of t) f.shape;
-    steady = after_steady w (go_of t) f.shape f.steady f.counted f.condvars;
-    counted = counted_after w (go_of t) f.shape f.steady f.counted f.condvars;
-    condvars = after_condvars w (go_of t) f.shape f.steady f.counted f.condvars;
+    shape = after_well_formed w (go_of t) f.shape;
+    inductive = after_inductive w (go_of t) f.shape f.inductive f.counted f.condvars;
+    counted = counted_after w (go_of t) f.shape f.inductive f.counted f.condvars;
+    condvars = after_condvars w (go_of t) f.shape f.inductive f.counted f.condvars;
     thread = let size : SameSize w (after w (go_of t)) = after_size w (go_of t) in rw size.threads f.thread;
     lock = let size : SameSize w (after w (go_of t)) = after_size w (go_of t) in rw size.locks f.lock;
     single = subst IsSingle to (next_single p (reply_to w t (act_of p)) f.single);
@@ -185,7 +185,7 @@ module _ (w : State) (t l : ℕ) (p : Place) (v : ℕ) (o s : Option ℕ) (q : L
         enters = subst (EntersSection (2 * l)) (sym (ap act_of f.place ∙ is)) refl;
         inside = e;
         another = λ mine. let within : (location_at (place_at w t) l).inside ≡ Some Main =
-            (f.steady.stands.sections t l Main).1 (e ∙ ap Some mine) in
+            (f.inductive.stands.sections t l Main).1 (e ∙ ap Some mine) in
             let out : (location_at (place_at w t) l).inside ≡ None = nothing_at (place_at w t) l
             (subst IsSingle (sym f.place) f.single) (λ x. x.inside) refl
             (ap (λ x. (location x).inside) f.place ∙ outside) in cc;
@@ -249,7 +249,7 @@ module _ (w : State) (t l : ℕ) (p : Place) (v : ℕ) (o s : Option ℕ) (q : L
       queue = get_or-set_same (map (without t) w.queues) (2 * l) _ [] (rw (length-map w.queues (without t))
           (main_line_there w l f.shape f.lock))
           ∙ ap (λ x. x ++ waiter (2 * l) t Exclusive ∷ [])
-          (same_without w f.steady t (subst IsSingle (sym f.place) f.single)
+          (same_without w f.inductive t (subst IsSingle (sym f.place) f.single)
           (ap (λ x. (location x).stands) f.place ∙ nowhere) l ∙ f.queue)
 
   -- the word was another

@@ -11,7 +11,7 @@ use Rattle.spec_locks.specs.Locks as locks
 use Rattle.spec_locks.specs.Purposes.{Purpose, Recall, WasMoved}
 use Rattle.spec_locks.specs.Condvars.{moved_of}
 use Rattle.spec_locks.specs.Runs.{LocksState, CallState, Event, Nothing, AtLock, IsStep, IsRun, GoesOn}
-use Rattle.spec_locks.specs.Runs.{AnswerHolds, behind_wake, going_on, is_among, is_taken_by, woken, Moves}
+use Rattle.spec_locks.specs.Runs.{AnswerHolds, after_wake, going_on, is_among, is_taken_by, woken, Moves}
 use Rattle.spec_locks.specs.Runs.{gives_up}
 use Rattle.lot_machine.specs.Machine.{go_of}
 use Rattle.lot_laws.specs.Solo.{GoesOnUntil, last_told}
@@ -85,7 +85,7 @@ woken_purpose w t (AtLock l Wake) c = either (is_taken_by t ((w.locks l).taken t
   where
     either : (b : Bool) → (if b then record c {
       retries = Some l;
-      recalls = behind_wake c.recalls;
+      recalls = after_wake c.recalls;
     } else c).purpose ≡ c.purpose
     either true = refl
     either false = refl
@@ -93,7 +93,7 @@ woken_purpose w t (AtLock l (HandOff x h)) c = either (is_taken_by t ((w.locks l
   where
     either : (b : Bool) → (if b then record c {
       retries = None;
-      recalls = behind_wake c.recalls;
+      recalls = after_wake c.recalls;
     } else c).purpose ≡ c.purpose
     either true = refl
     either false = refl
@@ -110,7 +110,7 @@ woken_former w t (AtLock l Wake) c = either (is_taken_by t ((w.locks l).taken t)
   where
     either : (b : Bool) → (if b then record c {
       retries = Some l;
-      recalls = behind_wake c.recalls;
+      recalls = after_wake c.recalls;
     } else c).former ≡ c.former
     either true = refl
     either false = refl
@@ -118,7 +118,7 @@ woken_former w t (AtLock l (HandOff x h)) c = either (is_taken_by t ((w.locks l)
   where
     either : (b : Bool) → (if b then record c {
       retries = None;
-      recalls = behind_wake c.recalls;
+      recalls = after_wake c.recalls;
     } else c).former ≡ c.former
     either true = refl
     either false = refl

@@ -54,7 +54,7 @@ use Rattle.lot_machine.specs.Machine.{place_at, put, queue_at, queues_with_last,
 use Rattle.lot_machine.specs.Machine.{state_after_act, state_after_go, step_outcome, word_at, going_outcome}
 use Rattle.lot_machine.specs.Machine.{state_after_going, kind_at}
 use Rattle.lot_machine.specs.Fits.{IsWellFormed, SameSize, IsOfItsKind}
-use Rattle.lot_machine.proofs.Shape.{after_shaped, after_size, performed_counts, put_shaped}
+use Rattle.lot_machine.proofs.Shape.{after_well_formed, after_size, performed_counts, put_well_formed}
 use Rattle.lot_laws.proofs.calls.OwnPlace.{goes_from_there, told_from_there}
 use Rattle.lot_laws.specs.SitesOf.{AreCondvars, AreCounted, IsInductive, rules_in}
 use Rattle.lot_laws.proofs.calls.Closures.{call_runs_none}
@@ -62,7 +62,7 @@ use Rattle.lot_laws.proofs.mutex.FairMutexes.{put_settled}
 use Rattle.lot_laws.specs.Locations.{role_on, location}
 use Rattle.lot_laws.specs.Refinement.{lock_seen, lock_state, taken_at}
 use Rattle.lot_laws.specs.Solo.{IsBarred, Rests}
-use Rattle.lot_laws.proofs.sites.ActsKept.{goes_steady, place_goes}
+use Rattle.lot_laws.proofs.sites.ActsKept.{goes_inductive, place_goes}
 use Rattle.lot_laws.proofs.machine.Parts.{parts_at}
 use Rattle.lot_laws.proofs.sites.OneStep.{steps_by}
 use Rattle.lot_laws.proofs.calls.PlainCalls.{never_given}
@@ -78,7 +78,7 @@ use Rattle.lot_laws.proofs.hands.Counting.{nothing}
 use Rattle.lot_laws.proofs.condvar.Rows.{names_of, stage_of}
 use Rattle.lot_laws.proofs.condvar.SameCondvars.{put_condvars}
 use Rattle.lot_laws.proofs.hands.CountsPut.{put_counted}
-use Rattle.lot_laws.proofs.sites.TurnsKept.{after_steady}
+use Rattle.lot_laws.proofs.sites.TurnsKept.{after_inductive}
 
 set_set : {A : Type 0} (xs : List A) (i : ℕ) (y z : A) → set (set xs i y) i z ≡ set xs i z
 set_set [] i y z = refl
@@ -317,7 +317,7 @@ module _ (t l : ℕ) (a : Admission) (x : Access) where
   -- in a bump that enters again
   pub record Again (w : State) (retries : Bool) (to : RwLockAt) : Type 0 where
     pub shape : IsWellFormed w
-    pub steady : IsInductive w
+    pub inductive : IsInductive w
     pub counted : AreCounted w
     pub condvars : AreCondvars w
     pub shares : Admits (rules_in w l) a
@@ -339,13 +339,14 @@ module _ (t l : ℕ) (a : Admission) (x : Access) where
       → ((k : ℕ) → lock_state v k ≡ lock_state v2 k) → BarredAs w w2 → BarredAs v v2
       → (o ≡ outcome.Step → SameEnd more more2)
       → SameEnd (alone_after o w v last more) (alone_after o w2 v2 last more2)
-  ends_same outcome.NotNow w v w2 v2 last more more2 before behind bars bars_then h = (refl, before, bars)
-  ends_same outcome.Step w v w2 v2 last more more2 before behind bars bars_then h = h refl
-  ends_same outcome.Sleep w v w2 v2 last more more2 before behind bars bars_then h = (refl, behind, bars_then)
-  ends_same (outcome.Closure state) w v w2 v2 last more more2 before behind bars bars_then h =
-      (refl, behind, bars_then)
-  ends_same (outcome.End answer) w v w2 v2 last more more2 before behind bars bars_then h =
-      (refl, behind, bars_then)
+  ends_same outcome.NotNow w v w2 v2 last more more2 before afterwards bars bars_then h = (refl, before, bars)
+  ends_same outcome.Step w v w2 v2 last more more2 before afterwards bars bars_then h = h refl
+  ends_same outcome.Sleep w v w2 v2 last more more2 before afterwards bars bars_then h =
+      (refl, afterwards, bars_then)
+  ends_same (outcome.Closure state) w v w2 v2 last more more2 before afterwards bars bars_then h =
+      (refl, afterwards, bars_then)
+  ends_same (outcome.End answer) w v w2 v2 last more more2 before afterwards bars bars_then h =
+      (refl, afterwards, bars_then)
 
   module _ (w : State) (retries : Bool) (to : RwLockAt) (g : Again w retries to) where
     abbrev p : RwLockPlace
@@ -364,7 +365,7 @@ module _ (t l : ℕ) (a : Admission) (x : Access) where
     plain_w = as_plain w t l a p
 
     small : word_at w l < 2 ^ 64
-    small = word_small w l g.steady g.shares.0
+    small = word_small w l g.inductive g.shares.0
 
     on : IsOn l a x retries to
     on = is_on l a x retries x to g.stands.place
@@ -438,8 +439,8 @@ module _ (t l : ℕ) (a : Admission) (x : Access) where
     locks_then (At q) k = locks_put acted t (RwLock l a (Plain q)) (RwLock l a (Bump q)) (λ j. refl) k
     locks_then (End answer) k = refl
 
-    locks_behind : (k : ℕ) → lock_state (after plain_w (go_of t)) k ≡ lock_state (after w (go_of t)) k
-    locks_behind k = either (is_possible w (go_of t)) refl
+    locks_afterwards : (k : ℕ) → lock_state (after plain_w (go_of t)) k ≡ lock_state (after w (go_of t)) k
+    locks_afterwards k = either (is_possible w (go_of t)) refl
       where
         either : (b : Bool) → is_possible w (go_of t) ≡ b
             → lock_state (after plain_w (go_of t)) k ≡ lock_state (after w (go_of t)) k
@@ -465,8 +466,8 @@ module _ (t l : ℕ) (a : Admission) (x : Access) where
         ∙ sym (ap act_of (get_or-set_same acted.places t (RwLock l a (Bump q)) Idle acted_there)))
     bars_then (End answer) = λ b. b
 
-    bars_behind : BarredAs (after plain_w (go_of t)) (after w (go_of t))
-    bars_behind = either (is_possible w (go_of t)) refl
+    bars_after : BarredAs (after plain_w (go_of t)) (after w (go_of t))
+    bars_after = either (is_possible w (go_of t)) refl
       where
         either : (b : Bool) → is_possible w (go_of t) ≡ b → BarredAs (after plain_w (go_of t))
             (after w (go_of t))
@@ -496,10 +497,10 @@ module _ (t l : ℕ) (a : Admission) (x : Access) where
 
       again_then : Again (after w (go_of t)) q.retries q.at
       again_then = record {
-        shape = after_shaped w (go_of t) g.shape;
-        steady = after_steady w (go_of t) g.shape g.steady g.counted g.condvars;
-        counted = counted_after w (go_of t) g.shape g.steady g.counted g.condvars;
-        condvars = after_condvars w (go_of t) g.shape g.steady g.counted g.condvars;
+        shape = after_well_formed w (go_of t) g.shape;
+        inductive = after_inductive w (go_of t) g.shape g.inductive g.counted g.condvars;
+        counted = counted_after w (go_of t) g.shape g.inductive g.counted g.condvars;
+        condvars = after_condvars w (go_of t) g.shape g.inductive g.counted g.condvars;
         shares = shares_on t l a w g.shares;
         thread = let size : SameSize w (after w (go_of t)) = after_size w (go_of t)
             in rw size.threads g.thread;
@@ -544,8 +545,8 @@ module _ (t l : ℕ) (a : Admission) (x : Access) where
       (ends_same (step_outcome w (go_of t)) (plain_w w retries to g) (after (plain_w w retries to g)
       (go_of t)) w (after w (go_of t)) last
       (solo k (after (plain_w w retries to g) (go_of t)) t outcome.Step) (solo k (after w (go_of t)) t
-      outcome.Step) (locks_here w retries to g) (locks_behind w retries to g) (bars_here w retries to g)
-      (bars_behind w retries to g)
+      outcome.Step) (locks_here w retries to g) (locks_afterwards w retries to g) (bars_here w retries to g)
+      (bars_after w retries to g)
       (λ step. let next = goes_on w retries to g step in
       subst (λ s. SameEnd (solo k s t outcome.Step) (solo k (after w (go_of t)) t outcome.Step))
       (sym (related w retries to g next.1.0 next.0 next.1.1))
@@ -556,11 +557,12 @@ module _ (t l : ℕ) (a : Admission) (x : Access) where
 
 module _ (t l : ℕ) (a : Admission) where
   -- its place in a call that only enters is as good
-  plain_steady : (w : State) (p : RwLockPlace) → IsInductive w → t < length w.places → place_at w t
+  plain_inductive : (w : State) (p : RwLockPlace) → IsInductive w → t < length w.places → place_at w t
       ≡ RwLock l a (Bump p)
       → Admits (rules_in w l) a → MayStand a p → IsInductive (put w t (RwLock l a (Plain p)))
-  plain_steady w p steady there is admits stands = goes_steady w (put w t (RwLock l a (Plain p))) l [] steady
-      (place_goes w t l steady (rw is refl) there (rules_in w l) refl (RwLock l a (Plain p)) refl (
+  plain_inductive w p inductive there is admits stands = goes_inductive w (put w t (RwLock l a (Plain p))) l
+      [] inductive
+      (place_goes w t l inductive (rw is refl) there (rules_in w l) refl (RwLock l a (Plain p)) refl (
         admits,
         stands,
       ) [] (λ h. tt)
@@ -574,12 +576,12 @@ module _ (t l : ℕ) (a : Admission) where
       → StepsAlone w t l (RwLock l a (Bump p)) v q → StepsAlone (as_plain w t l a p) t l
       (RwLock l a (Plain p)) v q
   plain_alone w p v q shares may f = record {
-    shape = put_shaped w t (RwLock l a (Plain p)) f.shape (
+    shape = put_well_formed w t (RwLock l a (Plain p)) f.shape (
       f.lock,
       subst (IsOfItsKind (kind_at w)) f.place
           (f.shape.kinds t),
     );
-    steady = plain_steady w p f.steady f.thread f.place shares may;
+    inductive = plain_inductive w p f.inductive f.thread f.place shares may;
     counted = put_counted w t (RwLock l a (Plain p)) f.thread (sym (ap held f.place)) (λ k. nothing (l == k))
         f.counted;
     condvars = put_condvars w t (RwLock l a (Plain p)) f.thread (λ k. (
@@ -605,7 +607,7 @@ module _ (t l : ℕ) (a : Admission) where
       (solo k w t last)
   as_entry x retries to v w q shares may f k last = same_run t l a x k w retries to last (record {
     shape = f.shape;
-    steady = f.steady;
+    inductive = f.inductive;
     counted = f.counted;
     condvars = f.condvars;
     shares = shares;
@@ -616,7 +618,7 @@ module _ (t l : ℕ) (a : Admission) where
 
   small_at : (w : State) (v : ℕ) (q : Line → List Waiter) (c : RwLockCallPlace) → Shares t l a w
       → StepsAlone w t l (RwLock l a c) v q → v < 2 ^ 64
-  small_at w v q c shares f = subst (λ n. n < 2 ^ 64) f.word (word_small w l f.steady shares.0)
+  small_at w v q c shares f = subst (λ n. n < 2 ^ 64) f.word (word_small w l f.inductive shares.0)
 
   entry_rests : (x : Access) (retries : Bool) (to : RwLockAt) (v : ℕ) (w : State) (q : Line → List Waiter)
       → Shares t l a w

@@ -43,7 +43,8 @@ use Rattle.lot_machine.specs.Machine.{queue_at, section_at, solo, step_outcome, 
 use Rattle.lot_laws.specs.Refinement.{call_at, call_state, lock_state, locks_of}
 use Rattle.lot_laws.specs.SitesOf.{IsInductive, IsWorld, key_of, rules_in, site_of}
 use Rattle.lot_laws.specs.Locations.{role_on}
-use Rattle.lot_laws.specs.Solo.{BumpsShared, ComesBack, EndsAlone, locks_behind, EntersAlone, BumpGivesWay}
+use Rattle.lot_laws.specs.Solo.{BumpsShared, ComesBack, EndsAlone, locks_afterwards, EntersAlone}
+use Rattle.lot_laws.specs.Solo.{BumpGivesWay}
 use Rattle.lot_laws.specs.Solo.{MayEnterAtOnce, NeedsNoWay, Rests, WaitsAlone, WaitsForReaders, EntersSection}
 use Rattle.lot_laws.specs.Solo.{HasWhatItReads, IsBarred}
 use Rattle.lot_laws.specs.WorldRuns.{IsWorldRun}
@@ -60,7 +61,7 @@ use Rattle.lot_laws.proofs.alone.RwLockEnds.{downgrades_alone, enters_alone, exc
 use Rattle.lot_laws.proofs.alone.RwLockEnds.{releases_alone, tries_upgrade, upgradable_released}
 use Rattle.lot_laws.proofs.alone.RwLockEnds.{upgrades_alone}
 
--- --------------------------------------------- some steps of a thread alone, behind each of which it goes on
+-- --------------------------------------------- some steps of a thread alone, after each of which it goes on
 
 steps_run : (n : ℕ) (w : State) (t : ℕ) → IsWorld w → step_outcomes w (replicate n (go_of t))
     ≡ replicate n outcome.Step
@@ -160,10 +161,10 @@ module _ (w : State) (t l : ℕ) (a : Admission) (x : Access) (holds : IsWorld w
   word = word_at w l
 
   tells : TellsTrue (rules_in w l) (site_of w l)
-  tells = words_tell_true (rules_in w l) (site_of w l) admits.0 (holds.steady.sites.site l)
+  tells = words_tell_true (rules_in w l) (site_of w l) admits.0 (holds.inductive.sites.site l)
 
   coded : word ≡ code (rules_in w l) (site_of w l)
-  coded = holds.steady.sites.word l
+  coded = holds.inductive.sites.word l
 
   role_now : role_on (place_at w t) l ≡ call_role (Glance x)
   role_now = ap (λ p. role_on p l) is ∙ role_here l (RwLock l a (Glance x)) refl
@@ -185,7 +186,7 @@ module _ (w : State) (t l : ℕ) (a : Admission) (x : Access) (holds : IsWorld w
   -- ---------------------------------------------------------------- when it gives way
 
   site : IsSite (rules_in w l) (site_of w l)
-  site = holds.steady.sites.site l
+  site = holds.inductive.sites.site l
 
   -- a thread that is to set the bit of a lock that is shared has taken waiters
   covers : (u : ℕ) → ((site_of w l).role u).sets ≡ true → ((site_of w l).role u).covers ≡ true
@@ -202,7 +203,7 @@ module _ (w : State) (t l : ℕ) (a : Admission) (x : Access) (holds : IsWorld w
     | inl h ↦ ap has_parked coded ∙ tells.parked ∙ h
     | inr h ↦ absurd (
         let covered = site.covered h.0 (covers h.0 h.1) in
-        let inside : section_at w (key_of l Main) ≡ Some h.0 = (holds.steady.stands.sections h.0 l Main).0
+        let inside : section_at w (key_of l Main) ≡ Some h.0 = (holds.inductive.stands.sections h.0 l Main).0
         (sym (inside_is (place_at w h.0) l) ∙ covered.0) in
         let here : (role_on (place_at w t) l).sets ≡ true =
         subst (λ u. (role_on (place_at w u) l).sets ≡ true) (way h.0 inside) h.1 in
@@ -336,7 +337,7 @@ module _ (w : State) (t l : ℕ) (a : Admission) (x : Access) (holds : IsWorld w
     -- where it comes to what a call comes to that enters
     comes_so : EntersAlone (word_at plain_w l ≡ 0) (locks_of plain_w) t l (wanted x) Patient
         (solo e.room plain_w t outcome.NotNow).outcome (locks_of (solo e.room plain_w t outcome.NotNow).state)
-        → ComesBack (locks_behind w t) (locks_of w) t l (wanted x) o (locks_of v2)
+        → ComesBack (locks_afterwards w t) (locks_of w) t l (wanted x) o (locks_of v2)
     comes_so h = record {
       steps = e.steps;
       run = run_there;
@@ -350,12 +351,12 @@ module _ (w : State) (t l : ℕ) (a : Admission) (x : Access) (holds : IsWorld w
           (same_ends.0 ∙ ap (λ (r : Ran). r.outcome) from_there ∙ e.outcome_is) x h;
     }
 
-    comes_back : ComesBack (locks_behind w t) (locks_of w) t l (wanted x) o (locks_of v2) ⊎ IsBarred v2 t
-    comes_back = elim (enters_alone plain_w t l a x Patient e.room outcome.NotNow e.enough plain.steady
+    comes_back : ComesBack (locks_afterwards w t) (locks_of w) t l (wanted x) o (locks_of v2) ⊎ IsBarred v2 t
+    comes_back = elim (enters_alone plain_w t l a x Patient e.room outcome.NotNow e.enough plain.inductive
         e.shares plain.place
         (record {
           shape = plain.shape;
-          steady = plain.steady;
+          inductive = plain.inductive;
           counted = plain.counted;
           condvars = plain.condvars;
           settled = plain.settled;
@@ -367,8 +368,8 @@ module _ (w : State) (t l : ℕ) (a : Admission) (x : Access) (holds : IsWorld w
           queue = λ m. refl;
         })
         (runs_alone e.room plain_w t (record {
-          shaped = plain.shape;
-          steady = plain.steady;
+          well_formed = plain.shape;
+          inductive = plain.inductive;
           counted = plain.counted;
           condvars = plain.condvars;
           settled = plain.settled;
@@ -379,12 +380,13 @@ module _ (w : State) (t l : ℕ) (a : Admission) (x : Access) (holds : IsWorld w
         ]
 
   pub bumps_shared : HasWhatItReads w t (Some (Bumps l (wanted x))) → Ends t l a (gives_way a x word) x w v2 o
-      → BumpsShared (has_parked word ≡ false) (locks_behind w t) (locks_of w) t l (wanted x) o (locks_of v2)
+      → BumpsShared (has_parked word ≡ false) (locks_afterwards w t) (locks_of w) t l (wanted x) o
+      (locks_of v2)
       ⊎ IsBarred v2 t
   bumps_shared reads h = either (gives_way a x word) refl
     where
       either : (b : Bool) → gives_way a x word ≡ b
-          → BumpsShared (has_parked word ≡ false) (locks_behind w t) (locks_of w) t l (wanted x) o
+          → BumpsShared (has_parked word ≡ false) (locks_afterwards w t) (locks_of w) t l (wanted x) o
           (locks_of v2) ⊎ IsBarred v2 t
       either true gives = or_so (λ back. record {
         gives_way = λ g. back;
@@ -405,10 +407,10 @@ pub rwlock_alone : (w : State) (t l : ℕ) (a : Admission) (c : RwLockCall) (n :
     → HasWhatItReads w t (Some (rwlock_purpose l c))
     → EndsAlone w t (Some (rwlock_purpose l c)) (solo n w t last).outcome (solo n w t last).state
     ⊎ IsBarred (solo n w t last).state t
-rwlock_alone w t l a c n last le steady admits is f run reads = by_call c is f reads
+rwlock_alone w t l a c n last le inductive admits is f run reads = by_call c is f reads
   where
     small : word_at w l < 2 ^ 64
-    small = word_small w l steady admits.0
+    small = word_small w l inductive admits.0
 
     v2 : State
     v2 = (solo n w t last).state
@@ -420,45 +422,46 @@ rwlock_alone w t l a c n last le steady admits is f run reads = by_call c is f r
         → StepsAlone w t l (RwLock l a (call_first c)) (word_at w l) (λ m. queue_at w (key_of l m))
         → HasWhatItReads w t (Some (rwlock_purpose l c))
         → EndsAlone w t (Some (rwlock_purpose l c)) x v2 ⊎ IsBarred v2 t
-    by_call (call.Enter y how) is f reads = enters_alone w t l a y how n last (omega arith) steady admits is f
+    by_call (call.Enter y how) is f reads = enters_alone w t l a y how n last (omega arith) inductive admits
+        is f
         run
-    by_call (call.Release y) is f reads = or_so (releases_alone w t l a steady admits v2 x run y is)
+    by_call (call.Release y) is f reads = or_so (releases_alone w t l a inductive admits v2 x run y is)
         (release_ends t l a y false (word_at w l) w (λ m. queue_at w (key_of l m)) f n last (omega arith))
-    by_call (call.Downgrade d) is f reads = or_so (downgrades_alone w t l a steady admits v2 x run d is)
+    by_call (call.Downgrade d) is f reads = or_so (downgrades_alone w t l a inductive admits v2 x run d is)
         (downgrade_ends t l a d false (word_at w l) w (λ m. queue_at w (key_of l m)) f n last (omega arith))
-    by_call (call.Upgrade Try) is f reads = or_so (tries_upgrade w t l a steady admits v2 x run is)
+    by_call (call.Upgrade Try) is f reads = or_so (tries_upgrade w t l a inductive admits v2 x run is)
         (load_leads t l a _ (word_at w l) w (λ m. queue_at w (key_of l m)) small f n last (omega arith))
     by_call (call.Upgrade Patient) is f reads =
-        or_so (upgrades_alone w t l a steady admits v2 x run Patient (λ h. cc) is)
+        or_so (upgrades_alone w t l a inductive admits v2 x run Patient (λ h. cc) is)
         (upgrade_leads t l a Patient false (word_at w l) w (λ m. queue_at w (key_of l m)) f n last
         (omega arith))
     by_call (call.Upgrade Timed) is f reads =
-        or_so (upgrades_alone w t l a steady admits v2 x run Timed (λ h. cc) is)
+        or_so (upgrades_alone w t l a inductive admits v2 x run Timed (λ h. cc) is)
         (upgrade_leads t l a Timed false (word_at w l) w (λ m. queue_at w (key_of l m)) f n last
         (omega arith))
     by_call (call.ReleaseFair access.Shared) is f reads =
-        or_so (releases_alone w t l a steady admits v2 x run access.Shared is)
+        or_so (releases_alone w t l a inductive admits v2 x run access.Shared is)
         (release_ends t l a access.Shared false (word_at w l) w (λ m. queue_at w (key_of l m)) f n last
         (omega arith))
     by_call (call.ReleaseFair access.Upgradable) is f reads =
-        or_so (λ h. upgradable_released w t l a steady admits v2 x run is (h.1 refl))
+        or_so (λ h. upgradable_released w t l a inductive admits v2 x run is (h.1 refl))
         (hands_over_rest t l a access.Upgradable false handing.Load tt (word_at w l) w
         (λ m. queue_at w (key_of l m)) admits f n last (omega arith))
     by_call (call.ReleaseFair access.Exclusive) is f reads =
-        or_so (λ h. exclusive_released w t l a steady admits v2 x run is (h.1 refl))
+        or_so (λ h. exclusive_released w t l a inductive admits v2 x run is (h.1 refl))
         (hands_over_rest t l a access.Exclusive false (handing.Free 8) refl (word_at w l) w
         (λ m. queue_at w (key_of l m)) admits f n last (omega arith))
     by_call (call.Bump y) is f reads =
         elim (glance_rests t l a y (word_at w l) w (λ m. queue_at w (key_of l m)) admits f n last
         (omega arith)) [
           | inl h ↦ or_so (λ shared. (
-            (λ mutex. no_mutex w t l a steady admits v2 x run mutex),
+            (λ mutex. no_mutex w t l a inductive admits v2 x run mutex),
             λ readers.
                 shared,
           ))
               (bumps_shared w t l a y (record {
-                shaped = f.shape;
-                steady = f.steady;
+                well_formed = f.shape;
+                inductive = f.inductive;
                 counted = f.counted;
                 condvars = f.condvars;
                 settled = f.settled;

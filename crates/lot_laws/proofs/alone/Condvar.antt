@@ -50,10 +50,10 @@ Keeps t = (v : State) → IsWorld v → IsWorld (after v (go_of t))
 
 module _ (t l m : ℕ) (keeps : Keeps t) (w : State) (p : CondvarPlace) (g : GoesAlone w t l m p) where
   pub reached : IsReached p
-  reached = (fits_here w t l p g.world.steady g.place).reached
+  reached = (fits_here w t l p g.world.inductive g.place).reached
 
   fits : PlaceFits (length w.locks) (Condvar l p)
-  fits = subst (PlaceFits (length w.locks)) g.place (g.world.shaped.places t)
+  fits = subst (PlaceFits (length w.locks)) g.place (g.world.well_formed.places t)
 
   pub lock_there : l < length w.locks
   lock_there = fits.0
@@ -72,7 +72,7 @@ module _ (t l m : ℕ) (keeps : Keeps t) (w : State) (p : CondvarPlace) (g : Goe
     enters = subst (λ x. EntersSection (2 * k) (act_of x)) (sym g.place) enters;
     inside = e;
     another = λ mine. let within : (location_at (place_at w t) k).inside ≡ Some Main =
-        (g.world.steady.stands.sections t k Main).1 (e ∙ ap Some mine) in
+        (g.world.inductive.stands.sections t k Main).1 (e ∙ ap Some mine) in
         let both : ◌≡◌ {A = Option Line} None (Some Main) = sym outside ∙ within in cc;
   }
 
@@ -89,13 +89,13 @@ module _ (t l m : ℕ) (keeps : Keeps t) (w : State) (p : CondvarPlace) (g : Goe
   pub free_here : EntersSection (2 * l) (condvar_act l p) → (location_by (condvar_profile p)).inside ≡ None
       → (section_at w (2 * l) ≡ None) ⊎ IsBarred w t
   free_here enters outside = free_or_barred l enters (ap (λ (y : Location). y.inside)
-      (location_there w g.world.steady.stands t l p g.place) ∙ outside)
+      (location_there w g.world.inductive.stands t l p g.place) ∙ outside)
 
   pub free_beside : EntersSection (2 * m) (condvar_act l p) → mutex_beside p ≡ Some m
       → (location_by (mutex_side p)).inside ≡ None
       → (section_at w (2 * m) ≡ None) ⊎ IsBarred w t
   free_beside enters beside outside = free_or_barred m enters (ap (λ (y : Location). y.inside)
-      (location_beside w t l p g.world.steady g.place m beside) ∙ outside)
+      (location_beside w t l p g.world.inductive g.place m beside) ∙ outside)
 
   -- where it goes, at first or once its act has befallen it too
   module _ (can : can_do w (condvar_act l p) ≡ true) where
@@ -125,10 +125,10 @@ module _ (t l m : ℕ) (keeps : Keeps t) (w : State) (p : CondvarPlace) (g : Goe
     pub queue_then : (lock_state (after w (go_of t)) l).queue
         ≡ (after_condvar_deeds (condvar_deeds p told) (condvar_of w l) t).waiters
     queue_then = so_then (λ s. (lock_state s l).queue) (λ q. refl)
-        ∙ (goes_led w t l p g.world.shaped g.world.steady g.place lock_there can).1
+        ∙ (goes_led w t l p g.world.well_formed g.world.inductive g.place lock_there can).1
 
     pub hears : MayHear (condvar_of w l) t p told
-    hears = may_hear w t l p g.world.steady g.place can
+    hears = may_hear w t l p g.world.inductive g.place can
 
     -- after the act it stands here
     module _ (q : CondvarPlace) (stays : place_at acted t ≡ Condvar l q) where
@@ -150,19 +150,20 @@ module _ (t l m : ℕ) (keeps : Keeps t) (w : State) (p : CondvarPlace) (g : Goe
       }
 
   -- the steps left after a step: none where it rests, and else the rest
-  abbrev pub Behind : (State → Outcome → Type 0) → ℕ → Next CondvarPlace → Type 0
-  Behind P k (next.End answer) = P (after w (go_of t)) (outcome.End answer)
-  Behind P k (next.At q) = GoesAlone (after w (go_of t)) t l m q
+  abbrev pub Afterwards : (State → Outcome → Type 0) → ℕ → Next CondvarPlace → Type 0
+  Afterwards P k (next.End answer) = P (after w (go_of t)) (outcome.End answer)
+  Afterwards P k (next.At q) = GoesAlone (after w (go_of t)) t l m q
       → ((outcome_of (condvar_act l q) ≡ outcome.Sleep) × P (after w (go_of t)) outcome.Sleep)
       ⊎ ((outcome_of (condvar_act l q) ≡ outcome.Step) × Leads k (after w (go_of t)) t P)
 
-  pub leads_behind : (can : can_do w (condvar_act l p) ≡ true) (P : State → Outcome → Type 0) (k : ℕ)
+  pub leads_afterwards : (can : can_do w (condvar_act l p) ≡ true) (P : State → Outcome → Type 0) (k : ℕ)
       (q : CondvarPlace)
       → place_at (state_after_act w t (Condvar l p) (condvar_act l p)) t ≡ Condvar l q
-      → Behind P k (condvar_next q (reply_to w t (condvar_act l p))) → Leads (k + 1) w t P
-  leads_behind can P k q stays = by_next (condvar_next q (reply_to w t (condvar_act l p))) refl
+      → Afterwards P k (condvar_next q (reply_to w t (condvar_act l p))) → Leads (k + 1) w t P
+  leads_afterwards can P k q stays = by_next (condvar_next q (reply_to w t (condvar_act l p))) refl
     where
-      by_next : (n : Next CondvarPlace) → condvar_next q (reply_to w t (condvar_act l p)) ≡ n → Behind P k n
+      by_next : (n : Next CondvarPlace) → condvar_next q (reply_to w t (condvar_act l p)) ≡ n
+          → Afterwards P k n
           → Leads (k + 1) w t P
       by_next (next.End answer) e h = leads_more 1 (k + 1) w t P (omega arith)
           (leads_rest w t P (outcome.End answer) (told_so can q stays

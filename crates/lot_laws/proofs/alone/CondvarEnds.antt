@@ -47,7 +47,7 @@ module _ (t : ℕ) (keeps : Keeps t) (w : State) (world : IsWorld w) (there : t 
   pub condvar_rests : (p : CondvarPlace) → place_at w t ≡ Condvar l p → condvar_act l p ≢ act.Sleep
       → Leads 17 w t (λ v o. Rests o)
   condvar_rests (Wait m timed at) is up = wait_rests t l m keeps timed w at
-      (fits_here w t l (Wait m timed at) world.steady is).reached up (goes_alone m (Wait m timed at) is)
+      (fits_here w t l (Wait m timed at) world.inductive is).reached up (goes_alone m (Wait m timed at) is)
   condvar_rests (Look all) is up = leads_more 9 17 w t (λ v o. Rests o) (omega arith)
       (looks_at all is (λ v o. Rests o) (λ m g. look_rests t l m keeps w all g))
   condvar_rests (Notify all m at) is up = leads_more 8 17 w t (λ v o. Rests o) (omega arith)
@@ -61,9 +61,9 @@ module _ (t : ℕ) (keeps : Keeps t) (w : State) (world : IsWorld w) (there : t 
       by_who : (o : Option ℕ) → section_at w (2 * l) ≡ o → section_at w (2 * l) ≡ None
       by_who None e = e
       by_who (Some u) e = absurd (let within : (location_at (place_at w t) l).inside ≡ Some Main =
-          (world.steady.stands.sections t l Main).1 (e ∙ ap Some (only u e)) in
+          (world.inductive.stands.sections t l Main).1 (e ∙ ap Some (only u e)) in
           let outside : (location_at (place_at w t) l).inside ≡ None = ap (λ (y : Location). y.inside)
-          (location_there w world.steady.stands t l (Look all) is) in
+          (location_there w world.inductive.stands t l (Look all) is) in
           let both : ◌≡◌ {A = Option Line} None (Some Main) = sym outside ∙ within in cc)
 
   -- from its beginning

@@ -103,9 +103,9 @@ module _ (t l : ℕ) (a : Admission) where
     outcome_is = refl;
   })
 
-  again_behind : (x : Access) (w v : State) (o : Outcome) → step_outcome w (go_of t) ≡ outcome.Step
+  again_after : (x : Access) (w v : State) (o : Outcome) → step_outcome w (go_of t) ≡ outcome.Step
       → EntersAgain x (after w (go_of t)) v o → EntersAgain x w v o
-  again_behind x w v o told h = record {
+  again_after x w v o told h = record {
     steps = suc h.steps;
     told = λ i. told i ∷ h.told i;
     word = h.word;
@@ -131,7 +131,7 @@ module _ (t l : ℕ) (a : Admission) where
       → Leads (k + 1) w t (Ends b x w)
   goes b x k v w q c told shares more comes on = leads_step w t (Ends b x w) k step
       (leads_so k (after w (go_of t)) t (Ends b x (after w (go_of t))) (Ends b x w)
-      (λ v o h. (λ e. again_behind x w v o step (h.0 e), h.1)) (on (shares_on w shares) comes.1))
+      (λ v o h. (λ e. again_after x w v o step (h.0 e), h.1)) (on (shares_on w shares) comes.1))
     where
       step : step_outcome w (go_of t) ≡ outcome.Step
       step = comes.0 ∙ more

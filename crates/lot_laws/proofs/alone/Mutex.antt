@@ -36,7 +36,7 @@ use Rattle.lot_machine.specs.Machine.{State, place_at, word_at, queue_at, go_of,
 use Rattle.lot_machine.specs.Machine.{is_there}
 use Rattle.lot_laws.specs.MutexPromises.{IsMutexWord}
 use Rattle.spec_locks.specs.Sites.{Site}
-use Rattle.lot_laws.specs.MutexDeeds.{acts, take_deeds, queued}
+use Rattle.lot_laws.specs.ThreadDeeds.{acts, take_deeds, queued}
 use Rattle.lot_laws.specs.Locations.{Location, hand}
 use Rattle.lot_laws.specs.SitesOf.{IsInductive, Goes, hand_at}
 use Rattle.lot_laws.proofs.promises.ExclusiveOwners.{by_code, mutex_owner_after}
@@ -118,7 +118,8 @@ module _ (t l : ℕ) (entry : Entry) (q : List Waiter) where
 
   coded : (w : State) (at : MutexPlace) (v : ℕ) (o s : Option ℕ) → Facing w t l (Mutex l at) v o s q
       → IsMutexWord v o
-  coded w at v o s f = let c : IsMutexWord (word_at w l) (owner_at w l) = coded_for w f.steady t l at f.place
+  coded w at v o s f = let c : IsMutexWord (word_at w l) (owner_at w l) = coded_for w f.inductive t l at
+      f.place
       in rw (f.word, f.owner) at c
 
   load_leads : (retries : Bool) (v : ℕ) (o s : Option ℕ) (w : State)
@@ -408,7 +409,7 @@ none_waits t l at v o [] w f below = refl
 none_waits t l at v o (x ∷ q) w f below = absurd (
     let first : first_of (queue_at w (2 * l)) ≡ Some x.thread = ap first_of f.queue in
     let parked : is_parked v ≡ true = subst (λ n. is_parked n ≡ true) f.word
-    (parked_at w f.steady x.thread l (rules_for w f.steady t l at f.place) f.section
+    (parked_at w f.inductive x.thread l (rules_for w f.inductive t l at f.place) f.section
     (first_times x.thread (queue_at w (2 * l)) first)) in
     let clear : is_parked v ≡ false = unparked_below v below in cc
     )
@@ -483,14 +484,16 @@ module _ (t l : ℕ) where
 
     heir_first : (o : Owners) → owners_handed_over (after w (go_of t)) t l o ≡ with_exclusive o
         (Some x.thread)
-    heir_first = successor_one (after w (go_of t)) t l x.thread false (aparts (after w (go_of t)) steady_then)
-        steady_then.stands.hands (single_at (after w (go_of t)) t l
-        (HandOff bumps (hand_off.Store true (length rest == 0))) steady_then here.place)
+    heir_first = successor_one (after w (go_of t)) t l x.thread false (aparts (after w (go_of t))
+        inductive_then)
+        inductive_then.stands.hands (single_at (after w (go_of t)) t l
+        (HandOff bumps (hand_off.Store true (length rest == 0))) inductive_then here.place)
         (of_carries l (place_at (after w (go_of t)) t) (rw here.place refl))
         (subst (λ (z : State). hand_at (place_at z x.thread) l ≡ hand t false) (sym led) held)
-        (alone_at (after w (go_of t)) t l (HandOff bumps (hand_off.Store true (length rest == 0))) steady_then
+        (alone_at (after w (go_of t)) t l (HandOff bumps (hand_off.Store true (length rest == 0)))
+        inductive_then
         here.place) (unshared_at (after w (go_of t)) t l
-        (HandOff bumps (hand_off.Store true (length rest == 0))) steady_then here.place)
+        (HandOff bumps (hand_off.Store true (length rest == 0))) inductive_then here.place)
       where
         led : after w (go_of t) ≡ taken_then
         led = act_led w t l (Mutex l taking) v o s (x ∷ rest) f refl
@@ -499,11 +502,11 @@ module _ (t l : ℕ) where
             (Mutex l (HandOff bumps (hand_off.Store true (length rest == 0)))) v o s rest
         here = (take_faces w t l (Mutex l taking) v o s (x ∷ rest) f refl).1
 
-        steady_then : IsInductive (after w (go_of t))
-        steady_then = here.steady
+        inductive_then : IsInductive (after w (go_of t))
+        inductive_then = here.inductive
 
         goes : (whom : Option ℕ) × Goes w taken_then l (acts t (take_deeds whom))
-        goes = let g = goes_mutex w t l taking f.steady f.shape f.thread f.lock f.place refl
+        goes = let g = goes_mutex w t l taking f.inductive f.shape f.thread f.lock f.place refl
             in (g.whom, subst (Goes w taken_then l) (append-nil (acts t (take_deeds g.whom))) g.goes)
 
         held : hand_at (place_at taken_then x.thread) l ≡ hand t false
@@ -555,7 +558,7 @@ module _ (t l : ℕ) where
       refl)
     where
       owned : o ≡ Some t
-      owned = sym f.owner ∙ owns w f.steady t l Bump f.place refl
+      owned = sym f.owner ∙ owns w f.inductive t l Bump f.place refl
 
       either : (b : Bool) → is_parked v ≡ b
           → Faces w t l (mutex_goes l (looked true b)) (outcome_of (mutex_does l (looked true b))) v o None q
@@ -623,15 +626,16 @@ module _ (t l : ℕ) where
   hand_off_rests bumps (hand_off.Store false none_left) v o s q w f = fair_rests 8 bumps None q w
       (omega arith) (store_leads bumps none_left None q v o s w f (λ u e. absurd cc))
   hand_off_rests bumps (hand_off.Store true none_left) v o s q w f =
-      let one : (u : ℕ) × (hand_at (place_at w u) l ≡ hand t false) = f.steady.stands.hands.carried t l false
+      let one : (u : ℕ) × (hand_at (place_at w u) l ≡ hand t false) = f.inductive.stands.hands.carried t l
+      false
       (ap (λ (x : Location). x.carries)
       (own_stance l (place_at w t) (HandOff bumps (hand_off.Store true none_left)) f.place)) in
       fair_rests 8 bumps (Some one.0) q w (omega arith) (store_leads bumps none_left (Some one.0) q v o s w f
-      (λ u e o2. successor_one w t l one.0 false (aparts w f.steady) f.steady.stands.hands
-      (single_at w t l (HandOff bumps (hand_off.Store true none_left)) f.steady f.place)
+      (λ u e o2. successor_one w t l one.0 false (aparts w f.inductive) f.inductive.stands.hands
+      (single_at w t l (HandOff bumps (hand_off.Store true none_left)) f.inductive f.place)
       (of_carries l (place_at w t) (rw f.place refl)) one.1
-      (alone_at w t l (HandOff bumps (hand_off.Store true none_left)) f.steady f.place)
-      (unshared_at w t l (HandOff bumps (hand_off.Store true none_left)) f.steady f.place) o2
+      (alone_at w t l (HandOff bumps (hand_off.Store true none_left)) f.inductive f.place)
+      (unshared_at w t l (HandOff bumps (hand_off.Store true none_left)) f.inductive f.place) o2
       ∙ ap (λ (z : Option ℕ). with_exclusive o2 z) e))
   hand_off_rests bumps (hand_off.Leave any) v o s q w f = fair_rests 7 bumps o q w (omega arith)
       (told_leads bumps any q v o s w f)

@@ -28,8 +28,8 @@ use Rattle.lot_machine.specs.Machine.{state_after_act, word_at}
 use Rattle.lot_laws.specs.Refinement.{lock_state}
 use Rattle.lot_laws.specs.SitesOf.{condvar_of}
 use Rattle.lot_laws.specs.Solo.{Rests}
-use Rattle.lot_laws.proofs.alone.Condvar.{Behind, GoesAlone, Keeps, free_beside, free_here, hears}
-use Rattle.lot_laws.proofs.alone.Condvar.{leads_behind, queue_then, reached, so_then, word_then}
+use Rattle.lot_laws.proofs.alone.Condvar.{Afterwards, GoesAlone, Keeps, free_beside, free_here, hears}
+use Rattle.lot_laws.proofs.alone.Condvar.{leads_afterwards, queue_then, reached, so_then, word_then}
 use Rattle.lot_laws.proofs.condvar.OwnStand.{notifier_still}
 use Rattle.lot_laws.proofs.machine.Parts.{same}
 use Rattle.lot_laws.proofs.alone.Leads.{leads_barred, Leads, leads_more, leads_so}
@@ -50,9 +50,9 @@ module _ (t l m : ℕ) (keeps : Keeps t) where
   Ends all number q v o = (o ≡ outcome.End (notified all number)) × ((lock_state v l).queue ≡ q)
 
   module _ (w : State) (all : Bool) (at : NotifyAt) (g : Alone w all at) where
-    -- tells what is left to do behind this reply
+    -- tells what is left to do after this reply
     abbrev Left : (State → Outcome → Type 0) → ℕ → Reply → Type 0
-    Left P k r = Behind t l m keeps w (Notify all m at) g P k (condvar_next (Notify all m at) r)
+    Left P k r = Afterwards t l m keeps w (Notify all m at) g P k (condvar_next (Notify all m at) r)
 
     stays : place_at (state_after_act w t (Condvar l (Notify all m at)) (notify_act all l m at)) t
         ≡ Condvar l (Notify all m at)
@@ -60,7 +60,8 @@ module _ (t l m : ℕ) (keeps : Keeps t) where
 
     goes : (P : State → Outcome → Type 0) (k : ℕ) → can_do w (notify_act all l m at) ≡ true
         → Left P k (reply_to w t (notify_act all l m at)) → Leads (k + 1) w t P
-    goes P k can left = leads_behind t l m keeps w (Notify all m at) g can P k (Notify all m at) stays left
+    goes P k can left = leads_afterwards t l m keeps w (Notify all m at) g can P k (Notify all m at) stays
+        left
 
     queue_is : (can : can_do w (notify_act all l m at) ≡ true)
         → (lock_state (after w (go_of t)) l).queue
@@ -106,11 +107,11 @@ module _ (t l m : ℕ) (keeps : Keeps t) where
   -- the first is moved or taken
   module _ (w : State) (locked : Bool) (q : List Queued) (g : Alone w false (notify.Move locked))
       (left : (lock_state (after w (go_of t)) l).queue ≡ q) where
-    one_behind : (any none_left : Bool)
-        → Behind t l m keeps w (Notify false m (notify.Move locked)) g (Ends false 1 q) 2
+    one_after : (any none_left : Bool)
+        → Afterwards t l m keeps w (Notify false m (notify.Move locked)) g (Ends false 1 q) 2
         (next.At (Notify false m (moved_one any none_left)))
-    one_behind any true h = inr (refl, clears (after w (go_of t)) false any q left h)
-    one_behind any false h = inr (
+    one_after any true h = inr (refl, clears (after w (go_of t)) false any q left h)
+    one_after any false h = inr (
       refl,
       leads_more 1 2 (after w (go_of t)) t (Ends false 1 q) (omega arith)
           (leaves (after w (go_of t)) false any 1 q left h),
@@ -119,11 +120,11 @@ module _ (t l m : ℕ) (keeps : Keeps t) where
   -- A notification of all moves each waiter.
   module _ (w : State) (locked : Bool) (number : ℕ) (q : List Queued) (g : Alone w true (notify.Move locked))
       (left : (lock_state (after w (go_of t)) l).queue ≡ q) where
-    all_behind : (some : Bool)
-        → Behind t l m keeps w (Notify true m (notify.Move locked)) g (Ends true number q) 2
+    all_after : (some : Bool)
+        → Afterwards t l m keeps w (Notify true m (notify.Move locked)) g (Ends true number q) 2
         (next.At (Notify true m (if some then notify.MarkMoved number else notify.Leave (not locked) number)))
-    all_behind true h = inr (refl, sets_bit (after w (go_of t)) true number q left h)
-    all_behind false h = inr (
+    all_after true h = inr (refl, sets_bit (after w (go_of t)) true number q left h)
+    all_after false h = inr (
       refl,
       leads_more 1 2 (after w (go_of t)) t (Ends true number q) (omega arith)
           (leaves (after w (go_of t)) true (not locked) number q left h),
@@ -133,10 +134,10 @@ module _ (t l m : ℕ) (keeps : Keeps t) where
       → Alone w all (notify.Move locked)
       → Leads 3 w t (Ends all (moved_number all q) (left_then all q))
   moves w false false q e g = goes w false (notify.Move false) g (Ends false 1 (drop 1 q)) 2 refl
-      (one_behind w false (drop 1 q) g (queue_is w false (notify.Move false) g refl ∙ ap (drop 1) e)
+      (one_after w false (drop 1 q) g (queue_is w false (notify.Move false) g refl ∙ ap (drop 1) e)
       (is_there (first_of (queue_at w (2 * l)))) (length (drop 1 (queue_at w (2 * l))) == 0))
   moves w false true q e g = goes w false (notify.Move true) g (Ends false 1 (drop 1 q)) 2 refl
-      (one_behind w true (drop 1 q) g (queue_is w false (notify.Move true) g refl ∙ ap (drop 1) e) false
+      (one_after w true (drop 1 q) g (queue_is w false (notify.Move true) g refl ∙ ap (drop 1) e) false
       (length (drop 1 (queue_at w (2 * l))) == 0))
   moves w true locked q e g = all_move locked g
     where
@@ -147,18 +148,18 @@ module _ (t l m : ℕ) (keeps : Keeps t) where
           subst (λ r. MayHear (condvar_of w l) t (Notify true m (notify.Move locked)) r) told
           (hears t l m keeps w (Notify true m (notify.Move locked)) g refl) ∙ ap length e
 
-      behind : (locked : Bool) (g : Alone w true (notify.Move locked)) (number : ℕ) → number ≡ length q
+      afterwards : (locked : Bool) (g : Alone w true (notify.Move locked)) (number : ℕ) → number ≡ length q
           → (lock_state (after w (go_of t)) l).queue ≡ []
           → Left w true (notify.Move locked) g (Ends true (length q) []) 2 (Requeued number true)
-      behind locked g number is left =
+      afterwards locked g number is left =
           subst (λ n. Left w true (notify.Move locked) g (Ends true (length q) []) 2 (Requeued n true))
-          (sym is) (all_behind w locked (length q) [] g left (not locked && nat_lt 1 (length q)))
+          (sym is) (all_after w locked (length q) [] g left (not locked && nat_lt 1 (length q)))
 
       all_move : (locked : Bool) → Alone w true (notify.Move locked) → Leads 3 w t (Ends true (length q) [])
       all_move false g = goes w true (notify.Move false) g (Ends true (length q) []) 2 refl
-          (behind false g _ (number_is false g _ true refl) (queue_is w true (notify.Move false) g refl))
+          (afterwards false g _ (number_is false g _ true refl) (queue_is w true (notify.Move false) g refl))
       all_move true g = goes w true (notify.Move true) g (Ends true (length q) []) 2 refl
-          (behind true g _ (number_is true g _ true refl) (queue_is w true (notify.Move true) g refl))
+          (afterwards true g _ (number_is true g _ true refl) (queue_is w true (notify.Move true) g refl))
 
   -- ---------------------------------------------------------------- before it
 
@@ -179,11 +180,11 @@ module _ (t l m : ℕ) (keeps : Keeps t) where
     -- by the word that it has seen
     marked : (w : State) (at : NotifyAt) (g : Alone w all at) (v : ℕ) → word_at (after w (go_of t)) m ≡ v
         → (lock_state (after w (go_of t)) l).queue ≡ q
-        → Behind t l m keeps w (Notify all m at) g Moves 4 (next.At (Notify all m (marks v)))
+        → Afterwards t l m keeps w (Notify all m at) g Moves 4 (next.At (Notify all m (marks v)))
     marked w at g v word left = either (is_locked v)
       where
         either : (b : Bool)
-            → Behind t l m keeps w (Notify all m at) g Moves 4
+            → Afterwards t l m keeps w (Notify all m at) g Moves 4
             (next.At (Notify all m (if b then notify.Set v else notify.Move false)))
         either true h = inr (
           refl,
@@ -239,7 +240,7 @@ module _ (t l m : ℕ) (keeps : Keeps t) where
             t).waiters) shown ∙ e
 
         either : (b : Bool) → all ≡ b
-            → Behind t l m keeps w (Notify all m notify.Again) g Moves 6
+            → Afterwards t l m keeps w (Notify all m notify.Again) g Moves 6
             (next.At (Notify all m (if b then notify.Hide else notify.Mark)))
         either true f h = inr (refl, hides (after w (go_of t)) left h)
         either false f h = inr (

@@ -18,7 +18,8 @@ use Rattle.lot_machine.specs.Machine.{State, after, go_of, section_at, unlocked,
 use Rattle.lot_laws.specs.Refinement.{lock_state}
 use Rattle.lot_laws.specs.SitesOf.{condvar_of}
 use Rattle.lot_laws.specs.Solo.{NotifiesAlone, Rests}
-use Rattle.lot_laws.proofs.alone.Condvar.{Behind, GoesAlone, Keeps, leads_behind, lock_there, queue_then}
+use Rattle.lot_laws.proofs.alone.Condvar.{Afterwards, GoesAlone, Keeps, leads_afterwards, lock_there}
+use Rattle.lot_laws.proofs.alone.Condvar.{queue_then}
 use Rattle.lot_laws.proofs.alone.Condvar.{so_then}
 use Rattle.lot_laws.proofs.condvar.Replies.{fits_here, free_inside, word_is}
 use Rattle.lot_laws.proofs.alone.Leads.{Leads, leads_more, leads_so}
@@ -34,15 +35,15 @@ shows_itself : (m : ℕ) → is_shown (shown_as m) m ≡ true
 shows_itself m = grind (arith, nat_tests)
 
 module _ (t l m : ℕ) (keeps : Keeps t) (w : State) (all : Bool) (g : GoesAlone w t l m (Look all)) where
-  looks : (P : State → Outcome → Type 0) (k : ℕ) → Behind t l m keeps w (Look all) g P k
+  looks : (P : State → Outcome → Type 0) (k : ℕ) → Afterwards t l m keeps w (Look all) g P k
       (look_next all (word_at w l))
       → Leads (k + 1) w t P
-  looks P k left = leads_behind t l m keeps w (Look all) g refl P k (Look all) g.place left
+  looks P k left = leads_afterwards t l m keeps w (Look all) g refl P k (Look all) g.place left
 
   -- nothing is shown
   pub finds_none : word_at w l ≡ 0 → Leads 1 w t (Ends t l m keeps all 0 (lock_state w l).queue)
   finds_none e = looks (Ends t l m keeps all 0 (lock_state w l).queue) 0
-      (subst (λ v. Behind t l m keeps w (Look all) g (Ends t l m keeps all 0 (lock_state w l).queue) 0
+      (subst (λ v. Afterwards t l m keeps w (Look all) g (Ends t l m keeps all 0 (lock_state w l).queue) 0
       (look_next all v)) (sym e)
       (refl, queue_then t l m keeps w (Look all) g refl))
 
@@ -58,7 +59,7 @@ module _ (t l m : ℕ) (keeps : Keeps t) (w : State) (all : Bool) (g : GoesAlone
         (lock_there t l m keeps w (Look all) g)) ∙ shown
 
     seen : (b : Bool) (k : ℕ) → b ≡ false → k ≡ m
-        → Behind t l m keeps w (Look all) g Moves 8 (if b then next.End (notified all 0) else next.At
+        → Afterwards t l m keeps w (Look all) g Moves 8 (if b then next.End (notified all 0) else next.At
         (Notify all k notify.Enter))
     seen true k e f = absurd cc
     seen false k e f = λ h. inr (
@@ -69,20 +70,20 @@ module _ (t l m : ℕ) (keeps : Keeps t) (w : State) (all : Bool) (g : GoesAlone
     )
 
     pub finds_some : Leads 9 w t Moves
-    finds_some = looks Moves 8 (subst (λ v. Behind t l m keeps w (Look all) g Moves 8 (look_next all v))
+    finds_some = looks Moves 8 (subst (λ v. Afterwards t l m keeps w (Look all) g Moves 8 (look_next all v))
         (sym shown) (seen (shown_as m == 0) (mutex_shown (shown_as m)) (shown_one m) (shown_again m)))
 
   -- ---------------------------------------------------------------- the law
 
   -- it is settled, where nobody is inside its section
   settled : section_at w (2 * l) ≡ None → IsSettledAt (lock_state w l).shown (condvar_of w l)
-  settled free = subst (IsAsInside (condvar_of w l)) (free_inside w t l (Look all) g.world.steady g.place
+  settled free = subst (IsAsInside (condvar_of w l)) (free_inside w t l (Look all) g.world.inductive g.place
       (ap is_none free))
-      (g.world.condvars l (fits_here w t l (Look all) g.world.steady g.place).sort).inside
+      (g.world.condvars l (fits_here w t l (Look all) g.world.inductive g.place).sort).inside
 
   -- the word that is shown
   shows : (o : Option ℕ) → (lock_state w l).shown ≡ o → word_at w l ≡ word_showing o
-  shows o e = word_is w t l (Look all) g.world.steady g.place ∙ ap word_showing e
+  shows o e = word_is w t l (Look all) g.world.inductive g.place ∙ ap word_showing e
 
   none_moved : (v : State) (o : Outcome) (q : List Queued) → q ≡ [] → Ends t l m keeps all 0 q v o
       → NotifiesAlone all q o (lock_state v l).queue

@@ -35,7 +35,7 @@ use Rattle.steps_once.specs.declared.places.OncePlace.{OncePlace}
 use Rattle.steps_once.specs.declared.places.OncePlace.TheVariants.{Look, Run, GiveUp}
 use Rattle.steps_once.specs.OnceSteps.{check_of, course_act, course_of, ended, in_look, in_run, is_forced}
 use Rattle.steps_once.specs.OnceSteps.{is_mark, is_run, looked, marked, once_next, started, want_of}
-use Rattle.steps_once.specs.OnceSteps.{word_behind, in_give_up}
+use Rattle.steps_once.specs.OnceSteps.{word_after, in_give_up}
 use Rattle.lot_steps.specs.declared.places.Place.TheVariants.{Once}
 use Rattle.lot_steps.specs.Steps.{act_of, once_does, once_goes}
 use Rattle.lot_machine.specs.Machine.{State, after, go_of, runs_closure, step_outcome}
@@ -57,7 +57,7 @@ module _ (t l : ℕ) where
   abbrev RestsIn : ℕ → State → Type 0
   RestsIn k w = Leads k w t (λ v o. Rests o)
 
-  -- it goes on, and rests behind
+  -- it goes on, and rests after
   goes : (k v : ℕ) (w : State) (q : Queues) (p : OncePlace) (told : Outcome) → told ≡ outcome.Step
       → Comes w t l (Once l p) told v q
       → (Alone (after w (go_of t)) p v q → RestsIn k (after w (go_of t))) → RestsIn (k + 1) w
@@ -85,16 +85,16 @@ module _ (t l : ℕ) where
 
   run_closes : (forced b : Bool) (v : ℕ) (w : State) (q : Queues) → Alone w (Run forced (run.Close b)) v q
       → RestsIn 4 w
-  run_closes forced b v w q f = either (is_marked v) (word_comes w t l _ v q f (op.Swap (word_behind b)) refl)
+  run_closes forced b v w q f = either (is_marked v) (word_comes w t l _ v q f (op.Swap (word_after b)) refl)
     where
       either : (m : Bool)
           → Comes w t l (once_goes l (in_run forced (if m then next.At (run.Enter b) else next.End
           (ended b))))
           (outcome_of (once_does l (in_run forced (if m then next.At (run.Enter b) else next.End (ended b)))))
-          (word_behind b) q
+          (word_after b) q
           → RestsIn 4 w
-      either true c = goes 3 (word_behind b) w q (Run forced (run.Enter b)) _ refl c
-          (λ g. run_enters forced b (word_behind b) _ q g)
+      either true c = goes 3 (word_after b) w q (Run forced (run.Enter b)) _ refl c
+          (λ g. run_enters forced b (word_after b) _ q g)
       either false c = leads_more 1 4 w t (λ v o. Rests o) (omega arith) (rests w (outcome.End (ended b)) c.0
           tt)
 

@@ -41,7 +41,7 @@ use Rattle.lot_laws.specs.Locations.{role_on}
 use Rattle.lot_laws.proofs.machine.Parts.{same}
 use Rattle.lot_laws.proofs.alone.TwoLines.{Comes, StepsAlone, leads_into, leave_comes, park_comes, parks_last}
 use Rattle.lot_laws.proofs.alone.TwoLines.{word_comes}
-use Rattle.lot_laws.proofs.sites.OneStep.{queued_behind}
+use Rattle.lot_laws.proofs.sites.OneStep.{queued_after}
 use Rattle.lot_laws.proofs.alone.Leads.{Leads, leads_more, leads_rest, leads_step, or_so}
 
 -- a thread that waits for a run still does so while none has ended
@@ -93,7 +93,7 @@ module _ (t l : ℕ) where
         there = subst (λ x. StepsAlone (after w (go_of t)) t l (once_goes l x) v q) is c.1
 
         running : (lock_state (after w (go_of t)) l).phase ≡ InProgress t
-        running = (there.steady.sites.site l).held t Running
+        running = (there.inductive.sites.site l).held t Running
             (ap (λ p. (role_on p l).claims) there.place
             ∙ ap (λ (z : Bool). (if z then (once_profile (Run forced (run.Closure poisoned))).role
             else idle).claims) (same l))
@@ -268,7 +268,7 @@ module _ (w : State) (t l : ℕ) (v : State) (o : Outcome) where
 
   asleep : (c : OnceCall) → Sleeps t l c queues v o → (o ≡ outcome.Sleep)
       × ((lock_state v l).queue ≡ (lock_state w l).queue ++ (record { thread = t; want = want_of c }) ∷ [])
-  asleep c h = (h.0, ap (map queued_of) h.1 ∙ queued_behind (2 * l) t (want_of c) (queue_at w (2 * l)))
+  asleep c h = (h.0, ap (map queued_of) h.1 ∙ queued_after (2 * l) t (want_of c) (queue_at w (2 * l)))
 
   ended_so : (c : OnceCall) (phase : Phase) → (lock_state w l).phase ≡ phase → Ended t l queues c phase v o
       → EndsAlone w t (Some (once_purpose l c)) o v
@@ -294,8 +294,8 @@ module _ (w : State) (t l : ℕ) where
   -- the word says how far the lock has come
   pub told_by_word : (p : OncePlace) (v : ℕ) (q : Line → List Waiter) → StepsAlone w t l (Once l p) v q
       → v ≡ words.word (site_of w l).parked (lock_state w l).phase
-  told_by_word p v q f = sym f.word ∙ f.steady.sites.word l ∙ words.coded (rules_in w l) (site_of w l)
-      (subst (FitsItsLock w) f.place (f.steady.stands.calls t))
+  told_by_word p v q f = sym f.word ∙ f.inductive.sites.word l ∙ words.coded (rules_in w l) (site_of w l)
+      (subst (FitsItsLock w) f.place (f.inductive.stands.calls t))
 
   pub once_alone : (c : OnceCall) (n : ℕ) (last : Outcome) → 18 ≤ n
       → StepsAlone w t l (Once l (once_first c)) (word_at w l) (λ m. queue_at w (key_of l m))

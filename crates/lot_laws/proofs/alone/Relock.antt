@@ -28,7 +28,8 @@ use Rattle.lot_laws.specs.MutexPromises.{IsMutexWord}
 use Rattle.lot_laws.specs.Refinement.{owner_at}
 use Rattle.lot_laws.specs.Solo.{EntersSection, Rests}
 use Rattle.lot_laws.proofs.machine.AtPlaces.{coded}
-use Rattle.lot_laws.proofs.alone.Condvar.{Behind, GoesAlone, Keeps, free_beside, leads_behind, reached}
+use Rattle.lot_laws.proofs.alone.Condvar.{Afterwards, GoesAlone, Keeps, free_beside, leads_afterwards}
+use Rattle.lot_laws.proofs.alone.Condvar.{reached}
 use Rattle.lot_laws.proofs.alone.Condvar.{so_then, word_then}
 use Rattle.lot_laws.proofs.condvar.Replies.{fits_here}
 use Rattle.lot_laws.proofs.condvar.OwnStand.{calm_waiter}
@@ -47,9 +48,10 @@ module _ (t l m : ℕ) (keeps : Keeps t) (timed late : Bool) where
   Alone w again a = GoesAlone w t l m (relocks again a)
 
   module _ (w : State) (again : Bool) (a : LockAt) (g : Alone w again a) where
-    -- tells what is left to do behind this reply
+    -- tells what is left to do after this reply
     abbrev Left : ℕ → Reply → Type 0
-    Left k r = Behind t l m keeps w (relocks again a) g (λ v o. Rests o) k (condvar_next (relocks again a) r)
+    Left k r = Afterwards t l m keeps w (relocks again a) g (λ v o. Rests o) k
+        (condvar_next (relocks again a) r)
 
     stays : place_at (state_after_act w t (Condvar l (relocks again a)) (lock_act m a)) t ≡ Condvar l
         (relocks again a)
@@ -57,17 +59,18 @@ module _ (t l m : ℕ) (keeps : Keeps t) (timed late : Bool) where
         (reached t l m keeps w (relocks again a) g) g.thread refl
 
     goes : (k : ℕ) → can_do w (lock_act m a) ≡ true → Left k (reply_to w t (lock_act m a)) → RestsIn (k + 1) w
-    goes k can left = leads_behind t l m keeps w (relocks again a) g can (λ v o. Rests o) k (relocks again a)
+    goes k can left = leads_afterwards t l m keeps w (relocks again a) g can (λ v o. Rests o) k
+        (relocks again a)
         stays left
 
-    -- the word of the mutex behind a step on it, and behind any other
+    -- the word of the mutex after a step on it, and after any other
     word_is : (x : Op) → lock_act m a ≡ act.Word m x → can_do w (lock_act m a) ≡ true
         → word_at (after w (go_of t)) m ≡ apply x (word_at w m)
     word_is x is can = word_then t l m keeps w (relocks again a) g can x refl is
 
     mutex_coded : IsMutexWord (word_at w m) (owner_at w m)
-    mutex_coded = coded w g.world.steady m
-        (plain_rules _ ((fits_here w t l (relocks again a) g.world.steady g.place).mutex m refl))
+    mutex_coded = coded w g.world.inductive m
+        (plain_rules _ ((fits_here w t l (relocks again a) g.world.inductive g.place).mutex m refl))
 
   -- ---------------------------------------------------------------- each place
 

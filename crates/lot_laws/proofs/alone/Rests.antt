@@ -58,7 +58,7 @@ use Rattle.lot_laws.proofs.alone.Mutex.{LockEnds, UnlockEnds, bump_leads, bump_r
 use Rattle.lot_laws.proofs.alone.Mutex.{hand_off_rests, lock_rests, subtract_leads, try_leads}
 use Rattle.lot_laws.proofs.alone.Mutex.{unlock_fair_leads, unlock_fair_rests, unlock_rests}
 use Rattle.lot_laws.proofs.machine.Parts.{mutex}
-use Rattle.lot_laws.proofs.sites.OneStep.{queued_behind}
+use Rattle.lot_laws.proofs.sites.OneStep.{queued_after}
 use Rattle.lot_laws.proofs.sites.StandsMoved.{mutex_rules}
 use Rattle.lot_laws.proofs.mutex.Words.{free_word, owned_word}
 use Rattle.lot_laws.proofs.calls.Tries.{first_busy, stands_there}
@@ -94,13 +94,13 @@ try_so : (b : Bool) (x : Outcome)
 try_so true x h = rw h tt
 try_so false x h = rw h tt
 
-module _ (w : State) (t : ℕ) (shape : IsWellFormed w) (steady : IsInductive w) (counted : AreCounted w)
+module _ (w : State) (t : ℕ) (shape : IsWellFormed w) (inductive : IsInductive w) (counted : AreCounted w)
     (condvars : AreCondvars w)
     (settled : IsSettled w) (there : t < length w.places) where
   world : IsWorld w
   world = record {
-    shaped = shape;
-    steady = steady;
+    well_formed = shape;
+    inductive = inductive;
     counted = counted;
     condvars = condvars;
     settled = settled;
@@ -115,7 +115,7 @@ module _ (w : State) (t : ℕ) (shape : IsWellFormed w) (steady : IsInductive w)
   facing l p single is lt = record {
     single = single;
     shape = shape;
-    steady = steady;
+    inductive = inductive;
     counted = counted;
     condvars = condvars;
     thread = there;
@@ -139,7 +139,7 @@ module _ (w : State) (t : ℕ) (shape : IsWellFormed w) (steady : IsInductive w)
       → (x : Option ℕ) → section_at w (2 * l) ≡ x → x ≡ None
   free l p single is outside only None e = refl
   free l p single is outside only (Some u) e = let within : (location_at (place_at w t) l).inside
-      ≡ Some Main = (steady.stands.sections t l Main).1 (e ∙ ap Some (only u e)) in
+      ≡ Some Main = (inductive.stands.sections t l Main).1 (e ∙ ap Some (only u e)) in
       let out : (location_at (place_at w t) l).inside ≡ None =
       nothing_at (place_at w t) l (subst IsSingle (sym is) single) (λ y. y.inside) refl
       (ap (λ y. (location y).inside) is ∙ outside) in absurd cc
@@ -153,14 +153,14 @@ module _ (w : State) (t : ℕ) (shape : IsWellFormed w) (steady : IsInductive w)
   -- at a place of a reader-writer lock
   admitted : (l : ℕ) (a : Admission) (c : RwLockCallPlace) → place_at w t ≡ RwLock l a c
       → FitsItsLock w (RwLock l a c)
-  admitted l a c is = subst (FitsItsLock w) is (steady.stands.calls t)
+  admitted l a c is = subst (FitsItsLock w) is (inductive.stands.calls t)
 
   steps_alone : (l : ℕ) (p : Place) → IsSingle p → place_at w t ≡ p → l < length w.locks
       → StepsAlone w t l p (word_at w l) (λ m. queue_at w (key_of l m))
   steps_alone l p single is lt = record {
     single = single;
     shape = shape;
-    steady = steady;
+    inductive = inductive;
     counted = counted;
     condvars = condvars;
     settled = settled;
@@ -173,7 +173,7 @@ module _ (w : State) (t : ℕ) (shape : IsWellFormed w) (steady : IsInductive w)
 
   of_semaphore : (l : ℕ) (at : SemaphorePlace) → place_at w t ≡ Semaphore l at → (rules_in w l).sort
       ≡ locks.Semaphore
-  of_semaphore l at is = (subst (FitsItsLock w) is (steady.stands.calls t)).0
+  of_semaphore l at is = (subst (FitsItsLock w) is (inductive.stands.calls t)).0
 
   mutex_place_rests : (l : ℕ) (c : MutexPlace) → place_at w t ≡ Mutex l c → PlaceFits (length w.locks)
       (Mutex l c)
@@ -212,7 +212,8 @@ module _ (w : State) (t : ℕ) (shape : IsWellFormed w) (steady : IsInductive w)
       (steps_alone l (Once l at) tt is fits))
   place_rests (RwLock l a c) is fits busy up outside =
       let h = admitted l a c is in
-      call_rests t l a c (word_at w l) w (λ m. queue_at w (key_of l m)) h.0 (word_small w l steady h.0.0) h.1
+      call_rests t l a c (word_at w l) w (λ m. queue_at w (key_of l m)) h.0 (word_small w l inductive h.0.0)
+      h.1
       up (steps_alone l (RwLock l a c) tt is fits)
   place_rests (Mutex l c) is fits busy up outside = leads_more 12 18 w t (λ v x. Rests x) (omega arith)
       (mutex_place_rests l c is fits up)
@@ -240,7 +241,7 @@ module _ (w : State) (t : ℕ) (shape : IsWellFormed w) (steady : IsInductive w)
     unshared : {A : Type 0} → Exclusive ≡ Exclusive → MayEnter (rules_at (locks_of w) l) (lock_state w l)
         Exclusive
         → 1 ≤ readers (lock_state w l) → A
-    unshared e may some = absurd (let none : readers (lock_state w l) ≡ 0 = mutex_unshared w l steady rules
+    unshared e may some = absurd (let none : readers (lock_state w l) ≡ 0 = mutex_unshared w l inductive rules
         in omega arith)
 
     no_sharers : {A : Type 0} → has_readers (rules_at (locks_of w) l).sort ≡ true → A
@@ -284,21 +285,21 @@ module _ (w : State) (t : ℕ) (shape : IsWellFormed w) (steady : IsInductive w)
       pends = unshared;
       refused = λ shared. no_sharers shared;
       full = unfilled;
-      barred = λ b. (h.0, ap (map queued_of) h.2 ∙ queued_behind (2 * l) t Exclusive (queue_at w (2 * l)));
+      barred = λ b. (h.0, ap (map queued_of) h.2 ∙ queued_after (2 * l) t Exclusive (queue_at w (2 * l)));
     }
     lock_alone entries.Lock (Some u) e h = record {
       owns = λ may. absurd (let g : Some u ≡ None = sym e ∙ may_own may.0 in cc);
       pends = unshared;
       refused = λ shared. no_sharers shared;
       full = unfilled;
-      barred = λ b. (h.0, ap (map queued_of) h.2 ∙ queued_behind (2 * l) t Exclusive (queue_at w (2 * l)));
+      barred = λ b. (h.0, ap (map queued_of) h.2 ∙ queued_after (2 * l) t Exclusive (queue_at w (2 * l)));
     }
     lock_alone entries.Bump (Some u) e h = record {
       owns = λ may. absurd (let g : Some u ≡ None = sym e ∙ may_own may.0 in cc);
       pends = unshared;
       refused = λ shared. no_sharers shared;
       full = unfilled;
-      barred = λ b. (h.0, ap (map queued_of) h.2 ∙ queued_behind (2 * l) t Exclusive (queue_at w (2 * l)));
+      barred = λ b. (h.0, ap (map queued_of) h.2 ∙ queued_after (2 * l) t Exclusive (queue_at w (2 * l)));
     }
 
     try_alone : (b : Bool) → is_locked (word_at w l) ≡ b
@@ -307,7 +308,7 @@ module _ (w : State) (t : ℕ) (shape : IsWellFormed w) (steady : IsInductive w)
         × (owner_at v l ≡ (if b then owner_at w l else Some t))
         → EntersAlone (word_at w l ≡ 0) (locks_of w) t l Exclusive Try x (locks_of v)
     try_alone true e h = record {
-      owns = λ may. absurd (owned_word (word_at w l) (owner_at w l) (words_coded w steady l rules) e
+      owns = λ may. absurd (owned_word (word_at w l) (owner_at w l) (words_coded w inductive l rules) e
           (may_own may.0));
       pends = unshared;
       refused = λ shared. no_sharers shared;
@@ -320,7 +321,7 @@ module _ (w : State) (t : ℕ) (shape : IsWellFormed w) (steady : IsInductive w)
       refused = λ shared. no_sharers shared;
       full = unfilled;
       barred = λ b. absurd (blocked_owned b (free_word (word_at w l) (owner_at w l)
-          (words_coded w steady l rules) e));
+          (words_coded w inductive l rules) e));
     }
 
     unlock_alone : UnlockEnds l None v x → EndsAlone w t (Some (Releases l Exclusive false)) x v
@@ -338,7 +339,7 @@ module _ (w : State) (t : ℕ) (shape : IsWellFormed w) (steady : IsInductive w)
         other : owner_at v l ≡ Some t → ⊥
         other own = let first : first_of (queue_at w (2 * l)) ≡ Some t = sym h.1 ∙ own in
             let stood : 1 ≤ times t (queue_at w (2 * l)) = first_times t (queue_at w (2 * l)) first
-            in let none : times t (queue_at w (2 * l)) ≡ 0 = absent w steady t single awake l
+            in let none : times t (queue_at w (2 * l)) ≡ 0 = absent w inductive t single awake l
             in omega arith
 
     bump_alone : LockEnds t l entries.Bump (first_of (queue_at w (2 * l))) (drop 1 (queue_at w (2 * l))) v x
@@ -353,7 +354,7 @@ module _ (w : State) (t : ℕ) (shape : IsWellFormed w) (steady : IsInductive w)
         by_queue : (q : List Waiter) → LockEnds t l entries.Bump (first_of q) (drop 1 q) v x
             → BumpsAlone t l (map queued_of q) x (lock_state v l)
         by_queue [] g = g
-        by_queue (y ∷ q) g = (g.0, g.1, ap (map queued_of) g.2 ∙ queued_behind (2 * l) t Exclusive q)
+        by_queue (y ∷ q) g = (g.0, g.1, ap (map queued_of) g.2 ∙ queued_after (2 * l) t Exclusive q)
 
   -- tells what its solo run comes to, unless it is barred
   abbrev Comes : ℕ → Outcome → Option Purpose → Type 0
@@ -378,12 +379,12 @@ module _ (w : State) (t : ℕ) (shape : IsWellFormed w) (steady : IsInductive w)
       or_so (lock_alone l kind (solo n w t last).state (solo n w t last).outcome entries.Lock (owner_at w l)
       refl)
       (first_leads t l entries.Lock (queue_at w (2 * l)) false (word_at w l) (owner_at w l)
-      (coded_for w steady t l _ is) (section_at w (2 * l)) w (facing l _ tt is lt) n last (omega arith))
+      (coded_for w inductive t l _ is) (section_at w (2 * l)) w (facing l _ tt is lt) n last (omega arith))
   call_alone l fair mutex_call.TheVariants.LockTimed is lt kind reads n last le =
       or_so (lock_alone l kind (solo n w t last).state (solo n w t last).outcome entries.LockTimed
       (owner_at w l) refl)
       (first_leads t l entries.LockTimed (queue_at w (2 * l)) false (word_at w l) (owner_at w l)
-      (coded_for w steady t l _ is) (section_at w (2 * l)) w (facing l _ tt is lt) n last (omega arith))
+      (coded_for w inductive t l _ is) (section_at w (2 * l)) w (facing l _ tt is lt) n last (omega arith))
   call_alone l fair mutex_call.TheVariants.TryLock is lt kind reads n last le =
       or_so (try_alone l kind (solo n w t last).state (solo n w t last).outcome (is_locked (word_at w l))
       refl)
@@ -414,7 +415,7 @@ module _ (w : State) (t : ℕ) (shape : IsWellFormed w) (steady : IsInductive w)
       (omega arith))
     where
       calls : FitsItsLock w (Mutex l (mutex_first (is_fair (kind_at w l)) c))
-      calls = subst (FitsItsLock w) is (steady.stands.calls t)
+      calls = subst (FitsItsLock w) is (inductive.stands.calls t)
 
       fits : PlaceFits (length w.locks) (Mutex l (mutex_first (is_fair (kind_at w l)) c))
       fits = subst (PlaceFits (length w.locks)) is (shape.places t)
@@ -429,7 +430,7 @@ module _ (w : State) (t : ℕ) (shape : IsWellFormed w) (steady : IsInductive w)
 
       ends : has_readers (rules_in w l).sort ≡ true → Ends (Some (rwlock_purpose l c))
       ends readers reads = rwlock_alone w t l (admission_of_kind (kind_at w l)) c 64
-          outcome.TheVariants.NotNow (omega arith) steady (admits_by (kind_at w l) readers) is
+          outcome.TheVariants.NotNow (omega arith) inductive (admits_by (kind_at w l) readers) is
           (steps_alone l (RwLock l (admission_of_kind (kind_at w l)) (call_first c)) tt is fits)
           (runs_alone 64 w t world) reads
 
@@ -470,7 +471,7 @@ module _ (w : State) (t : ℕ) (shape : IsWellFormed w) (steady : IsInductive w)
 
       by_kind : (k : Kind) → Ends (purpose_of k (call.TheVariants.Semaphore l c))
       by_kind (kinds.Semaphore permits) = λ reads. semaphore_alone w t l c 64 outcome.TheVariants.NotNow
-          (omega arith) steady (of_semaphore l (semaphore_first c) is) is
+          (omega arith) inductive (of_semaphore l (semaphore_first c) is) is
           (steps_alone l (Semaphore l (semaphore_first c)) tt is fits) (runs_alone 64 w t world)
       by_kind k = λ reads. inl tt
 
@@ -485,13 +486,14 @@ module _ (w : State) (t : ℕ) (shape : IsWellFormed w) (steady : IsInductive w)
 
 -- ---------------------------------------------------------------- as the world is told them
 
-module _ (w : State) (t : ℕ) (shape : IsWellFormed w) (steady : IsInductive w) (counted : AreCounted w)
+module _ (w : State) (t : ℕ) (shape : IsWellFormed w) (inductive : IsInductive w) (counted : AreCounted w)
     (condvars : AreCondvars w)
     (settled : IsSettled w) where
   pub rests_or_barred : IsUnderWay w t
       → Rests (solo 64 w t outcome.TheVariants.NotNow).outcome
       ⊎ IsBarred (solo 64 w t outcome.TheVariants.NotNow).state t
-  rests_or_barred up = solo_rests w t shape steady counted condvars settled (stands_there w.places t up.0) up
+  rests_or_barred up = solo_rests w t shape inductive counted condvars settled (stands_there w.places t up.0)
+      up
       64 outcome.TheVariants.NotNow (omega arith)
 
   pub ends_or_barred : (c : Call) → place_at w t ≡ first_place (kind_at w (lock_in c)) c
@@ -499,7 +501,7 @@ module _ (w : State) (t : ℕ) (shape : IsWellFormed w) (steady : IsInductive w)
       → EndsAlone w t (purpose_at (locks_of w) c) (solo 64 w t outcome.TheVariants.NotNow).outcome
       (solo 64 w t outcome.TheVariants.NotNow).state
       ⊎ IsBarred (solo 64 w t outcome.TheVariants.NotNow).state t
-  ends_or_barred c is reads = solo_ends w t shape steady counted condvars settled
+  ends_or_barred c is reads = solo_ends w t shape inductive counted condvars settled
       (stands_there w.places t (first_busy (kind_at w (lock_in c)) c (place_at w t) is)) c is reads
 
   -- a thread that has its way isn't barred
@@ -507,8 +509,8 @@ module _ (w : State) (t : ℕ) (shape : IsWellFormed w) (steady : IsInductive w)
       ⊎ IsBarred (solo 64 w t outcome.TheVariants.NotNow).state t → A
   unless_barred way (inl a) = a
   unless_barred way (inr b) = absurd (unbarred 64 w t outcome.TheVariants.NotNow (record {
-    shaped = shape;
-    steady = steady;
+    well_formed = shape;
+    inductive = inductive;
     counted = counted;
     condvars = condvars;
     settled = settled;
@@ -529,8 +531,8 @@ module _ (w : State) (t : ℕ) (shape : IsWellFormed w) (steady : IsInductive w)
       → EndsAlone w t (purpose_at (locks_of w) c) (solo 64 w t outcome.TheVariants.NotNow).outcome
       (solo 64 w t outcome.TheVariants.NotNow).state
   tries_alone c is only = let free = tries_freely w t c (record {
-    shaped = shape;
-    steady = steady;
+    well_formed = shape;
+    inductive = inductive;
     counted = counted;
     condvars = condvars;
     settled = settled;

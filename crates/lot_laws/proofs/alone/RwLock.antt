@@ -216,11 +216,11 @@ module _ (t l : ℕ) (a : Admission) where
       ≡ decisions.Mark → Alone w (decides p v) v q → Leads 4 w t (Sleeps Main p q)
   marks_leads p v w q small e f = let c = word_comes w t l _ v q f (op.Exchange v (plus v 1))
       (ap (λ d. decided_act l p.purpose v d) e) in
-      let behind : decided a p (plus v 1) ≡ decisions.Park = decides_to_park a p.purpose v small e in
+      let afterwards : decided a p (plus v 1) ≡ decisions.Park = decides_to_park a p.purpose v small e in
       goes w (Sleeps Main p q) 3 _ q (decides p (plus v 1)) _ (ap (exchanged_next a (decides p v) v v) e
       ∙ ap (λ (b : Bool). if b then At (decides p (plus v 1)) else looked a (decides p v) v) (same v))
-      (ap (λ d. outcome_of (decided_act l p.purpose (plus v 1) d)) behind) c
-      (λ g. parks_leads p (plus v 1) _ q behind
+      (ap (λ d. outcome_of (decided_act l p.purpose (plus v 1) d)) afterwards) c
+      (λ g. parks_leads p (plus v 1) _ q afterwards
       (subst (λ y. Alone (after w (go_of t)) (decides p (plus v 1)) y q)
       (ap (λ (b : Bool). if b then plus v 1 else v) (same v)) g))
 
@@ -857,9 +857,9 @@ code_small r s readers site few top = by_sort r.sort readers
 
 pub word_small : (w : State) (l : ℕ) → IsInductive w → has_readers (rules_in w l).sort ≡ true
     → word_at w l < 2 ^ 64
-word_small w l steady readers = let limits = steady.sites.limits l readers in
-    subst (λ n. n < 2 ^ 64) (sym (steady.sites.word l)) (code_small (rules_in w l) (site_of w l) readers
-    (steady.sites.site l) limits.0.1 limits.1.top)
+word_small w l inductive readers = let limits = inductive.sites.limits l readers in
+    subst (λ n. n < 2 ^ 64) (sym (inductive.sites.word l)) (code_small (rules_in w l) (site_of w l) readers
+    (inductive.sites.site l) limits.0.1 limits.1.top)
 
 -- a thread that isn't asleep has something to do
 pub is_ready : (t l : ℕ) (a : Admission) (p : RwLockPlace) → MayStand a p → act_of (RwLock l a (Plain p))

@@ -56,7 +56,7 @@ use Rattle.lot_laws.specs.Locations.{role_on}
 use Rattle.lot_laws.specs.Solo.{EntersAlone, ReleasesAlone, ConvertsAlone, MayEnterAtOnce, WaitsAlone}
 use Rattle.lot_laws.specs.Solo.{WaitsForReaders, entered_answer, IsBarred}
 use Rattle.lot_laws.proofs.machine.Parts.{put_here, same}
-use Rattle.lot_laws.proofs.sites.OneStep.{queued_behind}
+use Rattle.lot_laws.proofs.sites.OneStep.{queued_after}
 use Rattle.lot_laws.proofs.alone.TwoLines.{StepsAlone}
 use Rattle.lot_laws.proofs.alone.Answers.{HasAnswered, answered}
 use Rattle.lot_laws.proofs.alone.WorldRuns.{RunsAlone, run_refines}
@@ -71,83 +71,86 @@ same_answer Try = refl
 
 -- ---------------------------------------------------------------- a thread's decision, by the lock as it is
 
-module _ (w : State) (l : ℕ) (a : Admission) (steady : IsInductive w) (admits : Admits (rules_in w l) a) where
-  abbrev r : Rules
-  r = rules_in w l
+module _ (w : State) (l : ℕ) (a : Admission) (inductive : IsInductive w) (admits : Admits (rules_in w l) a)
+  where
+    abbrev r : Rules
+    r = rules_in w l
 
-  abbrev s : LockState
-  s = lock_state w l
+    abbrev s : LockState
+    s = lock_state w l
 
-  abbrev v : ℕ
-  v = word_at w l
+    abbrev v : ℕ
+    v = word_at w l
 
-  tells : TellsTrue r (site_of w l)
-  tells = words_tell_true r (site_of w l) admits.0 (steady.sites.site l)
+    tells : TellsTrue r (site_of w l)
+    tells = words_tell_true r (site_of w l) admits.0 (inductive.sites.site l)
 
-  reads : (x : Want) → is_blocked a.recursive x v ≡ is_blocked (is_recursive r.sort) x (code r (site_of w l))
-  reads x = λ i. is_blocked (sym admits.1 i) x (steady.sites.word l i)
+    reads : (x : Want) → is_blocked a.recursive x v ≡ is_blocked (is_recursive r.sort) x
+        (code r (site_of w l))
+    reads x = λ i. is_blocked (sym admits.1 i) x (inductive.sites.word l i)
 
-  counted : count_in v ≡ count s
-  counted = ap count_in (steady.sites.word l) ∙ tells.count
+    counted : count_in v ≡ count s
+    counted = ap count_in (inductive.sites.word l) ∙ tells.count
 
-  blocked_is : (x : Want) → IsBlocked r s x → is_blocked a.recursive x v ≡ true
-  blocked_is x h = either (is_blocked a.recursive x v) refl
-    where
-      either : (b : Bool) → is_blocked a.recursive x v ≡ b → b ≡ true
-      either true e = refl
-      either false e = absurd (h.1 (tells.free x h.0 (sym (reads x) ∙ e)).1)
+    blocked_is : (x : Want) → IsBlocked r s x → is_blocked a.recursive x v ≡ true
+    blocked_is x h = either (is_blocked a.recursive x v) refl
+      where
+        either : (b : Bool) → is_blocked a.recursive x v ≡ b → b ≡ true
+        either true e = refl
+        either false e = absurd (h.1 (tells.free x h.0 (sym (reads x) ∙ e)).1)
 
-  free_is : (x : Want) → IsFree r s x → is_blocked a.recursive x v ≡ false
-  free_is x h = either (is_blocked a.recursive x v) refl
-    where
-      either : (b : Bool) → is_blocked a.recursive x v ≡ b → b ≡ false
-      either false e = refl
-      either true e = absurd ((tells.blocked x h.0 (sym (reads x) ∙ e)).1 h.1)
+    free_is : (x : Want) → IsFree r s x → is_blocked a.recursive x v ≡ false
+    free_is x h = either (is_blocked a.recursive x v) refl
+      where
+        either : (b : Bool) → is_blocked a.recursive x v ≡ b → b ≡ false
+        either false e = refl
+        either true e = absurd ((tells.blocked x h.0 (sym (reads x) ∙ e)).1 h.1)
 
-  below_limit : count s < r.limit → nat_le a.limit (count_in v) ≡ false
-  below_limit room = let e = counted in let f = admits.2 in grind (arith, nat_tests)
+    below_limit : count s < r.limit → nat_le a.limit (count_in v) ≡ false
+    below_limit room = let e = counted in let f = admits.2 in grind (arith, nat_tests)
 
-  at_limit : r.limit ≤ count s → nat_le a.limit (count_in v) ≡ true
-  at_limit full = let e = counted in let f = admits.2 in grind (arith, nat_tests)
+    at_limit : r.limit ≤ count s → nat_le a.limit (count_in v) ≡ true
+    at_limit full = let e = counted in let f = admits.2 in grind (arith, nat_tests)
 
-  abbrev unblocked : Want → Decision
-  unblocked x = if is_counted x && nat_le a.limit (count_in v) then decisions.Refuse answer.ReadersFull
-      else decisions.Take
+    abbrev unblocked : Want → Decision
+    unblocked x = if is_counted x && nat_le a.limit (count_in v) then decisions.Refuse answer.ReadersFull
+        else decisions.Take
 
-  takes : (x : Access) (how : Patience) → MayEnter r s (wanted x) → decision a (wanted x) how v
-      ≡ decisions.Take
-  takes access.Shared how may = ap (λ (b : Bool). if b then decision_blocked how v else unblocked Shared)
-      (free_is Shared may.0) ∙ ap (λ (b : Bool). if b then decisions.Refuse answer.ReadersFull
-      else decisions.Take) (below_limit may.1)
-  takes access.Upgradable how may = ap (λ (b : Bool). if b then decision_blocked how v else unblocked
-      Upgradable) (free_is Upgradable may.0) ∙ ap (λ (b : Bool). if b then decisions.Refuse answer.ReadersFull
-      else decisions.Take) (below_limit may.1)
-  takes access.Exclusive how may = ap (λ (b : Bool). if b then decision_blocked how v else unblocked
-      Exclusive) (free_is Exclusive may.0)
+    takes : (x : Access) (how : Patience) → MayEnter r s (wanted x) → decision a (wanted x) how v
+        ≡ decisions.Take
+    takes access.Shared how may = ap (λ (b : Bool). if b then decision_blocked how v else unblocked Shared)
+        (free_is Shared may.0) ∙ ap (λ (b : Bool). if b then decisions.Refuse answer.ReadersFull
+        else decisions.Take) (below_limit may.1)
+    takes access.Upgradable how may = ap (λ (b : Bool). if b then decision_blocked how v else unblocked
+        Upgradable) (free_is Upgradable may.0)
+        ∙ ap (λ (b : Bool). if b then decisions.Refuse answer.ReadersFull
+        else decisions.Take) (below_limit may.1)
+    takes access.Exclusive how may = ap (λ (b : Bool). if b then decision_blocked how v else unblocked
+        Exclusive) (free_is Exclusive may.0)
 
-  refuses : (x : Access) (how : Patience) → IsFull (locks_of w) l (wanted x)
-      → decision a (wanted x) how v ≡ decisions.Refuse answer.ReadersFull
-  refuses access.Shared how full = ap (λ (b : Bool). if b then decision_blocked how v else unblocked Shared)
-      (free_is Shared full.1) ∙ ap (λ (b : Bool). if b then decisions.Refuse answer.ReadersFull
-      else decisions.Take) (at_limit full.2)
-  refuses access.Upgradable how full =
-      ap (λ (b : Bool). if b then decision_blocked how v else unblocked Upgradable)
-      (free_is Upgradable full.1) ∙ ap (λ (b : Bool). if b then decisions.Refuse answer.ReadersFull
-      else decisions.Take) (at_limit full.2)
-  refuses access.Exclusive how full = absurd (full.0 refl)
+    refuses : (x : Access) (how : Patience) → IsFull (locks_of w) l (wanted x)
+        → decision a (wanted x) how v ≡ decisions.Refuse answer.ReadersFull
+    refuses access.Shared how full = ap (λ (b : Bool). if b then decision_blocked how v else unblocked Shared)
+        (free_is Shared full.1) ∙ ap (λ (b : Bool). if b then decisions.Refuse answer.ReadersFull
+        else decisions.Take) (at_limit full.2)
+    refuses access.Upgradable how full =
+        ap (λ (b : Bool). if b then decision_blocked how v else unblocked Upgradable)
+        (free_is Upgradable full.1) ∙ ap (λ (b : Bool). if b then decisions.Refuse answer.ReadersFull
+        else decisions.Take) (at_limit full.2)
+    refuses access.Exclusive how full = absurd (full.0 refl)
 
-  waits : (x : Access) (how : Patience) → IsBlocked r s (wanted x) → decision a (wanted x) how v
-      ≡ decision_blocked how v
-  waits x how h = ap (λ (b : Bool). if b then decision_blocked how v else unblocked (wanted x))
-      (blocked_is (wanted x) h)
+    waits : (x : Access) (how : Patience) → IsBlocked r s (wanted x) → decision a (wanted x) how v
+        ≡ decision_blocked how v
+    waits x how h = ap (λ (b : Bool). if b then decision_blocked how v else unblocked (wanted x))
+        (blocked_is (wanted x) h)
 
 -- ---------------------------------------------------------------- a call from its beginning
 
-module _ (w : State) (t l : ℕ) (a : Admission) (steady : IsInductive w) (admits : Admits (rules_in w l) a)
+module _ (w : State) (t l : ℕ) (a : Admission) (inductive : IsInductive w) (admits : Admits (rules_in w l) a)
     (v2 : State) (x : Outcome)
     (run : RunsAlone w t x v2) where
   small : word_at w l < 2 ^ 64
-  small = word_small w l steady admits.0
+  small = word_small w l inductive admits.0
 
   abbrev queues : Line → List Waiter
   queues m = queue_at w (key_of l m)
@@ -187,7 +190,7 @@ module _ (w : State) (t l : ℕ) (a : Admission) (steady : IsInductive w) (admit
 
   queued : (y : Want) → queue_at v2 (2 * l) ≡ queue_at w (2 * l) ++ waiter (2 * l) t y ∷ []
       → (lock_state v2 l).queue ≡ (lock_state w l).queue ++ (record { thread = t; want = y }) ∷ []
-  queued y e = ap (map queued_of) e ∙ queued_behind (2 * l) t y (queue_at w (2 * l))
+  queued y e = ap (map queued_of) e ∙ queued_after (2 * l) t y (queue_at w (2 * l))
 
   barred_by : (y : Access) (how : Patience) (at : RwLockAt)
       → Decides t l a (decision_blocked how (word_at w l)) (looking (purpose.Enter y how) at) (word_at w l)
@@ -221,14 +224,14 @@ module _ (w : State) (t l : ℕ) (a : Admission) (steady : IsInductive w) (admit
   shares_alone y how shared is h = record {
     owns = λ may. enters_owns y how at.Load is
         (takes_one y shared (subst (λ d. Decides t l a d (looking (purpose.Enter y how) at.Load) (word_at w l)
-        queues v2 x) (takes w l a steady admits y how (may_enter y shared may)) h));
+        queues v2 x) (takes w l a inductive admits y how (may_enter y shared may)) h));
     pends = λ e may some. absurd (shared e);
     refused = λ sort e. absurd (shared e);
     full = λ full. subst (λ d. Decides t l a d (looking (purpose.Enter y how) at.Load) (word_at w l) queues v2
-        x) (refuses w l a steady admits y how full) h;
+        x) (refuses w l a inductive admits y how full) h;
     barred = λ b. barred_by y how at.Load
         (subst (λ d. Decides t l a d (looking (purpose.Enter y how) at.Load) (word_at w l) queues v2 x)
-        (waits w l a steady admits y how b) h);
+        (waits w l a inductive admits y how b) h);
   }
     where
       may_enter : (y : Access) → wanted y ≢ Exclusive
@@ -262,7 +265,7 @@ module _ (w : State) (t l : ℕ) (a : Admission) (steady : IsInductive w) (admit
       by_aside : (o : Option ℕ) → (lock_state w l).aside ≡ o → (lock_state w l).aside ≡ None
       by_aside None e = e
       by_aside (Some u) e = absurd (let p : IsSomePending (lock_state w l).pending u =
-          (steady.sites.site l).state.aside_pending u e in let q : IsSomePending None u =
+          (inductive.sites.site l).state.aside_pending u e in let q : IsSomePending None u =
           subst (λ o. IsSomePending o u) none p in q)
 
   no_writer : (sort : Sort) (limit : ℕ) → has_readers sort ≡ true → IsFreeAt sort limit (lock_state w l)
@@ -299,14 +302,14 @@ module _ (w : State) (t l : ℕ) (a : Admission) (steady : IsInductive w) (admit
           → Settles t l a (count_in (plus (word_at w l) 8) == 0) (looking (purpose.Enter access.Exclusive how)
           at.Look) queues v2 x
       settles may = subst (λ d. Decides t l a d (writer how) (word_at w l) queues v2 x)
-          (takes w l a steady admits access.Exclusive how may) h
+          (takes w l a inductive admits access.Exclusive how may) h
 
       nobody_writes : MayEnter (rules_in w l) (lock_state w l) Exclusive → NoWriter (lock_state w l)
       nobody_writes may = no_writer (rules_in w l).sort (rules_in w l).limit admits.0 may.0.1
 
       counts : MayEnter (rules_in w l) (lock_state w l) Exclusive → count_in (plus (word_at w l) 8)
           ≡ readers (lock_state w l)
-      counts may = as_many (free_is w l a steady admits Exclusive may.0) ∙ counted w l a steady admits
+      counts may = as_many (free_is w l a inductive admits Exclusive may.0) ∙ counted w l a inductive admits
           ∙ no_upgradable (nobody_writes may)
 
       settles_alone : MayEnter (rules_in w l) (lock_state w l) Exclusive → readers (lock_state w l) ≡ 0
@@ -329,11 +332,11 @@ module _ (w : State) (t l : ℕ) (a : Admission) (steady : IsInductive w) (admit
   -- a word that is clear has no reader and no writer
   clear_reads : (word_at w l == 0) ≡ true → readers (lock_state w l) ≡ 0
   clear_reads e = let z : word_at w l ≡ 0 = eqb-true (word_at w l) 0 e in let c : 0 ≡ count (lock_state w l) =
-      sym (ap count_in z) ∙ counted w l a steady admits in omega arith
+      sym (ap count_in z) ∙ counted w l a inductive admits in omega arith
 
   clear_free : (word_at w l == 0) ≡ true → IsBlocked (rules_in w l) (lock_state w l) Exclusive → ⊥
   clear_free e b = let z : word_at w l ≡ 0 = eqb-true (word_at w l) 0 e in let f : false ≡ true =
-      sym (ap (is_blocked a.recursive Exclusive) z) ∙ blocked_is w l a steady admits Exclusive b in cc
+      sym (ap (is_blocked a.recursive Exclusive) z) ∙ blocked_is w l a inductive admits Exclusive b in cc
 
   -- a thread that is to own alone tries a clear word first
   pub writes_alone : (how : Patience) → place_at w t ≡ RwLock l a (Plain (writer how))
@@ -377,7 +380,7 @@ module _ (w : State) (t l : ℕ) (a : Admission) (steady : IsInductive w) (admit
         full = λ full. absurd (full.0 refl);
         barred = λ b. barred_by access.Exclusive Patient at.First
             (subst (λ d. Decides t l a d (writer Patient) (word_at w l) queues v2 x)
-            (waits w l a steady admits access.Exclusive Patient b) h);
+            (waits w l a inductive admits access.Exclusive Patient b) h);
       }
       by_word false e Timed is h = record {
         owns = λ may. enters_owns access.Exclusive Timed at.First is (settles_alone Timed h may.0
@@ -387,7 +390,7 @@ module _ (w : State) (t l : ℕ) (a : Admission) (steady : IsInductive w) (admit
         full = λ full. absurd (full.0 refl);
         barred = λ b. barred_by access.Exclusive Timed at.First
             (subst (λ d. Decides t l a d (writer Timed) (word_at w l) queues v2 x)
-            (waits w l a steady admits access.Exclusive Timed b) h);
+            (waits w l a inductive admits access.Exclusive Timed b) h);
       }
 
   -- ---------------------------------------------------------------- a right given up, or turned into another
@@ -530,14 +533,14 @@ module _ (w : State) (t l : ℕ) (a : Admission) (steady : IsInductive w) (admit
       (Plain (looking (purpose.Upgrade how) at))
       → (role_at None (purpose.Upgrade how) at).claims ≡ Some (Has Upgradable) → (lock_state w l).upgradable
       ≡ Some t
-  upgrades_from how at is claims = (steady.sites.site l).held t (Has Upgradable)
+  upgrades_from how at is claims = (inductive.sites.site l).held t (Has Upgradable)
       (ap (λ p. (role_on p l).claims) is
       ∙ ap (λ (b : Bool). (if b then rwlock_role (looking (purpose.Upgrade how) at) else idle).claims)
       (same l) ∙ claims)
 
   readers_and_one : (lock_state w l).upgradable ≡ Some t → count_in (word_at w l) ≡ readers (lock_state w l)
       + 1
-  readers_and_one own = counted w l a steady admits ∙ ap (λ (o : Option ℕ). readers (lock_state w l)
+  readers_and_one own = counted w l a inductive admits ∙ ap (λ (o : Option ℕ). readers (lock_state w l)
       + one_if_some o) own
 
   upgrade_owns : (how : Patience) (at : RwLockAt) → place_at w t ≡ RwLock l a
@@ -614,7 +617,7 @@ module _ (w : State) (t l : ℕ) (a : Admission) (steady : IsInductive w) (admit
         where
           by_pending : (o : Option Pending) → (lock_state w l).pending ≡ o → (lock_state w l).pending ≡ None
           by_pending None e = e
-          by_pending (Some p) e = absurd (let none = (steady.sites.site l).state.pending_alone p e
+          by_pending (Some p) e = absurd (let none = (inductive.sites.site l).state.pending_alone p e
               in let g : ◌≡◌ {A = Option ℕ} (Some t) None = sym own ∙ none in cc)
 
       left : 1 ≤ readers (lock_state w l) → (count_in (apply (op.Sub 12) (word_at w l)) == 0) ≡ false
@@ -642,23 +645,23 @@ pub enters_alone : (w : State) (t l : ℕ) (a : Admission) (x : Access) (how : P
     → EntersAlone (word_at w l ≡ 0) (locks_of w) t l (wanted x) how (solo n w t last).outcome
     (locks_of (solo n w t last).state)
     ⊎ IsBarred (solo n w t last).state t
-enters_alone w t l a x how n last le steady admits is f run = by_access x is f
+enters_alone w t l a x how n last le inductive admits is f run = by_access x is f
   where
     small : word_at w l < 2 ^ 64
-    small = word_small w l steady admits.0
+    small = word_small w l inductive admits.0
 
     by_access : (x : Access) → place_at w t ≡ RwLock l a (call_first (call.Enter x how))
         → StepsAlone w t l (RwLock l a (call_first (call.Enter x how))) (word_at w l)
         (λ m. queue_at w (key_of l m))
         → EntersAlone (word_at w l ≡ 0) (locks_of w) t l (wanted x) how (solo n w t last).outcome
         (locks_of (solo n w t last).state) ⊎ IsBarred (solo n w t last).state t
-    by_access access.Exclusive is f = or_so (writes_alone w t l a steady admits (solo n w t last).state
+    by_access access.Exclusive is f = or_so (writes_alone w t l a inductive admits (solo n w t last).state
         (solo n w t last).outcome run how is) (first_leads t l a _ (word_at w l) w
         (λ m. queue_at w (key_of l m)) small f n last (omega arith))
-    by_access access.Shared is f = or_so (shares_alone w t l a steady admits (solo n w t last).state
+    by_access access.Shared is f = or_so (shares_alone w t l a inductive admits (solo n w t last).state
         (solo n w t last).outcome run access.Shared how (λ h. cc) is) (load_leads t l a _ (word_at w l) w
         (λ m. queue_at w (key_of l m)) small f n last (omega arith))
     by_access access.Upgradable is f =
-        or_so (shares_alone w t l a steady admits (solo n w t last).state (solo n w t last).outcome run
+        or_so (shares_alone w t l a inductive admits (solo n w t last).state (solo n w t last).outcome run
         access.Upgradable how (λ h. cc) is) (load_leads t l a _ (word_at w l) w (λ m. queue_at w (key_of l m))
         small f n last (omega arith))

@@ -52,7 +52,7 @@ module _ (t l : ℕ) where
   abbrev RestsIn : ℕ → State → Type 0
   RestsIn k w = Leads k w t (λ v o. Rests o)
 
-  -- it goes on, and rests behind
+  -- it goes on, and rests after
   goes : (k v : ℕ) (w : State) (q : Queues) (p : SemaphorePlace) (told : Outcome) → told ≡ outcome.Step
       → Comes w t l (Semaphore l p) told v q
       → (Alone (after w (go_of t)) p v q → RestsIn k (after w (go_of t))) → RestsIn (k + 1) w

@@ -55,7 +55,7 @@ use Rattle.lot_laws.specs.Solo.{entered_answer}
 use Rattle.lot_laws.proofs.machine.Parts.{put_here, same}
 use Rattle.lot_laws.proofs.alone.TwoLines.{Comes, StepsAlone, leads_into, leave_comes, park_comes, parks_last}
 use Rattle.lot_laws.proofs.alone.TwoLines.{take_comes, word_comes}
-use Rattle.lot_laws.proofs.sites.OneStep.{queued_behind}
+use Rattle.lot_laws.proofs.sites.OneStep.{queued_after}
 use Rattle.lot_laws.proofs.alone.Leads.{Leads, leads_more, leads_rest, leads_step, or_so}
 use Rattle.lot_laws.proofs.alone.Answers.{HasAnswered, answered}
 use Rattle.lot_laws.proofs.alone.WorldRuns.{RunsAlone, run_refines}
@@ -272,7 +272,7 @@ module _ (t l : ℕ) where
 
 -- ---------------------------------------------------------------- as the abstract locks see it
 
-module _ (w : State) (l : ℕ) (steady : IsInductive w) (sort : (rules_in w l).sort ≡ OfSemaphores) where
+module _ (w : State) (l : ℕ) (inductive : IsInductive w) (sort : (rules_in w l).sort ≡ OfSemaphores) where
   abbrev s : LockState
   s = lock_state w l
 
@@ -280,7 +280,7 @@ module _ (w : State) (l : ℕ) (steady : IsInductive w) (sort : (rules_in w l).s
   free_now = words.free_in (rules_in w l).limit (site_of w l)
 
   worded : word_at w l ≡ words.word_of free_now (site_of w l).parked
-  worded = steady.sites.word l ∙ words.coded (rules_in w l) (site_of w l) sort
+  worded = inductive.sites.word l ∙ words.coded (rules_in w l) (site_of w l) sort
 
   -- a permit is free exactly where fewer share than there are permits
   free_word : readers s < (rules_in w l).limit → is_free (word_at w l) ≡ true
@@ -309,14 +309,14 @@ module _ (w : State) (l : ℕ) (steady : IsInductive w) (sort : (rules_in w l).s
   never_full : IsFull (locks_of w) l Shared → ⊥
   never_full full = let fewer = may_share full.1 in
       let none : s.upgradable ≡ None =
-      ((steady.sites.site l).state.unpending (λ k. subst (λ x. Knows x Upgradable) sort k)).1 in
+      ((inductive.sites.site l).state.unpending (λ k. subst (λ x. Knows x Upgradable) sort k)).1 in
       let alone : one_if_some s.upgradable ≡ 0 = ap one_if_some none in
       let most : (rules_in w l).limit ≤ readers s + one_if_some s.upgradable = full.2 in omega arith
 
   no_readers : has_readers (rules_in w l).sort ≡ true → ⊥
   no_readers h = let f : false ≡ true = sym (ap has_readers sort) ∙ h in cc
 
-module _ (w : State) (t l : ℕ) (steady : IsInductive w) (sort : (rules_in w l).sort ≡ OfSemaphores)
+module _ (w : State) (t l : ℕ) (inductive : IsInductive w) (sort : (rules_in w l).sort ≡ OfSemaphores)
     (v2 : State) (x : Outcome)
     (run : RunsAlone w t x v2) where
   abbrev queues : Line → List Waiter
@@ -347,19 +347,19 @@ module _ (w : State) (t l : ℕ) (steady : IsInductive w) (sort : (rules_in w l)
       → (is_free (word_at w l) ≡ false → WaitsAlone how (lock_state w l) t Shared x (lock_state v2 l))
       → EntersAlone (word_at w l ≡ 0) (locks_of w) t l Shared how x (locks_of v2)
   enters_alone p how is of takes waits = record {
-    owns = λ may. let told = takes (free_word w l steady sort (may_share w l steady sort may.0)) in (
+    owns = λ may. let told = takes (free_word w l inductive sort (may_share w l inductive sort may.0)) in (
       told,
       owns_then how (subst (λ q. HasAnswered t (Some q) (call_at w t).former (entered_answer how)
           (locks_of v2)) of (holds p is (entered_answer how) told)),
     );
     pends = λ e may some. absurd cc;
-    refused = λ shared e. absurd (no_readers w l steady sort shared);
-    full = λ full. absurd (never_full w l steady sort full);
-    barred = λ b. waits (full_word w l steady sort (is_barred w l steady sort b));
+    refused = λ shared e. absurd (no_readers w l inductive sort shared);
+    full = λ full. absurd (never_full w l inductive sort full);
+    barred = λ b. waits (full_word w l inductive sort (is_barred w l inductive sort b));
   }
 
   asleep : Sleeps t l queues v2 x → SleepsLast (lock_state w l) t Shared x (lock_state v2 l)
-  asleep h = (h.0, ap (map queued_of) h.1 ∙ queued_behind (2 * l) t Shared (queue_at w (2 * l)))
+  asleep h = (h.0, ap (map queued_of) h.1 ∙ queued_after (2 * l) t Shared (queue_at w (2 * l)))
 
   -- a thread that gives a permit back holds one less
   releases_alone : place_at w t ≡ Semaphore l (Release release.Add) → x ≡ outcome.End answer.Ok
@@ -381,7 +381,7 @@ pub semaphore_alone : (w : State) (t l : ℕ) (c : SemaphoreCall) (n : ℕ) (las
     → RunsAlone w t (solo n w t last).outcome (solo n w t last).state
     → EndsAlone w t (Some (semaphore_purpose l c)) (solo n w t last).outcome (solo n w t last).state
     ⊎ IsBarred (solo n w t last).state t
-semaphore_alone w t l c n last le steady sort is f run = by_call c is f
+semaphore_alone w t l c n last le inductive sort is f run = by_call c is f
   where
     v2 : State
     v2 = (solo n w t last).state
@@ -400,18 +400,18 @@ semaphore_alone w t l c n last le steady sort is f run = by_call c is f
         → StepsAlone w t l (Semaphore l (semaphore_first c)) (word_at w l) lines
         → EndsAlone w t (Some (semaphore_purpose l c)) x v2 ⊎ IsBarred v2 t
     by_call (call.Acquire Patient) is f = or_so
-        (λ h. enters_alone w t l steady sort v2 x run (Acquire false false acquire.Load) Patient is refl
-        (λ e. subst (λ b. Ended t l false lines b v2 x) e h) (λ e. asleep w t l steady sort v2 x run
+        (λ h. enters_alone w t l inductive sort v2 x run (Acquire false false acquire.Load) Patient is refl
+        (λ e. subst (λ b. Ended t l false lines b v2 x) e h) (λ e. asleep w t l inductive sort v2 x run
         (subst (λ b. Ended t l false lines b v2 x) e h)))
         (loads t l false false w lines (word_at w l) (is_free (word_at w l)) refl f n last (omega arith))
     by_call (call.Acquire Timed) is f = or_so
-        (λ h. enters_alone w t l steady sort v2 x run (Acquire true false acquire.Load) Timed is refl
-        (λ e. subst (λ b. Ended t l true lines b v2 x) e h) (λ e. asleep w t l steady sort v2 x run
+        (λ h. enters_alone w t l inductive sort v2 x run (Acquire true false acquire.Load) Timed is refl
+        (λ e. subst (λ b. Ended t l true lines b v2 x) e h) (λ e. asleep w t l inductive sort v2 x run
         (subst (λ b. Ended t l true lines b v2 x) e h)))
         (loads t l true false w lines (word_at w l) (is_free (word_at w l)) refl f n last (omega arith))
     by_call (call.Acquire OnlyTry) is f = or_so
-        (λ h. enters_alone w t l steady sort v2 x run (Try tries.Load) OnlyTry is refl (tried_so h true)
+        (λ h. enters_alone w t l inductive sort v2 x run (Try tries.Load) OnlyTry is refl (tried_so h true)
         (tried_so h false))
         (try_loads t l w lines (word_at w l) (is_free (word_at w l)) refl f n last (omega arith))
-    by_call call.Release is f = or_so (releases_alone w t l steady sort v2 x run is)
+    by_call call.Release is f = or_so (releases_alone w t l inductive sort v2 x run is)
         (release_adds t l w lines (word_at w l) f n last (omega arith))

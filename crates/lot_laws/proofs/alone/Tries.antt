@@ -113,7 +113,7 @@ never_enters a key none h = h
 -- nobody bars it
 unbarred : (w : State) (t : ℕ) → IsWorld w → IsTrying (locks_of w) t → IsBarred w t → ⊥
 unbarred w t world (inl tries) b = never_enters (act_of (place_at w t)) (key_of b.lock b.line)
-    (tries_go w world.steady t tries).2 b.enters
+    (tries_go w world.inductive t tries).2 b.enters
 unbarred w t world (inr none) b = rests_idle (place_at w t) (rights_in (locks_of w) t) (key_of b.lock b.line)
     none b.enters
 

@@ -32,7 +32,7 @@ use Rattle.lot_machine.specs.Machine.{queues_with_last, state_after_act, state_a
 use Rattle.lot_machine.specs.Machine.{state_after_go, go_outcome, reply_to, can_do, is_possible, after}
 use Rattle.lot_machine.specs.Machine.{step_outcome, go_of, going_outcome, state_after_going}
 use Rattle.lot_machine.specs.Fits.{IsWellFormed, SameSize}
-use Rattle.lot_machine.proofs.Shape.{after_shaped, after_size, main_key_there, performed_counts}
+use Rattle.lot_machine.proofs.Shape.{after_well_formed, after_size, main_key_there, performed_counts}
 use Rattle.lot_laws.proofs.calls.OwnPlace.{goes_from_there, told_from_there}
 use Rattle.lot_laws.specs.SitesOf.{AreCondvars, AreCounted, IsInductive, IsSettled, key_of, stood_in}
 use Rattle.lot_laws.proofs.mutex.FairMutexes.{settled_after}
@@ -43,12 +43,12 @@ use Rattle.lot_laws.proofs.machine.Parts.{nothing_at, next_single, IsSingle}
 use Rattle.lot_laws.proofs.hands.Counts.{without_absent}
 use Rattle.lot_laws.proofs.condvar.StepsKeep.{after_condvars}
 use Rattle.lot_laws.proofs.hands.CountsKept.{counted_after}
-use Rattle.lot_laws.proofs.sites.TurnsKept.{after_steady}
+use Rattle.lot_laws.proofs.sites.TurnsKept.{after_inductive}
 
 -- how a thread stands that steps alone: its place at the lock, the word, and the waiters there
 pub record StepsAlone (w : State) (t l : ℕ) (p : Place) (v : ℕ) (q : Line → List Waiter) : Type 0 where
   pub shape : IsWellFormed w
-  pub steady : IsInductive w
+  pub inductive : IsInductive w
   pub counted : AreCounted w
   pub condvars : AreCondvars w
   pub settled : IsSettled w
@@ -90,11 +90,11 @@ module _ (w : State) (t l : ℕ) (p : Place) (v : ℕ) (q : Line → List Waiter
   comes b reply v2 q2 can does heard word queue = (
     told can ∙ ap (λ r. outcome_of (next_act p r)) heard,
     record {
-      shape = after_shaped w (go_of t) f.shape;
-      steady = after_steady w (go_of t) f.shape f.steady f.counted f.condvars;
-      counted = counted_after w (go_of t) f.shape f.steady f.counted f.condvars;
-      condvars = after_condvars w (go_of t) f.shape f.steady f.counted f.condvars;
-      settled = settled_after w (go_of t) f.shape f.steady f.counted f.condvars f.settled;
+      shape = after_well_formed w (go_of t) f.shape;
+      inductive = after_inductive w (go_of t) f.shape f.inductive f.counted f.condvars;
+      counted = counted_after w (go_of t) f.shape f.inductive f.counted f.condvars;
+      condvars = after_condvars w (go_of t) f.shape f.inductive f.counted f.condvars;
+      settled = settled_after w (go_of t) f.shape f.inductive f.counted f.condvars f.settled;
       thread = let size : SameSize w (after w (go_of t)) = after_size w (go_of t) in rw size.threads f.thread;
       lock = let size : SameSize w (after w (go_of t)) = after_size w (go_of t) in rw size.locks f.lock;
       single = next_single p reply f.single;
@@ -210,7 +210,7 @@ module _ (w : State) (t l : ℕ) (p : Place) (v : ℕ) (q : Line → List Waiter
       ∙ without_absent t (queue_at w (key_of l m)) absent ∙ f.queue m
     where
       absent : times t (queue_at w (key_of l m)) ≡ 0
-      absent = f.steady.stands.lines t l m
+      absent = f.inductive.stands.lines t l m
           ∙ ap (λ x. stood_in x m) (nothing_at (place_at w t) l (subst IsSingle (sym f.place) f.single)
           (λ x. x.stands) refl (ap (λ x. (location x).stands) f.place ∙ nowhere))
 
@@ -236,7 +236,7 @@ module _ (w : State) (t l : ℕ) (p : Place) (v : ℕ) (q : Line → List Waiter
         enters = subst (EntersSection (key_of l m)) (sym (ap act_of f.place ∙ is)) refl;
         inside = e;
         another = λ mine. let within : (location_at (place_at w t) l).inside ≡ Some m =
-            (f.steady.stands.sections t l m).1 (e ∙ ap Some mine) in
+            (f.inductive.stands.sections t l m).1 (e ∙ ap Some mine) in
             let out : (location_at (place_at w t) l).inside ≡ None = nothing_at (place_at w t) l
             (subst IsSingle (sym f.place) f.single) (λ x. x.inside) refl
             (ap (λ x. (location x).inside) f.place ∙ outside) in cc;

@@ -24,7 +24,7 @@ use Rattle.steps_condvar.specs.declared.wait.Stands.TheVariants as stands
 use Rattle.steps_condvar.specs.declared.wait.WaitAt.{WaitAt}
 use Rattle.steps_condvar.specs.declared.wait.WaitAt.TheVariants as wait
 use Rattle.steps_condvar.specs.CondvarCalls.{IsReached}
-use Rattle.steps_condvar.specs.CondvarSteps.{stands_after, behind_release, condvar_next, first_lock, in_wait}
+use Rattle.steps_condvar.specs.CondvarSteps.{stands_after, past_release, condvar_next, first_lock, in_wait}
 use Rattle.steps_condvar.specs.CondvarSteps.{is_shown, released, wait_act}
 use Rattle.lot_steps.specs.declared.places.Place.{Place}
 use Rattle.lot_steps.specs.declared.places.Place.TheVariants.{Condvar}
@@ -33,7 +33,8 @@ use Rattle.lot_machine.specs.Machine.{State, after, can_do, go_of, place_at, que
 use Rattle.lot_machine.specs.Machine.{state_after_act, word_at}
 use Rattle.lot_machine.proofs.Acted.{Befalls, acted_keeps}
 use Rattle.lot_laws.specs.Solo.{Rests}
-use Rattle.lot_laws.proofs.alone.Condvar.{Behind, GoesAlone, Keeps, free_beside, free_here, leads_behind}
+use Rattle.lot_laws.proofs.alone.Condvar.{Afterwards, GoesAlone, Keeps, free_beside, free_here}
+use Rattle.lot_laws.proofs.alone.Condvar.{leads_afterwards}
 use Rattle.lot_laws.proofs.alone.Condvar.{reached}
 use Rattle.lot_laws.proofs.condvar.OwnStand.{calm_waiter, is_release}
 use Rattle.lot_laws.proofs.alone.Leads.{leads_barred, Leads, leads_more}
@@ -67,36 +68,36 @@ module _ (t l m : ℕ) (keeps : Keeps t) (timed : Bool) where
         (unlock_act m at) (λ loud r b q there. subst (λ x. InRelease at (next_place x r)) (sym there.1)
         (told_there at there.0 r b)) (s, g.place)
 
-    -- tells what is left to do behind this reply, whatever befell it
+    -- tells what is left to do after this reply, whatever befell it
     abbrev LeftThere : (State → Outcome → Type 0) → ℕ → Reply → Type 0
-    LeftThere P k r = (s2 : Stands) → Behind t l m keeps w (Wait m timed (releasing s at)) g P k
+    LeftThere P k r = (s2 : Stands) → Afterwards t l m keeps w (Wait m timed (releasing s at)) g P k
         (condvar_next (Wait m timed (releasing s2 at)) r)
 
     goes_there : (P : State → Outcome → Type 0) (k : ℕ) → can_do w (unlock_act m at) ≡ true
         → LeftThere P k (reply_to w t (unlock_act m at)) → Leads (k + 1) w t P
-    goes_there P k can left = leads_behind t l m keeps w (Wait m timed (releasing s at)) g can P k
+    goes_there P k can left = leads_afterwards t l m keeps w (Wait m timed (releasing s at)) g can P k
         (Wait m timed (releasing in_release.0 at)) in_release.1 (left in_release.0)
 
   module _ (w : State) (at : WaitAt) (g : Alone w at) where
     -- Elsewhere the thread stands where it stood.
     abbrev pub Left : (State → Outcome → Type 0) → ℕ → Reply → Type 0
-    Left P k r = Behind t l m keeps w (Wait m timed at) g P k (condvar_next (Wait m timed at) r)
+    Left P k r = Afterwards t l m keeps w (Wait m timed at) g P k (condvar_next (Wait m timed at) r)
 
     pub goes : (P : State → Outcome → Type 0) (k : ℕ) → is_release at ≡ false → can_do w (wait_act l m at)
         ≡ true
         → Left P k (reply_to w t (wait_act l m at)) → Leads (k + 1) w t P
-    goes P k calm can left = leads_behind t l m keeps w (Wait m timed at) g can P k (Wait m timed at)
+    goes P k calm can left = leads_afterwards t l m keeps w (Wait m timed at) g can P k (Wait m timed at)
         (calm_waiter w t l m timed at g.place (reached t l m keeps w (Wait m timed at) g) g.thread calm) left
 
   -- ---------------------------------------------------------------- its release
 
-  -- tells what holds of a state from the release on, and what it comes to behind it
+  -- tells what holds of a state from the release on, and what it comes to after it
   module _ (P : State → Outcome → Type 0) (J : State → Type 0)
       (kept : (w : State) (s : Stands) (at : UnlockAt) → Alone w (releasing s at) → at ≢ unlock.Subtract
       → can_do w (unlock_act m at) ≡ true → J w → J (after w (go_of t)))
-      (finish : (w : State) (s : Stands) → J w → Alone w (behind_release s)
-      → ((outcome_of (wait_act l m (behind_release s)) ≡ outcome.Sleep) × P w outcome.Sleep)
-      ⊎ ((outcome_of (wait_act l m (behind_release s)) ≡ outcome.Step) × Leads 8 w t P)) where
+      (finish : (w : State) (s : Stands) → J w → Alone w (past_release s)
+      → ((outcome_of (wait_act l m (past_release s)) ≡ outcome.Sleep) × P w outcome.Sleep)
+      ⊎ ((outcome_of (wait_act l m (past_release s)) ≡ outcome.Step) × Leads 8 w t P)) where
     wakes : (w : State) (s : Stands) (any : Bool) → J w → Alone w (releasing s (unlock.Leave any))
         → Leads 9 w t P
     wakes w s any j g = goes_there w s (unlock.Leave any) g P 8 refl (λ s2 h. finish (after w (go_of t)) s2
@@ -116,7 +117,7 @@ module _ (t l m : ℕ) (keeps : Keeps t) (timed : Bool) where
         (λ s2. taken s2 _ (length (drop 1 (queue_at w (2 * m))) == 0))
       where
         taken : (s2 : Stands) (any none_left : Bool)
-            → Behind t l m keeps w (Wait m timed (releasing s unlock.Take)) g P 10
+            → Afterwards t l m keeps w (Wait m timed (releasing s unlock.Take)) g P 10
             (condvar_next (Wait m timed (releasing s2 unlock.Take)) (Took any none_left))
         taken s2 any true h = inr (
           refl,
@@ -143,12 +144,12 @@ module _ (t l m : ℕ) (keeps : Keeps t) (timed : Bool) where
     subtracts w s g j = goes_there w s unlock.Subtract g P 12 refl (λ s2. seen s2 (word_at w m))
       where
         seen : (s2 : Stands) (v : ℕ)
-            → Behind t l m keeps w (Wait m timed (releasing s unlock.Subtract)) g P 12
+            → Afterwards t l m keeps w (Wait m timed (releasing s unlock.Subtract)) g P 12
             (condvar_next (Wait m timed (releasing s2 unlock.Subtract)) (Value v))
         seen s2 v = either (is_parked v)
           where
             either : (b : Bool)
-                → Behind t l m keeps w (Wait m timed (releasing s unlock.Subtract)) g P 12
+                → Afterwards t l m keeps w (Wait m timed (releasing s unlock.Subtract)) g P 12
                 (next.At (Wait m timed (released s2 (in_unlock (if b then next.At unlock.Enter
                 else next.End answer.Ok)))))
             either true h = inr (refl, enters (after w (go_of t)) s2 j h)
@@ -174,9 +175,9 @@ module _ (t l m : ℕ) (keeps : Keeps t) (timed : Bool) where
   relocks_first : (w : State) (late again : Bool) → Alone w (wait.Lock late (first_lock again)) → RestsIn 8 w
   relocks_first w late again g = relock_rests t l m keeps timed late w again lock.First tt (λ e. cc) g
 
-  released_rests : (w : State) (s : Stands) → Unit {0} → Alone w (behind_release s)
-      → ((outcome_of (wait_act l m (behind_release s)) ≡ outcome.Sleep) × Rests outcome.Sleep)
-      ⊎ ((outcome_of (wait_act l m (behind_release s)) ≡ outcome.Step) × RestsIn 8 w)
+  released_rests : (w : State) (s : Stands) → Unit {0} → Alone w (past_release s)
+      → ((outcome_of (wait_act l m (past_release s)) ≡ outcome.Sleep) × Rests outcome.Sleep)
+      ⊎ ((outcome_of (wait_act l m (past_release s)) ≡ outcome.Step) × RestsIn 8 w)
   released_rests w (stands.Noted note.Normal) j g = inr (refl, relocks_first w false true g)
   released_rests w (stands.Noted note.HandOff) j g =
       inr (refl, relock_rests t l m keeps timed false w false lock.Accept tt (λ e. cc) g)
@@ -185,19 +186,19 @@ module _ (t l m : ℕ) (keeps : Keeps t) (timed : Bool) where
   released_rests w (stands.InHand by) j g = inl (refl, tt)
   released_rests w (stands.Handed by) j g = inl (refl, tt)
 
-  behind_subtract : (w : State) (s : Stands) (at : UnlockAt) → at ≢ unlock.Subtract → Alone w (releasing s at)
+  after_subtract : (w : State) (s : Stands) (at : UnlockAt) → at ≢ unlock.Subtract → Alone w (releasing s at)
       → RestsIn 13 w
-  behind_subtract w s at other g = leads_more 12 13 w t (λ v o. Rests o) (omega arith)
+  after_subtract w s at other g = leads_more 12 13 w t (λ v o. Rests o) (omega arith)
       (releases (λ v o. Rests o) (λ v. Unit {0}) (λ v s at h other can j. tt) released_rests w s at other tt
       g)
 
   release_rests : (w : State) (s : Stands) (at : UnlockAt) → Alone w (releasing s at) → RestsIn 13 w
   release_rests w s unlock.Subtract g = subtracts (λ v o. Rests o) (λ v. Unit {0})
       (λ v s at h other can j. tt) released_rests w s g tt
-  release_rests w s unlock.Enter g = behind_subtract w s unlock.Enter (λ e. cc) g
-  release_rests w s unlock.Take g = behind_subtract w s unlock.Take (λ e. cc) g
-  release_rests w s (unlock.Clear any) g = behind_subtract w s (unlock.Clear any) (λ e. cc) g
-  release_rests w s (unlock.Leave any) g = behind_subtract w s (unlock.Leave any) (λ e. cc) g
+  release_rests w s unlock.Enter g = after_subtract w s unlock.Enter (λ e. cc) g
+  release_rests w s unlock.Take g = after_subtract w s unlock.Take (λ e. cc) g
+  release_rests w s (unlock.Clear any) g = after_subtract w s (unlock.Clear any) (λ e. cc) g
+  release_rests w s (unlock.Leave any) g = after_subtract w s (unlock.Leave any) (λ e. cc) g
 
   leaves_mutex : (w : State) (none_left : Bool) → Alone w (wait.GiveUpMoved none_left) → RestsIn 9 w
   leaves_mutex w none_left g = goes w (wait.GiveUpMoved none_left) g (λ v o. Rests o) 8 refl refl
@@ -241,7 +242,7 @@ module _ (t l m : ℕ) (keeps : Keeps t) (timed : Bool) where
       seen v = either ((v == 0) || is_shown v m)
         where
           either : (b : Bool)
-              → Behind t l m keeps w (Wait m timed wait.Show) g (λ v o. Rests o) 15
+              → Afterwards t l m keeps w (Wait m timed wait.Show) g (λ v o. Rests o) 15
               (in_wait m timed (if b then next.At wait.Stand else next.At wait.Refuse))
           either true = λ h. inr (refl, stands_last (after w (go_of t)) h)
           either false = λ h. inr (

@@ -23,7 +23,7 @@ use Rattle.steps_condvar.specs.declared.wait.WaitAt.{WaitAt}
 use Rattle.steps_condvar.specs.declared.wait.WaitAt.TheVariants as wait
 use Rattle.steps_condvar.specs.CondvarDeeds.{IsListed, after_condvar_deeds, condvar_deeds, word_showing}
 use Rattle.steps_condvar.specs.CondvarProfiles.{wait_row}
-use Rattle.steps_condvar.specs.CondvarSteps.{behind_release, in_wait, is_shown, shown_as, wait_act}
+use Rattle.steps_condvar.specs.CondvarSteps.{past_release, in_wait, is_shown, shown_as, wait_act}
 use Rattle.lot_steps.specs.declared.places.Place.TheVariants.{Condvar}
 use Rattle.spec_locks.specs.Condvars.{SeeOther, Show}
 use Rattle.spec_locks.specs.Locks.{Queued, times}
@@ -32,7 +32,7 @@ use Rattle.lot_machine.specs.Machine.{state_after_act, state_after_taking, unloc
 use Rattle.lot_laws.specs.Refinement.{lock_state, locks_of, owner_at}
 use Rattle.lot_laws.specs.SitesOf.{condvar_of}
 use Rattle.lot_laws.specs.Solo.{CondvarWaitsAlone}
-use Rattle.lot_laws.proofs.alone.Condvar.{Behind, GoesAlone, Keeps, mutex_there, queue_then, so_then}
+use Rattle.lot_laws.proofs.alone.Condvar.{Afterwards, GoesAlone, Keeps, mutex_there, queue_then, so_then}
 use Rattle.lot_laws.proofs.condvar.Replies.{at_it, word_is}
 use Rattle.lot_laws.proofs.alone.Leads.{Leads, leads_more, leads_so}
 use Rattle.lot_laws.proofs.alone.Wait.{goes, into_section, releasing, subtracts}
@@ -48,7 +48,7 @@ module _ (t l m : ℕ) (keeps : Keeps t) (timed : Bool) where
       → (lock_state (after w (go_of t)) l).queue ≡ q
   queue_is w at g can q e = queue_then t l m keeps w (Wait m timed at) g can ∙ e
 
-  -- ---------------------------------------------------------------- from where it stands behind the last
+  -- ---------------------------------------------------------------- from where it stands after the last
 
   module _ (q : List Queued) where
     -- they wait, and nobody owns the mutex
@@ -102,17 +102,17 @@ module _ (t l m : ℕ) (keeps : Keeps t) (timed : Bool) where
     module _ (last : 1 ≤ times t q) where
       listed : (v : State) (at : WaitAt) → Alone v at → LetGo v → (wait_row m at).listed ≡ false → ⊥
       listed v at g j none = let here : times t (lock_state v l).queue ≡ 0 =
-          subst (IsListed (condvar_of v l) t) none (at_it v t l (Wait m timed at) g.world.steady
+          subst (IsListed (condvar_of v l) t) none (at_it v t l (Wait m timed at) g.world.inductive
           g.place).listed in
           let same : times t (lock_state v l).queue ≡ times t q = ap (times t) j.0 in omega arith
 
-      finish : (v : State) (s : Stands) → LetGo v → Alone v (behind_release s)
-          → ((outcome_of (wait_act l m (behind_release s)) ≡ outcome.Sleep) × Sleeps v outcome.Sleep)
-          ⊎ ((outcome_of (wait_act l m (behind_release s)) ≡ outcome.Step) × Leads 8 v t Sleeps)
+      finish : (v : State) (s : Stands) → LetGo v → Alone v (past_release s)
+          → ((outcome_of (wait_act l m (past_release s)) ≡ outcome.Sleep) × Sleeps v outcome.Sleep)
+          ⊎ ((outcome_of (wait_act l m (past_release s)) ≡ outcome.Step) × Leads 8 v t Sleeps)
       finish v (stands.Noted note.Normal) j g =
-          absurd (listed v (behind_release (stands.Noted note.Normal)) g j refl)
+          absurd (listed v (past_release (stands.Noted note.Normal)) g j refl)
       finish v (stands.Noted note.HandOff) j g =
-          absurd (listed v (behind_release (stands.Noted note.HandOff)) g j refl)
+          absurd (listed v (past_release (stands.Noted note.HandOff)) g j refl)
       finish v stands.Listed j g = inl (refl, (refl, j))
       finish v stands.Moved j g = inl (refl, (refl, j))
       finish v (stands.InHand by) j g = inl (refl, (refl, j))
@@ -135,22 +135,22 @@ module _ (t l m : ℕ) (keeps : Keeps t) (timed : Bool) where
     where
       last : 1 ≤ times t q
       last = let here : times t (lock_state w l).queue ≡ 1 =
-          (at_it w t l (Wait m timed wait.Leave) g.world.steady g.place).listed in
+          (at_it w t l (Wait m timed wait.Leave) g.world.inductive g.place).listed in
           let same : times t (lock_state w l).queue ≡ times t q = ap (times t) e in omega arith
 
   -- ---------------------------------------------------------------- from its beginning
 
-  -- it stands behind the last
-  abbrev behind_last : List Queued → List Queued
-  behind_last q = q ++ (record { thread = t; want = WaitHere }) ∷ []
+  -- it stands after the last
+  abbrev after_last : List Queued → List Queued
+  after_last q = q ++ (record { thread = t; want = WaitHere }) ∷ []
 
   stands_last : (q : List Queued) (w : State) → (lock_state w l).queue ≡ q → Alone w wait.Stand
-      → Leads 15 w t (Sleeps (behind_last q))
-  stands_last q w e g = goes t l m keeps timed w wait.Stand g (Sleeps (behind_last q)) 14 refl refl
+      → Leads 15 w t (Sleeps (after_last q))
+  stands_last q w e g = goes t l m keeps timed w wait.Stand g (Sleeps (after_last q)) 14 refl refl
       (λ h. inr (
         refl,
-        goes_out (behind_last q) (after w (go_of t)) (queue_is w wait.Stand g refl
-            (behind_last q) (ap behind_last e)) h,
+        goes_out (after_last q) (after w (go_of t)) (queue_is w wait.Stand g refl
+            (after_last q) (ap after_last e)) h,
       ))
 
   abbrev Refused : State → Outcome → Type 0
@@ -164,9 +164,9 @@ module _ (t l m : ℕ) (keeps : Keeps t) (timed : Bool) where
   may_show v = (v == 0) || is_shown v m
 
   module _ (w : State) (g : Alone w wait.Show) where
-    -- tells what it does behind its look
+    -- tells what it does after its look
     abbrev Shown : (State → Outcome → Type 0) → Bool → Type 0
-    Shown P b = Behind t l m keeps w (Wait m timed wait.Show) g P 15
+    Shown P b = Afterwards t l m keeps w (Wait m timed wait.Show) g P 15
         (in_wait m timed (if b then next.At wait.Stand else next.At wait.Refuse))
 
     shows_by : (P : State → Outcome → Type 0) (b : Bool) → may_show (word_at w l) ≡ b → Shown P b
@@ -174,8 +174,8 @@ module _ (t l m : ℕ) (keeps : Keeps t) (timed : Bool) where
     shows_by P b e left = goes t l m keeps timed w wait.Show g P 15 refl refl (subst (Shown P) (sym e) left)
 
     shows : (q : List Queued) → (lock_state w l).queue ≡ q → may_show (word_at w l) ≡ true
-        → Leads 16 w t (Sleeps (behind_last q))
-    shows q e may = shows_by (Sleeps (behind_last q)) true may (λ h. inr (
+        → Leads 16 w t (Sleeps (after_last q))
+    shows q e may = shows_by (Sleeps (after_last q)) true may (λ h. inr (
       refl,
       stands_last q (after w (go_of t))
           (queue_is w wait.Show g refl q
@@ -212,7 +212,7 @@ module _ (t l m : ℕ) (keeps : Keeps t) (timed : Bool) where
     -- inside it finds the condition variable as it was
     same_word : can_do w (wait_act l m wait.Enter) ≡ true → word_at (after w (go_of t)) l ≡ word_showing shown
     same_word can = so_then t l m keeps w (Wait m timed wait.Enter) g can (λ s. word_at s l) (λ q. refl)
-        ∙ word_is w t l (Wait m timed wait.Enter) g.world.steady g.place
+        ∙ word_is w t l (Wait m timed wait.Enter) g.world.inductive g.place
 
     enters : (P : State → Outcome → Type 0)
         → (can_do w (wait_act l m wait.Enter) ≡ true → Alone (after w (go_of t)) wait.Show
@@ -228,7 +228,7 @@ module _ (t l m : ℕ) (keeps : Keeps t) (timed : Bool) where
         either : (b : Bool) → may_show (word_showing shown) ≡ b
             → Leads 17 w t (λ v o. CondvarWaitsAlone (locks_of w) t l m o (locks_of v))
         either true e = enters (λ v o. CondvarWaitsAlone (locks_of w) t l m o (locks_of v))
-            (λ can h. leads_so 16 (after w (go_of t)) t (Sleeps (behind_last (lock_state w l).queue))
+            (λ can h. leads_so 16 (after w (go_of t)) t (Sleeps (after_last (lock_state w l).queue))
             (λ v o. CondvarWaitsAlone (locks_of w) t l m o (locks_of v))
             (λ v o x. record {
               other = λ other. absurd (let no : may_show (word_showing shown) ≡ false =

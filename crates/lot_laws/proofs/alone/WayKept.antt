@@ -196,9 +196,10 @@ module _ (w : State) (t : ℕ) (world : IsWorld w) (way : IsUnobstructed w t) wh
       by_shown : (o : Option ℕ) → (lock_state w c).shown ≡ o
           → NamesOnly Named (condvar_goes c (look_next all (word_at w c)))
       by_shown None e = subst (λ v. NamesOnly Named (condvar_goes c (look_next all v)))
-          (sym (word_is w t c (Look all) world.steady is ∙ ap word_showing e)) (idle_names Named)
+          (sym (word_is w t c (Look all) world.inductive is ∙ ap word_showing e)) (idle_names Named)
       by_shown (Some m) e = subst (λ v. NamesOnly Named (condvar_goes c (look_next all v)))
-          (sym (word_is w t c (Look all) world.steady is ∙ ap word_showing e)) (by_word m (shown_as m == 0) e)
+          (sym (word_is w t c (Look all) world.inductive is ∙ ap word_showing e))
+          (by_word m (shown_as m == 0) e)
 
   -- from any other place
   acted_names : (IsLook (place_at w t) → ⊥) → NamesOnly Named (place_at acted t)

@@ -23,41 +23,41 @@ use Rattle.lot_laws.specs.SitesOf.{IsWorld}
 use Rattle.lot_laws.proofs.promises.LeavesOthers.{leaves_others}
 use Rattle.lot_laws.proofs.promises.Promises.{kept}
 use Rattle.lot_laws.proofs.mutex.FairMutexes.{settled_after}
-use Rattle.lot_machine.proofs.Shape.{after_shaped}
+use Rattle.lot_machine.proofs.Shape.{after_well_formed}
 use Rattle.lot_laws.proofs.machine.Sleepers.{sleepers_stay}
 use Rattle.lot_laws.proofs.calls.Marked.{looks_no_more}
 use Rattle.lot_laws.proofs.calls.Tries.{tries_at_once}
-use Rattle.lot_laws.proofs.sites.TurnsKept.{after_steady}
+use Rattle.lot_laws.proofs.sites.TurnsKept.{after_inductive}
 
 pub world_after : (w : State) (s : Step) → IsWorld w → IsWorld (after w s)
 world_after w s h = record {
-  shaped = after_shaped w s h.shaped;
-  steady = after_steady w s h.shaped h.steady h.counted h.condvars;
-  counted = counted_after w s h.shaped h.steady h.counted h.condvars;
-  condvars = after_condvars w s h.shaped h.steady h.counted h.condvars;
-  settled = settled_after w s h.shaped h.steady h.counted h.condvars h.settled;
+  well_formed = after_well_formed w s h.well_formed;
+  inductive = after_inductive w s h.well_formed h.inductive h.counted h.condvars;
+  counted = counted_after w s h.well_formed h.inductive h.counted h.condvars;
+  condvars = after_condvars w s h.well_formed h.inductive h.counted h.condvars;
+  settled = settled_after w s h.well_formed h.inductive h.counted h.condvars h.settled;
 }
 
 pub world_kept : (w : State) → IsWorld w → IsKept w
-world_kept w h = kept w h.steady h.condvars h.settled
+world_kept w h = kept w h.inductive h.condvars h.settled
 
 -- each step is one of the abstract locks
 pub step_is : (w : State) (s : Step) → IsWorld w → IsStep (locks_of w) s (step_outcome w s)
     (locks_of (after w s))
-step_is w s h = let turned = after_step w s h.shaped h.steady h.counted h.condvars in
+step_is w s h = let turned = after_step w s h.well_formed h.inductive h.counted h.condvars in
     (turned.0, turned.1, leaves_others w s (world_kept w h) (world_kept (after w s) (world_after w s h)))
 
 pub world_step : (w : State) (s : Step) → IsWorld w → IsWorldStep w s (step_outcome w s) (after w s)
 world_step w s h = record {
   refines = step_is w s h;
-  one_thing = one_thing w s h.steady;
+  one_thing = one_thing w s h.inductive;
   touches = touches w s;
   filled = filled_after w s (world_after w s h);
   sleepers = sleepers_stay w s;
-  tries = tries_at_once w s h.steady;
+  tries = tries_at_once w s h.inductive;
   looks_no_more = looks_no_more w s;
-  owing = owes_since w s h.shaped h.steady h.counted h.condvars;
-  fair = is_fair w s h.shaped h.steady h.counted h.condvars;
+  owing = owes_since w s h.well_formed h.inductive h.counted h.condvars;
+  fair = is_fair w s h.well_formed h.inductive h.counted h.condvars;
   kept = world_kept (after w s) (world_after w s h);
 }
 
@@ -80,7 +80,7 @@ run_refines w v [] (o ∷ os) h = absurd h
 run_refines w v (s ∷ ss) [] h = absurd h
 run_refines w v (s ∷ ss) (o ∷ os) h = (locks_of h.0, h.1.refines, run_refines h.0 v ss os h.2)
 
--- ---------------------------------------------------------------- new text stands behind the old
+-- ---------------------------------------------------------------- new text stands after the old
 
 module _ (w v : State) (ss : List Step) (before now : List Outcome) (h : IsWorld w) (led : v
     ≡ after_steps w ss)
@@ -103,7 +103,7 @@ module _ (w v : State) (ss : List Step) (before now : List Outcome) (h : IsWorld
 
 -- ---------------------------------------------------------------- a thread alone
 
--- at most n steps of the thread, behind an outcome
+-- at most n steps of the thread, after an outcome
 record GoesFor (n : ℕ) (w : State) (t : ℕ) (last result : Outcome) (v : State) : Type 0 where
   pub told : List Outcome
   pub few : length told ≤ n

@@ -167,7 +167,7 @@ pub begin_goes : (w : State) (t : ℕ) (c : Call) → IsWellFormed w → IsInduc
     → MayBegin (locks_of w) t c
     × Stays (locks_of w) t (new_call (purpose_at (locks_of w) c) (rights w t)) outcome.TheVariants.Step
     (locks_of (state_after_begin w t c))
-begin_goes w t (call.TheVariants.RwLock l c) shape steady there can = (
+begin_goes w t (call.TheVariants.RwLock l c) shape inductive there can = (
   record {
     thread = there;
     idle = rw idle refl;
@@ -197,7 +197,7 @@ begin_goes w t (call.TheVariants.RwLock l c) shape steady there can = (
 
     is_kind : has_readers (rules_in w l).sort ≡ true
     is_kind = calls_readers (kind_at w l) l c held.0
-begin_goes w t (call.TheVariants.Once l c) shape steady there can = (
+begin_goes w t (call.TheVariants.Once l c) shape inductive there can = (
   record {
     thread = there;
     idle = rw idle refl;
@@ -226,7 +226,7 @@ begin_goes w t (call.TheVariants.Once l c) shape steady there can = (
     once_right l (once_call.CallOnce forced) = tt
     once_right l (once_call.Wait forced) = tt
     once_right l once_call.WaitTimed = tt
-begin_goes w t (call.TheVariants.Semaphore l c) shape steady there can = (
+begin_goes w t (call.TheVariants.Semaphore l c) shape inductive there can = (
   record {
     thread = there;
     idle = rw idle refl;
@@ -261,10 +261,10 @@ begin_goes w t (call.TheVariants.Semaphore l c) shape steady there can = (
     untaken (semaphore_call.Acquire Timed) k = refl
     untaken (semaphore_call.Acquire Try) k = refl
     untaken semaphore_call.Release k = refl
-begin_goes w t (call.TheVariants.Condvar l c) shape steady there can =
+begin_goes w t (call.TheVariants.Condvar l c) shape inductive there can =
     condvar_begun w t l c (idle_is (place_at w t) (both (is_idle (place_at w t))
     (is_open_to w t (call.TheVariants.Condvar l c)) can).0) there can
-begin_goes w t (call.TheVariants.Mutex l c) shape steady there can = (
+begin_goes w t (call.TheVariants.Mutex l c) shape inductive there can = (
   record {
     thread = there;
     idle = rw idle refl;

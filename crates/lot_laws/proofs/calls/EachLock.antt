@@ -1,5 +1,5 @@
--- A property of each lock holds behind a step of the abstract locks, where it holds behind each case, and
--- behind each move of a notification.
+-- A property of each lock holds after a step of the abstract locks, where it holds after each case, and
+-- after each move of a notification.
 use Rattle.std.proofs.Common.{ℕ, Bool, true, false, Option, Some, if◌then◌else◌, ◌==◌, ◌≡◌, ◌⊎◌, List, []}
 use Rattle.std.proofs.Common.{◌∷◌, inl, inr, eqb-true, refl, sym, ◌∙◌, ap, subst}
 use Rattle.spec_locks.specs.declared.calls.Turn.{Turn}
@@ -7,7 +7,7 @@ use Rattle.spec_locks.specs.declared.calls.Turn as turn
 use Rattle.spec_locks.specs.declared.outcomes.Outcome.{Outcome}
 use Rattle.spec_locks.specs.Condvars.{moved_of, taken_of}
 use Rattle.spec_locks.specs.Locks as locks
-use Rattle.spec_locks.specs.Locks.{LockCase, LockState, Needs, Queued, Taken, left_behind, taking}
+use Rattle.spec_locks.specs.Locks.{LockCase, LockState, Needs, Queued, Taken, left_after, taking}
 use Rattle.spec_locks.specs.Runs.{AtLock, CallState, Does, Event, GoesOn, LocksState, MayHappen, MayMove}
 use Rattle.spec_locks.specs.Runs.{Moves, Nothing, Stays, Turned, joined_by, locks_after, rules_at}
 use Rattle.spec_locks.specs.Sites.{has_readers}
@@ -20,18 +20,18 @@ module _ (w : LocksState) (a c m : ℕ) (all owned : Bool) (number l : ℕ) wher
   -- the lock is the mutex, or the condition variable, or as it was
   pub by_move : (P : LockState → Type 0)
       → (l ≡ m → P (joined_by owned a (moved_of all (w.locks c).queue) (w.locks l)))
-      → (l ≡ c → P (left_behind all (w.locks l))) → P (w.locks l)
+      → (l ≡ c → P (left_after all (w.locks l))) → P (w.locks l)
       → P (locks_after w a (Moves c m all owned number) l)
   by_move P joined left stays = either (l == m) (l == c) refl refl
     where
       either : (at_mutex at_condvar : Bool) → (l == m) ≡ at_mutex → (l == c) ≡ at_condvar
           → P
           (if at_mutex then joined_by owned a (moved_of all (w.locks c).queue) (w.locks m) else if at_condvar
-          then left_behind all (w.locks c) else w.locks l)
+          then left_after all (w.locks c) else w.locks l)
       either true there e f = let here = eqb-true l m e
           in subst (λ k. P (joined_by owned a (moved_of all (w.locks c).queue) (w.locks k))) here
           (joined here)
-      either false true e f = let here = eqb-true l c f in subst (λ k. P (left_behind all (w.locks k))) here
+      either false true e f = let here = eqb-true l c f in subst (λ k. P (left_after all (w.locks k))) here
           (left here)
       either false false e f = stays
 

@@ -28,7 +28,7 @@ use Rattle.spec_locks.specs.Onces.{InProgress, OnceCase, Start, Finish, Fail, Re
 use Rattle.spec_locks.specs.declared.outcomes.OnceState.{OnceState}
 use Rattle.spec_locks.specs.Locks as locks
 use Rattle.spec_locks.specs.Locks.{LockState, Rules, Rights, LockCase, HandOff, HasTakenNobody, Queued, Needs}
-use Rattle.spec_locks.specs.Locks.{left_behind, putting, rights_of, standing}
+use Rattle.spec_locks.specs.Locks.{left_after, putting, rights_of, standing}
 use Rattle.spec_locks.specs.Runs.{LocksState, IsTimely, rules_at as locks_rules, CallState, Event, AtLock}
 use Rattle.spec_locks.specs.Runs.{MayHappen, Agrees, AnswerHolds, GoesOn, locks_after, going_on, woken}
 use Rattle.spec_locks.specs.Runs.{unless_ended}
@@ -39,9 +39,9 @@ use Rattle.spec_locks.proofs.Deeds.{deeds_lead, deeds_need}
 use Rattle.spec_locks.proofs.Rights.{others_keep}
 use Rattle.lot_machine.specs.Machine.{State, place_at, kind_at}
 use Rattle.lot_laws.specs.Refinement.{lock_state, call_at, call_state, locks_of}
-use Rattle.lot_laws.specs.MutexDeeds.{Act, acts}
+use Rattle.lot_laws.specs.ThreadDeeds.{Act, acts}
 use Rattle.lot_laws.specs.SitesOf.{FollowAll, IsInductive, Goes, ActsNeeded, rules_in, after_acts, site_of}
-use Rattle.lot_laws.proofs.sites.ActsKept.{goes_steady}
+use Rattle.lot_laws.proofs.sites.ActsKept.{goes_inductive}
 use Rattle.lot_laws.proofs.machine.AtPlaces.{taken_nobody}
 use Rattle.lot_laws.proofs.machine.Parts.{IsSingle, put_here, put_other}
 use Rattle.lot_laws.proofs.calls.SingleCalls.{call_here}
@@ -111,11 +111,11 @@ happens_at w v t l (Some case) before after kinds here other needs =
 -- An event moves waiters from one lock to another.
 pub happens_moving : (w v : State) (t c m : ℕ) (all owned : Bool) (number : ℕ) → IsInductive w → IsInductive v
     → ((k : ℕ) → kind_at v k ≡ kind_at w k)
-    → c ≢ m → lock_state v c ≡ left_behind all (lock_state w c)
+    → c ≢ m → lock_state v c ≡ left_after all (lock_state w c)
     → lock_state v m ≡ joined_by owned t (moved_of all (lock_state w c).queue) (lock_state w m)
     → ((k : ℕ) → k ≢ c → k ≢ m → lock_state v k ≡ lock_state w k) → Happens w v t (Moves c m all owned number)
 happens_moving w v t c m all owned number before after kinds apart left joined other = record {
-  led = λ k. put_is (putting (lock_state w) c (left_behind all (lock_state w c))) m _ k (lock_state v k)
+  led = λ k. put_is (putting (lock_state w) c (left_after all (lock_state w c))) m _ k (lock_state v k)
       (λ e. rw e joined) (λ nm. put_is (lock_state w) c _ k (lock_state v k) (λ e. rw e left)
       (λ nc. other k nc nm));
   needs = tt;
@@ -163,8 +163,8 @@ pub happens : (w v : State) (t l : ℕ) (hand : Option Bool) (ds : List Deed) (c
     → IsInductive w
     → Goes w v l (acts t ds ++ claims) → AreClaims claims → AreOneCase ds
     → (hand ≢ Some false → HasTakenNobody (lock_state w l) t) → Happens w v t (event_of l hand ds)
-happens w v t l hand ds claims steady goes begin one free = happens_at w v t l (case_of hand ds) steady
-    (goes_steady w v l (acts t ds ++ claims) steady goes) goes.follows.kinds
+happens w v t l hand ds claims inductive goes begin one free = happens_at w v t l (case_of hand ds) inductive
+    (goes_inductive w v l (acts t ds ++ claims) inductive goes) goes.follows.kinds
     (ap (λ (s : Site). s.lock) goes.follows.site ∙ deeds_then (rules_in w l) t ds claims (site_of w l) begin
     ∙ deeds_lead (rules_in w l) t l hand ds (site_of w l) free one)
     (λ k ne. ap (λ (s : Site). s.lock) (goes.follows.others k ne).0)
@@ -432,8 +432,8 @@ module _ (w v : State) (t l : ℕ) (c : Option LockCase) (h : Happens w v t (eve
     abbrev call_then : CallState
     call_then = call_by l (profile p) (rights w t)
 
-    abbrev behind : LockState
-    behind = after_event (rules_in w l) (event_by l c) (lock_state w l) t
+    abbrev afterwards : LockState
+    afterwards = after_event (rules_in w l) (event_by l c) (lock_state w l) t
 
     called_by : (r : ℕ → Rights) → call_state (place_at w t) r ≡ call_by l (profile p) r
     called_by r = ap (λ q. call_state q r) is ∙ call_here p l single of r
@@ -464,7 +464,8 @@ module _ (w v : State) (t l : ℕ) (c : Option LockCase) (h : Happens w v t (eve
         unwoken None x = refl
         unwoken (Some case) x = refl
 
-        led : (n : Next Profile) → ComesTo (rules_in w l) l (profile p) (event_by l c) (lock_state w l) behind
+        led : (n : Next Profile) → ComesTo (rules_in w l) l (profile p) (event_by l c) (lock_state w l)
+            afterwards
             t n
             → LeadsTo v t l n o → CallLed w v t (event_by l c) call_then o
         led (next.At row) comes leads = inl (

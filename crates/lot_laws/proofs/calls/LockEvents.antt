@@ -19,11 +19,11 @@ use Rattle.spec_locks.specs.Locks.{IsTaken, IsLockState, Knows, rights_of, with_
 use Rattle.spec_locks.specs.Locks.{one_if_thread, putting}
 use Rattle.spec_locks.specs.Locks as locks
 use Rattle.spec_locks.specs.Purposes.{Blank}
-use Rattle.spec_locks.specs.Runs.{CallState, behind_wake, is_taken_by, AtLock, one_more_at, one_less_at}
+use Rattle.spec_locks.specs.Runs.{CallState, after_wake, is_taken_by, AtLock, one_more_at, one_less_at}
 use Rattle.lot_machine.specs.Machine.{State, place_at}
 use Rattle.lot_laws.specs.Refinement.{owner_at, lock_state, taken_at, is_bump, before_entry, mutex_call_state}
 use Rattle.lot_laws.specs.Refinement.{call_state}
-use Rattle.lot_laws.specs.MutexDeeds.{queued}
+use Rattle.lot_laws.specs.ThreadDeeds.{queued}
 use Rattle.lot_laws.specs.SitesOf.{rules_in}
 use Rattle.lot_laws.specs.SitesOf.{FitsItsLock}
 use Rattle.std.proofs.Common.{subst}
@@ -147,18 +147,18 @@ recalls_nothing (Condvar k at) single r = absurd single
 
 pub unmoved : (q : Option ℕ) (c : CallState) → c.recalls ≡ Blank → record c { retries = q } ≡ record c {
   retries = q;
-  recalls = behind_wake c.recalls;
+  recalls = after_wake c.recalls;
 }
 unmoved q c e = λ i. record c { retries = q; recalls = stays i }
   where
-    stays : c.recalls ≡ behind_wake c.recalls
-    stays = e ∙ (λ i. behind_wake (sym e i))
+    stays : c.recalls ≡ after_wake c.recalls
+    stays = e ∙ (λ i. after_wake (sym e i))
 
 -- a waiter of a condition variable knows then that it was notified
 woken_goes_on : (p : Place) (t l : ℕ) → is_taken_by t (taken_at p l) ≡ true → (r : ℕ → Rights)
     → call_state (next_place p (Woken Normal)) r ≡ record (call_state p r) {
       retries = Some l;
-      recalls = behind_wake (call_state p r).recalls;
+      recalls = after_wake (call_state p r).recalls;
     }
 woken_goes_on Idle t l h r = absurd cc
 woken_goes_on (Condvar k at) t l h r = waiter_woken k at t l h r
@@ -181,7 +181,7 @@ module _ (w v : State) (t l : ℕ) where
           ≡ (if b then record (call_state (place_at w u) r) {
             retries = Some l;
             recalls =
-                behind_wake (call_state (place_at w u) r).recalls;
+                after_wake (call_state (place_at w u) r).recalls;
           } else call_state (place_at w u) r)
       either true e = woken_goes_on (place_at w u) t l e r
       either false e = refl
@@ -261,7 +261,7 @@ module _ (w v : State) (t l : ℕ) (to : Option ℕ) (h : Happens w v t (AtLock 
         ≡ record (call_state (Condvar k at) (rights w u)) {
           retries = None;
           recalls =
-              behind_wake (call_state (Condvar k at) (rights w u)).recalls;
+              after_wake (call_state (Condvar k at) (rights w u)).recalls;
         }
     handed_waiter k at is = ap (call_state (next_place (Condvar k at) (HandedBy t alone)))
         (λ i j. has u e j i) ∙ waiter_handed k at t l alone taken_so released (rights w u)
@@ -287,7 +287,7 @@ module _ (w v : State) (t l : ℕ) (to : Option ℕ) (h : Happens w v t (AtLock 
         (call_state (place_at w u) (rights w u)) {
           retries = None;
           recalls =
-              behind_wake (call_state (place_at w u) (rights w u)).recalls;
+              after_wake (call_state (place_at w u) (rights w u)).recalls;
         }
     handed_goes_on = by_place (place_at w u) refl
       where
@@ -296,7 +296,7 @@ module _ (w v : State) (t l : ℕ) (to : Option ℕ) (h : Happens w v t (AtLock 
             (call_state (place_at w u) (rights w u)) {
               retries = None;
               recalls =
-                  behind_wake (call_state (place_at w u) (rights w u)).recalls;
+                  after_wake (call_state (place_at w u) (rights w u)).recalls;
             }
         of_one p is single other = handed_call u e (place_at w u) alone (taken_place (place_at w u) t l
             (subst (IsMutexCall l) (sym is) other) taken)
@@ -307,14 +307,14 @@ module _ (w v : State) (t l : ℕ) (to : Option ℕ) (h : Happens w v t (AtLock 
             (rights v u) ≡ record (call_state (place_at w u) (rights w u)) {
               retries = None;
               recalls =
-                  behind_wake (call_state (place_at w u) (rights w u)).recalls;
+                  after_wake (call_state (place_at w u) (rights w u)).recalls;
             }
         by_place (Condvar k at) is = ap (λ p. call_state (next_place p (HandedBy t alone)) (rights v u)) is
             ∙ handed_waiter k at is ∙ sym
             (ap (λ p. record (call_state p (rights w u)) {
               retries = None;
               recalls =
-                  behind_wake (call_state p (rights w u)).recalls;
+                  after_wake (call_state p (rights w u)).recalls;
             }) is)
         by_place Idle is = of_one Idle is tt tt
         by_place (Mutex k at) is = of_one (Mutex k at) is tt tt
@@ -340,7 +340,7 @@ module _ (w v : State) (t l : ℕ) (to : Option ℕ) (h : Happens w v t (AtLock 
           else place_at w u)
           (rights v u)
           ≡ (if is_taken_by t (taken_at (place_at w u) l) then record (call_state (place_at w u) (rights w u))
-          { retries = None; recalls = behind_wake (call_state (place_at w u) (rights w u)).recalls }
+          { retries = None; recalls = after_wake (call_state (place_at w u) (rights w u)).recalls }
           else call_state (place_at w u) (rights w u))
       either (inl e) = let taken : is_taken_by t (taken_at (place_at w u) l) ≡ true =
           rw (heir_of u e) (same t) in rw taken (handed_goes_on u e ne alone taken)

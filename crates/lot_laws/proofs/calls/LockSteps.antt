@@ -8,8 +8,9 @@ use Rattle.lot_laws.proofs.machine.Possible.{begins_outside, closure_gone, late_
 use Rattle.spec_locks.specs.Runs.{AtLock}
 use Rattle.spec_locks.specs.Codes.{is_marked}
 use Rattle.lot_laws.proofs.once.Steps.{closes_event, step_event}
-use Rattle.lot_laws.proofs.calls.Looking.{alike_event, closing_here, closing_steady, like}
-use Rattle.lot_laws.proofs.calls.Closings.{closing_shaped, closing_there, goes_there, is_behind, told_there}
+use Rattle.lot_laws.proofs.calls.Looking.{alike_event, closing_here, closing_inductive, like}
+use Rattle.lot_laws.proofs.calls.Closings.{closing_well_formed, closing_there, goes_there, is_after}
+use Rattle.lot_laws.proofs.calls.Closings.{told_there}
 use Rattle.lot_laws.proofs.calls.OwnPlace.{gone, gone_told, goes_from_there, told_from_there}
 use Rattle.spec_locks.specs.Locks.{OfOnce}
 use Rattle.lot_laws.proofs.calls.Closures.{RunsOne}
@@ -68,13 +69,13 @@ use Rattle.lot_machine.specs.Machine.{look_outcome, state_after_go, state_after_
 use Rattle.lot_machine.specs.Machine.{going_outcome, state_after_late_on, is_free_under, can_turn}
 use Rattle.lot_machine.specs.Machine.{state_after_turn, turn_outcome, is_possible, after, step_outcome}
 use Rattle.lot_machine.specs.Fits.{IsWellFormed, SameSize, PlaceFits}
-use Rattle.lot_machine.proofs.Shape.{looking_shaped, after_size, both, performed_counts}
+use Rattle.lot_machine.proofs.Shape.{looking_well_formed, after_size, both, performed_counts}
 use Rattle.lot_laws.proofs.machine.Possible.{may_go, go_possible, may_be_late, late_possible, told_gone}
 use Rattle.lot_laws.proofs.machine.Possible.{told_step, begins_awake, turner_there, gone_sections}
 use Rattle.lot_laws.proofs.machine.Possible.{late_sections, late_awake}
 use Rattle.lot_machine.proofs.Looks.{mutex_looks}
 use Rattle.lot_laws.proofs.hands.CountsPut.{looking_counted}
-use Rattle.lot_laws.proofs.calls.Looking.{here, looks_now, looking_steady, goes_as_before, stays_as_before}
+use Rattle.lot_laws.proofs.calls.Looking.{here, looks_now, looking_inductive, goes_as_before, stays_as_before}
 use Rattle.lot_laws.proofs.calls.Closures.{closes_one, runs_one}
 use Rattle.lot_laws.specs.SitesOf.{AreCondvars, AreCounted, FitsCondvar, IsInductive, FitsItsLock, rules_in}
 use Rattle.spec_locks.specs.Sites.{Main}
@@ -103,7 +104,8 @@ use Rattle.lot_laws.proofs.calls.Events.{rights}
 
 -- ---------------------------------------------------------------- a thread goes on
 
-module _ (w : State) (t : ℕ) (shape : IsWellFormed w) (steady : IsInductive w) (there : t < length w.places)
+module _ (w : State) (t : ℕ) (shape : IsWellFormed w) (inductive : IsInductive w) (there : t
+    < length w.places)
   where
     go_goes : AreCounted w → (p : Place) → place_at w t ≡ p → IsSingle p → PlaceFits (length w.locks) p
         → FitsItsLock w p
@@ -112,13 +114,15 @@ module _ (w : State) (t : ℕ) (shape : IsWellFormed w) (steady : IsInductive w)
         (locks_of (go_by w t p (act_of p)))
     go_goes counted Idle is single fits of can = absurd cc
     go_goes counted (Condvar l at) is single fits of can = absurd single
-    go_goes counted (Once l at) is single fits of can = once_step w t l at steady shape there fits is can
-    go_goes counted (Semaphore l at) is single fits of can = semaphore_step w t l at steady shape there fits
+    go_goes counted (Once l at) is single fits of can = once_step w t l at inductive shape there fits is can
+    go_goes counted (Semaphore l at) is single fits of can = semaphore_step w t l at inductive shape there
+        fits
         is
         can
-    go_goes counted (RwLock l a c) is single fits of can = rwlock_step w t l a c steady shape there fits is
+    go_goes counted (RwLock l a c) is single fits of can = rwlock_step w t l a c inductive shape there fits is
         counted can
-    go_goes counted (Mutex l at) is single fits of can = mutex_step w t l at steady shape there fits.0 is can
+    go_goes counted (Mutex l at) is single fits of can = mutex_step w t l at inductive shape there fits.0 is
+        can
 
     going_goes : AreCounted w → AreCondvars w → can_go w t ≡ true
         → GoesOn (locks_of w) t (go_outcome w t) (locks_of (state_after_go w t))
@@ -128,11 +132,11 @@ module _ (w : State) (t : ℕ) (shape : IsWellFormed w) (steady : IsInductive w)
           (subst (λ v. GoesOn (locks_of w) t (outcome_of (next_act (place_at w t) (go_reply w t)))
           (locks_of v))
           (sym (gone w t single))
-          (go_goes counted (place_at w t) refl single (shape.places t) (steady.stands.calls t) can))
+          (go_goes counted (place_at w t) refl single (shape.places t) (inductive.stands.calls t) can))
       | inr two ↦ subst (λ p. GoesOn (locks_of w) t (going_outcome w t p)
           (locks_of (state_after_going w t p)))
           (sym two.is)
-          (condvar_on w t two.lock shape steady condvars there two.at two.is
+          (condvar_on w t two.lock shape inductive condvars there two.at two.is
           (ap (λ p. can_do w (act_of p)) (sym two.is) ∙ can))
     ]
 
@@ -215,7 +219,8 @@ module _ (w : State) (t : ℕ) (shape : IsWellFormed w) (steady : IsInductive w)
     late_goes (RwLock l a c) is can = by_line (call_profile a c).late_line refl can
       where
         stands : CallStands a c
-        stands = let calls : FitsItsLock w (RwLock l a c) = subst (FitsItsLock w) is (steady.stands.calls t)
+        stands = let calls : FitsItsLock w (RwLock l a c) =
+            subst (FitsItsLock w) is (inductive.stands.calls t)
             in calls.1
 
         in_no_hand_at : (d : RwLockCallPlace) → (call_profile a d).hand ≡ None → (k : ℕ)
@@ -267,17 +272,18 @@ condvar_no_mutex w l (condvars.Look all) other r of = other of
 condvar_no_mutex w l (condvars.Notify all m at) other r of = other of
 
 -- its call goes on by what it sees there
-module _ (w : State) (t : ℕ) (shape : IsWellFormed w) (steady : IsInductive w) (there : t < length w.places)
+module _ (w : State) (t : ℕ) (shape : IsWellFormed w) (inductive : IsInductive w) (there : t
+    < length w.places)
     (q : Place)
     (is : looking (place_at w t) ≡ Some q) where
   abbrev moved : State
   moved = put w t q
 
-  shaped_moved : IsWellFormed moved
-  shaped_moved = looking_shaped w t q shape is
+  well_formed_moved : IsWellFormed moved
+  well_formed_moved = looking_well_formed w t q shape is
 
-  steady_moved : IsInductive moved
-  steady_moved = looking_steady w t there q is steady
+  inductive_moved : IsInductive moved
+  inductive_moved = looking_inductive w t there q is inductive
 
   there_moved : t < length moved.places
   there_moved = rw (length-set w.places t q) there
@@ -286,17 +292,17 @@ module _ (w : State) (t : ℕ) (shape : IsWellFormed w) (steady : IsInductive w)
       → Stays (locks_of w) t ((locks_of w).calls t) (go_outcome moved t) (locks_of (state_after_go moved t))
   look_stays Idle e of = absurd of
   look_stays (Condvar l at) e of = absurd (let calls : FitsCondvar w l at =
-      subst (FitsItsLock w) e (steady.stands.calls t) in condvar_no_mutex w l at
+      subst (FitsItsLock w) e (inductive.stands.calls t) in condvar_no_mutex w l at
       (λ f. let both : locks.Condvar ≡ locks.Mutex = sym calls.sort ∙ f in cc) (rights w t) of)
   look_stays (Once l at) e of = absurd (let calls : FitsItsLock w (Once l at) =
-      subst (FitsItsLock w) e (steady.stands.calls t) in own_sort w l ((once_profile at).purpose l)
+      subst (FitsItsLock w) e (inductive.stands.calls t) in own_sort w l ((once_profile at).purpose l)
       (once_promises l at).own (λ f. let both : locks.Once ≡ locks.Mutex = sym calls ∙ f in cc) of)
   look_stays (Semaphore l at) e of = absurd (let calls : FitsItsLock w (Semaphore l at) =
-      subst (FitsItsLock w) e (steady.stands.calls t) in own_sort w l ((semaphore_profile at).purpose l)
+      subst (FitsItsLock w) e (inductive.stands.calls t) in own_sort w l ((semaphore_profile at).purpose l)
       (semaphore_promises l at).own (λ f. let both : locks.Semaphore ≡ locks.Mutex = sym calls.0 ∙ f in cc)
       of)
   look_stays (RwLock l a c) e of = absurd (let calls : FitsItsLock w (RwLock l a c) =
-      subst (FitsItsLock w) e (steady.stands.calls t) in own_sort w l ((call_profile a c).purpose l)
+      subst (FitsItsLock w) e (inductive.stands.calls t) in own_sort w l ((call_profile a c).purpose l)
       (call_promises (rules_in w l) a l c calls.0 calls.1).own (λ f. let both : false ≡ true =
       sym (ap has_readers f) ∙ calls.0.0 in cc) of)
   look_stays (Mutex l at) e of = let loads = mutex_looks l at q (ap looking (sym e) ∙ is) in
@@ -304,24 +310,27 @@ module _ (w : State) (t : ℕ) (shape : IsWellFormed w) (steady : IsInductive w)
       stays_as_before w t there q is _ (locks_of (state_after_go moved t))
       (subst (λ p. Stays (locks_of moved) t ((locks_of moved).calls t) (going_outcome moved t p)
       (locks_of (state_after_going moved t p))) (sym now)
-      (load_stays moved t l loads.0 loads.1 steady_moved shaped_moved there_moved (fits_moved now).0 now))
+      (load_stays moved t l loads.0 loads.1 inductive_moved well_formed_moved there_moved (fits_moved now).0
+      now))
     where
       fits_moved : {x : MutexPlace} → place_at moved t ≡ Mutex l x → PlaceFits (length moved.locks)
           (Mutex l x)
-      fits_moved now = subst (PlaceFits (length moved.locks)) now (shaped_moved.places t)
+      fits_moved now = subst (PlaceFits (length moved.locks)) now (well_formed_moved.places t)
 
   looks : AreCounted w → AreCondvars w → Looks (locks_of w) t (go_outcome moved t)
       (locks_of (state_after_go moved t))
   looks counted condvars = record {
     goes = goes_as_before w t there q is _ (locks_of (state_after_go moved t))
-        (going_goes moved t shaped_moved steady_moved there_moved (looking_counted w t there q is counted)
+        (going_goes moved t well_formed_moved inductive_moved there_moved (looking_counted w t there q is
+        counted)
         (looking_condvars w t q there is condvars) (looks_now w t there q is));
     stays = λ of. look_stays (place_at w t) refl of;
   }
 
 -- ---------------------------------------------------------------- steps
 
-module _ (w : State) (t : ℕ) (shape : IsWellFormed w) (steady : IsInductive w) (there : t < length w.places)
+module _ (w : State) (t : ℕ) (shape : IsWellFormed w) (inductive : IsInductive w) (there : t
+    < length w.places)
   where
     -- its closure has answered, and its run ends by the next act
     closed_does : (succeeded : Bool) → can_close w t succeeded ≡ true
@@ -354,22 +363,22 @@ module _ (w : State) (t : ℕ) (shape : IsWellFormed w) (steady : IsInductive w)
             (sym (told_there w t there succeeded one ∙ told_from_there v t (Once one.lock at) is_v tt))
             (alike_event w t there (closed_place w t succeeded) (like w t there succeeded one) _ _
             (AtLock one.lock (OfOnce (run_ending succeeded))) (
-              once_step v t one.lock at steady_v shape_v there_v lt is_v refl,
-              step_event v t one.lock at steady_v shape_v there_v lt is_v refl
+              once_step v t one.lock at inductive_v shape_v there_v lt is_v refl,
+              step_event v t one.lock at inductive_v shape_v there_v lt is_v refl
                   ∙ closes_event one.lock succeeded (is_marked (word_at v one.lock)),
             )))
           where
-            steady_v : IsInductive v
-            steady_v = closing_steady w t there succeeded one steady
+            inductive_v : IsInductive v
+            inductive_v = closing_inductive w t there succeeded one inductive
 
             shape_v : IsWellFormed v
-            shape_v = closing_shaped w t there succeeded one shape
+            shape_v = closing_well_formed w t there succeeded one shape
 
             there_v : t < length v.places
             there_v = closing_there w t there succeeded one
 
             is_v : place_at v t ≡ Once one.lock at
-            is_v = closing_here w t there succeeded one ∙ is_behind w t there succeeded one
+            is_v = closing_here w t there succeeded one ∙ is_after w t there succeeded one
 
             lt : one.lock < length v.locks
             lt = subst (PlaceFits (length v.locks)) is_v (shape_v.places t)
@@ -377,22 +386,22 @@ module _ (w : State) (t : ℕ) (shape : IsWellFormed w) (steady : IsInductive w)
     turned_does : AreCounted w → AreCondvars w → (x : Turn) → can_turn w t x ≡ true
         → MayTurn (locks_of w) t x × Does (locks_of w) t x (turn_outcome w t x)
         (locks_of (state_after_turn w t x))
-    turned_does counted condvars (turn.TheVariants.Begin c) can = begin_goes w t c shape steady there can
+    turned_does counted condvars (turn.TheVariants.Begin c) can = begin_goes w t c shape inductive there can
     turned_does counted condvars turn.TheVariants.Go can =
-        (may_go w t can, going_goes w t shape steady there counted condvars can)
+        (may_go w t can, going_goes w t shape inductive there counted condvars can)
     turned_does counted condvars turn.TheVariants.Spin can = (can, by_look (looking (place_at w t)) refl can)
       where
         by_look : (o : Option Place) → looking (place_at w t) ≡ o → is_some o ≡ true
             → Looks (locks_of w) t (look_outcome w t o) (locks_of (state_after_look w t o))
         by_look None is can = absurd cc
-        by_look (Some q) is can = looks w t shape steady there q is counted condvars
+        by_look (Some q) is can = looks w t shape inductive there q is counted condvars
     turned_does counted condvars turn.TheVariants.Late can =
-        (may_be_late w t steady can, late_goes w t shape steady there (place_at w t) refl can)
+        (may_be_late w t inductive can, late_goes w t shape inductive there (place_at w t) refl can)
     turned_does counted condvars turn.TheVariants.Ok can = closed_does true can
     turned_does counted condvars turn.TheVariants.Err can = closed_does false can
 
 -- a turn that may be taken is possible
-module _ (w : State) (t : ℕ) (steady : IsInductive w) where
+module _ (w : State) (t : ℕ) (inductive : IsInductive w) where
   -- after its closure it may swap the word
   closes_possible : (succeeded : Bool) → runs_closure (act_of (place_at w t)) ≡ true → can_close w t succeeded
       ≡ true
@@ -400,9 +409,9 @@ module _ (w : State) (t : ℕ) (steady : IsInductive w) where
 
   possible : (x : Turn) → MayTurn (locks_of w) t x → can_turn w t x ≡ true
   possible (turn.TheVariants.Begin c) may = begin_possible w t c may
-  possible turn.TheVariants.Go may = go_possible w t steady may
+  possible turn.TheVariants.Go may = go_possible w t inductive may
   possible turn.TheVariants.Spin may = may
-  possible turn.TheVariants.Late may = late_possible w t steady may
+  possible turn.TheVariants.Late may = late_possible w t inductive may
   possible turn.TheVariants.Ok may = closes_possible true may
   possible turn.TheVariants.Err may = closes_possible false may
 
@@ -424,7 +433,8 @@ module _ (w : State) (t : ℕ) (there : t < length w.places) where
       rw (put_sleeps acted (next_place (place_at acted t) (go_reply w t)) (performed_counts w t (place_at w t)
       (act_of (place_at w t))).0) (told_gone (place_at acted t) (go_reply w t))
 
-module _ (w : State) (t : ℕ) (shape : IsWellFormed w) (steady : IsInductive w) (there : t < length w.places)
+module _ (w : State) (t : ℕ) (shape : IsWellFormed w) (inductive : IsInductive w) (there : t
+    < length w.places)
   where
     closed_sections : (succeeded : Bool) → can_close w t succeeded ≡ true → (key : ℕ)
         → SectionChanges (section_at w key) t (section_at (state_after_close w t succeeded) key)
@@ -434,15 +444,15 @@ module _ (w : State) (t : ℕ) (shape : IsWellFormed w) (steady : IsInductive w)
     turned_sections : (x : Turn) → can_turn w t x ≡ true → (key : ℕ)
         → SectionChanges (section_at w key) t (section_at (state_after_turn w t x) key)
     turned_sections (turn.TheVariants.Begin c) can key = inl refl
-    turned_sections turn.TheVariants.Go can key = gone_sections w t shape steady can key
+    turned_sections turn.TheVariants.Go can key = gone_sections w t shape inductive can key
     turned_sections turn.TheVariants.Spin can key = by_look (looking (place_at w t)) refl
       where
         by_look : (o : Option Place) → looking (place_at w t) ≡ o
             → SectionChanges (section_at w key) t (section_at (state_after_look w t o) key)
         by_look None is = inl refl
-        by_look (Some q) is = gone_sections (put w t q) t (shaped_moved w t shape steady there q is)
-            (steady_moved w t shape steady there q is) (looks_now w t there q is) key
-    turned_sections turn.TheVariants.Late can key = late_sections w t shape steady (place_at w t) refl
+        by_look (Some q) is = gone_sections (put w t q) t (well_formed_moved w t shape inductive there q is)
+            (inductive_moved w t shape inductive there q is) (looks_now w t there q is) key
+    turned_sections turn.TheVariants.Late can key = late_sections w t shape inductive (place_at w t) refl
         (shape.places t) can key
     turned_sections turn.TheVariants.Ok can key = closed_sections true can key
     turned_sections turn.TheVariants.Err can key = closed_sections false can key
@@ -466,9 +476,9 @@ module _ (w : State) (t : ℕ) (shape : IsWellFormed w) (steady : IsInductive w)
             → (look_outcome w t o ≡ outcome.TheVariants.Sleep)
             ↔ (sleeps (act_of (place_at (state_after_look w t o) t)) ≡ true)
         by_look None is can = absurd cc
-        by_look (Some q) is can = told_going (put w t q) t (there_moved w t shape steady there q is)
+        by_look (Some q) is can = told_going (put w t q) t (there_moved w t shape inductive there q is)
     turned_told turn.TheVariants.Late can =
-        told_step _ (late_awake w t there steady (late_key (place_at w t)) refl can)
+        told_step _ (late_awake w t there inductive (late_key (place_at w t)) refl can)
     turned_told turn.TheVariants.Ok can = closed_told true can
     turned_told turn.TheVariants.Err can = closed_told false can
 
@@ -506,7 +516,7 @@ module _ (w : State) (t : ℕ) (shape : IsWellFormed w) (steady : IsInductive w)
         by_look : (o : Option Place) → looking (place_at w t) ≡ o → is_some o ≡ true
             → is_closure (look_outcome w t o) ≡ runs_closure (act_of (place_at (state_after_look w t o) t))
         by_look None is can = absurd cc
-        by_look (Some q) is can = going_runs (put w t q) (there_moved w t shape steady there q is)
+        by_look (Some q) is can = going_runs (put w t q) (there_moved w t shape inductive there q is)
     turned_runs turn.TheVariants.Late can = late_runs (late_key (place_at w t)) refl can
     turned_runs turn.TheVariants.Ok can = closing_runs true can
     turned_runs turn.TheVariants.Err can = closing_runs false can
@@ -517,7 +527,7 @@ IsTurn w s o v = KeepsOrder w s.thread o v × Turned w s.thread s.turn o v
 
 pub after_step : (w : State) (s : Step) → IsWellFormed w → IsInductive w → AreCounted w → AreCondvars w
     → IsTurn (locks_of w) s (step_outcome w s) (locks_of (after w s))
-after_step w s shape steady counted condvars = (
+after_step w s shape inductive counted condvars = (
   record {
     threads = size.threads;
     size = size.locks;
@@ -539,7 +549,7 @@ after_step w s shape steady counted condvars = (
     sections : (b : Bool) → is_possible w s ≡ b → (key : ℕ)
         → SectionChanges (section_at w key) s.thread (section_at (if b then state_after_turn w s.thread s.turn
         else w) key)
-    sections true can key = turned_sections w s.thread shape steady (parts can).0 s.turn (parts can).1 key
+    sections true can key = turned_sections w s.thread shape inductive (parts can).0 s.turn (parts can).1 key
     sections false cannot key = inl refl
 
     told : (b : Bool) → is_possible w s ≡ b
@@ -548,7 +558,7 @@ after_step w s shape steady counted condvars = (
         → ((if b then turn_outcome w s.thread s.turn else outcome.TheVariants.NotNow)
         ≡ outcome.TheVariants.Sleep)
         ↔ (sleeps (act_of (place_at (if b then state_after_turn w s.thread s.turn else w) s.thread)) ≡ true)
-    told true can ne = turned_told w s.thread shape steady (parts can).0 s.turn (parts can).1
+    told true can ne = turned_told w s.thread shape inductive (parts can).0 s.turn (parts can).1
     told false cannot ne = absurd (ne refl)
 
     runs : (b : Bool) → is_possible w s ≡ b
@@ -556,13 +566,13 @@ after_step w s shape steady counted condvars = (
         ≢ outcome.TheVariants.NotNow
         → is_closure (if b then turn_outcome w s.thread s.turn else outcome.TheVariants.NotNow)
         ≡ runs_closure (act_of (place_at (if b then state_after_turn w s.thread s.turn else w) s.thread))
-    runs true can ne = turned_runs w s.thread shape steady (parts can).0 s.turn (parts can).1
+    runs true can ne = turned_runs w s.thread shape inductive (parts can).0 s.turn (parts can).1
     runs false cannot ne = absurd (ne refl)
 
     either : (b : Bool) → is_possible w s ≡ b
         → Turned (locks_of w) s.thread s.turn (if b then turn_outcome w s.thread s.turn
         else outcome.TheVariants.NotNow)
         (locks_of (if b then state_after_turn w s.thread s.turn else w))
-    either true can = inl (turned_does w s.thread shape steady (parts can).0 counted condvars s.turn
+    either true can = inl (turned_does w s.thread shape inductive (parts can).0 counted condvars s.turn
         (parts can).1)
-    either false cannot = inr (stuck w s.thread steady s.turn cannot, (refl, refl))
+    either false cannot = inr (stuck w s.thread inductive s.turn cannot, (refl, refl))

@@ -54,7 +54,7 @@ use Rattle.lot_laws.proofs.calls.Beside.{looks_beside}
 use Rattle.lot_laws.proofs.machine.Parts.{parts_at}
 use Rattle.lot_laws.proofs.sites.OneStep.{steps_by}
 use Rattle.lot_laws.proofs.sites.ActsAt.{place_goes}
-use Rattle.lot_laws.proofs.sites.Following.{goes_steady}
+use Rattle.lot_laws.proofs.sites.Following.{goes_inductive}
 use Rattle.lot_laws.proofs.sites.StandsKept.{Alike}
 
 -- a thread that is set as it was is seen as it was
@@ -277,14 +277,14 @@ module _ (w : State) (t : ℕ) (there : t < length w.places) (q : Place) (it : I
   }
 
   pub alike_keeps : FitsItsLock w q → IsInductive w → Goes w moved it.lock []
-  alike_keeps fits steady = place_goes w t it.lock steady there (rules_in w it.lock) refl q
+  alike_keeps fits inductive = place_goes w t it.lock inductive there (rules_in w it.lock) refl q
       (λ k ne. alike_at k) fits [] (λ h. tt)
       (steps_by (rules_in w it.lock) it.lock (parts_at w it.lock) (parts_at w it.lock) (place_at w) t q [] tt
       tt (sym (alike_at it.lock).taken) refl refl refl refl (alike_at it.lock).role)
       (alike_at it.lock).location
 
-  pub alike_steady : FitsItsLock w q → IsInductive w → IsInductive moved
-  alike_steady fits steady = goes_steady w moved it.lock [] steady (alike_keeps fits steady)
+  pub alike_inductive : FitsItsLock w q → IsInductive w → IsInductive moved
+  alike_inductive fits inductive = goes_inductive w moved it.lock [] inductive (alike_keeps fits inductive)
 
 -- ---------------------------------------------------------------- a look
 
@@ -333,18 +333,18 @@ module _ (w : State) (t : ℕ) (there : t < length w.places) (q : Place) (is : l
         → Stays (locks_of w) t ((locks_of w).calls t) o v
     stays_as_before o v s = alike_stays w t there q alike o v s
 
-    pub looking_steady : IsInductive w → IsInductive looked
-    looking_steady steady = alike_steady w t there q alike
-        (calls_on w (place_at w t) q is (steady.stands.calls t)) steady
+    pub looking_inductive : IsInductive w → IsInductive looked
+    looking_inductive inductive = alike_inductive w t there q alike
+        (calls_on w (place_at w t) q is (inductive.stands.calls t)) inductive
 
 -- ---------------------------------------------------------------- a closure's end
 
 -- after its closure
-abbrev pub behind_closure : Bool → Place → Place
-behind_closure succeeded p = next_place p (Closed succeeded)
+abbrev pub after_closure : Bool → Place → Place
+after_closure succeeded p = next_place p (Closed succeeded)
 
--- a thread that runs a closure stands behind it in the same call
-pub closes_alike : (p : Place) (succeeded : Bool) → RunsOne p → IsAlike p (behind_closure succeeded p)
+-- a thread that runs a closure stands after it in the same call
+pub closes_alike : (p : Place) (succeeded : Bool) → RunsOne p → IsAlike p (after_closure succeeded p)
 closes_alike p succeeded one = rw one.is (record {
   lock = one.lock;
   before = refl;
@@ -355,8 +355,8 @@ closes_alike p succeeded one = rw one.is (record {
 })
 
 pub closes_fit : (w : State) (p : Place) (succeeded : Bool) → RunsOne p → FitsItsLock w p
-    → FitsItsLock w (behind_closure succeeded p)
-closes_fit w p succeeded one fits = subst (λ q. FitsItsLock w (behind_closure succeeded q)) (sym one.is)
+    → FitsItsLock w (after_closure succeeded p)
+closes_fit w p succeeded one fits = subst (λ q. FitsItsLock w (after_closure succeeded q)) (sym one.is)
     (subst (FitsItsLock w) one.is fits)
 
 module _ (w : State) (t : ℕ) (there : t < length w.places) (succeeded : Bool) (one : RunsOne (place_at w t))
@@ -367,9 +367,9 @@ module _ (w : State) (t : ℕ) (there : t < length w.places) (succeeded : Bool) 
     abbrev pub like : IsAlike (place_at w t) (closed_place w t succeeded)
     like = closes_alike (place_at w t) succeeded one
 
-    pub closing_steady : IsInductive w → IsInductive closing
-    closing_steady steady = alike_steady w t there (closed_place w t succeeded) like
-        (closes_fit w (place_at w t) succeeded one (steady.stands.calls t)) steady
+    pub closing_inductive : IsInductive w → IsInductive closing
+    closing_inductive inductive = alike_inductive w t there (closed_place w t succeeded) like
+        (closes_fit w (place_at w t) succeeded one (inductive.stands.calls t)) inductive
 
     pub closing_here : place_at closing t ≡ closed_place w t succeeded
     closing_here = get_or-set_same w.places t (closed_place w t succeeded) Idle there

@@ -188,4 +188,4 @@ place_looks w (Condvar l to) fits h = absurd cc
 
 pub looks : (w : State) → IsInductive w → (t : ℕ) → is_some (looking (place_at w t)) ≡ true
     → Looks w (place_at w t)
-looks w steady t h = place_looks w (place_at w t) (steady.stands.calls t) h
+looks w inductive t h = place_looks w (place_at w t) (inductive.stands.calls t) h

@@ -149,7 +149,7 @@ stands_in (Some Main) Second h = absurd (omega arith)
 stands_in (Some Second) Main h = absurd (omega arith)
 stands_in None m h = absurd (omega arith)
 
-module _ (w : State) (t l : ℕ) (m : Line) (steady : IsInductive w) (plain : (rules_in w l).sort
+module _ (w : State) (t l : ℕ) (m : Line) (inductive : IsInductive w) (plain : (rules_in w l).sort
     ≢ locks.Condvar) where
   -- these are of the line
   record OfLine (xs : List Waiter) : Type 0 where
@@ -162,7 +162,7 @@ module _ (w : State) (t l : ℕ) (m : Line) (steady : IsInductive w) (plain : (r
       ∙ ap (λ p. call_state p r) (told_once (TakenBy t) xs (place_at w) u once) ∙ either (member u xs) refl
     where
       stood : Lines.times u (queue_at w (key_of l m)) ≡ stood_in (location_at (place_at w u) l).stands m
-      stood = steady.stands.lines u l m
+      stood = inductive.stands.lines u l m
 
       once : Lines.times u xs ≤ 1
       once = let a : Lines.times u xs ≤ Lines.times u (queue_at w (key_of l m)) = of.times u
@@ -174,7 +174,7 @@ module _ (w : State) (t l : ℕ) (m : Line) (steady : IsInductive w) (plain : (r
           → call_state (if b then next_place (place_at w u) (TakenBy t) else place_at w u) r
           ≡ call_state (place_at w u) r
       either false e = refl
-      either true e = taken_goes_on w (place_at w u) t l m (steady.stands.calls u) plain
+      either true e = taken_goes_on w (place_at w u) t l m (inductive.stands.calls u) plain
           (stands_in (location_at (place_at w u) l).stands m
           (let a : 1 ≤ Lines.times u xs = member_times u xs e in let b : Lines.times u xs ≤ Lines.times u
           (queue_at w (key_of l m)) = of.times u in let c : Lines.times u (queue_at w (key_of l m))
@@ -196,16 +196,16 @@ module _ (w : State) (t : ℕ) (p2 : Place) where
       ne)
 
   -- each thread that is taken goes on in its call
-  pub takes : (steady : IsInductive w) (l : ℕ) (m : Line) (plain : (rules_in w l).sort ≢ locks.Condvar)
+  pub takes : (inductive : IsInductive w) (l : ℕ) (m : Line) (plain : (rules_in w l).sort ≢ locks.Condvar)
       (p : Place) (key : ℕ)
       → key ≡ key_of l m → (x : Whom) → Stay (put (state_after_act w t p (act.Take key x)) t p2)
-  takes steady l m plain p key is x = subst (λ k. Stay (put (state_after_act w t p (act.Take k x)) t p2))
+  takes inductive l m plain p key is x = subst (λ k. Stay (put (state_after_act w t p (act.Take k x)) t p2))
       (sym is) (by_whom x)
     where
       took : (b : State) (xs : List Waiter) → b.places ≡ places_told (TakenBy t) (threads_of xs) w.places
-          → OfLine w t l m steady plain xs → Stay (put b t p2)
+          → OfLine w t l m inductive plain xs → Stay (put b t p2)
       took b xs places of u ne r = ap (λ q. call_state q r) (get_or-set_other b.places t u p2 Idle ne
-          ∙ ap (λ (ps : List Place). get_or ps u Idle) places) ∙ told_calls w t l m steady plain xs of u r
+          ∙ ap (λ (ps : List Place). get_or ps u Idle) places) ∙ told_calls w t l m inductive plain xs of u r
 
       first : (q : List Waiter) → queue_at w (key_of l m) ≡ q
           → Stay (put (state_after_taking (record w { queues = queues_without_first w.queues (key_of l m) }) t
@@ -229,7 +229,8 @@ module _ (w : State) (t : ℕ) (p2 : Place) where
                 (without_lock_picked start recursive (key_of l m) (queue_at w (key_of l m)))
                 ≡ Lines.times u (queue_at w (key_of l m)) =
                 picked_counts u (key_of l m) (lock_picker start recursive) (queue_at w (key_of l m))
-                (under_of (locations_of (place_at w)) l m (queue_at w (key_of l m)) (steady.stands.waits l m))
+                (under_of (locations_of (place_at w)) l m (queue_at w (key_of l m))
+                (inductive.stands.waits l m))
                 in omega arith;
           })
       by_whom whom.All = took (state_after_take w t (key_of l m) whom.All) (queue_at w (key_of l m)) refl
@@ -319,16 +320,17 @@ handed_goes w (RwLock k a c) t l fits h r = either (k == l) h
     either true g = by_call c fits.1 g
     either false g = absurd cc
 
-module _ (w : State) (t l : ℕ) (steady : IsInductive w) (is_of : IsOf l (place_at w t)) (p2 : Place) where
+module _ (w : State) (t l : ℕ) (inductive : IsInductive w) (is_of : IsOf l (place_at w t)) (p2 : Place) where
   -- a thread that is in its hand is so at its lock, and was handed that or not as its place says
   in_hand_here : (h : Bool) → carried_at (place_at w t) l ≡ Some h → (u : ℕ)
       → is_thread t (taker (place_at w u)) ≡ true
       → hand_at (place_at w u) l ≡ hand t h
   in_hand_here h carries u e =
-      let x : IsInHandOf (place_at w u) t = in_hand_where (place_at w u) t (aparts w steady u) e in
+      let x : IsInHandOf (place_at w u) t = in_hand_where (place_at w u) t (aparts w inductive u) e in
       let here = subst (λ k. hand_at (place_at w u) k ≡ hand t x.handed) (in_hand_at (place_at w)
-      steady.stands.hands t l u (of_carries l (place_at w t) is_of) x) x.hand in
-      let there : carried_at (place_at w t) l ≡ Some x.handed = steady.stands.hands.taken t u l x.handed here
+      inductive.stands.hands t l u (of_carries l (place_at w t) is_of) x) x.hand in
+      let there : carried_at (place_at w t) l ≡ Some x.handed = inductive.stands.hands.taken t u l x.handed
+      here
       in
       here ∙ ap (hand t) (let g : Some x.handed ≡ Some h = sym there ∙ carries in let f : x.handed ≡ h = cc
       in f)
@@ -348,9 +350,10 @@ module _ (w : State) (t l : ℕ) (steady : IsInductive w) (is_of : IsOf l (place
     where
       same_test : (c : Bool) → is_thread t (taker (place_at w u)) ≡ c
           → is_thread t (taker (place_at w u)) ≡ is_taken_by t (taken_at (place_at w u) l)
-      same_test true e = e ∙ sym (taken_by_hand w (place_at w u) t l (steady.stands.calls u)
+      same_test true e = e ∙ sym (taken_by_hand w (place_at w u) t l (inductive.stands.calls u)
           (in_hand_here false carries u e))
-      same_test false e = e ∙ sym (unless_held w steady t l u (λ h. let f : is_thread t (taker (place_at w u))
+      same_test false e = e ∙ sym (unless_held w inductive t l u
+          (λ h. let f : is_thread t (taker (place_at w u))
           ≡ true = held_tells (place_at w u) t l false h in cc))
 
   -- nobody has been
@@ -359,7 +362,7 @@ module _ (w : State) (t l : ℕ) (steady : IsInductive w) (is_of : IsOf l (place
   befalls_nobody b reply places none u ne = get_or-set_other b.places t u p2 Idle ne
       ∙ ap (λ (xs : List Place). get_or xs u Idle) places
       ∙ sym (ap (λ c. if c then next_place (place_at w u) reply else place_at w u)
-      (unless_held w steady t l u (λ h. let e = steady.stands.hands.taken t u l false h in cc)))
+      (unless_held w inductive t l u (λ h. let e = inductive.stands.hands.taken t u l false h in cc)))
 
   -- it has handed them the lock: their calls are as they were
   pub tells_handed : (b : State) → b.places ≡ w.places → carried_at (place_at w t) l ≡ Some true → (u : ℕ)
@@ -373,7 +376,8 @@ module _ (w : State) (t l : ℕ) (steady : IsInductive w) (is_of : IsOf l (place
       either : (c : Bool) → is_thread t (taker (place_at w u)) ≡ c
           → call_state (if c then next_place (place_at w u) (Woken note.HandOff) else place_at w u) r
           ≡ call_state (place_at w u) r
-      either true e = handed_goes w (place_at w u) t l (steady.stands.calls u) (in_hand_here true carries u e)
+      either true e = handed_goes w (place_at w u) t l (inductive.stands.calls u)
+          (in_hand_here true carries u e)
           r
       either false e = refl
 
@@ -399,5 +403,5 @@ module _ (w : State) (t l : ℕ) (steady : IsInductive w) (is_of : IsOf l (place
   wakes_own plain p (act.HandOver lock op) here c h = absurd h
   wakes_own plain p (act.Take key x) here c h =
       calm w t p2 (put (state_after_act w t p (act.Take key x)) t p2) l c h
-      (takes w t p2 steady l here.0 plain p key here.1 x)
+      (takes w t p2 inductive l here.0 plain p key here.1 x)
   wakes_own plain p a here c h = calm w t p2 (put (state_after_act w t p a) t p2) l c h (lonely w t p2 p a tt)

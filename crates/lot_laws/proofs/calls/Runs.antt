@@ -14,7 +14,7 @@ answered_more : (w : State) (ss : List Step) (s : Step)
 answered_more w [] s = refl
 answered_more w (x ∷ ss) s = ap (λ os. step_outcome w x ∷ os) (answered_more (after w x) ss s)
 
--- one step more, and its outcome behind the others
+-- one step more, and its outcome after the others
 pub run_state : (w v m : State) (ss more : List Step) (s : Step) → more ≡ ss ++ s ∷ [] → v ≡ after_steps w ss
     → m ≡ after v s
     → m ≡ after_steps w more

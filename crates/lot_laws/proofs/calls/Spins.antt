@@ -495,5 +495,5 @@ module _ (w : State) (r : ℕ → Rights) (l seen now : ℕ) (bit : SetsBit (sor
 pub spins : (w : State) → IsInductive w → (t l seen now : ℕ) → IsWaitingCall (call_at w t) l
     → act_of (place_at w t) ≡ act.Word l (op.Exchange seen now) → SetsBit (sort_at w l) seen now
     → is_some (looking (place_at w t)) ≡ true
-spins w steady t l seen now waits is bit = place_spins w (λ k. rights_of (lock_state w k) t) l seen now bit
-    (place_at w t) (steady.stands.calls t) waits is
+spins w inductive t l seen now waits is bit = place_spins w (λ k. rights_of (lock_state w k) t) l seen now bit
+    (place_at w t) (inductive.stands.calls t) waits is

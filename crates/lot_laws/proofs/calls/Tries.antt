@@ -59,7 +59,7 @@ module _ (w : State) (t : ℕ) (p : Place) (is : place_at w t ≡ p) (single : I
   told can = ap (λ b. if b then go_outcome w t else outcome.NotNow) (possible can) ∙ ap (going_outcome w t) is
       ∙ told_from_there w t p is single
 
-module _ (w : State) (t l : ℕ) (steady : IsInductive w) where
+module _ (w : State) (t l : ℕ) (inductive : IsInductive w) where
   locks_told : place_at w t ≡ first_place (kind_at w l) (call.Mutex l TryLock) → step_outcome w (go_of t)
       ≡ tried (is_none (lock_state w l).exclusive)
   locks_told is = told w t (Mutex l mutex.TryLock) is tt
@@ -67,7 +67,7 @@ module _ (w : State) (t l : ℕ) (steady : IsInductive w) where
       ∙ by_word (is_locked (word_at w l)) refl (owner_at w l) refl
     where
       coded : IsMutexWord (word_at w l) (owner_at w l)
-      coded = coded_for w steady t l mutex.TryLock is
+      coded = coded_for w inductive t l mutex.TryLock is
 
       by_word : (b : Bool) → is_locked (word_at w l) ≡ b → (o : Option ℕ) → owner_at w l ≡ o
           → outcome_of (next_act (Mutex l mutex.TryLock) (reply_to w t (act_of (Mutex l mutex.TryLock))))
@@ -94,9 +94,9 @@ module _ (w : State) (t l : ℕ) (steady : IsInductive w) where
 
 pub tries_at_once : (w : State) (s : Step) → IsInductive w → s.turn ≡ turn.Go
     → TriesAtOnce w s.thread (step_outcome w s)
-tries_at_once w s steady goes =
+tries_at_once w s inductive goes =
     subst (λ x. TriesAtOnce w s.thread (step_outcome w (record { thread = s.thread; turn = x }))) (sym goes)
     (record {
-      locks = λ l. locks_told w s.thread l steady;
-      writes = λ l. writes_told w s.thread l steady;
+      locks = λ l. locks_told w s.thread l inductive;
+      writes = λ l. writes_told w s.thread l inductive;
     })

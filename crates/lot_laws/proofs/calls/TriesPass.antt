@@ -147,4 +147,4 @@ place_free w (Condvar l (condvar.Notify all m to)) fits rights h = absurd h
 
 pub tries_go : (w : State) → IsInductive w → (t : ℕ) → IsTry (call_at w t).purpose
     → IsFree (act_of (place_at w t))
-tries_go w steady t h = place_free w (place_at w t) (steady.stands.calls t) _ h
+tries_go w inductive t h = place_free w (place_at w t) (inductive.stands.calls t) _ h

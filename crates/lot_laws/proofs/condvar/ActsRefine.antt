@@ -43,15 +43,15 @@ use Rattle.steps_condvar.proofs.NotifyTells.{condvar_places_reached}
 use Rattle.spec_locks.specs.Condvars.{WaitsAside}
 use Rattle.spec_locks.specs.Locks as locks
 use Rattle.spec_locks.specs.Locks.{OfCondvar, Rights, Rules}
-use Rattle.spec_locks.specs.Runs.{AtLock, CallState, GoesOn, Nothing, behind_wake, going_on, is_taken_by}
+use Rattle.spec_locks.specs.Runs.{AtLock, CallState, GoesOn, Nothing, after_wake, going_on, is_taken_by}
 use Rattle.spec_locks.specs.Runs.{woken}
 use Rattle.spec_locks.specs.Sites.{Main}
 use Rattle.lot_machine.specs.Fits.{IsOfItsKind, IsWellFormed, IsThere, PlaceFits, ShowsPlainMutex}
 use Rattle.lot_machine.specs.Machine.{State, can_do, going_outcome, kind_at, place_at, put, reply_to}
 use Rattle.lot_machine.specs.Machine.{state_after_act, state_after_going, word_at}
 use Rattle.lot_machine.proofs.Shape.{performed_counts}
-use Rattle.lot_laws.specs.MutexDeeds.{acts}
-use Rattle.lot_laws.specs.MutexDeeds as deeds
+use Rattle.lot_laws.specs.ThreadDeeds.{acts}
+use Rattle.lot_laws.specs.ThreadDeeds as deeds
 use Rattle.lot_laws.specs.Refinement.{locks_of, taken_at}
 use Rattle.lot_laws.specs.SitesOf.{AreCondvars, FitsCondvar, FitsItsLock, Goes as GoesAt, GoesAll}
 use Rattle.lot_laws.specs.SitesOf.{IsInductive, condvar_of, key_of, rules_in, site_of}
@@ -65,7 +65,7 @@ use Rattle.lot_laws.proofs.condvar.TwoParts.{taken_beside}
 use Rattle.lot_laws.proofs.condvar.StepRefines.{IsUnwoken, look_step, notify_step, own_call, own_event}
 use Rattle.lot_laws.proofs.condvar.StepRefines.{told_step, wait_step}
 use Rattle.lot_laws.proofs.condvar.MutexUntouched.{there_deeds}
-use Rattle.lot_laws.proofs.sites.Following.{goes_all, goes_all_steady, only_at}
+use Rattle.lot_laws.proofs.sites.Following.{goes_all, goes_all_inductive, only_at}
 use Rattle.lot_laws.proofs.machine.Parts as glue
 use Rattle.lot_laws.proofs.machine.Parts.{differ, plain_rules, same}
 use Rattle.lot_laws.proofs.condvar.LookEvents.{look_happened}
@@ -101,13 +101,13 @@ module _ (l m : ℕ) (apart_m : m ≢ l) (at_l at_m : List deeds.Act) where
   two_else k nl nm = ap (λ b. if b then at_l else if k == m then at_m else []) (differ k l nl)
       ∙ ap (λ b. if b then at_m else []) (differ k m nm)
 
-module _ (w : State) (t l : ℕ) (shape : IsWellFormed w) (steady : IsInductive w) (condvars : AreCondvars w)
+module _ (w : State) (t l : ℕ) (shape : IsWellFormed w) (inductive : IsInductive w) (condvars : AreCondvars w)
     (there : t < length w.places) where
   -- tells what a call of it says of its locks
   module _ (at : CondvarPlace) (is : place_at w t ≡ Condvar l at) (m : ℕ) (of : mutex_beside at ≡ Some m)
     where
       fits : FitsCondvar w l at
-      fits = fits_here w t l at steady is
+      fits = fits_here w t l at inductive is
 
       plain : rules_in w m ≡ glue.mutex
       plain = plain_rules (kind_at w m) (fits.mutex m of)
@@ -139,7 +139,7 @@ module _ (w : State) (t l : ℕ) (shape : IsWellFormed w) (steady : IsInductive 
           → IsReachedNext (condvar_next at (reply_to w t (condvar_act l at)))
       reaches can = condvar_places_reached (condvar_of w l) t at (reply_to w t (condvar_act l at))
           fits.reached
-          (may_hear w t l at steady is can) (condvars l fits.sort) (at_it w t l at steady is)
+          (may_hear w t l at inductive is can) (condvars l fits.sort) (at_it w t l at inductive is)
           (λ e. absurd (unlate w t (condvar_act l at) e))
 
   -- ---------------------------------------------------------------- a notification
@@ -152,8 +152,8 @@ module _ (w : State) (t l : ℕ) (shape : IsWellFormed w) (steady : IsInductive 
     abbrev told : Reply
     told = reply_to w t (notify_act all l m p)
 
-    abbrev behind : State
-    behind = state_after_going w t (Condvar l notifies)
+    abbrev afterwards : State
+    afterwards = state_after_going w t (Condvar l notifies)
 
     abbrev at_l : List deeds.Act
     at_l = acts t (there_deeds (notify_deeds all m p told))
@@ -162,13 +162,13 @@ module _ (w : State) (t l : ℕ) (shape : IsWellFormed w) (steady : IsInductive 
     at_m = acts t (beside_deeds all (condvar_of w l).waiters p told)
 
     apart_m : m ≢ l
-    apart_m = apart w t l notifies steady is m refl
+    apart_m = apart w t l notifies inductive is m refl
 
     sort_l : (rules_in w l).sort ≡ locks.Condvar
     sort_l = (fits notifies is m refl).sort
 
     aside : WaitsAside (condvar_of w l) (site_of w m) m
-    aside = waits_aside w steady l sort_l m
+    aside = waits_aside w inductive l sort_l m
 
     names_notified : (n : Next NotifyAt) → NamesStill m (in_notify all m n)
     names_notified (At q) = refl
@@ -185,36 +185,39 @@ module _ (w : State) (t l : ℕ) (shape : IsWellFormed w) (steady : IsInductive 
     goes_there = ap (λ q. next_place q told) (notifier_still w t l m all p is
         (fits notifies is m refl).reached there)
 
-    pub goes : GoesAll w behind (two_at l m at_l at_m)
-    goes = let n = sized notifies is m refl in notifies_go w t l m all steady there apart_m sort_l
+    pub goes : GoesAll w afterwards (two_at l m at_l at_m)
+    goes = let n = sized notifies is m refl in notifies_go w t l m all inductive there apart_m sort_l
         (sort_m notifies is m refl) (plain notifies is m refl) (condvars l sort_l) aside n.0 n.1
         (section_of notifies is m refl l n.0) (section_of notifies is m refl m n.1)
         (line_of notifies is m refl l n.0) (line_of notifies is m refl m n.1) p
         (fits notifies is m refl).reached is can (subst (FitsItsLock w) (sym goes_there) fits_notified)
 
-    happened : Happens w behind t (notify_event l all m p told)
-    happened = notify_happened w behind t l m all p steady (goes_all_steady w behind (two_at l m at_l at_m)
-        steady goes.follows goes.stands) (condvars l sort_l) aside is can (two_at l m at_l at_m) goes.follows
+    happened : Happens w afterwards t (notify_event l all m p told)
+    happened = notify_happened w afterwards t l m all p inductive (goes_all_inductive w afterwards
+        (two_at l m at_l at_m)
+        inductive goes.follows goes.stands) (condvars l sort_l) aside is can (two_at l m at_l at_m)
+        goes.follows
         (two_else l m apart_m at_l at_m) (two_there l m apart_m at_l at_m) (two_beside l m apart_m at_l at_m)
 
-    others : OthersFollow w behind t (notify_event l all m p told)
+    others : OthersFollow w afterwards t (notify_event l all m p told)
     others = let n = sized notifies is m refl in
         subst (λ q. Happens w (put (state_after_act w t (Condvar l notifies) (notify_act all l m p)) t q) t
         (notify_event l all m p told)
         → OthersFollow w (put (state_after_act w t (Condvar l notifies) (notify_act all l m p)) t q) t
         (notify_event l all m p told)) (sym goes_there)
-        (notify_others w t l m all steady there apart_m sort_l (sort_m notifies is m refl) (condvars l sort_l)
+        (notify_others w t l m all inductive there apart_m sort_l (sort_m notifies is m refl)
+        (condvars l sort_l)
         aside (line_of notifies is m refl l n.0) (line_of notifies is m refl m n.1) p is fits_notified)
         happened
 
-    told_behind : going_outcome w t (Condvar l notifies)
+    told_after : going_outcome w t (Condvar l notifies)
         ≡ outcome_of (condvar_does l (condvar_next notifies told))
-    told_behind = ap (λ q. outcome_of (next_act q told))
+    told_after = ap (λ q. outcome_of (next_act q told))
         (notifier_still w t l m all p is (fits notifies is m refl).reached there)
 
-    pub notifies_on : GoesOn (locks_of w) t (going_outcome w t (Condvar l notifies)) (locks_of behind)
-    notifies_on = subst (λ o. GoesOn (locks_of w) t o (locks_of behind)) (sym told_behind)
-        (notify_step w behind t l shape steady (condvars l sort_l) there (sized notifies is m refl).0
+    pub notifies_on : GoesOn (locks_of w) t (going_outcome w t (Condvar l notifies)) (locks_of afterwards)
+    notifies_on = subst (λ o. GoesOn (locks_of w) t o (locks_of afterwards)) (sym told_after)
+        (notify_step w afterwards t l shape inductive (condvars l sort_l) there (sized notifies is m refl).0
         (two_at l m at_l at_m) goes m all p is refl can (two_else l m apart_m at_l at_m)
         (two_there l m apart_m at_l at_m) (two_beside l m apart_m at_l at_m) others)
 
@@ -238,7 +241,7 @@ module _ (w : State) (t l : ℕ) (shape : IsWellFormed w) (steady : IsInductive 
     on_m = acts t (waiter_deeds p (taken_by_wait w m p) heard)
 
     apart_w : m ≢ l
-    apart_w = apart w t l waits steady is m refl
+    apart_w = apart w t l waits inductive is m refl
 
     sort_w : (rules_in w l).sort ≡ locks.Condvar
     sort_w = (fits waits is m refl).sort
@@ -257,21 +260,22 @@ module _ (w : State) (t l : ℕ) (shape : IsWellFormed w) (steady : IsInductive 
 
     module _ (fits_waited : FitsItsLock w (next_place stood heard)) where
       goes_waiting : GoesAll w waited (two_at l m on_l on_m)
-      goes_waiting = let n = sized waits is m refl in waits_go w t l m timed steady there apart_w sort_w
+      goes_waiting = let n = sized waits is m refl in waits_go w t l m timed inductive there apart_w sort_w
           (sort_m waits is m refl) (plain waits is m refl) (condvars l sort_w) n.0 n.1
           (section_of waits is m refl l n.0) (section_of waits is m refl m n.1)
           (line_of waits is m refl l n.0) (line_of waits is m refl m n.1) p (fits waits is m refl).reached
           is can fits_waited
 
       happened_waiting : Happens w waited t (own_event w t l m p)
-      happened_waiting = wait_happened w waited t l m timed p steady (goes_all_steady w waited
-          (two_at l m on_l on_m) steady goes_waiting.follows goes_waiting.stands) (condvars l sort_w) is can
+      happened_waiting = wait_happened w waited t l m timed p inductive (goes_all_inductive w waited
+          (two_at l m on_l on_m) inductive goes_waiting.follows goes_waiting.stands) (condvars l sort_w) is
+          can
           (two_at l m on_l on_m) goes_waiting.follows
           (two_else l m apart_w on_l on_m) (two_there l m apart_w on_l on_m)
           (two_beside l m apart_w on_l on_m)
 
       others_waiting : OthersFollow w waited t (own_event w t l m p)
-      others_waiting = wait_others w t l m timed steady (sort_m waits is m refl) there apart_w p
+      others_waiting = wait_others w t l m timed inductive (sort_m waits is m refl) there apart_w p
           (fits waits is m refl).reached is can _ happened_waiting
 
       -- it goes on from where it stood, unless it wakes itself
@@ -284,7 +288,7 @@ module _ (w : State) (t l : ℕ) (shape : IsWellFormed w) (steady : IsInductive 
         waits_still : GoesOn (locks_of w) t (going_outcome w t (Condvar l waits)) (locks_of waited)
         waits_still = subst (λ o. GoesOn (locks_of w) t o (locks_of waited))
             (sym (ap (λ q. outcome_of (next_act q heard)) still))
-            (wait_step w waited t l shape steady (condvars l sort_w) there (sized waits is m refl).0
+            (wait_step w waited t l shape inductive (condvars l sort_w) there (sized waits is m refl).0
             (two_at l m on_l on_m) goes_waiting m timed p is refl can (two_else l m apart_w on_l on_m)
             (two_there l m apart_w on_l on_m) (two_beside l m apart_w on_l on_m)
             goes_there_waiting unwoken others_waiting)
@@ -302,7 +306,7 @@ module _ (w : State) (t l : ℕ) (shape : IsWellFormed w) (steady : IsInductive 
           → GoesOn (locks_of w) t (going_outcome w t (Condvar l waits)) (locks_of waited)
       waits_told q q2 says goes_to told settled makes made woken_so =
           subst (λ o. GoesOn (locks_of w) t o (locks_of waited)) (sym told)
-          (told_step w waited t l shape steady (condvars l sort_w) there (sized waits is m refl).0
+          (told_step w waited t l shape inductive (condvars l sort_w) there (sized waits is m refl).0
           (two_at l m on_l on_m) goes_waiting m timed p q q2 is can (two_else l m apart_w on_l on_m)
           (two_there l m apart_w on_l on_m) (two_beside l m apart_w on_l on_m) says
           (get_or-set_same (state_after_act w t (Condvar l waits) (wait_act l m p)).places t
@@ -310,9 +314,9 @@ module _ (w : State) (t l : ℕ) (shape : IsWellFormed w) (steady : IsInductive 
           there) ∙ goes_to) settled makes made woken_so others_waiting)
 
     -- an act that wakes nobody
-    calm_act : (IsWaking w t l m timed steady (sort_m waits is m refl) p → ⊥) → IsUnwoken w t l m timed p
+    calm_act : (IsWaking w t l m timed inductive (sort_m waits is m refl) p → ⊥) → IsUnwoken w t l m timed p
     calm_act calm = calm_unwoken (locks_of w) t (own_event w t l m p) t (going_on (own_event w t l m p)
-        (own_call w t l m timed p)) (quiet w t l m timed steady (sort_m waits is m refl) p
+        (own_call w t l m timed p)) (quiet w t l m timed inductive (sort_m waits is m refl) p
         (fits waits is m refl).reached can calm).calm
 
     -- outside the release of its mutex
@@ -324,7 +328,7 @@ module _ (w : State) (t l : ℕ) (shape : IsWellFormed w) (steady : IsInductive 
       calm_fits = subst (FitsItsLock w) (sym (ap (λ q. next_place q heard) still))
           (fits_at (next_wait m timed p heard) (reaches waits is m refl can))
 
-      wakes_none : (p : WaitAt) → is_release p ≡ false → IsWaking w t l m timed steady
+      wakes_none : (p : WaitAt) → is_release p ≡ false → IsWaking w t l m timed inductive
           (sort_m waits is m refl) p → ⊥
       wakes_none (wait.Release s a) calm h = cc
       wakes_none p calm h = h
@@ -346,12 +350,12 @@ module _ (w : State) (t l : ℕ) (shape : IsWellFormed w) (steady : IsInductive 
     sort_of_m : (rules_in w m).sort ≡ locks.Mutex
     sort_of_m = sort_m releases is m refl
 
-    left : LeftAt w t l m timed steady there (apart w t l releases steady is m refl) sort_of_m
+    left : LeftAt w t l m timed inductive there (apart w t l releases inductive is m refl) sort_of_m
         (plain releases is m refl)
         (line_of releases is m refl m (sized releases is m refl).1)
         (section_of releases is m refl m (sized releases is m refl).1) s a
-    left = let n = sized releases is m refl in left_at w t l m timed steady there
-        (apart w t l releases steady is m refl) sort_of_m (plain releases is m refl)
+    left = let n = sized releases is m refl in left_at w t l m timed inductive there
+        (apart w t l releases inductive is m refl) sort_of_m (plain releases is m refl)
         (line_of releases is m refl m n.1) (section_of releases is m refl m n.1) s a is
 
     -- it has come to a place of its call
@@ -422,7 +426,7 @@ module _ (w : State) (t l : ℕ) (shape : IsWellFormed w) (steady : IsInductive 
             ap (λ (b : Bool). if b then record (own_call w t l m timed (releasing s (unlock.Leave true))) {
               retries = Some m;
               recalls =
-                  behind_wake (own_call w t l m timed (releasing s (unlock.Leave true))).recalls;
+                  after_wake (own_call w t l m timed (releasing s (unlock.Leave true))).recalls;
             }
             else own_call w t l m timed (releasing s (unlock.Leave true)))
             (unheld (free refl) m)
@@ -497,7 +501,7 @@ module _ (w : State) (t l : ℕ) (shape : IsWellFormed w) (steady : IsInductive 
     woke_at = place_at (state_after_act w t wakes_at (unlock_act m (unlock.Leave true))) t
 
     abbrev woken_call : CallState → CallState
-    woken_call c = record c { retries = Some m; recalls = behind_wake c.recalls }
+    woken_call c = record c { retries = Some m; recalls = after_wake c.recalls }
 
     woke_on : woke_at ≡ Condvar l (Wait m timed (releasing (stands.Noted note.Normal) (unlock.Leave true)))
         → FitsItsLock w (next_place woke_at Done)
@@ -513,7 +517,7 @@ module _ (w : State) (t l : ℕ) (shape : IsWellFormed w) (steady : IsInductive 
         in_own_hand : is_taken_by t (taken_at (place_at w t) m) ≡ true
         in_own_hand = ap (λ q. is_taken_by t (taken_at q m)) is
             ∙ ap (is_taken_by t) (taken_beside l m
-            (apart w t l (Wait m timed (releasing (stands.InHand t) (unlock.Leave true))) steady is m
+            (apart w t l (Wait m timed (releasing (stands.InHand t) (unlock.Leave true))) inductive is m
             refl) (At (Wait m timed (releasing (stands.InHand t) (unlock.Leave true)))) refl) ∙ same t
 
   -- for every act of its release
@@ -556,7 +560,7 @@ module _ (w : State) (t l : ℕ) (shape : IsWellFormed w) (steady : IsInductive 
     looked = state_after_going w t (Condvar l (Look all))
 
     here_fits : FitsCondvar w l (Look all)
-    here_fits = fits_here w t l (Look all) steady is
+    here_fits = fits_here w t l (Look all) inductive is
 
     there_l : l < length w.locks
     there_l = let f = subst (λ p. PlaceFits (length w.locks) p) is (shape.places t) in f.0
@@ -590,10 +594,10 @@ module _ (w : State) (t l : ℕ) (shape : IsWellFormed w) (steady : IsInductive 
     stood_looking = is
 
     looks_goes : GoesAll w looked (only_at l [])
-    looks_goes = goes_all w looked l [] steady
+    looks_goes = goes_all w looked l [] inductive
         (subst (λ q. GoesAt w (put (state_after_act w t (Condvar l (Look all)) (act.Word l op.Load)) t
         (next_place q (Value (word_at w l)))) l []) (sym stood_looking)
-        (looks w t l all steady there there_l here_fits.sort is looked_fits))
+        (looks w t l all inductive there there_l here_fits.sort is looked_fits))
 
     nothing_done : (k : ℕ) → only_at l [] k ≡ []
     nothing_done k = either (k == l)
@@ -611,14 +615,14 @@ module _ (w : State) (t l : ℕ) (shape : IsWellFormed w) (steady : IsInductive 
         either false = tt
 
     looked_so : Happens w looked t (look_event l (word_at w l))
-    looked_so = subst (λ n. Happens w looked t (look_event l n)) (sym (word_is w t l (Look all) steady is))
-        (look_happened w looked t l all steady (goes_all_steady w looked (only_at l []) steady
+    looked_so = subst (λ n. Happens w looked t (look_event l n)) (sym (word_is w t l (Look all) inductive is))
+        (look_happened w looked t l all inductive (goes_all_inductive w looked (only_at l []) inductive
         looks_goes.follows looks_goes.stands) is (only_at l []) looks_goes.follows nothing_done)
 
     looks_on : GoesOn (locks_of w) t (going_outcome w t (Condvar l (Look all))) (locks_of looked)
     looks_on = subst (λ o. GoesOn (locks_of w) t o (locks_of looked))
         (sym (ap (λ q. outcome_of (next_act q (Value (word_at w l)))) stood_looking))
-        (look_step w looked t l shape steady (condvars l here_fits.sort) there there_l (only_at l [])
+        (look_step w looked t l shape inductive (condvars l here_fits.sort) there there_l (only_at l [])
         looks_goes all is refl nothing_done
         (calm_follow w looked t (look_event l (word_at w l)) looked_so (calm_look (word_at w l))
         (lonely w t (next_place (place_at (state_after_act w t (Condvar l (Look all))
@@ -638,16 +642,17 @@ module _ (w : State) (t l : ℕ) (shape : IsWellFormed w) (steady : IsInductive 
   condvar_on (Wait m timed p) is can = calm_on m timed p is can refl
 
   -- Every lock is a site again after an act on a condition variable.
-  pub condvar_steady : (at : CondvarPlace) → place_at w t ≡ Condvar l at → can_do w (condvar_act l at) ≡ true
+  pub condvar_inductive : (at : CondvarPlace) → place_at w t ≡ Condvar l at → can_do w (condvar_act l at)
+      ≡ true
       → IsInductive (state_after_going w t (Condvar l at))
-  condvar_steady (Look all) is can = goes_all_steady w _ _ steady (looks_goes all is).follows
+  condvar_inductive (Look all) is can = goes_all_inductive w _ _ inductive (looks_goes all is).follows
       (looks_goes all is).stands
-  condvar_steady (Notify all m p) is can = goes_all_steady w _ _ steady (goes all m p is can).follows
+  condvar_inductive (Notify all m p) is can = goes_all_inductive w _ _ inductive (goes all m p is can).follows
       (goes all m p is can).stands
-  condvar_steady (Wait m timed (wait.Release s (mutex.Unlock a))) is can = let g =
+  condvar_inductive (Wait m timed (wait.Release s (mutex.Unlock a))) is can = let g =
       goes_waiting m timed (releasing s a) is can (left_fits m timed s a is can)
-      in goes_all_steady w _ _ steady g.follows g.stands
-  condvar_steady (Wait m timed (wait.Release s a)) is can =
+      in goes_all_inductive w _ _ inductive g.follows g.stands
+  condvar_inductive (Wait m timed (wait.Release s a)) is can =
       absurd (fits (Wait m timed (wait.Release s a)) is m refl).reached.0
-  condvar_steady (Wait m timed p) is can = let g = goes_waiting m timed p is can
-      (calm_fits m timed p is can refl) in goes_all_steady w _ _ steady g.follows g.stands
+  condvar_inductive (Wait m timed p) is can = let g = goes_waiting m timed p is can
+      (calm_fits m timed p is can refl) in goes_all_inductive w _ _ inductive g.follows g.stands

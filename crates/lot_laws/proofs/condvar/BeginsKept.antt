@@ -31,7 +31,7 @@ use Rattle.lot_machine.specs.Machine.{state_after_late_on, state_with_sections}
 use Rattle.lot_machine.proofs.Suits.{Suits, both, call_suits}
 use Rattle.lot_machine.specs.Fits.{IsWellFormed, PlaceFits}
 use Rattle.lot_laws.specs.Refinement.{taken_at}
-use Rattle.lot_laws.specs.MutexDeeds.{acts}
+use Rattle.lot_laws.specs.ThreadDeeds.{acts}
 use Rattle.lot_laws.specs.Locations.{role_on, location_at}
 use Rattle.lot_laws.specs.SitesOf.{FitsCondvar, FitsItsLock, Goes, IsInductive, key_of, rules_in}
 use Rattle.lot_laws.proofs.machine.Parts.{differ, parts_at, put_here, same, thread_is}
@@ -55,7 +55,7 @@ apart_of w l m at f names e = let both : locks.Mutex ≡ locks.Condvar =
 -- ---------------------------------------------------------------- a call begins
 
 -- a notification knows no mutex yet, and stands nowhere
-module _ (w : State) (t l : ℕ) (all : Bool) (steady : IsInductive w) (there : t < length w.places)
+module _ (w : State) (t l : ℕ) (all : Bool) (inductive : IsInductive w) (there : t < length w.places)
     (is : place_at w t ≡ Idle)
     (fits : FitsItsLock w (Condvar l (Look all))) where
   looks_nowhere : (k : ℕ) → Alike k Idle (Condvar l (Look all))
@@ -73,14 +73,14 @@ module _ (w : State) (t l : ℕ) (all : Bool) (steady : IsInductive w) (there : 
   ]
 
   pub notification_begins : Goes w (put w t (Condvar l (Look all))) l []
-  notification_begins = acting.place_goes w t l steady there (rules_in w l) refl (Condvar l (Look all))
+  notification_begins = acting.place_goes w t l inductive there (rules_in w l) refl (Condvar l (Look all))
       (λ k ne. subst (λ q. Alike k q (Condvar l (Look all))) (sym is) (looks_nowhere k)) fits [] (λ h. tt)
       (steps_by (rules_in w l) l (parts_at w l) (parts_at w l) (place_at w) t (Condvar l (Look all)) [] tt tt
       (ap (λ q. taken_at q l) is ∙ sym (looks_nowhere l).taken) refl refl refl refl ((looks_nowhere l).role
       ∙ sym (ap (λ q. role_on q l) is)))
       ((looks_nowhere l).location ∙ sym (ap (λ q. location_at q l) is))
 
-module _ (w : State) (t l m : ℕ) (timed : Bool) (steady : IsInductive w) (there : t < length w.places)
+module _ (w : State) (t l m : ℕ) (timed : Bool) (inductive : IsInductive w) (there : t < length w.places)
     (is : place_at w t ≡ Idle)
     (apart : m ≢ l) (fits : FitsItsLock w (Condvar l (Wait m timed wait.Enter))) where
   abbrev entering : Place
@@ -99,7 +99,7 @@ module _ (w : State) (t l m : ℕ) (timed : Bool) (steady : IsInductive w) (ther
   -- a wait owns its mutex
   pub wait_begins : (owners_at w m).exclusive ≡ Some t → Goes w (put w t entering) m
       (acts t (Begin (Some (Has Exclusive)) ∷ []))
-  wait_begins owns = acting.place_goes w t m steady there (rules_in w m) refl entering
+  wait_begins owns = acting.place_goes w t m inductive there (rules_in w m) refl entering
       (λ k ne. subst (λ q. Alike k q entering) (sym is) (begins_alike k ne)) fits
       (Begin (Some (Has Exclusive)) ∷ []) (λ h. tt)
       (steps_by (rules_in w m) m (parts_at w m) (parts_at w m) (place_at w) t entering
@@ -125,11 +125,11 @@ condvar_sort kind.Condvar h = refl
 condvar_sort k h = absurd cc
 
 -- it may begin where it names a plain mutex that its thread owns
-module _ (w : State) (t l : ℕ) (steady : IsInductive w) (there : t < length w.places) (is : place_at w t
+module _ (w : State) (t l : ℕ) (inductive : IsInductive w) (there : t < length w.places) (is : place_at w t
     ≡ Idle) where
   pub condvar_begins : (c : CondvarCall) → is_open_to w t (call.Condvar l c) ≡ true
       → Goes w (state_after_begin w t (call.Condvar l c)) (begins_at l c) (acts t (begins_by c))
-  condvar_begins (condvar_call.Notify all) may = notification_begins w t l all steady there is (record {
+  condvar_begins (condvar_call.Notify all) may = notification_begins w t l all inductive there is (record {
     sort = condvar_sort (kind_at w l) suits.1.0;
     reached = tt;
     mutex = λ m none. absurd cc;
@@ -137,7 +137,7 @@ module _ (w : State) (t l : ℕ) (steady : IsInductive w) (there : t < length w.
     where
       suits : Suits (length w.locks) (kind_at w) (Condvar l (Look all))
       suits = call_suits w t (call.Condvar l (condvar_call.Notify all)) may
-  condvar_begins (condvar_call.Wait m timed) may = wait_begins w t l m timed steady there is
+  condvar_begins (condvar_call.Wait m timed) may = wait_begins w t l m timed inductive there is
       (apart_of w l m (Wait m timed wait.Enter) fits refl) fits (thread_is t (owners_at w m).exclusive right)
     where
       suits : Suits (length w.locks) (kind_at w) (Condvar l (Wait m timed wait.Enter))
@@ -160,80 +160,85 @@ module _ (w : State) (t l : ℕ) (steady : IsInductive w) (there : t < length w.
 
 -- ---------------------------------------------------------------- its time is up
 
-module _ (w : State) (t l m : ℕ) (steady : IsInductive w) (there : t < length w.places) (apart : m ≢ l) where
-  -- it leaves the queue of the condition variable
-  module _ (sort : (rules_in w l).sort ≡ locks.Condvar) (is : place_at w t
-      ≡ Condvar l (Wait m true (wait.Asleep stands.Listed)))
-      (fits : FitsItsLock w (Condvar l (Wait m true wait.Remove))) where
-    same_beside : Alike m (place_at w t) (Condvar l (Wait m true wait.Remove))
-    same_beside = subst (λ q. Alike m q (Condvar l (Wait m true wait.Remove))) (sym is) (record {
-      location = location_beside l m apart (At (Wait m true wait.Remove)) refl
-          ∙ sym (location_beside l m apart (At (Wait m true (wait.Asleep stands.Listed))) refl);
-      role = role_beside l m apart (At (Wait m true wait.Remove)) refl
-          ∙ sym (role_beside l m apart (At (Wait m true (wait.Asleep stands.Listed))) refl);
-      taken = taken_beside l m apart (At (Wait m true wait.Remove)) refl
-          ∙ sym (taken_beside l m apart (At (Wait m true (wait.Asleep stands.Listed))) refl);
-    })
-
-    pub listed_late : (line : key_of l Main < length w.sections) → section_at w (key_of l Main) ≡ None
-        → Goes w (put (state_with_sections w (One (key_of l Main)) (Some t)) t
-        (Condvar l (Wait m true wait.Remove))) l
-        (acts t (In Main ∷ []))
-    listed_late line free = enters_there w t l m (Wait m true (wait.Asleep stands.Listed)) steady there apart
-        sort is refl Late refl fits same_beside line free refl refl
-
-  -- A waiter that is late leaves the queue of its mutex, to which it was moved.
-  module _ (is : place_at w t ≡ Condvar l (Wait m true (wait.Asleep stands.Moved)))
-      (fits : FitsItsLock w (Condvar l (Wait m true wait.RemoveMoved))) where
-    abbrev before : CondvarPlace
-    before = Wait m true (wait.Asleep stands.Moved)
-
-    abbrev removing : CondvarPlace
-    removing = Wait m true wait.RemoveMoved
-
-    moves_alike : AlikeBeside m (Condvar l before) (Condvar l removing)
-    moves_alike k ne = elim (cases_eq k l) [
-      | inl e ↦ subst (λ j. Alike j (Condvar l before) (Condvar l removing)) (sym e) (record {
-        location = location_there l m apart (At removing) refl
-            ∙ sym (location_there l m apart (At before) refl);
-        role = role_there l m apart (At removing) refl ∙ sym (role_there l m apart (At before) refl);
-        taken = taken_there l m apart (At removing) refl ∙ sym (taken_there l m apart (At before) refl);
+module _ (w : State) (t l m : ℕ) (inductive : IsInductive w) (there : t < length w.places) (apart : m ≢ l)
+  where
+    -- it leaves the queue of the condition variable
+    module _ (sort : (rules_in w l).sort ≡ locks.Condvar) (is : place_at w t
+        ≡ Condvar l (Wait m true (wait.Asleep stands.Listed)))
+        (fits : FitsItsLock w (Condvar l (Wait m true wait.Remove))) where
+      same_beside : Alike m (place_at w t) (Condvar l (Wait m true wait.Remove))
+      same_beside = subst (λ q. Alike m q (Condvar l (Wait m true wait.Remove))) (sym is) (record {
+        location = location_beside l m apart (At (Wait m true wait.Remove)) refl
+            ∙ sym (location_beside l m apart (At (Wait m true (wait.Asleep stands.Listed))) refl);
+        role = role_beside l m apart (At (Wait m true wait.Remove)) refl
+            ∙ sym (role_beside l m apart (At (Wait m true (wait.Asleep stands.Listed))) refl);
+        taken = taken_beside l m apart (At (Wait m true wait.Remove)) refl
+            ∙ sym (taken_beside l m apart (At (Wait m true (wait.Asleep stands.Listed))) refl);
       })
-      | inr nl ↦ nothing_else l m apart (At before) (At removing) refl refl k nl ne
-    ]
 
-    alike : AlikeBeside m (place_at w t) (Condvar l removing)
-    alike k ne = subst (λ q. Alike k q (Condvar l removing)) (sym is) (moves_alike k ne)
+      pub listed_late : (line : key_of l Main < length w.sections) → section_at w (key_of l Main) ≡ None
+          → Goes w (put (state_with_sections w (One (key_of l Main)) (Some t)) t
+          (Condvar l (Wait m true wait.Remove))) l
+          (acts t (In Main ∷ []))
+      listed_late line free = enters_there w t l m (Wait m true (wait.Asleep stands.Listed)) inductive there
+          apart
+          sort is refl Late refl fits same_beside line free refl refl
 
-    was : location_at (place_at w t) m ≡ record nowhere { stands = Some Main; waits = Some Exclusive }
-    was = ap (λ q. location_at q m) is ∙ location_beside l m apart (At before) refl
+    -- A waiter that is late leaves the queue of its mutex, to which it was moved.
+    module _ (is : place_at w t ≡ Condvar l (Wait m true (wait.Asleep stands.Moved)))
+        (fits : FitsItsLock w (Condvar l (Wait m true wait.RemoveMoved))) where
+      abbrev before : CondvarPlace
+      before = Wait m true (wait.Asleep stands.Moved)
 
-    did : role_on (place_at w t) m ≡ idle
-    did = ap (λ q. role_on q m) is ∙ role_beside l m apart (At before) refl
+      abbrev removing : CondvarPlace
+      removing = Wait m true wait.RemoveMoved
 
-    pub moved_late : (line : key_of m Main < length w.sections) → section_at w (key_of m Main) ≡ None
-        → Goes w (put (state_with_sections w (One (key_of m Main)) (Some t)) t (Condvar l removing)) m
-        (acts t (In Main ∷ []))
-    moved_late line free = acting.enter_goes w t m steady there (rules_in w m) refl (Condvar l removing) alike
-        fits Main line free (ap (λ (y : Location). y.inside) was)
-        (acting.goes_into w t m steady there (rules_in w m) refl (Condvar l removing) alike fits
-        (ap (λ q. taken_at q m) is ∙ taken_beside l m apart (At before) refl
-        ∙ sym (taken_beside l m apart (At removing) refl)) Main (
-          (
-            acting.nobody_inside w t m steady there (rules_in w m) refl (Condvar l removing) alike fits Main
-                free,
-            ap (λ (d : Role). d.inside) did,
-            ap (λ (d : Role). d.empty) did,
-          ),
-          tt,
-        )
-        (role_beside l m apart (At removing) refl
-        ∙ sym (ap (λ (d : Role). record d { inside = Some Main }) did)))
-        (location_beside l m apart (At removing) refl
-        ∙ sym (ap (λ (y : Location). record y { inside = Some Main }) was))
+      moves_alike : AlikeBeside m (Condvar l before) (Condvar l removing)
+      moves_alike k ne = elim (cases_eq k l) [
+        | inl e ↦ subst (λ j. Alike j (Condvar l before) (Condvar l removing)) (sym e) (record {
+          location = location_there l m apart (At removing) refl
+              ∙ sym (location_there l m apart (At before) refl);
+          role = role_there l m apart (At removing) refl ∙ sym (role_there l m apart (At before) refl);
+          taken = taken_there l m apart (At removing) refl ∙ sym (taken_there l m apart (At before) refl);
+        })
+        | inr nl ↦ nothing_else l m apart (At before) (At removing) refl refl k nl ne
+      ]
+
+      alike : AlikeBeside m (place_at w t) (Condvar l removing)
+      alike k ne = subst (λ q. Alike k q (Condvar l removing)) (sym is) (moves_alike k ne)
+
+      was : location_at (place_at w t) m ≡ record nowhere { stands = Some Main; waits = Some Exclusive }
+      was = ap (λ q. location_at q m) is ∙ location_beside l m apart (At before) refl
+
+      did : role_on (place_at w t) m ≡ idle
+      did = ap (λ q. role_on q m) is ∙ role_beside l m apart (At before) refl
+
+      pub moved_late : (line : key_of m Main < length w.sections) → section_at w (key_of m Main) ≡ None
+          → Goes w (put (state_with_sections w (One (key_of m Main)) (Some t)) t (Condvar l removing)) m
+          (acts t (In Main ∷ []))
+      moved_late line free = acting.enter_goes w t m inductive there (rules_in w m) refl (Condvar l removing)
+          alike
+          fits Main line free (ap (λ (y : Location). y.inside) was)
+          (acting.goes_into w t m inductive there (rules_in w m) refl (Condvar l removing) alike fits
+          (ap (λ q. taken_at q m) is ∙ taken_beside l m apart (At before) refl
+          ∙ sym (taken_beside l m apart (At removing) refl)) Main (
+            (
+              acting.nobody_inside w t m inductive there (rules_in w m) refl (Condvar l removing) alike fits
+                  Main
+                  free,
+              ap (λ (d : Role). d.inside) did,
+              ap (λ (d : Role). d.empty) did,
+            ),
+            tt,
+          )
+          (role_beside l m apart (At removing) refl
+          ∙ sym (ap (λ (d : Role). record d { inside = Some Main }) did)))
+          (location_beside l m apart (At removing) refl
+          ∙ sym (ap (λ (y : Location). record y { inside = Some Main }) was))
 
 -- wherever it sleeps with a deadline
-module _ (w : State) (t l : ℕ) (shape : IsWellFormed w) (steady : IsInductive w) (there : t < length w.places)
+module _ (w : State) (t l : ℕ) (shape : IsWellFormed w) (inductive : IsInductive w) (there : t
+    < length w.places)
   where
     abbrev LateGoes : CondvarPlace → Type 0
     LateGoes at = (k : ℕ) × Goes w (state_after_late_on w t (late_key (Condvar l at))) k
@@ -246,7 +251,7 @@ module _ (w : State) (t l : ℕ) (shape : IsWellFormed w) (steady : IsInductive 
       l,
       subst (λ q. Goes w (put (state_with_sections w (One (key_of l Main)) (Some t)) t (next_place q Late)) l
           (acts t (In Main ∷ []))) (sym is)
-          (listed_late w t l m steady there (apart_of w l m (Wait m true (wait.Asleep stands.Listed)) fits
+          (listed_late w t l m inductive there (apart_of w l m (Wait m true (wait.Asleep stands.Listed)) fits
           refl)
           fits.sort is
           (fits_on w l (Wait m true (wait.Asleep stands.Listed)) (Wait m true wait.Remove) fits refl refl)
@@ -256,7 +261,8 @@ module _ (w : State) (t l : ℕ) (shape : IsWellFormed w) (steady : IsInductive 
       m,
       subst (λ q. Goes w (put (state_with_sections w (One (key_of m Main)) (Some t)) t (next_place q Late)) m
           (acts t (In Main ∷ []))) (sym is)
-          (moved_late w t l m steady there (apart_of w l m (Wait m true (wait.Asleep stands.Moved)) fits refl)
+          (moved_late w t l m inductive there (apart_of w l m (Wait m true (wait.Asleep stands.Moved)) fits
+          refl)
           is
           (fits_on w l (Wait m true (wait.Asleep stands.Moved)) (Wait m true wait.RemoveMoved) fits refl refl)
           (key_there w m Main shape held.1) (none_is (section_at w (key_of m Main)) can)),
@@ -270,5 +276,5 @@ module _ (w : State) (t l : ℕ) (shape : IsWellFormed w) (steady : IsInductive 
     pub condvar_goes_late : (at : CondvarPlace) → place_at w t ≡ Condvar l at
         → is_free_under w (late_key (Condvar l at)) ≡ true
         → LateGoes at
-    condvar_goes_late at is can = late_goes at is (subst (FitsItsLock w) is (steady.stands.calls t))
+    condvar_goes_late at is can = late_goes at is (subst (FitsItsLock w) is (inductive.stands.calls t))
         (subst (PlaceFits (length w.locks)) is (shape.places t)) can

@@ -17,7 +17,7 @@ use Rattle.lot_steps.specs.declared.places.Place.TheVariants.{Idle, Mutex, RwLoc
 use Rattle.lot_steps.specs.Steps.{is_lock, called_lock, profile}
 use Rattle.spec_locks.specs.Condvars.{moved_of}
 use Rattle.spec_locks.specs.Locks as locks
-use Rattle.spec_locks.specs.Locks.{LockCase, LockState, Rules, SeeOwner, Wake, after_case, left_behind}
+use Rattle.spec_locks.specs.Locks.{LockCase, LockState, Rules, SeeOwner, Wake, after_case, left_after}
 use Rattle.spec_locks.specs.Purposes.{Purpose, Enters, Releases, Converts, Bumps, CallsOnce, Awaits, Waits}
 use Rattle.spec_locks.specs.Purposes.{Notifies, IsMadeOf, NotifiesBeside, Recall, lock_for, rules_of}
 use Rattle.spec_locks.specs.Runs.{AtLock, CallState, Event, GoesOn, LocksState, MayDo, MayHappen, MayTurn}
@@ -41,7 +41,7 @@ use Rattle.lot_laws.proofs.promises.PlacePromises.{row_promises}
 use Rattle.lot_laws.proofs.calls.SingleCalls.{call_here}
 use Rattle.lot_laws.proofs.alone.Answers.{purpose_stays, woken_purpose}
 use Rattle.lot_laws.proofs.condvar.SameCondvars.{Kept, same_condvar}
-use Rattle.lot_laws.proofs.sites.TurnsKept.{after_steady}
+use Rattle.lot_laws.proofs.sites.TurnsKept.{after_inductive}
 use Rattle.lot_laws.proofs.condvar.WaitersAside.{plain_sort}
 
 -- ---------------------------------------------------------------- which lock a call is of
@@ -50,9 +50,9 @@ abbrev of_purpose : Option Purpose → Option ℕ
 of_purpose None = None
 of_purpose (Some q) = Some (lock_for q)
 
-module _ (w : State) (steady : IsInductive w) (t : ℕ) where
+module _ (w : State) (inductive : IsInductive w) (t : ℕ) where
   fits_at : (l : ℕ) (at : CondvarPlace) → place_at w t ≡ Condvar l at → FitsCondvar w l at
-  fits_at l at is = subst (FitsItsLock w) is (steady.stands.calls t)
+  fits_at l at is = subst (FitsItsLock w) is (inductive.stands.calls t)
 
   -- its lock is that of the place
   pub call_lock : of_purpose (call_at w t).purpose ≡ called_lock (place_at w t)
@@ -62,7 +62,8 @@ module _ (w : State) (steady : IsInductive w) (t : ℕ) where
           → of_purpose (call_at w t).purpose ≡ Some l
       here l p is single own = ap (λ (c : CallState). of_purpose c.purpose)
           (call_here (place_at w t) l (subst IsSingle (sym is) single) (ap called_lock is ∙ own) (rights w t))
-          ∙ ap Some (row_promises w t steady l (subst IsSingle (sym is) single) (ap called_lock is ∙ own)).own
+          ∙ ap Some (row_promises w t inductive l (subst IsSingle (sym is) single) (ap called_lock is
+          ∙ own)).own
 
       by_place : (p : Place) → place_at w t ≡ p → of_purpose (call_at w t).purpose ≡ called_lock p
       by_place Idle is = ap (λ q. of_purpose (call_state q (rights w t)).purpose) is
@@ -85,7 +86,7 @@ module _ (w : State) (steady : IsInductive w) (t : ℕ) where
           → Knowing (call_at w t)
       here l p is single own = subst Knowing
           (sym (call_here (place_at w t) l (subst IsSingle (sym is) single) (ap called_lock is ∙ own)
-          (rights w t))) ((row_promises w t steady l (subst IsSingle (sym is) single) (ap called_lock is
+          (rights w t))) ((row_promises w t inductive l (subst IsSingle (sym is) single) (ap called_lock is
           ∙ own)).known (λ l. (rules_in w l).sort) refl)
 
       by_place : (p : Place) → place_at w t ≡ p → Knowing (call_at w t)
@@ -224,14 +225,14 @@ module _ (w : LocksState) (t k : ℕ) (sort : (rules_at w k).sort ≡ locks.Cond
       here : (at_mutex at_condvar : Bool) → (k == m) ≡ at_mutex → (k == c) ≡ at_condvar
           → Kept (w.locks k)
           (if at_mutex then joined_by owned t (moved_of all (w.locks c).queue) (w.locks m) else if at_condvar
-          then left_behind all (w.locks c) else w.locks k)
+          then left_after all (w.locks c) else w.locks k)
       here true there e f = absurd (no_mutex m may.sorts.1 (sym (eqb-true k m e)))
       here false true e f = absurd (other (ap of_purpose may.notifies ∙ ap Some (sym (eqb-true k c f))))
       here false false e f = (refl, refl)
 
 -- ---------------------------------------------------------------- a step
 
-module _ (w : State) (s : Step) (shape : IsWellFormed w) (steady : IsInductive w) (counted : AreCounted w)
+module _ (w : State) (s : Step) (shape : IsWellFormed w) (inductive : IsInductive w) (counted : AreCounted w)
     (condvars : AreCondvars w) where
   abbrev v : State
   v = after w s
@@ -239,18 +240,18 @@ module _ (w : State) (s : Step) (shape : IsWellFormed w) (steady : IsInductive w
   abbrev t : ℕ
   t = s.thread
 
-  steady_then : IsInductive v
-  steady_then = after_steady w s shape steady counted condvars
+  inductive_then : IsInductive v
+  inductive_then = after_inductive w s shape inductive counted condvars
 
   step : IsTurn (locks_of w) s (step_outcome w s) (locks_of v)
-  step = after_step w s shape steady counted condvars
+  step = after_step w s shape inductive counted condvars
 
   -- its call is of the lock that it was of, or it has ended
   abbrev pub StaysOf : Type 0
   StaysOf = (called_lock (place_at v t) ≡ called_lock (place_at w t)) ⊎ (called_lock (place_at v t) ≡ None)
 
   same_purpose : (call_at v t).purpose ≡ (call_at w t).purpose → StaysOf
-  same_purpose e = inl (sym (call_lock v steady_then t) ∙ ap of_purpose e ∙ call_lock w steady t)
+  same_purpose e = inl (sym (call_lock v inductive_then t) ∙ ap of_purpose e ∙ call_lock w inductive t)
 
   goes_of : GoesOn (locks_of w) t (step_outcome w s) (locks_of v) → StaysOf
   goes_of g = by_outcome (step_outcome w s) (g.calls t
@@ -261,7 +262,7 @@ module _ (w : State) (s : Step) (shape : IsWellFormed w) (steady : IsInductive w
       called = woken (locks_of w) t g.event t (going_on g.event (call_at w t))
 
       by_outcome : (o : Outcome) → call_at v t ≡ unless_ended o called → StaysOf
-      by_outcome (outcome.TheVariants.End a) e = inr (sym (call_lock v steady_then t)
+      by_outcome (outcome.TheVariants.End a) e = inr (sym (call_lock v inductive_then t)
           ∙ ap (λ (c : CallState). of_purpose c.purpose) e)
       by_outcome o e = same_purpose (ap (λ (c : CallState). c.purpose) e ∙ woken_purpose (locks_of w) t
           g.event (going_on g.event (call_at w t)) ∙ purpose_stays g.event (call_at w t))
@@ -275,7 +276,8 @@ module _ (w : State) (s : Step) (shape : IsWellFormed w) (steady : IsInductive w
     where
       by_turn : (x : Turn) → MayTurn (locks_of w) t x → Does (locks_of w) t x (step_outcome w s) (locks_of v)
           → StaysOf ⊎ (called_lock (place_at w t) ≡ None)
-      by_turn (turn.TheVariants.Begin c) may does = inr (sym (call_lock w steady t) ∙ ap of_purpose may.idle)
+      by_turn (turn.TheVariants.Begin c) may does = inr (sym (call_lock w inductive t)
+          ∙ ap of_purpose may.idle)
       by_turn turn.TheVariants.Late may does =
           inl (same_purpose (ap (λ (c : CallState). c.purpose) (does.calls t
           ∙ put_here (call_at w) t (record (call_at w t) { late = true }))))
@@ -294,8 +296,8 @@ module _ (w : State) (s : Step) (shape : IsWellFormed w) (steady : IsInductive w
 
       goes_by : GoesOn (locks_of w) t (step_outcome w s) (locks_of v) → Kept (lock_state w k) (lock_state v k)
       goes_by g =
-          let u = untouched (locks_of w) t k sort g.event g.may (knows w steady t)
-          (λ e. other (sym (call_lock w steady t) ∙ e)) in (
+          let u = untouched (locks_of w) t k sort g.event g.may (knows w inductive t)
+          (λ e. other (sym (call_lock w inductive t) ∙ e)) in (
             ap (λ (x : LockState). x.shown) (g.locks k) ∙ u.0,
             ap (λ (x : LockState). x.queue) (g.locks k)
                 ∙ u.1,
@@ -325,7 +327,7 @@ module _ (w : State) (s : Step) (shape : IsWellFormed w) (steady : IsInductive w
         others_keep_it (λ p. names_of p k) (names_unmoved k) w s u ne,
       )
 
-      -- a condition variable is as it was, where the thread is in no call of it before or behind the step
+      -- a condition variable is as it was, where the thread is in no call of it before or after the step
       pub condvar_kept : called_lock (place_at v t) ≢ Some k → condvar_of v k ≡ condvar_of w k
       condvar_kept other_then = same_condvar w v k lock_kept (by_change (step.0.sections (key_of k Main)))
           says
@@ -334,18 +336,18 @@ module _ (w : State) (s : Step) (shape : IsWellFormed w) (steady : IsInductive w
               → section_at v (key_of k Main) ≡ section_at w (key_of k Main)
           by_change (inl stays) = stays
           by_change (inr (inl enters)) = absurd (let within : (location_at (place_at v t) k).inside
-              ≡ Some Main = (steady_then.stands.sections t k Main).1 enters.1 in let out =
-              not_inside v steady_then t k sort_then other_then in cc)
+              ≡ Some Main = (inductive_then.stands.sections t k Main).1 enters.1 in let out =
+              not_inside v inductive_then t k sort_then other_then in cc)
           by_change (inr (inr leaves)) = absurd (let within : (location_at (place_at w t) k).inside
-              ≡ Some Main = (steady.stands.sections t k Main).1 leaves.0 in let out =
-              not_inside w steady t k sort other in cc)
+              ≡ Some Main = (inductive.stands.sections t k Main).1 leaves.0 in let out =
+              not_inside w inductive t k sort other in cc)
 
           says : (u : ℕ)
               → (stage_of (place_at v u) k ≡ stage_of (place_at w u) k)
               × (names_of (place_at v u) k ≡ names_of (place_at w u) k)
           says u = elim (cases_eq u t) [
-            | inl e ↦ let before = says_nothing w steady t k sort other in let behind =
-                says_nothing v steady_then t k sort_then other_then in
-                rw e (behind.0 ∙ sym before.0, behind.1 ∙ sym before.1)
+            | inl e ↦ let before = says_nothing w inductive t k sort other in let afterwards =
+                says_nothing v inductive_then t k sort_then other_then in
+                rw e (afterwards.0 ∙ sym before.0, afterwards.1 ∙ sym before.1)
             | inr ne ↦ says_kept u ne
           ]

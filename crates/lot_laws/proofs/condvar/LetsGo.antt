@@ -55,15 +55,15 @@ by_place k (Notify all n at) reached e l m timed f = absurd (let g : Notifies k 
     in cc)
 
 pub lets_go : (w : State) → IsInductive w → (t : ℕ) → LetsGo (locks_of w) t
-lets_go w steady t l m timed waits asleep = elim (single_or_two (place_at w t)) [
-  | inl single ↦ absurd (subst CallsOneLock waits (calls_one_lock w t steady single))
+lets_go w inductive t l m timed waits asleep = elim (single_or_two (place_at w t)) [
+  | inl single ↦ absurd (subst CallsOneLock waits (calls_one_lock w t inductive single))
   | inr two ↦ by_two two
 ]
   where
     by_two : IsOfTwo (place_at w t) → (call_at w t).released ≡ true
     by_two two = ap (λ p. (call_state p (rights w t)).released) two.is ∙ two_released two.lock two.at
         (rights w t)
-        ∙ by_place two.lock two.at (fits_two w t steady two).reached (sym (ap act_of two.is)
+        ∙ by_place two.lock two.at (fits_two w t inductive two).reached (sym (ap act_of two.is)
         ∙ asleep_is (act_of (place_at w t)) asleep) l m timed
         (sym (two_purpose two.lock two.at (rights w t))
         ∙ sym (ap (λ p. (call_state p (rights w t)).purpose) two.is) ∙ waits)

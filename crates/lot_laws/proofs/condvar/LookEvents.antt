@@ -20,7 +20,7 @@ use Rattle.spec_locks.specs.Locks.{LockState, OfCondvar, rights_of}
 use Rattle.spec_locks.specs.Runs.{AtLock, Event, GoesOn, Moves, Nothing, is_taken_by}
 use Rattle.spec_locks.specs.Sites.{Site}
 use Rattle.lot_machine.specs.Machine.{State, place_at}
-use Rattle.lot_laws.specs.MutexDeeds as deeds
+use Rattle.lot_laws.specs.ThreadDeeds as deeds
 use Rattle.lot_laws.specs.Refinement.{call_at, call_state, lock_state, locks_of, taken_at}
 use Rattle.lot_laws.specs.SitesOf.{FollowAll, IsInductive, after_acts, condvar_of, rules_in, site_of}
 use Rattle.lot_laws.proofs.calls.Events.{Happens, OthersFollow, happens_at, put_is, rights}
@@ -29,7 +29,7 @@ use Rattle.lot_laws.proofs.condvar.StepEvents.{may_go, no_closure, unwoken}
 use Rattle.lot_laws.proofs.condvar.Replies.{fits_here}
 use Rattle.lot_laws.proofs.machine.Parts.{differ}
 
-module _ (w v : State) (t l : ℕ) (all : Bool) (steady : IsInductive w) (after : IsInductive v)
+module _ (w v : State) (t l : ℕ) (all : Bool) (inductive : IsInductive w) (after : IsInductive v)
     (is : place_at w t ≡ Condvar l (places.Look all)) (done : ℕ → List deeds.Act) (f : FollowAll w v done)
     (nothing : (k : ℕ) → done k ≡ []) where
   abbrev seen : ℕ
@@ -49,10 +49,10 @@ module _ (w v : State) (t l : ℕ) (all : Bool) (steady : IsInductive w) (after 
   look_happened = by_word (lock_state w l).shown refl
     where
       by_word : (o : Option ℕ) → (lock_state w l).shown ≡ o → Happens w v t (look_event l (word_showing o))
-      by_word None e = happens_at w v t l None steady after f.kinds (stays l) (λ k ne. stays k) tt
+      by_word None e = happens_at w v t l None inductive after f.kinds (stays l) (λ k ne. stays k) tt
       by_word (Some m) e = subst (Happens w v t) (sym sees)
-          (happens_at w v t l (Some (OfCondvar (locks.Look (Some m)))) steady after f.kinds (stays l)
-          (λ k ne. stays k) ((fits_here w t l (places.Look all) steady is).sort, sym e))
+          (happens_at w v t l (Some (OfCondvar (locks.Look (Some m)))) inductive after f.kinds (stays l)
+          (λ k ne. stays k) ((fits_here w t l (places.Look all) inductive is).sort, sym e))
         where
           sees : look_event l (m + 1) ≡ AtLock l (OfCondvar (locks.Look (Some m)))
           sees = let some : (m + 1 == 0) ≡ false = differ (m + 1) 0 (λ h. omega arith) in let same_mutex : m

@@ -18,7 +18,7 @@ use Rattle.spec_locks.specs.Codes.{count_in, code}
 use Rattle.spec_locks.specs.Locks as locks
 use Rattle.spec_locks.specs.Sites.{has_readers, idle}
 use Rattle.lot_machine.specs.Machine.{State, filled_at, place_at, put, state_after_act, word_at}
-use Rattle.lot_laws.specs.MutexDeeds.{acts}
+use Rattle.lot_laws.specs.ThreadDeeds.{acts}
 use Rattle.lot_laws.specs.Refinement.{taken_at}
 use Rattle.lot_laws.specs.Locations.{role_on, location_at}
 use Rattle.lot_laws.specs.SitesOf.{FitsItsLock, Goes, IsInductive, rules_in}
@@ -56,7 +56,7 @@ module _ (l : ℕ) (all : Bool) where
   next_out seen k true e = rw e (refl, refl, refl)
   next_out seen k false e = rw e (enters_out (mutex_shown seen) k)
 
-module _ (w : State) (t l : ℕ) (all : Bool) (steady : IsInductive w) (is_there : t < length w.places)
+module _ (w : State) (t l : ℕ) (all : Bool) (inductive : IsInductive w) (is_there : t < length w.places)
     (lock : l < length w.locks)
     (sort : (rules_in w l).sort ≡ locks.Condvar) (is : place_at w t ≡ Condvar l (Look all)) where
   abbrev p2 : Place
@@ -73,11 +73,11 @@ module _ (w : State) (t l : ℕ) (all : Bool) (steady : IsInductive w) (is_there
   -- it sees what is shown, and goes on
   pub looks : FitsItsLock w p2 → Goes w (put (state_after_act w t (Condvar l (Look all)) (act.Word l op.Load))
       t p2) l (acts t [])
-  looks fits = acting.word_goes w t l steady is_there (rules_in w l) refl p2 (λ k ne. alike k) fits
-      (Condvar l (Look all)) lock (rw steady.numbers.locks lock) op.Load [] (λ h. tt)
+  looks fits = acting.word_goes w t l inductive is_there (rules_in w l) refl p2 (λ k ne. alike k) fits
+      (Condvar l (Look all)) lock (rw inductive.numbers.locks lock) op.Load [] (λ h. tt)
       (steps_by (rules_in w l) l (parts_at w l) (operated w t (Condvar l (Look all)) l op.Load) (place_at w) t
       p2 [] tt tt (sym (alike l).taken) refl refl refl filled_then (alike l).role)
-      (steady.sites.word l ∙ sym (code_same)) (alike l).location
+      (inductive.sites.word l ∙ sym (code_same)) (alike l).location
     where
       filled_then : (operated w t (Condvar l (Look all)) l op.Load).base.filled ≡ filled_at w l
       filled_then = ap (λ b. filled_at w l || (b && nat_le (rules_in w l).limit (count_in (word_at w l))))

@@ -64,21 +64,21 @@ use Rattle.lot_machine.specs.Machine.{state_after_wake, state_with_sections, unl
 use Rattle.lot_laws.specs.SitesOf.{FitsCondvar, IsInductive, condvar_of, rules_in}
 use Rattle.lot_laws.proofs.condvar.Replies.{at_it, fits_here, word_is}
 use Rattle.lot_laws.proofs.hands.Counts.{without_absent}
-use Rattle.lot_laws.proofs.sites.OneStep.{queued_behind, queued_times, queued_without}
+use Rattle.lot_laws.proofs.sites.OneStep.{queued_after, queued_times, queued_without}
 use Rattle.lot_laws.proofs.condvar.WaitersAside.{plain_sort}
 
 dropped : (q : List Waiter) → map queued_of (drop 1 q) ≡ drop 1 (map queued_of q)
 dropped [] = refl
 dropped (x ∷ q) = refl
 
-module _ (w : State) (t l : ℕ) (at : CondvarPlace) (shape : IsWellFormed w) (steady : IsInductive w)
+module _ (w : State) (t l : ℕ) (at : CondvarPlace) (shape : IsWellFormed w) (inductive : IsInductive w)
     (is : place_at w t ≡ Condvar l at)
     (lt : l < length w.locks) where
   abbrev here : CondvarSite
   here = condvar_of w l
 
   fits : FitsCondvar w l at
-  fits = fits_here w t l at steady is
+  fits = fits_here w t l at inductive is
 
   line : 2 * l < length w.queues
   line = main_line_there w l shape lt
@@ -167,7 +167,8 @@ module _ (w : State) (t l : ℕ) (at : CondvarPlace) (shape : IsWellFormed w) (s
       shown : (condvar_owners p t (word_at w l) (owners_at w l)).shown
           ≡ (after_condvar_deeds (condvar_deeds p (Value (word_at w l))) here t).shown
       shown = subst (λ v. (condvar_owners p t v (owners_at w l)).shown
-          ≡ (after_condvar_deeds (condvar_deeds p (Value v)) here t).shown) (sym (word_is w t l at steady is))
+          ≡ (after_condvar_deeds (condvar_deeds p (Value v)) here t).shown)
+          (sym (word_is w t l at inductive is))
           (ap (λ (o : Owners). o.shown) (condvar_owners_follow here t l p f (owners_at w l) acts other refl))
 
   -- ---------------------------------------------------------------- each place
@@ -180,7 +181,8 @@ module _ (w : State) (t l : ℕ) (at : CondvarPlace) (shape : IsWellFormed w) (s
 
   unlisted : (p : CondvarPlace) → at ≡ p → (condvar_row p).listed ≡ false → times t (queue_at w (2 * l)) ≡ 0
   unlisted p e none = sym (queued_times t (queue_at w (2 * l)))
-      ∙ subst (IsListed here t) (ap (λ q. (condvar_row q).listed) e ∙ none) (at_it w t l at steady is).listed
+      ∙ subst (IsListed here t) (ap (λ q. (condvar_row q).listed) e ∙ none)
+      (at_it w t l at inductive is).listed
 
   module _ (m : ℕ) (timed : Bool) (apart : m ≢ l) where
     named : Some m ≢ Some l
@@ -240,7 +242,7 @@ module _ (w : State) (t l : ℕ) (at : CondvarPlace) (shape : IsWellFormed w) (s
       ap (map queued_of) (get_or-set_same (map (without t) w.queues) (2 * l) _ []
           (rw (length-map w.queues (without t)) line) ∙ ap (λ q. q ++ waiter (2 * l) t WaitHere ∷ [])
           (gone (unlisted at refl (ap (λ q. (condvar_row q).listed) e))))
-          ∙ queued_behind (2 * l) t WaitHere (queue_at w (2 * l)),
+          ∙ queued_after (2 * l) t WaitHere (queue_at w (2 * l)),
     )
     wait_led wait.Leave e reached can = (refl, refl)
     wait_led wait.Refuse e reached can = (refl, refl)

@@ -132,7 +132,7 @@ module _ (w : State) (l m : ℕ) (apart : m ≢ l) (timed : Bool) where
 
 -- ---------------------------------------------------------------- all of them, where a notification moves
 
-module _ (w : State) (t l m : ℕ) (steady : IsInductive w) (apart : m ≢ l) (sort_l : (rules_in w l).sort
+module _ (w : State) (t l m : ℕ) (inductive : IsInductive w) (apart : m ≢ l) (sort_l : (rules_in w l).sort
     ≡ locks.Condvar)
     (all locked : Bool) (is : place_at w t ≡ Condvar l (Notify all m (notify.Move locked)))
     (kept : IsCondvar (condvar_of w l)) where
@@ -142,14 +142,14 @@ module _ (w : State) (t l m : ℕ) (steady : IsInductive w) (apart : m ≢ l) (s
   -- each waits with this mutex
   all_of : AllOf (condvar_of w l) m
   all_of = by_stage all (subst (λ i. condvars.IsAsInside (condvar_of w l) i)
-      (at_place w steady.stands t l this is).stage kept.inside)
+      (at_place w inductive.stands t l this is).stage kept.inside)
     where
       by_stage : (b : Bool) → condvars.StageHolds (condvar_of w l) t (moving b m) → AllOf (condvar_of w l) m
       by_stage true h = h.2
       by_stage false h = h.2
 
   held : section_at w (key_of l Main) ≡ Some t
-  held = (steady.stands.sections t l Main).0 (ap (λ q. (location_at q l).inside) is
+  held = (inductive.stands.sections t l Main).0 (ap (λ q. (location_at q l).inside) is
       ∙ ap (λ (y : Location). y.inside) (location_there l m apart (At this) refl))
 
   module _ (u : ℕ) (some : 1 ≤ times u (queue_at w (key_of l Main))) where
@@ -161,7 +161,7 @@ module _ (w : State) (t l m : ℕ) (steady : IsInductive w) (apart : m ≢ l) (s
     not_inside : (timed : Bool) (p : WaitAt) → place_at w u ≡ Condvar l (Wait m timed p)
         → (location_by (row_there (At (Wait m timed p)))).inside ≡ Some Main → ⊥
     not_inside timed p at within = let a : section_at w (key_of l Main) ≡ Some u =
-        (steady.stands.sections u l Main).0 (ap (λ q. (location_at q l).inside) at
+        (inductive.stands.sections u l Main).0 (ap (λ q. (location_at q l).inside) at
         ∙ ap (λ (y : Location). y.inside) (location_there l m apart (At (Wait m timed p)) refl) ∙ within) in
         let b : Some u ≡ Some t = sym a ∙ held in let c : u ≡ t = cc in let d : Condvar l (Wait m timed p)
         ≡ Condvar l this = sym at ∙ ap (place_at w) c ∙ is in cc
@@ -191,7 +191,7 @@ module _ (w : State) (t l m : ℕ) (steady : IsInductive w) (apart : m ≢ l) (s
       by_at (Notify every k p) at h = absurd (let none : false ≡ true = sym (unlisted every k p) ∙ h in cc)
       by_at (Wait k timed p) at h =
           subst P (sym here) (by_wait timed p here (subst (λ j. (wait_row j p).listed ≡ true) named h)
-          (subst (FitsItsLock w) here (steady.stands.calls u)))
+          (subst (FitsItsLock w) here (inductive.stands.calls u)))
         where
           row : profile_at (place_at w u) l ≡ condvar_profile (Wait k timed p)
           row = rw (at, same l) refl
@@ -203,7 +203,7 @@ module _ (w : State) (t l m : ℕ) (steady : IsInductive w) (apart : m ≢ l) (s
           here = at ∙ ap (λ j. Condvar l (Wait j timed p)) named
 
       pub each_waiter : P (place_at w u)
-      each_waiter = let x = waits_there w steady l sort_l u listed in by_at x.at x.is x.listed
+      each_waiter = let x = waits_there w inductive l sort_l u listed in by_at x.at x.is x.listed
 
     pub waits_across : WaitsAcross w t l m (place_at w u)
     waits_across = each_waiter (WaitsAcross w t l m) (λ timed fits. sleeper w l m apart timed t fits)

@@ -1,5 +1,5 @@
 -- A notification moves waiters of a condition variable to its mutex: some it takes, and the others stand
--- there behind the last. Where the threads
+-- there after the last. Where the threads
 -- stand then, in sections, lines and hands.
 use Rattle.std.proofs.Common.{ℕ, Bool, true, false, Option, Some, None, if◌then◌else◌, ◌==◌, ◌&&◌, ◌||◌, ◌≡◌}
 use Rattle.std.proofs.Common.{◌≢◌, ◌+◌, ◌≤◌, ◌⊎◌, List, [], ◌∷◌, ◌++◌, inl, inr, refl, sym, ◌∙◌, ap, subst}
@@ -82,7 +82,7 @@ waiting_under at l (x ∷ q) each = (
     more u h true = refl
     more u h false = h
 
-module _ (w : State) (t c m : ℕ) (apart : m ≢ c) (steady : IsInductive w) (p2 : Place)
+module _ (w : State) (t c m : ℕ) (apart : m ≢ c) (inductive : IsInductive w) (p2 : Place)
     (gone moved left : List Waiter)
     (counts : (u : ℕ) → times u gone + times u moved + times u left ≡ times u (queue_at w (key_of c Main)))
     (lefts : AreWaiting (locations_of (place_at w)) c Main left)
@@ -106,12 +106,12 @@ module _ (w : State) (t c m : ℕ) (apart : m ≢ c) (steady : IsInductive w) (p
 
   at_most : (u : ℕ) → times u line ≤ 1
   at_most u = let a : times u line ≡ stood_in (location_at (place_at w u) c).stands Main =
-      steady.stands.lines u c Main in let b = at_most_one (location_at (place_at w u) c).stands Main
+      inductive.stands.lines u c Main in let b = at_most_one (location_at (place_at w u) c).stands Main
       in omega arith
 
   -- t isn't among them
   not_t : times t line ≡ 0
-  not_t = steady.stands.lines t c Main ∙ ap (λ o. stood_in o Main) out
+  not_t = inductive.stands.lines t c Main ∙ ap (λ o. stood_in o Main) out
 
   pub in_line : (u : ℕ) → (member u gone ≡ true) ⊎ (member u moved ≡ true) → 1 ≤ times u line
   in_line u (inl h) = let a = counts u in let b = member_times u gone h in omega arith
@@ -165,7 +165,7 @@ module _ (w : State) (t c m : ℕ) (apart : m ≢ c) (steady : IsInductive w) (p
 
   pub fits_across : (u : ℕ) → FitsItsLock w (places_across u)
   fits_across = by_thread (λ u p. FitsItsLock w p) fits (λ u nu h. (waits_gone u h).taken.fits)
-      (λ u nu g h. (waits_moved u h).moved.fits) (λ u nu g h. steady.stands.calls u)
+      (λ u nu g h. (waits_moved u h).moved.fits) (λ u nu g h. inductive.stands.calls u)
 
   -- a part of a station that none of it changes
   part_across : {A : Type 0} (g : Location → A)
@@ -193,7 +193,8 @@ module _ (w : State) (t c m : ℕ) (apart : m ≢ c) (steady : IsInductive w) (p
 
   sections_across : Sections (locations_of places_across) (section_at w)
   sections_across = sections_same (locations_of (place_at w)) (locations_of places_across) (section_at w)
-      steady.stands.sections (part_across (λ y. y.inside) (λ x. refl) (λ x b. refl) (λ x h. refl) (λ x. refl))
+      inductive.stands.sections (part_across (λ y. y.inside) (λ x. refl) (λ x b. refl) (λ x h. refl)
+      (λ x. refl))
 
   hand_across : (u k : ℕ)
       → hand_at (places_across u) k ≡ (if member u gone && (k == m) then hand t false else hand_at
@@ -246,7 +247,7 @@ module _ (w : State) (t c m : ℕ) (apart : m ≢ c) (steady : IsInductive w) (p
   hands_across : ((b : Bool) → any ≡ Some b → (b ≡ false) × ((u : ℕ) × (member u gone ≡ true)))
       → ((u : ℕ) → member u gone ≡ true → any ≡ Some false) → Hands (TakesOne w) places_across
   hands_across some full = hands_taken (TakesOne w) (locations_of (place_at w)) (locations_of places_across)
-      steady.stands.hands t m (λ u. member u gone) (λ one. one_gone) any hand_across carries_across bare
+      inductive.stands.hands t m (λ u. member u gone) (λ one. one_gone) any hand_across carries_across bare
       (λ u h. (waits_gone u h).free) some full
 
   -- ---------------------------------------------------------------- lines
@@ -299,7 +300,7 @@ module _ (w : State) (t c m : ℕ) (apart : m ≢ c) (steady : IsInductive w) (p
           in omega arith
       either false false e f = let a = counts u in let k = stranger_times u gone e in let d =
           stranger_times u moved f in let g : times u line ≡ stood_in (location_at (place_at w u) c).stands
-          Main = steady.stands.lines u c Main in omega arith
+          Main = inductive.stands.lines u c Main in omega arith
 
   second_left : (u : ℕ) → 0 ≡ stood_in (location_at (place_at w u) c).stands Second
       ⊎ (member u gone || member u moved) ≡ false
@@ -323,10 +324,11 @@ module _ (w : State) (t c m : ℕ) (apart : m ≢ c) (steady : IsInductive w) (p
           → times u (queue_at w (key_of m Main)) + times u moved
           ≡ stood_in (if b then Some Main else (location_at (place_at w u) m).stands) Main
       either true e = let a = counts u in let k = member_times u moved e in let d = at_most u
-          in let f : times u (queue_at w (key_of m Main)) ≡ 0 = steady.stands.lines u m Main
+          in let f : times u (queue_at w (key_of m Main)) ≡ 0 = inductive.stands.lines u m Main
           ∙ ap (λ o. stood_in o Main) (waits_moved u e).out in omega arith
       either false e = let k = stranger_times u moved e in let f : times u (queue_at w (key_of m Main))
-          ≡ stood_in (location_at (place_at w u) m).stands Main = steady.stands.lines u m Main in omega arith
+          ≡ stood_in (location_at (place_at w u) m).stands Main = inductive.stands.lines u m Main
+          in omega arith
 
   module _ (queue : ℕ → List Waiter) (here : queue (key_of c Main) ≡ left)
       (beside : queue (key_of m Main) ≡ queue_at w (key_of m Main) ++ moved_under (key_of m Main) moved)
@@ -340,7 +342,7 @@ module _ (w : State) (t c m : ℕ) (apart : m ≢ c) (steady : IsInductive w) (p
       | inr nc ↦ elim (cases_eq k m) [
         | inl e ↦ rw e (at_m n)
         | inr nm ↦ ap (times u) (others (key_of k n) (other_key c k Main n nc) (other_key m k Main n nm))
-            ∙ steady.stands.lines u k n ∙ sym (ap (λ (y : Location). stood_in y.stands n)
+            ∙ inductive.stands.lines u k n ∙ sym (ap (λ (y : Location). stood_in y.stands n)
             (alike_across k nc nm u).location)
       ]
     ]
@@ -348,7 +350,7 @@ module _ (w : State) (t c m : ℕ) (apart : m ≢ c) (steady : IsInductive w) (p
         at_c : (n : Line) → times u (queue (key_of c n)) ≡ stood_in (location_at (places_across u) c).stands n
         at_c Main = ap (times u) here ∙ left_times u ∙ sym (ap (λ o. stood_in o Main) (stands_c u))
         at_c Second = ap (times u) (others (key_of c Second) (second_differs c)
-            (other_key m c Main Second (λ e. apart (sym e)))) ∙ steady.stands.lines u c Second
+            (other_key m c Main Second (λ e. apart (sym e)))) ∙ inductive.stands.lines u c Second
             ∙ second (second_left u) ∙ sym (ap (λ o. stood_in o Second) (stands_c u))
           where
             second : (0 ≡ stood_in (location_at (place_at w u) c).stands Second)
@@ -369,7 +371,7 @@ module _ (w : State) (t c m : ℕ) (apart : m ≢ c) (steady : IsInductive w) (p
         at_m : (n : Line) → times u (queue (key_of m n)) ≡ stood_in (location_at (places_across u) m).stands n
         at_m Main = ap (times u) beside ∙ moved_times u ∙ sym (ap (λ o. stood_in o Main) (stands_m u))
         at_m Second = ap (times u) (others (key_of m Second) (other_key c m Main Second apart)
-            (second_differs m)) ∙ steady.stands.lines u m Second ∙ second (member u moved) refl
+            (second_differs m)) ∙ inductive.stands.lines u m Second ∙ second (member u moved) refl
             ∙ sym (ap (λ o. stood_in o Second) (stands_m u))
           where
             second : (b : Bool) → member u moved ≡ b
@@ -414,7 +416,7 @@ module _ (w : State) (t c m : ℕ) (apart : m ≢ c) (steady : IsInductive w) (p
       where
         either : (b : Bool) → member u moved ≡ b → b ≡ false
         either false e = refl
-        either true e = absurd (let a : times u (queue_at w (key_of m n)) ≡ 0 = steady.stands.lines u m n
+        either true e = absurd (let a : times u (queue_at w (key_of m n)) ≡ 0 = inductive.stands.lines u m n
             ∙ ap (λ o. stood_in o n) (waits_moved u e).out in omega arith)
 
     stays_left : (u : ℕ) → 1 ≤ times u left → (member u gone || member u moved) ≡ false
@@ -435,7 +437,7 @@ module _ (w : State) (t c m : ℕ) (apart : m ≢ c) (steady : IsInductive w) (p
             → (member u gone || member u moved) ≡ false
         by (inr e) = e
         by (inl e) = absurd (let a : times u (queue_at w (key_of c Second))
-            ≡ stood_in (location_at (place_at w u) c).stands Second = steady.stands.lines u c Second
+            ≡ stood_in (location_at (place_at w u) c).stands Second = inductive.stands.lines u c Second
             in omega arith)
 
     waits_across : AllAreWaiting (locations_of places_across) queue
@@ -446,7 +448,7 @@ module _ (w : State) (t c m : ℕ) (apart : m ≢ c) (steady : IsInductive w) (p
         | inr nm ↦ waiting_same (locations_of (place_at w)) (locations_of places_across) k n
             (queue (key_of k n)) (subst (AreWaiting (locations_of (place_at w)) k n)
             (sym (others (key_of k n) (other_key c k Main n nc) (other_key m k Main n nm)))
-            (steady.stands.waits k n)) (λ u g. ap (λ (y : Location). y.waits)
+            (inductive.stands.waits k n)) (λ u g. ap (λ (y : Location). y.waits)
             (alike_across k nc nm u).location)
       ]
     ]
@@ -457,20 +459,20 @@ module _ (w : State) (t c m : ℕ) (apart : m ≢ c) (steady : IsInductive w) (p
         at_c Second = let same_line_there = others (key_of c Second) (second_differs c)
             (other_key m c Main Second (λ e. apart (sym e))) in
             rw same_line_there (waiting_same (locations_of (place_at w)) (locations_of places_across) c Second
-            (queue_at w (key_of c Second)) (steady.stands.waits c Second)
+            (queue_at w (key_of c Second)) (inductive.stands.waits c Second)
             (λ u g. waits_c u (stays_second u g)))
 
         at_m : (n : Line) → AreWaiting (locations_of places_across) m n (queue (key_of m n))
         at_m Main = rw beside (waiting_both (locations_of places_across) m Main (queue_at w (key_of m Main))
             (moved_under (key_of m Main) moved)
             (waiting_same (locations_of (place_at w)) (locations_of places_across) m Main
-            (queue_at w (key_of m Main)) (steady.stands.waits m Main)
+            (queue_at w (key_of m Main)) (inductive.stands.waits m Main)
             (λ u g. waits_m u (not_moved u Main g))) (waiting_under (locations_of places_across) m moved
             waits_now))
         at_m Second = let same_line_there = others (key_of m Second) (other_key c m Main Second apart)
             (second_differs m) in
             rw same_line_there (waiting_same (locations_of (place_at w)) (locations_of places_across) m Second
-            (queue_at w (key_of m Second)) (steady.stands.waits m Second)
+            (queue_at w (key_of m Second)) (inductive.stands.waits m Second)
             (λ u g. waits_m u (not_moved u Second g)))
 
     -- the machine has all of them where their places say

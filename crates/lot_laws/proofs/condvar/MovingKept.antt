@@ -15,7 +15,7 @@ use Rattle.spec_locks.specs.Sites.{Bring, Deed, Main, Second, Send, Site, has_re
 use Rattle.spec_locks.specs.Codes.{code}
 use Rattle.lot_machine.specs.Machine.{State, kind_at, moved_under, place_at, queue_at, unlocked}
 use Rattle.lot_laws.specs.Refinement.{taken_at}
-use Rattle.lot_laws.specs.MutexDeeds.{acts}
+use Rattle.lot_laws.specs.ThreadDeeds.{acts}
 use Rattle.lot_laws.specs.Locations.{role_on, location_at}
 use Rattle.lot_laws.specs.SitesOf.{TakesOne, stood_in, ActsNeeded, AreWaiting, FitsItsLock, GoesAll}
 use Rattle.lot_laws.specs.SitesOf.{IsInductive, after_acts, key_of, rules_in, locations_of}
@@ -25,7 +25,7 @@ use Rattle.lot_laws.proofs.sites.StandsKept.{Alike, calls_in, other_key, other_l
 use Rattle.lot_laws.proofs.sites.StandsMoved.{AreThere, stands_by}
 use Rattle.lot_laws.proofs.sites.Following.{AlikeAt, lock_by}
 use Rattle.lot_laws.proofs.semaphore.Permits.{all_by}
-use Rattle.lot_laws.proofs.sites.TwoLocks.{BehindIt, follow_two, two_at}
+use Rattle.lot_laws.proofs.sites.TwoLocks.{AfterIt, follow_two, two_at}
 use Rattle.lot_laws.proofs.sites.TakesAt.{AllAre, member, taking_is}
 use Rattle.lot_laws.proofs.condvar.Moving.{WaitsAcross, alike_across, by_thread, in_line, fits_across}
 use Rattle.lot_laws.proofs.condvar.Moving.{places_across, there_across}
@@ -39,7 +39,7 @@ queued_both : (xs ys : List Waiter) → map queued_of (xs ++ ys) ≡ map queued_
 queued_both [] ys = refl
 queued_both (x ∷ xs) ys = ap (λ zs. queued_of x ∷ zs) (queued_both xs ys)
 
-module _ (w v : State) (t c m : ℕ) (apart : m ≢ c) (steady : IsInductive w) (p2 : Place)
+module _ (w v : State) (t c m : ℕ) (apart : m ≢ c) (inductive : IsInductive w) (p2 : Place)
     (gone moved left : List Waiter)
     (counts : (u : ℕ) → times u gone + times u moved + times u left ≡ times u (queue_at w (key_of c Main)))
     (lefts : AreWaiting (locations_of (place_at w)) c Main left)
@@ -50,12 +50,13 @@ module _ (w v : State) (t c m : ℕ) (apart : m ≢ c) (steady : IsInductive w) 
     (now_c : location_at p2 c ≡ location_at (place_at w t) c) (any : Option Bool) (now_m : location_at p2 m
     ≡ record (location_at (place_at w t) m) { carries = any })
     (alike_t : (k : ℕ) → k ≢ c → k ≢ m → Alike k (place_at w t) p2) (fits : FitsItsLock w p2) where
-  abbrev behind : ℕ → Place
-  behind = places_across w t c m apart steady p2 gone moved left counts lefts waits one_gone out bare now_c
+  abbrev afterwards : ℕ → Place
+  afterwards = places_across w t c m apart inductive p2 gone moved left counts lefts waits one_gone out bare
+      now_c
       any now_m alike_t fits
 
   module _ (el : v.locks ≡ w.locks) (eh : v.shares ≡ w.shares) (es : v.sections ≡ w.sections)
-      (threads : length v.places ≡ length w.places) (places : place_at v ≡ behind)
+      (threads : length v.places ≡ length w.places) (places : place_at v ≡ afterwards)
       (here : queue_at v (key_of c Main) ≡ left) (beside : queue_at v (key_of m Main) ≡ queue_at w
       (key_of m Main) ++ moved_under (key_of m Main) moved) (others : (key : ℕ) → key ≢ key_of c Main
       → key ≢ key_of m Main → queue_at v key ≡ queue_at w key)
@@ -105,23 +106,27 @@ module _ (w v : State) (t c m : ℕ) (apart : m ≢ c) (steady : IsInductive w) 
 
     waiter_of : (u : ℕ) → (member u gone ≡ true) ⊎ (member u moved ≡ true)
         → WaitsAcross w t c m (place_at w u)
-    waiter_of u h = waits u (in_line w t c m apart steady p2 gone moved left counts lefts waits one_gone out
+    waiter_of u h = waits u (in_line w t c m apart inductive p2 gone moved left counts lefts waits one_gone
+        out
         bare now_c any now_m alike_t fits u h)
 
-    taken_c : (u : ℕ) → taken_at (behind u) c ≡ taken_at (place_at w u) c
-    taken_c = by_thread w t c m apart steady p2 gone moved left counts lefts waits one_gone out bare now_c any
+    taken_c : (u : ℕ) → taken_at (afterwards u) c ≡ taken_at (place_at w u) c
+    taken_c = by_thread w t c m apart inductive p2 gone moved left counts lefts waits one_gone out bare now_c
+        any
         now_m alike_t fits (λ u p. taken_at p c ≡ taken_at (place_at w u) c)
         same_c.1 (λ u nu h. (waiter_of u (inl h)).taken.free_c)
         (λ u nu g h. (waiter_of u (inr h)).moved.free_c) (λ u nu g h. refl)
 
-    role_c : (u : ℕ) → role_on (behind u) c ≡ role_on (place_at w u) c
-    role_c = by_thread w t c m apart steady p2 gone moved left counts lefts waits one_gone out bare now_c any
+    role_c : (u : ℕ) → role_on (afterwards u) c ≡ role_on (place_at w u) c
+    role_c = by_thread w t c m apart inductive p2 gone moved left counts lefts waits one_gone out bare now_c
+        any
         now_m alike_t fits (λ u p. role_on p c ≡ role_on (place_at w u) c)
         same_c.0 (λ u nu h. (waiter_of u (inl h)).taken.did_c) (λ u nu g h. (waiter_of u (inr h)).moved.did_c)
         (λ u nu g h. refl)
 
     -- the condition variable
-    sent : seen_in (rules_in w c) c (record (parts_at w c) { main = left }) behind ≡ after_acts (rules_in w c)
+    sent : seen_in (rules_in w c) c (record (parts_at w c) { main = left }) afterwards ≡ after_acts
+        (rules_in w c)
         (acts t sends) site_c
     sent = λ i. record site_c {
       lock = record site_c.lock { queue = left_is i; taken = λ u. taken_c u i };
@@ -130,9 +135,10 @@ module _ (w v : State) (t c m : ℕ) (apart : m ≢ c) (steady : IsInductive w) 
 
     -- the waiters taken there, by the threads
     taken_m : (u : ℕ)
-        → taken_at (behind u) m
+        → taken_at (afterwards u) m
         ≡ locks.taking t (map queued_of (moved_under (key_of m Main) gone)) (λ u. taken_at (place_at w u) m) u
-    taken_m u = by_thread w t c m apart steady p2 gone moved left counts lefts waits one_gone out bare now_c
+    taken_m u = by_thread w t c m apart inductive p2 gone moved left counts lefts waits one_gone out bare
+        now_c
         any now_m alike_t fits
         (λ u p. taken_at p m ≡ (if member u gone then Some (record { by = t; want = Exclusive })
         else taken_at (place_at w u) m))
@@ -157,9 +163,10 @@ module _ (w v : State) (t c m : ℕ) (apart : m ≢ c) (steady : IsInductive w) 
         all_are (x ∷ xs) = (refl, all_are xs)
 
         not_in : (u : ℕ) → member t gone ≡ true → ⊥
-        not_in u h = let a = in_line w t c m apart steady p2 gone moved left counts lefts waits one_gone out
+        not_in u h = let a = in_line w t c m apart inductive p2 gone moved left counts lefts waits one_gone
+            out
             bare now_c any now_m alike_t fits t (inl h) in
-            let b : times t (queue_at w (key_of c Main)) ≡ 0 = steady.stands.lines t c Main
+            let b : times t (queue_at w (key_of c Main)) ≡ 0 = inductive.stands.lines t c Main
             ∙ ap (λ o. stood_in o Main) out in omega arith
 
         outside_gone : (u : ℕ) → (member u gone ≡ true → ⊥) → member u gone ≡ false
@@ -174,8 +181,8 @@ module _ (w v : State) (t c m : ℕ) (apart : m ≢ c) (steady : IsInductive w) 
         (taken_of owned (moved_of all (map queued_of (queue_at w (key_of c Main)))))
         (line_of owned (moved_of all (map queued_of (queue_at w (key_of c Main)))))
         (role_on (place_at w t) m)) where
-      role_m : (u : ℕ) → role_on (behind u) m ≡ (after_acts (rules_in w m) (acts t brings) site_m).role u
-      role_m = by_thread w t c m apart steady p2 gone moved left counts lefts waits one_gone out bare now_c
+      role_m : (u : ℕ) → role_on (afterwards u) m ≡ (after_acts (rules_in w m) (acts t brings) site_m).role u
+      role_m = by_thread w t c m apart inductive p2 gone moved left counts lefts waits one_gone out bare now_c
           any now_m alike_t fits (λ u p. role_on p m ≡ (after_acts (rules_in w m) (acts t brings) site_m).role
           u)
           (own ∙ sym (put_here (λ u. role_on (place_at w u) m) t _))
@@ -185,11 +192,11 @@ module _ (w v : State) (t c m : ℕ) (apart : m ≢ c) (steady : IsInductive w) 
           ∙ sym (put_other (λ u. role_on (place_at w u) m) t _ u nu))
           (λ u nu g h. sym (put_other (λ u. role_on (place_at w u) m) t _ u nu))
 
-      -- The mutex gets the moved waiters behind its last.
+      -- The mutex gets the moved waiters after its last.
       brought : seen_in (rules_in w m) m (record (parts_at w m) {
         main = queue_at w (key_of m Main)
             ++ moved_under (key_of m Main) moved;
-      }) behind ≡ after_acts (rules_in w m) (acts t brings) site_m
+      }) afterwards ≡ after_acts (rules_in w m) (acts t brings) site_m
       brought = λ i. record site_m {
         lock = record site_m.lock {
           queue = (queued_both (queue_at w (key_of m Main)) (moved_under (key_of m Main) moved)
@@ -201,16 +208,16 @@ module _ (w v : State) (t c m : ℕ) (apart : m ≢ c) (steady : IsInductive w) 
       }
 
       word_same : (k : ℕ) (q : List Waiter) → (parts_at w k).word ≡ code (rules_in w k)
-          (seen_in (rules_in w k) k (record (parts_at w k) { main = q }) behind)
-      word_same k q = steady.sites.word k ∙ same_word (rules_in w k).sort (rules_in w k).limit _ _ _ _ refl
+          (seen_in (rules_in w k) k (record (parts_at w k) { main = q }) afterwards)
+      word_same k q = inductive.sites.word k ∙ same_word (rules_in w k).sort (rules_in w k).limit _ _ _ _ refl
           refl refl refl refl refl
 
       module _ (present : t < length w.places) (unshared_c : has_readers (rules_in w c).sort ≡ false)
           (unshared_m : has_readers (rules_in w m).sort ≡ false)
           (needed_c : ActsNeeded (rules_in w c) (acts t sends) site_c)
           (needed_m : ActsNeeded (rules_in w m) (acts t brings) site_m) where
-        behind_c : BehindIt w v behind c (acts t sends)
-        behind_c = record {
+        after_c : AfterIt w v afterwards c (acts t sends)
+        after_c = record {
           parts = record (parts_at w c) { main = left };
           here = parts_by c left (queue_at w (key_of c Second)) here (others (key_of c Second)
               (second_differs c) (other_key m c Main Second (λ e. apart (sym e))));
@@ -222,8 +229,8 @@ module _ (w v : State) (t c m : ℕ) (apart : m ≢ c) (steady : IsInductive w) 
           by = λ e. all_by (length w.places) t sends present;
         }
 
-        behind_m : BehindIt w v behind m (acts t brings)
-        behind_m = record {
+        after_m : AfterIt w v afterwards m (acts t brings)
+        after_m = record {
           parts = record (parts_at w m) {
             main = queue_at w (key_of m Main) ++ moved_under (key_of m Main)
                 moved;
@@ -240,12 +247,12 @@ module _ (w v : State) (t c m : ℕ) (apart : m ≢ c) (steady : IsInductive w) 
         }
 
         same_else : (k : ℕ) → k ≢ c → k ≢ m → (parts_at v k ≡ parts_at w k)
-            × ((u : ℕ) → AlikeAt k (place_at w u) (behind u))
+            × ((u : ℕ) → AlikeAt k (place_at w u) (afterwards u))
         same_else k nc nm = (
           parts_by k (queue_at w (key_of k Main)) (queue_at w (key_of k Second))
               (others (key_of k Main) (other_key c k Main Main nc) (other_key m k Main Main nm))
               (others (key_of k Second) (other_key c k Main Second nc) (other_key m k Main Second nm)),
-          λ u. let z = alike_across w t c m apart steady p2 gone moved left counts lefts waits one_gone out
+          λ u. let z = alike_across w t c m apart inductive p2 gone moved left counts lefts waits one_gone out
               bare now_c any now_m alike_t fits k nc nm u in (z.taken, z.role),
         )
 
@@ -253,16 +260,18 @@ module _ (w v : State) (t c m : ℕ) (apart : m ≢ c) (steady : IsInductive w) 
             → ((u : ℕ) → member u gone ≡ true → any ≡ Some false)
             → GoesAll w v (two_at c m (acts t sends) (acts t brings))
         moves_kept some full = record {
-          follows = follow_two w v steady behind places kinds (record {
+          follows = follow_two w v inductive afterwards places kinds (record {
             threads = threads;
             locks = λ i. length (el i);
             shares = λ i. length (eh i);
-          }) c m same_else (acts t sends) (acts t brings) apart behind_c behind_m;
-          stands = stands_by w v behind places kinds
-              (subst (λ (f : ℕ → Option ℕ). AreThere (TakesOne w) (locations_of behind) f (queue_at v))
+          }) c m same_else (acts t sends) (acts t brings) apart after_c after_m;
+          stands = stands_by w v afterwards places kinds
+              (subst (λ (f : ℕ → Option ℕ). AreThere (TakesOne w) (locations_of afterwards) f (queue_at v))
               (λ i key. get_or (sym es i) key None)
-              (there_across w t c m apart steady p2 gone moved left counts lefts waits one_gone out bare now_c
+              (there_across w t c m apart inductive p2 gone moved left counts lefts waits one_gone out bare
+              now_c
               any now_m alike_t fits (queue_at v) here beside others some full))
-              (λ u. calls_in w v (behind u) kinds (fits_across w t c m apart steady p2 gone moved left counts
+              (λ u. calls_in w v (afterwards u) kinds (fits_across w t c m apart inductive p2 gone moved left
+              counts
               lefts waits one_gone out bare now_c any now_m alike_t fits u));
         }

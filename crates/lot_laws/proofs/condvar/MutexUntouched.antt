@@ -37,7 +37,7 @@ use Rattle.lot_machine.specs.Machine.{State, owners_at, place_at, put, queue_at,
 use Rattle.lot_machine.specs.Machine.{state_after_operation, state_with_sections, queues_with_last}
 use Rattle.lot_machine.specs.Machine.{queues_without, word_at, filled_at}
 use Rattle.lot_laws.specs.Refinement.{taken_at, lock_seen}
-use Rattle.lot_laws.specs.MutexDeeds.{acts}
+use Rattle.lot_laws.specs.ThreadDeeds.{acts}
 use Rattle.lot_laws.specs.Locations.{role_on, location_at, hand}
 use Rattle.lot_laws.specs.SitesOf.{ActsNeeded, FitsItsLock, Goes, IsInductive, after_acts, condvar_of, key_of}
 use Rattle.lot_laws.specs.SitesOf.{rules_in, hand_at, carried_at, stood_in}
@@ -82,7 +82,8 @@ IsOfWord (condvars.HideAndTakeAll ∷ []) = Unit {0}
 IsOfWord (condvars.ShowNone ∷ []) = Unit {0}
 IsOfWord ds = ⊥
 
-module _ (w : State) (t l m : ℕ) (at : CondvarPlace) (steady : IsInductive w) (is_there : t < length w.places)
+module _ (w : State) (t l m : ℕ) (at : CondvarPlace) (inductive : IsInductive w) (is_there : t
+    < length w.places)
     (apart : m ≢ l)
     (sort : (rules_in w l).sort ≡ locks.Condvar) (is : place_at w t ≡ Condvar l at) (of : mutex_beside at
     ≡ Some m) (told : Reply)
@@ -121,7 +122,7 @@ module _ (w : State) (t l m : ℕ) (at : CondvarPlace) (steady : IsInductive w) 
   plain h = absurd (let e : false ≡ true = sym unshared ∙ h in cc)
 
   pub site : IsSite r here
-  site = steady.sites.site l
+  site = inductive.sites.site l
 
   -- the lock after a thread goes into a section that is free, or out of it
   pub in_steps : section_at w (key_of l Main) ≡ None → (there at).inside ≡ None → there_then at told
@@ -135,7 +136,8 @@ module _ (w : State) (t l m : ℕ) (at : CondvarPlace) (steady : IsInductive w) 
       ∙ ap (λ (d : Role). record d { inside = Some Main }) did))
     where
       nobody_inside : (u : ℕ) → (role_on (place_at w u) l).inside ≢ Some Main
-      nobody_inside u h = let a : section_at w (key_of l Main) ≡ Some u = (steady.stands.sections u l Main).0
+      nobody_inside u h = let a : section_at w (key_of l Main) ≡ Some u =
+          (inductive.stands.sections u l Main).0
           (sym (inside_is (place_at w u) l) ∙ h) in let b : ◌≡◌ {A = Option ℕ} None (Some u) = sym free ∙ a
           in cc
 
@@ -160,7 +162,8 @@ module _ (w : State) (t l m : ℕ) (at : CondvarPlace) (steady : IsInductive w) 
   }
     where
       nobody : (u : ℕ) → hand_at (place_at w u) l ≡ hand t false → ⊥
-      nobody u h = let a : carried_at (place_at w t) l ≡ Some false = steady.stands.hands.taken t u l false h
+      nobody u h = let a : carried_at (place_at w t) l ≡ Some false = inductive.stands.hands.taken t u l false
+          h
           in let b : carried_at (place_at w t) l ≡ None = ap (λ (y : Location). y.carries) was in
           let c : ◌≡◌ {A = Option Bool} None (Some false) = sym b ∙ a in cc
 
@@ -180,7 +183,8 @@ module _ (w : State) (t l m : ℕ) (at : CondvarPlace) (steady : IsInductive w) 
     pub enters_there : (line : key_of l Main < length w.sections) → section_at w (key_of l Main) ≡ None
         → (there at).inside ≡ None → there_then at told ≡ record (there at) { inside = Some Main }
         → Goes w (put (state_with_sections w (One (key_of l Main)) (Some t)) t p2) l (acts t (In Main ∷ []))
-    enters_there line free out goes = acting.enter_goes w t l steady is_there r refl p2 alike fits Main line
+    enters_there line free out goes = acting.enter_goes w t l inductive is_there r refl p2 alike fits Main
+        line
         free (ap (λ (y : Location). y.inside) was ∙ out) (in_steps free out goes)
         (then_is ∙ goes ∙ sym (ap (λ (y : Location). record y { inside = Some Main }) was))
 
@@ -188,7 +192,7 @@ module _ (w : State) (t l m : ℕ) (at : CondvarPlace) (steady : IsInductive w) 
     pub leaves_there : (line : key_of l Main < length w.sections) → (there at).inside ≡ Some Main
         → there_then at told ≡ record (there at) { inside = None }
         → Goes w (put (state_with_sections w (One (key_of l Main)) None) t p2) l (acts t (Out ∷ []))
-    leaves_there line within goes = acting.leave_goes w t l steady is_there r refl p2 alike fits Main line
+    leaves_there line within goes = acting.leave_goes w t l inductive is_there r refl p2 alike fits Main line
         (ap (λ (y : Location). y.inside) was ∙ within) (Out ∷ []) (λ h. tt) (out_steps within goes)
         (then_is ∙ goes ∙ sym (ap (λ (y : Location). record y { inside = None }) was))
 
@@ -201,7 +205,7 @@ module _ (w : State) (t l m : ℕ) (at : CondvarPlace) (steady : IsInductive w) 
             ∙ ap (λ (y : Location). y.stands) (nothing_there l m apart (next.At at) of k ne nm)
       ]
 
-      -- it stands behind the last of the list
+      -- it stands after the last of the list
       pub stands_there : (line : key_of l Main < length w.queues) → there at ≡ inside_of Main
           → there_then at told ≡ record (inside_of Main) {
             stands = Some Main;
@@ -209,7 +213,7 @@ module _ (w : State) (t l m : ℕ) (at : CondvarPlace) (steady : IsInductive w) 
           }
           → Goes w (put (record w { queues = queues_with_last w.queues (key_of l Main) t WaitHere }) t p2) l
           (acts t (Case (Park WaitHere) ∷ []))
-      stands_there line was_in goes = acting.park_goes w t l steady is_there r refl p2 alike fits out Main
+      stands_there line was_in goes = acting.park_goes w t l inductive is_there r refl p2 alike fits out Main
           WaitHere (Case (Park WaitHere) ∷ []) (λ h. plain h) line (ap (λ (y : Location). y.stands) (was
           ∙ was_in))
           (parks r l (parts_at w l) (place_at w) t p2 site (untaken ∙ sym untaken_then) (key_of l Main)
@@ -248,7 +252,7 @@ module _ (w : State) (t l m : ℕ) (at : CondvarPlace) (steady : IsInductive w) 
           )
 
           stood : (n : Line) → times t (queue_at w (key_of l n)) ≡ 0
-          stood n = steady.stands.lines t l n ∙ ap (λ (y : Location). stood_in y.stands n) (was ∙ was_in)
+          stood n = inductive.stands.lines t l n ∙ ap (λ (y : Location). stood_in y.stands n) (was ∙ was_in)
 
           alone : standing t here.lock ≡ 0
           alone = let main : locks.times t (map queued_of (queue_at w (2 * l))) ≡ 0 =
@@ -264,7 +268,7 @@ module _ (w : State) (t l m : ℕ) (at : CondvarPlace) (steady : IsInductive w) 
         waits = Some WaitHere;
       } → there_then at told ≡ inside_of Main
           → Goes w (put (record w { queues = queues_without w.queues t }) t p2) l (acts t (LeaveLine ∷ []))
-      leaves_list was_in goes = acting.remove_goes w t l steady is_there r refl p2 alike fits out Main
+      leaves_list was_in goes = acting.remove_goes w t l inductive is_there r refl p2 alike fits out Main
           (LeaveLine ∷ []) (λ h. tt) (ap (λ (y : Location). y.stands) (was ∙ was_in))
           (steps_by r l (parts_at w l) (with_line (parts_at w l) Main
           (without t (queue_at w (key_of l Main)))) (place_at w) t p2 (LeaveLine ∷ []) (
@@ -289,7 +293,7 @@ module _ (w : State) (t l m : ℕ) (at : CondvarPlace) (steady : IsInductive w) 
           ∙ was_in)))
         where
           stood : (n : Line) → times t (queue_at w (key_of l n)) ≡ stood_in (Some Main) n
-          stood n = steady.stands.lines t l n ∙ ap (λ (y : Location). stood_in y.stands n) (was ∙ was_in)
+          stood n = inductive.stands.lines t l n ∙ ap (λ (y : Location). stood_in y.stands n) (was ∙ was_in)
 
           no_first : locks.one_if_thread t (first_of (queue_at w (2 * l + 1))) ≡ 0
           no_first = first_out t (queue_at w (2 * l + 1)) (stood Second)
@@ -311,7 +315,7 @@ module _ (w : State) (t l m : ℕ) (at : CondvarPlace) (steady : IsInductive w) 
 
     -- ---------------------------------------------------------------- a step on the word
 
-    -- tells what is shown behind it
+    -- tells what is shown after it
     module _ (shown : Option ℕ) (op : Op) (lt : l < length w.locks) (ds : List Deed)
         (owners : condvar_owners at t (word_at w l) (owners_at w l) ≡ record (owners_at w l) {
           shown =
@@ -350,8 +354,8 @@ module _ (w : State) (t l m : ℕ) (at : CondvarPlace) (steady : IsInductive w) 
       shows (Some n) = refl
 
       pub works_by : Goes w (put (state_after_operation w t before l op) t p2) l (acts t ds)
-      works_by = acting.word_goes w t l steady is_there r refl p2 alike fits before lt
-          (rw steady.numbers.locks lt) op ds (λ h. plain_deeds) steps
+      works_by = acting.word_goes w t l inductive is_there r refl p2 alike fits before lt
+          (rw inductive.numbers.locks lt) op ds (λ h. plain_deeds) steps
           (coded ∙ shows shown ∙ ap (λ (o : Owners). shown_code o.shown) (sym owners)
           ∙ sym (ap (λ x. word_by x r.limit (seen_in r l (operated w t before l op)
           (putting (place_at w) t p2)).lock

@@ -25,7 +25,7 @@ use Rattle.spec_locks.specs.Locks as locks
 use Rattle.spec_locks.specs.Locks.{keep_from, putting}
 use Rattle.spec_locks.specs.Sites.{End, In, Main, Out, Site, has_readers}
 use Rattle.lot_machine.specs.Machine.{State, can_do, place_at, put, queue_at, section_at, state_with_sections}
-use Rattle.lot_laws.specs.MutexDeeds.{acts}
+use Rattle.lot_laws.specs.ThreadDeeds.{acts}
 use Rattle.lot_laws.specs.Refinement.{taken_at}
 use Rattle.lot_laws.specs.Locations.{role_on, location_at}
 use Rattle.lot_laws.specs.SitesOf.{FitsItsLock, GoesAll, IsInductive, condvar_of, key_of, rules_in, site_of}
@@ -45,7 +45,7 @@ use Rattle.lot_laws.proofs.sites.LawsKept.{after_same, needed_same}
 use Rattle.lot_laws.proofs.sites.WakesAt.{leaving_by}
 use Rattle.steps_base.specs.Profiles.{hand}
 
-module _ (w : State) (t l m : ℕ) (all : Bool) (steady : IsInductive w) (is_there : t < length w.places)
+module _ (w : State) (t l m : ℕ) (all : Bool) (inductive : IsInductive w) (is_there : t < length w.places)
     (apart : m ≢ l)
     (sort_l : (rules_in w l).sort ≡ locks.Condvar) (sort_m : (rules_in w m).sort ≡ locks.Mutex)
     (kept : IsCondvar (condvar_of w l)) (aside : WaitsAside (condvar_of w l) (site_of w m) m)
@@ -122,8 +122,8 @@ module _ (w : State) (t l m : ℕ) (all : Bool) (steady : IsInductive w) (is_the
 
     in_follows : FollowsBeside (rules_in w m) (site_of w m) (condvar_of w l) t m all notify.Enter Done
     in_follows = notifiers_follow (rules_in w m) (site_of w m) (condvar_of w l) t m all notify.Enter Done
-        sort_m (hears.role_beside w t l (notifies notify.Enter) steady is m refl)
-        (notifier_hears w t l m all notify.Enter steady kept aside is can)
+        sort_m (hears.role_beside w t l (notifies notify.Enter) inductive is m refl)
+        (notifier_hears w t l m all notify.Enter inductive kept aside is can)
 
     in_m : Steps (rules_in w m) m (parts_at w m) (parts_at w m) (place_at w) t
         (Condvar l (notifies notify.Again)) (In Main ∷ [])
@@ -135,28 +135,32 @@ module _ (w : State) (t l m : ℕ) (all : Bool) (steady : IsInductive w) (is_the
 
     in_l : Steps (rules_in w l) l (parts_at w l) (parts_at w l) (place_at w) t
         (Condvar l (notifies notify.Again)) (In Main ∷ [])
-    in_l = in_steps w t l m (notifies notify.Enter) steady is_there apart sort_l is refl Done refl free_l refl
+    in_l = in_steps w t l m (notifies notify.Enter) inductive is_there apart sort_l is refl Done refl free_l
+        refl
         refl
 
     pub goes_into_both : FitsItsLock w (Condvar l (notifies notify.Again))
         → GoesAll w (put (with_both (Some t)) t (Condvar l (notifies notify.Again)))
         (two_at l m (acts t (In Main ∷ [])) (acts t (In Main ∷ [])))
     goes_into_both fits = record {
-      follows = two_follow w v steady t is_there there_then l m apart (else_alike notify.Enter is again refl)
+      follows = two_follow w v inductive t is_there there_then l m apart (else_alike notify.Enter is again
+          refl)
           refl refl refl refl unshared_l unshared_m (In Main ∷ []) (In Main ∷ []) in_l in_m;
-      stands = stands_put w v steady.stands (λ k. refl) t there_then fits (places_put w v steady t is_there
+      stands = stands_put w v inductive.stands (λ k. refl) t there_then fits
+          (places_put w v inductive t is_there
           there_then l m apart (else_alike notify.Enter is again refl) refl refl refl refl unshared_l
           unshared_m (In Main ∷ []) (In Main ∷ []) in_l in_m)
           (goes_in_two (locations_of (place_at w)) (locations_of (putting (place_at w) t there_then))
-          (section_at w) (queue_at w) (there_in w steady.stands) t l m apart
+          (section_at w) (queue_at w) (there_in w inductive.stands) t l m apart
           (still notify.Enter is again refl) (section_at v) (elsewhere (Some t)) free_l free_m
           (held_l (Some t)) (held_m (Some t))
-          (ap (λ (y : Location). y.inside) (was w t l m (notifies notify.Enter) steady is_there apart sort_l
+          (ap (λ (y : Location). y.inside) (was w t l m (notifies notify.Enter) inductive is_there apart
+          sort_l
           is refl Done refl)) (ap (λ (y : Location). y.inside) (location_m notify.Enter is again refl))
           (ap (λ q. location_at q l) (put_here (place_at w) t there_then)
-          ∙ then_is w t l m (notifies notify.Enter) steady is_there apart sort_l is refl Done refl
+          ∙ then_is w t l m (notifies notify.Enter) inductive is_there apart sort_l is refl Done refl
           ∙ sym (ap (λ (y : Location). record y { inside = Some Main })
-          (was w t l m (notifies notify.Enter) steady is_there apart sort_l is refl Done refl)))
+          (was w t l m (notifies notify.Enter) inductive is_there apart sort_l is refl Done refl)))
           (ap (λ q. location_at q m) (put_here (place_at w) t there_then) ∙ then_m notify.Enter is again refl
           ∙ sym (ap (λ (y : Location). record y { inside = Some Main })
           (location_m notify.Enter is again refl))));
@@ -188,17 +192,18 @@ module _ (w : State) (t l m : ℕ) (all : Bool) (steady : IsInductive w) (is_the
 
     out_follows : FollowsBeside (rules_in w m) (site_of w m) (condvar_of w l) t m all leaves_at Done
     out_follows = notifiers_follow (rules_in w m) (site_of w m) (condvar_of w l) t m all leaves_at Done sort_m
-        (hears.role_beside w t l (notifies leaves_at) steady is m refl) (notifier_hears w t l m all leaves_at
-        steady kept aside is refl)
+        (hears.role_beside w t l (notifies leaves_at) inductive is m refl)
+        (notifier_hears w t l m all leaves_at
+        inductive kept aside is refl)
 
     out_l : Steps (rules_in w l) l (parts_at w l) (parts_at w l) (place_at w) t Idle (Out ∷ [])
-    out_l = out_steps w t l m (notifies leaves_at) steady is_there apart sort_l is refl Done tt refl refl
+    out_l = out_steps w t l m (notifies leaves_at) inductive is_there apart sort_l is refl Done tt refl refl
 
     untaken_m : taken_at (place_at w t) m ≡ None
     untaken_m = taken_m leaves_at is over tt ∙ taken_beside l m apart (At (notifies leaves_at)) refl
 
     nobody : (u : ℕ) → hand_at (place_at w u) m ≡ hand t false → ⊥
-    nobody u h = let a : carried_at (place_at w t) m ≡ Some false = steady.stands.hands.taken t u m false h
+    nobody u h = let a : carried_at (place_at w t) m ≡ Some false = inductive.stands.hands.taken t u m false h
         in let b : carried_at (place_at w t) m ≡ None = ap (λ (y : Location). y.carries)
         (location_m leaves_at is over tt) in
         let c : ◌≡◌ {A = Option Bool} None (Some false) = sym b ∙ a in cc
@@ -218,21 +223,23 @@ module _ (w : State) (t l m : ℕ) (all : Bool) (steady : IsInductive w) (is_the
     pub goes_out_of_both : GoesAll w (put (with_both None) t Idle) (two_at l m (acts t (Out ∷ []))
         (acts t (Out ∷ End ∷ [])))
     goes_out_of_both = record {
-      follows = two_follow w v steady t is_there Idle l m apart (else_alike leaves_at is over tt) refl refl
+      follows = two_follow w v inductive t is_there Idle l m apart (else_alike leaves_at is over tt) refl refl
           refl refl unshared_l unshared_m (Out ∷ []) (Out ∷ End ∷ []) out_l out_m;
-      stands = stands_put w v steady.stands (λ k. refl) t Idle tt (places_put w v steady t is_there Idle l m
+      stands = stands_put w v inductive.stands (λ k. refl) t Idle tt (places_put w v inductive t is_there Idle
+          l m
           apart (else_alike leaves_at is over tt) refl refl refl refl unshared_l unshared_m (Out ∷ [])
           (Out ∷ End ∷ []) out_l out_m)
           (goes_out_two (locations_of (place_at w)) (locations_of (putting (place_at w) t Idle))
-          (section_at w) (queue_at w) (there_in w steady.stands) t l m apart (still leaves_at is over tt)
+          (section_at w) (queue_at w) (there_in w inductive.stands) t l m apart (still leaves_at is over tt)
           (section_at v) (elsewhere None) (held_l None) (held_m None)
-          (ap (λ (y : Location). y.inside) (was w t l m (notifies leaves_at) steady is_there apart sort_l is
+          (ap (λ (y : Location). y.inside) (was w t l m (notifies leaves_at) inductive is_there apart sort_l
+          is
           refl Done tt)) (ap (λ (y : Location). y.inside) (location_m leaves_at is over tt)
           ∙ inside_leave false number)
           (ap (λ q. location_at q l) (put_here (place_at w) t Idle) ∙ then_is w t l m (notifies leaves_at)
-          steady is_there apart sort_l is refl Done tt
+          inductive is_there apart sort_l is refl Done tt
           ∙ sym (ap (λ (y : Location). record y { inside = None }) (was w t l m (notifies leaves_at)
-          steady is_there apart sort_l is refl Done tt)))
+          inductive is_there apart sort_l is refl Done tt)))
           (ap (λ q. location_at q m) (put_here (place_at w) t Idle) ∙ then_m leaves_at is over tt
           ∙ sym (ap (λ (y : Location). record y { inside = None }) (location_m leaves_at is over tt))));
     }

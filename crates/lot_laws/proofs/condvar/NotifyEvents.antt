@@ -44,8 +44,8 @@ use Rattle.spec_locks.specs.Sites.{Case, Deed, End, In, Main, MarkBrought, MarkO
 use Rattle.spec_locks.proofs.Deeds.{kept}
 use Rattle.lot_machine.specs.Machine.{State, can_do, kind_at, place_at, queue_at, reply_to, word_at}
 use Rattle.lot_laws.specs.MutexPromises.{IsMutexWord}
-use Rattle.lot_laws.specs.MutexDeeds.{acts}
-use Rattle.lot_laws.specs.MutexDeeds as deeds
+use Rattle.lot_laws.specs.ThreadDeeds.{acts}
+use Rattle.lot_laws.specs.ThreadDeeds as deeds
 use Rattle.lot_laws.specs.Refinement.{call_at, call_state, lock_state, locks_of, taken_at}
 use Rattle.lot_laws.specs.SitesOf.{FollowAll, IsInductive, condvar_of, rules_in, site_of}
 use Rattle.lot_laws.proofs.machine.AtPlaces.{coded, in_no_hand, taken_nobody}
@@ -92,46 +92,47 @@ locked_by v None (inr e) = ap is_locked e
 locked_by v (Some u) (inl e) = ap is_locked e
 locked_by v (Some u) (inr e) = ap is_locked e
 
-module _ (w v : State) (t l m : ℕ) (all : Bool) (p : NotifyAt) (steady : IsInductive w)
+module _ (w v : State) (t l m : ℕ) (all : Bool) (p : NotifyAt) (inductive : IsInductive w)
     (after : IsInductive v)
     (is : place_at w t ≡ Condvar l (Notify all m p)) (done : ℕ → List deeds.Act) (f : FollowAll w v done)
     (elsewhere : (k : ℕ) → k ≢ l → k ≢ m → done k ≡ []) where
   apart_m : m ≢ l
-  apart_m = apart w t l (Notify all m p) steady is m refl
+  apart_m = apart w t l (Notify all m p) inductive is m refl
 
   abbrev Fits : ℕ → Option LockCase → Type 0
-  Fits = Led w v t l m apart_m steady after f.kinds (others w v t l m apart_m steady after done f elsewhere)
+  Fits = Led w v t l m apart_m inductive after f.kinds (others w v t l m apart_m inductive after done f
+      elsewhere)
 
   two : (x y : Option LockCase) → Fits m x → Fits l y → (x ≡ None) ⊎ (y ≡ None)
       → Happens w v t (or_else (event_by m x) (event_by l y))
-  two = happens_two w v t l m apart_m steady after f.kinds (others w v t l m apart_m steady after done f
+  two = happens_two w v t l m apart_m inductive after f.kinds (others w v t l m apart_m inductive after done f
       elsewhere)
 
   -- a lock that keeps as it was
   stays : (k : ℕ) (ds : List Deed) → done k ≡ acts t ds → KeepLock ds → lock_state v k ≡ lock_state w k
-  stays k ds at_k keep = locks_led w v t l m apart_m steady after done f elsewhere k (acts t ds) at_k
+  stays k ds at_k keep = locks_led w v t l m apart_m inductive after done f elsewhere k (acts t ds) at_k
       ∙ deeds_by (rules_in w k) t ds (site_of w k) ∙ kept (rules_in w k) t ds (site_of w k) keep
 
   -- it has nobody in hand but by its place
   nobody_there : HasTakenNobody (lock_state w l) t
-  nobody_there = taken_nobody w steady t l (rw (is, same l) refl)
+  nobody_there = taken_nobody w inductive t l (rw (is, same l) refl)
 
   nobody_beside : notify_carries p ≢ Some false → HasTakenNobody (lock_state w m) t
-  nobody_beside none = in_no_hand w steady t m
-      (λ h. none (sym (ap (λ (y : Location). y.carries) (location_beside w t l (Notify all m p) steady is m
+  nobody_beside none = in_no_hand w inductive t m
+      (λ h. none (sym (ap (λ (y : Location). y.carries) (location_beside w t l (Notify all m p) inductive is m
       refl)) ∙ h))
 
   -- whether somebody owns the mutex
   owned_is : is_locked (word_at w m) ≡ is_some (lock_state w m).exclusive
   owned_is = locked_by (word_at w m) (lock_state w m).exclusive
-      (coded w steady m (plain_rules (kind_at w m) ((fits_here w t l (Notify all m p) steady is).mutex m
+      (coded w inductive m (plain_rules (kind_at w m) ((fits_here w t l (Notify all m p) inductive is).mutex m
       refl)))
 
   sees_owner : (b : Bool) → b ≡ is_some (lock_state w m).exclusive → lock_state v m ≡ lock_state w m
       → lock_state v l ≡ lock_state w l → Happens w v t (AtLock m (SeeOwner b))
   sees_owner b owned at_m at_l = two (Some (SeeOwner b)) None (
     at_m,
-    (rules_beside w t l (Notify all m p) steady is m refl, owned),
+    (rules_beside w t l (Notify all m p) inductive is m refl, owned),
   ) (at_l, tt) (inr refl)
 
   nothing : lock_state v m ≡ lock_state w m → lock_state v l ≡ lock_state w l → Happens w v t Nothing
@@ -148,7 +149,8 @@ module _ (w v : State) (t l m : ℕ) (all : Bool) (p : NotifyAt) (steady : IsInd
 
   hides : done l ≡ acts t (Case (OfCondvar locks.Hide) ∷ []) → lock_state v m ≡ lock_state w m
       → Happens w v t (AtLock l (OfCondvar locks.Hide))
-  hides at_l at_m = two None (Some (OfCondvar locks.Hide)) (at_m, tt) (led_by w v t l m apart_m steady after
+  hides at_l at_m = two None (Some (OfCondvar locks.Hide)) (at_m, tt) (led_by w v t l m apart_m inductive
+      after
       done f elsewhere l None (Case (OfCondvar locks.Hide) ∷ []) at_l tt (λ h. nobody_there)) (inl refl)
 
   abbrev waiters : List locks.Queued
@@ -167,26 +169,31 @@ module _ (w v : State) (t l m : ℕ) (all : Bool) (p : NotifyAt) (steady : IsInd
       (reply_to w t (move_act b owned l m))))
       → done m ≡ acts t (beside_deeds b waiters (notify.Move owned) (reply_to w t (move_act b owned l m)))
       → Happens w v t (notify_event l b m (notify.Move owned) (reply_to w t (move_act b owned l m)))
-  moves true true at_l at_m = happens_sending w v t l m true true _ done steady after f (λ e. apart_m (sym e))
+  moves true true at_l at_m = happens_sending w v t l m true true _ done inductive after f
+      (λ e. apart_m (sym e))
       at_l at_m elsewhere
-  moves true false at_l at_m = happens_sending w v t l m true false _ done steady after f
+  moves true false at_l at_m = happens_sending w v t l m true false _ done inductive after f
       (λ e. apart_m (sym e)) at_l at_m elsewhere
-  moves false true at_l at_m = happens_sending w v t l m false true _ done steady after f
+  moves false true at_l at_m = happens_sending w v t l m false true _ done inductive after f
       (λ e. apart_m (sym e)) at_l at_m elsewhere
-  moves false false at_l at_m = happens_sending w v t l m false false _ done steady after f
+  moves false false at_l at_m = happens_sending w v t l m false false _ done inductive after f
       (λ e. apart_m (sym e)) at_l at_m elsewhere
 
   wakes : (any : Bool) → notify_carries p ≡ in_hand any false → done l ≡ acts t (Out ∷ []) → done m
       ≡ acts t (Out ∷ End ∷ [])
       → Happens w v t (if any then AtLock m Wake else Nothing)
-  wakes true carries at_l at_m = two (Some Wake) None (led_by w v t l m apart_m steady after done f elsewhere
+  wakes true carries at_l at_m = two (Some Wake) None (led_by w v t l m apart_m inductive after done f
+      elsewhere
       m (Some false) (Out ∷ End ∷ []) at_m tt (λ h. absurd (h refl)))
-      (led_by w v t l m apart_m steady after done f elsewhere l None (Out ∷ []) at_l tt (λ h. nobody_there))
+      (led_by w v t l m apart_m inductive after done f elsewhere l None (Out ∷ []) at_l tt
+      (λ h. nobody_there))
       (inr refl)
-  wakes false carries at_l at_m = two None None (led_by w v t l m apart_m steady after done f elsewhere m None
+  wakes false carries at_l at_m = two None None (led_by w v t l m apart_m inductive after done f elsewhere m
+      None
       (Out ∷ End ∷ []) at_m tt (λ h. nobody_beside (λ e. let none : ◌≡◌ {A = Option Bool} None (Some false) =
       sym carries ∙ e in cc)))
-      (led_by w v t l m apart_m steady after done f elsewhere l None (Out ∷ []) at_l tt (λ h. nobody_there))
+      (led_by w v t l m apart_m inductive after done f elsewhere l None (Out ∷ []) at_l tt
+      (λ h. nobody_there))
       (inl refl)
 
   -- at each place
@@ -244,7 +251,7 @@ not_among : (u : ℕ) (all : Bool) (q : List locks.Queued) → locks.times u q �
     ≡ false
 not_among u all q none = let few = moved_fewer all u q in grind (arith, nat_tests)
 
-module _ (w : State) (t l m : ℕ) (all : Bool) (p : NotifyAt) (steady : IsInductive w)
+module _ (w : State) (t l m : ℕ) (all : Bool) (p : NotifyAt) (inductive : IsInductive w)
     (condvar_holds : IsCondvar (condvar_of w l))
     (aside : WaitsAside (condvar_of w l) (site_of w m) m) (is : place_at w t ≡ Condvar l (Notify all m p))
   where
@@ -255,23 +262,24 @@ module _ (w : State) (t l m : ℕ) (all : Bool) (p : NotifyAt) (steady : IsInduc
     may_move owned e n some number = record {
       notifies = ap (λ q. (call_state q (rights w t)).purpose) is;
       sorts = (
-        (fits_here w t l (Notify all m p) steady is).sort,
-        rules_beside w t l (Notify all m p) steady is
+        (fits_here w t l (Notify all m p) inductive is).sort,
+        rules_beside w t l (Notify all m p) inductive is
             m refl,
       );
       saw = ap (λ q. (call_state q (rights w t)).recalls) is ∙ ap (notify_recalls m) e;
       some = some;
       number = number;
-      wait = λ u among. by_waiter u (waits_there w steady l (fits_here w t l (Notify all m p) steady is).sort
+      wait = λ u among. by_waiter u (waits_there w inductive l (fits_here w t l (Notify all m p) inductive
+          is).sort
           u
           (listed u among)) (names u among) (aside u (listed u among) (names u among)).0;
-      free = in_no_hand w steady t m (λ h. let none : ◌≡◌ {A = Option Bool} None (Some false) =
-          sym (ap (λ (y : Location). y.carries) (location_beside w t l (Notify all m p) steady is m refl)
+      free = in_no_hand w inductive t m (λ h. let none : ◌≡◌ {A = Option Bool} None (Some false) =
+          sym (ap (λ (y : Location). y.carries) (location_beside w t l (Notify all m p) inductive is m refl)
           ∙ ap notify_carries e) ∙ h in cc);
     }
       where
         fit : MoveFits (rules_in w m) all owned (condvar_of w l) (site_of w m) t m
-        fit = fits_move w t l m all p steady condvar_holds aside is owned e
+        fit = fits_move w t l m all p inductive condvar_holds aside is owned e
 
         among_times : (u : ℕ) → is_among u (moved_of all (lock_state w l).queue) ≡ true
             → 1 ≤ locks.times u (moved_of all (lock_state w l).queue)
@@ -315,7 +323,7 @@ abbrev moved_from : Event → Option ℕ
 moved_from (Moves c k all owned n) = Some c
 moved_from e = None
 
-module _ (w v : State) (t l m : ℕ) (all : Bool) (p : NotifyAt) (steady : IsInductive w)
+module _ (w v : State) (t l m : ℕ) (all : Bool) (p : NotifyAt) (inductive : IsInductive w)
     (after : IsInductive v)
     (condvar_holds : IsCondvar (condvar_of w l)) (aside : WaitsAside (condvar_of w l) (site_of w m) m)
     (is : place_at w t ≡ Condvar l (Notify all m p))
@@ -331,45 +339,48 @@ module _ (w v : State) (t l m : ℕ) (all : Bool) (p : NotifyAt) (steady : IsInd
   event = notify_event l all m p told
 
   reached : IsReached (Notify all m p)
-  reached = (fits_here w t l (Notify all m p) steady is).reached
+  reached = (fits_here w t l (Notify all m p) inductive is).reached
 
   apart_here : m ≢ l
-  apart_here = apart w t l (Notify all m p) steady is m refl
+  apart_here = apart w t l (Notify all m p) inductive is m refl
 
   pub notify_happened : Happens w v t event
-  notify_happened = by_place w v t l m all p steady after is done f elsewhere p refl at_l at_m reached
+  notify_happened = by_place w v t l m all p inductive after is done f elsewhere p refl at_l at_m reached
 
-  -- the mutex behind it
-  abbrev behind : LockState
-  behind = (after_all (rules_in w m) (beside_deeds all (condvar_of w l).waiters p told) (site_of w m) t).lock
+  -- the mutex after it
+  abbrev afterwards : LockState
+  afterwards = (after_all (rules_in w m) (beside_deeds all (condvar_of w l).waiters p told) (site_of w m)
+      t).lock
 
-  led_beside : lock_state v m ≡ behind
-  led_beside = locks_led w v t l m apart_here steady after done f elsewhere m _ at_m
+  led_beside : lock_state v m ≡ afterwards
+  led_beside = locks_led w v t l m apart_here inductive after done f elsewhere m _ at_m
       ∙ deeds_by (rules_in w m) t (beside_deeds all (condvar_of w l).waiters p told) (site_of w m)
 
   led_there : lock_state v l ≡ (after_all (rules_in w l) (there_deeds (notify_deeds all m p told))
       (site_of w l) t).lock
-  led_there = locks_led w v t l m apart_here steady after done f elsewhere l _ at_l
+  led_there = locks_led w v t l m apart_here inductive after done f elsewhere l _ at_l
       ∙ deeds_by (rules_in w l) t (there_deeds (notify_deeds all m p told)) (site_of w l)
 
-  rights_led : (k : ℕ) → rights v t k ≡ rights_where m behind t (rights w t) k
-  rights_led k = put_is (rights w t) m (rights_of behind t) k (rights v t k)
+  rights_led : (k : ℕ) → rights v t k ≡ rights_where m afterwards t (rights w t) k
+  rights_led k = put_is (rights w t) m (rights_of afterwards t) k (rights v t k)
       (λ e. rw e (ap (λ s. rights_of s t) led_beside)) (λ nm. elim (cases_eq k l) [
         | inl e ↦ rw e (ap (λ s. rights_of s t) led_there ∙ there_rights (notify_deeds all m p told)
             (rules_in w l) (site_of w l) t)
-        | inr nl ↦ ap (λ s. rights_of s t) (others w v t l m apart_here steady after done f elsewhere k nl nm)
+        | inr nl ↦ ap (λ s. rights_of s t) (others w v t l m apart_here inductive after done f elsewhere k nl
+            nm)
       ])
 
   abbrev shown_then : Option ℕ
   shown_then = (condvar.after_condvar_deeds (condvar_deeds (Notify all m p) told) (condvar_of w l) t).shown
 
-  follows : CallOfTwoFollows l m (Notify all m p) told event shown_then (lock_state w m) behind t
+  follows : CallOfTwoFollows l m (Notify all m p) told event shown_then (lock_state w m) afterwards t
       (condvar_next (Notify all m p) told)
   follows = notifies_tell (condvar_of w l) (rules_in w m) (site_of w m) t l m all p told
-      (rules_beside w t l (Notify all m p) steady is m refl) condvar_holds
-      (at_it w t l (Notify all m p) steady is)
-      (role_beside w t l (Notify all m p) steady is m refl) (may_hear w t l (Notify all m p) steady is can)
-      (notifier_hears w t l m all p steady condvar_holds aside is can) reached
+      (rules_beside w t l (Notify all m p) inductive is m refl) condvar_holds
+      (at_it w t l (Notify all m p) inductive is)
+      (role_beside w t l (Notify all m p) inductive is m refl) (may_hear w t l (Notify all m p) inductive is
+      can)
+      (notifier_hears w t l m all p inductive condvar_holds aside is can) reached
 
   -- a move is one that it may do
   move_may : (b owned : Bool) → all ≡ b → p ≡ notify.Move owned
@@ -377,17 +388,17 @@ module _ (w v : State) (t l m : ℕ) (all : Bool) (p : NotifyAt) (steady : IsInd
       (notify_event l b m (notify.Move owned) (reply_to w t (move_act b owned l m)))
       → MayHappen (locks_of w) t (notify_event l b m (notify.Move owned)
       (reply_to w t (move_act b owned l m)))
-  move_may true true e g may = may_move w t l m true p steady condvar_holds aside (is
+  move_may true true e g may = may_move w t l m true p inductive condvar_holds aside (is
       ∙ ap (λ x. Condvar l (Notify x m p)) e) true g _ may.3 (number_of true (queue_at w (2 * l)))
-  move_may true false e g may = may_move w t l m true p steady condvar_holds aside (is
+  move_may true false e g may = may_move w t l m true p inductive condvar_holds aside (is
       ∙ ap (λ x. Condvar l (Notify x m p)) e) false g _ may.3 (number_of false (queue_at w (2 * l)))
-  move_may false true e g may = may_move w t l m false p steady condvar_holds aside (is
+  move_may false true e g may = may_move w t l m false p inductive condvar_holds aside (is
       ∙ ap (λ x. Condvar l (Notify x m p)) e) true g 1 may.3
-      (one_first (lock_state w l).queue (fits_move w t l m false p steady condvar_holds aside (is
+      (one_first (lock_state w l).queue (fits_move w t l m false p inductive condvar_holds aside (is
       ∙ ap (λ x. Condvar l (Notify x m p)) e) true g).some)
-  move_may false false e g may = may_move w t l m false p steady condvar_holds aside (is
+  move_may false false e g may = may_move w t l m false p inductive condvar_holds aside (is
       ∙ ap (λ x. Condvar l (Notify x m p)) e) false g 1 may.3
-      (one_first (lock_state w l).queue (fits_move w t l m false p steady condvar_holds aside (is
+      (one_first (lock_state w l).queue (fits_move w t l m false p inductive condvar_holds aside (is
       ∙ ap (λ x. Condvar l (Notify x m p)) e) false g).some)
 
   -- nothing else is a move, and it moves from its own
@@ -440,7 +451,8 @@ module _ (w v : State) (t l m : ℕ) (all : Bool) (p : NotifyAt) (steady : IsInd
           )
 
   unlisted_here : locks.times t (lock_state w l).queue ≡ 0
-  unlisted_here = subst (IsListed (condvar_of w l) t) (unlisted all m p) (at_it w t l (Notify all m p) steady
+  unlisted_here = subst (IsListed (condvar_of w l) t) (unlisted all m p) (at_it w t l (Notify all m p)
+      inductive
       is).listed
 
   -- the step goes on by that event, where it stands then as its reply says, is in no hand of its own, and the
@@ -450,12 +462,12 @@ module _ (w v : State) (t l m : ℕ) (all : Bool) (p : NotifyAt) (steady : IsInd
       → OthersFollow w v t event
       → GoesOn (locks_of w) t (outcome_of (condvar_does l (condvar_next (Notify all m p) told))) (locks_of v)
   notify_goes there free shown others_follow = condvar_goes_on w v t l m (Notify all m p)
-      (call_named w t l m (Notify all m p) is refl) told event notify_happened shown_then behind
+      (call_named w t l m (Notify all m p) is refl) told event notify_happened shown_then afterwards
       (condvar_next (Notify all m p) told) _
       (may_go w v t l m (Notify all m p) (call_named w t l m (Notify all m p) is refl) told event
-      notify_happened shown_then behind follows.may (λ c k every o n e. (moving c k n every o e).0))
+      notify_happened shown_then afterwards follows.may (λ c k every o n e. (moving c k n every o e).0))
       (call_led w v t l m (Notify all m p) (call_named w t l m (Notify all m p) is refl) told event
-      notify_happened shown_then behind (condvar_next (Notify all m p) told) _
+      notify_happened shown_then afterwards (condvar_next (Notify all m p) told) _
       (unheard w t (notify_act all l m p) _)
       (unwoken w t event _ free (λ c k n every o e. subst
       (λ j. is_among t (moved_of every (lock_state w j).queue) ≡ false) (moving c k n every o e).1

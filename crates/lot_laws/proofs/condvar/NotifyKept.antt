@@ -16,8 +16,8 @@ use Rattle.spec_locks.specs.Condvars.{IsCondvar, WaitsAside}
 use Rattle.spec_locks.specs.Locks as locks
 use Rattle.spec_locks.specs.Sites.{Deed, Main, Send}
 use Rattle.lot_machine.specs.Machine.{State, can_do, place_at, put, reply_to, state_after_act}
-use Rattle.lot_laws.specs.MutexDeeds.{acts}
-use Rattle.lot_laws.specs.MutexDeeds as deeds
+use Rattle.lot_laws.specs.ThreadDeeds.{acts}
+use Rattle.lot_laws.specs.ThreadDeeds as deeds
 use Rattle.lot_laws.specs.SitesOf.{FitsItsLock, Goes, GoesAll, IsInductive, condvar_of, key_of, rules_in}
 use Rattle.lot_laws.specs.SitesOf.{site_of}
 use Rattle.lot_laws.proofs.machine.Parts as glue
@@ -42,7 +42,7 @@ moves_deeds w t l m true false = refl
 moves_deeds w t l m false true = refl
 moves_deeds w t l m false false = refl
 
-module _ (w : State) (t l m : ℕ) (all : Bool) (steady : IsInductive w) (is_there : t < length w.places)
+module _ (w : State) (t l m : ℕ) (all : Bool) (inductive : IsInductive w) (is_there : t < length w.places)
     (apart : m ≢ l)
     (sort_l : (rules_in w l).sort ≡ locks.Condvar) (sort_m : (rules_in w m).sort ≡ locks.Mutex)
     (plain : rules_in w m ≡ glue.mutex) (kept : IsCondvar (condvar_of w l))
@@ -75,38 +75,42 @@ module _ (w : State) (t l m : ℕ) (all : Bool) (steady : IsInductive w) (is_the
 
   there : (at : NotifyAt) → deeds_beside at ≡ []
       → (FitsItsLock w (next at) → Goes w (put (after at) t (next at)) l (deeds_there at)) → GoesOn at
-  there at none g fits = of_one w (put (after at) t (next at)) l m apart steady (deeds_there at)
+  there at none g fits = of_one w (put (after at) t (next at)) l m apart inductive (deeds_there at)
       (deeds_beside at) none (g fits)
 
   beside : (at : NotifyAt) → deeds_there at ≡ []
       → (FitsItsLock w (next at) → Goes w (put (after at) t (next at)) m (deeds_beside at)) → GoesOn at
-  beside at none g fits = of_other w (put (after at) t (next at)) l m apart steady (deeds_there at)
+  beside at none g fits = of_other w (put (after at) t (next at)) l m apart inductive (deeds_there at)
       (deeds_beside at) none (g fits)
 
   goes_on : (at : NotifyAt) → place_at w t ≡ Condvar l (notifies at) → can_do w (notify_act all l m at) ≡ true
       → GoesOn at
-  goes_on notify.Enter is can = goes_into_both w t l m all steady is_there apart sort_l sort_m kept aside
+  goes_on notify.Enter is can = goes_into_both w t l m all inductive is_there apart sort_l sort_m kept aside
       section_l section_m is can
-  goes_on notify.Again is can = there notify.Again refl (looks_again w t l m all steady is_there apart sort_l
+  goes_on notify.Again is can = there notify.Again refl (looks_again w t l m all inductive is_there apart
+      sort_l
       sort_m kept lock_l is)
-  goes_on notify.Hide is can = there notify.Hide refl (hides w t l m all steady is_there apart sort_l sort_m
+  goes_on notify.Hide is can = there notify.Hide refl (hides w t l m all inductive is_there apart sort_l
+      sort_m
       kept lock_l is)
-  goes_on notify.Mark is can = beside notify.Mark refl (marks_it w t l m all steady is_there apart sort_l
+  goes_on notify.Mark is can = beside notify.Mark refl (marks_it w t l m all inductive is_there apart sort_l
       sort_m kept aside lock_m is)
-  goes_on (notify.Set x) is can = beside (notify.Set x) refl (sets_bit w t l m all steady is_there apart
+  goes_on (notify.Set x) is can = beside (notify.Set x) refl (sets_bit w t l m all inductive is_there apart
       sort_l sort_m kept aside lock_m x is)
-  goes_on (notify.Clear any) is can = there (notify.Clear any) refl (clears w t l m all steady is_there apart
+  goes_on (notify.Clear any) is can = there (notify.Clear any) refl (clears w t l m all inductive is_there
+      apart
       sort_l sort_m kept lock_l any is)
   goes_on (notify.MarkMoved number) is can = beside (notify.MarkMoved number) refl
-      (marks_moved w t l m all steady is_there apart sort_l sort_m kept aside lock_m number is)
-  goes_on (notify.Leave false number) is can = λ fits. goes_out_of_both w t l m all steady is_there apart
+      (marks_moved w t l m all inductive is_there apart sort_l sort_m kept aside lock_m number is)
+  goes_on (notify.Leave false number) is can = λ fits. goes_out_of_both w t l m all inductive is_there apart
       sort_l sort_m kept aside section_l section_m number is
-  goes_on (notify.Leave true number) is can = λ fits. goes_out_waking_both w t l m all steady is_there apart
+  goes_on (notify.Leave true number) is can = λ fits. goes_out_waking_both w t l m all inductive is_there
+      apart
       sort_l sort_m plain kept aside section_l section_m number is
   goes_on (notify.Move locked) is can =
       λ fits. subst (λ x. GoesAll w (put (after (notify.Move locked)) t (next (notify.Move locked)))
       (two_at l m (acts t x.0) (acts t x.1))) (sym (moves_deeds w t l m all locked))
-      (moves w t l m steady is_there apart sort_l sort_m kept aside line_l line_m all locked is fits)
+      (moves w t l m inductive is_there apart sort_l sort_m kept aside line_l line_m all locked is fits)
 
   pub notifies_go : (at : NotifyAt) → IsReached (notifies at) → place_at w t ≡ Condvar l (notifies at)
       → can_do w (notify_act all l m at) ≡ true → FitsItsLock w (next_place (place_at (after at) t) (told at))

@@ -37,7 +37,7 @@ use Rattle.spec_locks.specs.Sites.{Bring, Deed, Role, bringing, Main, Send, has_
 use Rattle.lot_machine.specs.Machine.{State, left_in_line, listed, moved_threads, moved_under, place_at}
 use Rattle.lot_machine.specs.Machine.{places_told, put, queue_at, state_after_requeue, queues_without_first}
 use Rattle.lot_machine.specs.Machine.{state_after_taking, reply_to, state_after_act}
-use Rattle.lot_laws.specs.MutexDeeds.{acts}
+use Rattle.lot_laws.specs.ThreadDeeds.{acts}
 use Rattle.lot_laws.specs.Refinement.{taken_at, call_state}
 use Rattle.lot_laws.specs.Locations.{role_on, location_at}
 use Rattle.lot_laws.specs.SitesOf.{ActsNeeded, AreWaiting, FitsItsLock, GoesAll, IsInductive, condvar_of}
@@ -152,7 +152,8 @@ is_some n h = grind (arith, nat_tests)
 
 -- ---------------------------------------------------------------- a notification at its move
 
-module _ (w : State) (t l m : ℕ) (all locked : Bool) (steady : IsInductive w) (is_there : t < length w.places)
+module _ (w : State) (t l m : ℕ) (all locked : Bool) (inductive : IsInductive w) (is_there : t
+    < length w.places)
     (apart : m ≢ l)
     (sort_l : (rules_in w l).sort ≡ locks.Condvar) (sort_m : (rules_in w m).sort ≡ locks.Mutex)
     (kept : IsCondvar (condvar_of w l))
@@ -218,7 +219,7 @@ module _ (w : State) (t l m : ℕ) (all locked : Bool) (steady : IsInductive w) 
 
     follows : FollowsBeside (rules_in w m) (site_of w m) (condvar_of w l) t m all (notify.Move locked) told
     follows = notifiers_follow (rules_in w m) (site_of w m) (condvar_of w l) t m all (notify.Move locked) told
-        sort_m (hears.role_beside w t l this steady is m refl) hears_it
+        sort_m (hears.role_beside w t l this inductive is m refl) hears_it
 
     needed_m : ActsNeeded (rules_in w m)
         (acts t (Bring (taken_of locked (moved_of all (map queued_of line)))
@@ -254,7 +255,7 @@ module _ (w : State) (t l m : ℕ) (all locked : Bool) (steady : IsInductive w) 
         (moved_of all (map queued_of line))) (moved_is : map queued_of (moved_under (key_of m Main) moved)
         ≡ line_of locked (moved_of all (map queued_of line))) where
       across : (u : ℕ) → 1 ≤ times u line → WaitsAcross w t l m (place_at w u)
-      across = waits_across w t l m steady apart sort_l all locked is kept
+      across = waits_across w t l m inductive apart sort_l all locked is kept
 
       out : (location_at (place_at w t) l).stands ≡ None
       out = ap (λ (y : Location). y.stands) (location_l ∙ x.inside.0)
@@ -262,21 +263,22 @@ module _ (w : State) (t l m : ℕ) (all locked : Bool) (steady : IsInductive w) 
       bare : (location_at (place_at w t) m).carries ≡ None
       bare = ap (λ (y : Location). y.carries) location_m
 
-      abbrev behind : ℕ → Place
-      behind = places_across w t l m apart steady p2 gone moved left counts lefts across one_gone out bare
+      abbrev afterwards : ℕ → Place
+      afterwards = places_across w t l m apart inductive p2 gone moved left counts lefts across one_gone out
+          bare
           now_l (in_hand (not locked) false) now_m alike_t fits
 
       -- the others' calls say so: a thread that is taken or moved knows it
       knows : ((u : ℕ) → locks.times u (moved_of all (map queued_of line)) ≡ times u gone + times u moved)
           → (u : ℕ) → u ≢ t
           → (r : ℕ → Rights)
-          → call_state (behind u) r ≡ if_moved u (moved_of all (map queued_of line))
+          → call_state (afterwards u) r ≡ if_moved u (moved_of all (map queued_of line))
           (call_state (place_at w u) r)
       knows counted u ne r = ap (λ q. call_state q r) (put_other goes_across t p2 u ne)
           ∙ either (member u gone) (member u moved) refl refl
         where
           goes_across : ℕ → Place
-          goes_across = goes w t l m apart steady p2 gone moved left counts lefts across one_gone out bare
+          goes_across = goes w t l m apart inductive p2 gone moved left counts lefts across one_gone out bare
               now_l (in_hand (not locked) false) now_m alike_t fits
 
           known : 1 ≤ times u gone + times u moved → if_moved u (moved_of all (map queued_of line))
@@ -299,10 +301,10 @@ module _ (w : State) (t l m : ℕ) (all locked : Bool) (steady : IsInductive w) 
               (MovedTo (key_of m Main)) else place_at w u) r
               ≡ if_moved u (moved_of all (map queued_of line)) (call_state (place_at w u) r)
           either true b e f = let n : 1 ≤ times u gone = member_times u gone e
-              in knows_taken w t l m steady apart sort_l all locked is kept u (let a = counts u
+              in knows_taken w t l m inductive apart sort_l all locked is kept u (let a = counts u
               in omega arith) r ∙ sym (known (omega arith))
           either false true e f = let n : 1 ≤ times u moved = member_times u moved f
-              in knows_moved w t l m steady apart sort_l all locked is kept u (let a = counts u
+              in knows_moved w t l m inductive apart sort_l all locked is kept u (let a = counts u
               in omega arith) r ∙ sym (known (omega arith))
           either false false e f = sym (unknown (let a = stranger_times u gone e in let b =
               stranger_times u moved f in omega arith))
@@ -324,7 +326,7 @@ module _ (w : State) (t l m : ℕ) (all locked : Bool) (steady : IsInductive w) 
           by_locked false f = refl
 
       module _ (v : State) (el : v.locks ≡ w.locks) (eh : v.shares ≡ w.shares) (es : v.sections ≡ w.sections)
-          (threads : length v.places ≡ length w.places) (places : place_at v ≡ behind)
+          (threads : length v.places ≡ length w.places) (places : place_at v ≡ afterwards)
           (here : queue_at v (key_of l Main) ≡ left) (there_now : queue_at v (key_of m Main)
           ≡ queue_at w (key_of m Main) ++ moved_under (key_of m Main) moved) (others : (key : ℕ)
           → key ≢ key_of l Main → key ≢ key_of m Main → queue_at v key ≡ queue_at w key) where
@@ -332,7 +334,8 @@ module _ (w : State) (t l m : ℕ) (all locked : Bool) (steady : IsInductive w) 
             (two_at l m (acts t (Send all ∷ []))
             (acts t (Bring (taken_of locked (moved_of all (map queued_of line)))
             (line_of locked (moved_of all (map queued_of line))) ∷ [])))
-        moves_so = moves_kept w v t l m apart steady p2 gone moved left counts lefts across one_gone out bare
+        moves_so = moves_kept w v t l m apart inductive p2 gone moved left counts lefts across one_gone out
+            bare
             now_l (in_hand (not locked) false) now_m alike_t fits
             el eh es threads places here there_now others same_l same_m all locked left_is gone_is moved_is
             does_m is_there (ap has_readers sort_l) (ap has_readers sort_m) needed_l needed_m carries_some
@@ -364,7 +367,7 @@ module _ (w : State) (t l m : ℕ) (all locked : Bool) (steady : IsInductive w) 
       at_most : (u : ℕ) → times u gone + times u moved ≤ 1
       at_most u = let a : times u gone + times u moved + times u (left_in_line how line) ≡ times u line =
           all_counted how line u in let b : times u line ≡ stood_in (location_at (place_at w u) l).stands
-          Main = steady.stands.lines u l Main in
+          Main = inductive.stands.lines u l Main in
           let c : stood_in (location_at (place_at w u) l).stands Main ≤ 1 =
           at_most_one (location_at (place_at w u) l).stands Main in omega arith
 
@@ -425,7 +428,7 @@ module _ (w : State) (t l m : ℕ) (all locked : Bool) (steady : IsInductive w) 
           (call_state (place_at w u) r)
       requeued_calls counted u ne r = ap (λ (f : ℕ → Place). call_state (f u) r) places_now
           ∙ knows gone moved (left_in_line how line) (all_counted how line)
-          (left_waits (locations_of (place_at w)) l how line (steady.stands.waits l Main))
+          (left_waits (locations_of (place_at w)) l how line (inductive.stands.waits l Main))
           (one_taken how line) none_gone some_gone left_is gone_is moved_is counted u ne r
 
       abbrev others_left : List (List Waiter)
@@ -436,7 +439,7 @@ module _ (w : State) (t l m : ℕ) (all locked : Bool) (steady : IsInductive w) 
           (acts t (Bring (taken_of locked (moved_of all (map queued_of line)))
           (line_of locked (moved_of all (map queued_of line))) ∷ [])))
       requeues = moves_so gone moved (left_in_line how line) (all_counted how line)
-          (left_waits (locations_of (place_at w)) l how line (steady.stands.waits l Main))
+          (left_waits (locations_of (place_at w)) l how line (inductive.stands.waits l Main))
           (one_taken how line) none_gone some_gone left_is gone_is moved_is v refl refl refl
           (length-set requeued.places t p2 ∙ told_length)
           places_now
@@ -523,7 +526,8 @@ module _ (w : State) (t l m : ℕ) (all locked : Bool) (steady : IsInductive w) 
           → call_state (place_at taken_state u) r ≡ if_moved u (moved_of all (map queued_of line))
           (call_state (place_at w u) r)
       taken_calls once u ne r = ap (λ (f : ℕ → Place). call_state (f u) r) first_places
-          ∙ knows (take 1 line) [] (drop 1 line) (counted line) (left_lined line (steady.stands.waits l Main))
+          ∙ knows (take 1 line) [] (drop 1 line) (counted line)
+          (left_lined line (inductive.stands.waits l Main))
           (one_taken requeue.TakeOneMoveRest line) no_locked (λ e. some) left_is gone_is moved_is once u
           ne r
 
@@ -536,7 +540,7 @@ module _ (w : State) (t l m : ℕ) (all locked : Bool) (steady : IsInductive w) 
           (acts t (Bring (taken_of locked (moved_of all (map queued_of line)))
           (line_of locked (moved_of all (map queued_of line))) ∷ [])))
       takes_first = moves_so (take 1 line) [] (drop 1 line) (counted line)
-          (left_lined line (steady.stands.waits l Main)) (one_taken requeue.TakeOneMoveRest line) no_locked
+          (left_lined line (inductive.stands.waits l Main)) (one_taken requeue.TakeOneMoveRest line) no_locked
           (λ e. some) left_is gone_is moved_is taken_state
           (after_locks line) (after_shares line) (after_sections line) (length-set (after line).places t p2
           ∙ after_threads line)
@@ -548,7 +552,7 @@ module _ (w : State) (t l m : ℕ) (all locked : Bool) (steady : IsInductive w) 
 
 -- ---------------------------------------------------------------- whichever it is
 
-module _ (w : State) (t l m : ℕ) (steady : IsInductive w) (is_there : t < length w.places) (apart : m ≢ l)
+module _ (w : State) (t l m : ℕ) (inductive : IsInductive w) (is_there : t < length w.places) (apart : m ≢ l)
     (sort_l : (rules_in w l).sort ≡ locks.Condvar) (sort_m : (rules_in w m).sort ≡ locks.Mutex)
     (kept : IsCondvar (condvar_of w l)) (aside : WaitsAside (condvar_of w l) (site_of w m) m)
     (line_l : key_of l Main < length w.queues) (line_m : key_of m Main < length w.queues) where
@@ -571,7 +575,7 @@ module _ (w : State) (t l m : ℕ) (steady : IsInductive w) (is_there : t < leng
   heard_so : place_at w t ≡ Condvar l (moves_at false false)
       → MayHearBeside (rules_in w m) (site_of w m) (condvar_of w l) t m false (notify.Move false)
       (told_of false false)
-  heard_so is = notifier_hears w t l m false (notify.Move false) steady kept aside is refl
+  heard_so is = notifier_hears w t l m false (notify.Move false) inductive kept aside is refl
 
   takes_so : place_at w t ≡ Condvar l (moves_at false false)
       → MovesWaiters (map queued_of waiting) (moves_at false false) false false (told_of false false)
@@ -596,11 +600,11 @@ module _ (w : State) (t l m : ℕ) (steady : IsInductive w) (is_there : t < leng
       → GoesAll w (put (state_after_act w t (Condvar l (moves_at all locked)) (move_act all locked l m)) t
       (next_of all locked))
       (two_at l m (acts t (Send all ∷ [])) (acts t (brings_of all locked)))
-  moves true true is fits = requeues w t l m true true steady is_there apart sort_l sort_m kept is
+  moves true true is fits = requeues w t l m true true inductive is_there apart sort_l sort_m kept is
       (told_of true true) ((notifies_move l m (map queued_of waiting) true (notify.Move true) tt).2 _ _) refl
-      (notifier_hears w t l m true (notify.Move true) steady kept aside is refl) fits requeue.All line_l
+      (notifier_hears w t l m true (notify.Move true) inductive kept aside is refl) fits requeue.All line_l
       line_m (λ e. refl) (λ e. absurd cc) refl refl (under_lined (key_of m Main) waiting)
-  moves true false is fits = requeues w t l m true false steady is_there apart sort_l sort_m kept is
+  moves true false is fits = requeues w t l m true false inductive is_there apart sort_l sort_m kept is
       (told_of true false) ((notifies_move l m (map queued_of waiting) true (notify.Move false) tt).2 _ _)
       refl
       heard fits requeue.TakeOneMoveRest line_l line_m (λ e. absurd cc) (λ e. some_first waiting heard.1.some)
@@ -608,17 +612,17 @@ module _ (w : State) (t l m : ℕ) (steady : IsInductive w) (is_there : t < leng
     where
       heard : MayHearBeside (rules_in w m) (site_of w m) (condvar_of w l) t m true (notify.Move false)
           (told_of true false)
-      heard = notifier_hears w t l m true (notify.Move false) steady kept aside is refl
-  moves false true is fits = requeues w t l m false true steady is_there apart sort_l sort_m kept is
+      heard = notifier_hears w t l m true (notify.Move false) inductive kept aside is refl
+  moves false true is fits = requeues w t l m false true inductive is_there apart sort_l sort_m kept is
       (told_of false true) ((notifies_move l m (map queued_of waiting) false (notify.Move true) tt).2 _ _)
       next_beside
-      (notifier_hears w t l m false (notify.Move true) steady kept aside is refl) fits requeue.One line_l
+      (notifier_hears w t l m false (notify.Move true) inductive kept aside is refl) fits requeue.One line_l
       line_m (λ e. refl) (λ e. absurd cc) (dropped_lined waiting) refl
       (first_lined (key_of m Main) waiting)
     where
       next_beside : Beside m (condvar_next (moves_at false true) (told_of false true))
       next_beside = refl
-  moves false false is fits = takes_first w t l m false false steady is_there apart sort_l sort_m kept is
+  moves false false is fits = takes_first w t l m false false inductive is_there apart sort_l sort_m kept is
       (told_of false false) (takes_so is) refl (heard_so is) fits line_l refl
       (some_first waiting (λ e. (heard_so is).1.some (ap (take 1) e))) (dropped_lined waiting)
       (first_taken waiting) (none_moved waiting)
@@ -637,12 +641,14 @@ module _ (w : State) (t l m : ℕ) (steady : IsInductive w) (is_there : t < leng
       (place_at (put (state_after_act w t (Condvar l (moves_at all locked)) (move_act all locked l m)) t
       (next_of all locked)) u) r
       ≡ if_moved u (moved_of all (map queued_of waiting)) (call_state (place_at w u) r)
-  moves_calls true true is fits = requeued_calls w t l m true true steady is_there apart sort_l sort_m kept is
+  moves_calls true true is fits = requeued_calls w t l m true true inductive is_there apart sort_l sort_m kept
+      is
       (told_of true true) ((notifies_move l m (map queued_of waiting) true (notify.Move true) tt).2 _ _) refl
-      (notifier_hears w t l m true (notify.Move true) steady kept aside is refl) fits requeue.All line_l
+      (notifier_hears w t l m true (notify.Move true) inductive kept aside is refl) fits requeue.All line_l
       line_m (λ e. refl) (λ e. absurd cc) refl refl (under_lined (key_of m Main) waiting) (λ u. let a =
       queued_times u waiting in omega arith)
-  moves_calls true false is fits = requeued_calls w t l m true false steady is_there apart sort_l sort_m kept
+  moves_calls true false is fits = requeued_calls w t l m true false inductive is_there apart sort_l sort_m
+      kept
       is (told_of true false) ((notifies_move l m (map queued_of waiting) true (notify.Move false) tt).2 _ _)
       refl
       heard fits requeue.TakeOneMoveRest line_l line_m (λ e. absurd cc) (λ e. some_first waiting heard.1.some)
@@ -652,14 +658,16 @@ module _ (w : State) (t l m : ℕ) (steady : IsInductive w) (is_there : t < leng
     where
       heard : MayHearBeside (rules_in w m) (site_of w m) (condvar_of w l) t m true (notify.Move false)
           (told_of true false)
-      heard = notifier_hears w t l m true (notify.Move false) steady kept aside is refl
-  moves_calls false true is fits = requeued_calls w t l m false true steady is_there apart sort_l sort_m kept
+      heard = notifier_hears w t l m true (notify.Move false) inductive kept aside is refl
+  moves_calls false true is fits = requeued_calls w t l m false true inductive is_there apart sort_l sort_m
+      kept
       is (told_of false true) ((notifies_move l m (map queued_of waiting) false (notify.Move true) tt).2 _ _)
       refl
-      (notifier_hears w t l m false (notify.Move true) steady kept aside is refl) fits requeue.One line_l
+      (notifier_hears w t l m false (notify.Move true) inductive kept aside is refl) fits requeue.One line_l
       line_m (λ e. refl) (λ e. absurd cc) (dropped_lined waiting) refl
       (first_lined (key_of m Main) waiting) (λ u. let a = first_counted waiting u in omega arith)
-  moves_calls false false is fits = taken_calls w t l m false false steady is_there apart sort_l sort_m kept
+  moves_calls false false is fits = taken_calls w t l m false false inductive is_there apart sort_l sort_m
+      kept
       is (told_of false false) (takes_so is) refl (heard_so is) fits line_l refl
       (some_first waiting (λ e. (heard_so is).1.some (ap (take 1) e))) (dropped_lined waiting)
       (first_taken waiting) (none_moved waiting)

@@ -41,11 +41,11 @@ module _ (w : State) (t l m : ℕ) (all : Bool) where
   abbrev event : NotifyAt → Event
   event p = notify_event l all m p (reply_to w t (notify_act all l m p))
 
-  abbrev behind : NotifyAt → Place → State
-  behind p p2 = put (state_after_act w t (Condvar l (notifies p)) (notify_act all l m p)) t p2
+  abbrev afterwards : NotifyAt → Place → State
+  afterwards p p2 = put (state_after_act w t (Condvar l (notifies p)) (notify_act all l m p)) t p2
 
   abbrev Follow : NotifyAt → Place → Type 0
-  Follow p p2 = Happens w (behind p p2) t (event p) → OthersFollow w (behind p p2) t (event p)
+  Follow p p2 = Happens w (afterwards p p2) t (event p) → OthersFollow w (afterwards p p2) t (event p)
 
   marked_calm : (b : Bool) → IsCalmEvent (if b then Nothing else AtLock m (locks.SeeOwner false))
   marked_calm true = tt
@@ -59,13 +59,13 @@ module _ (w : State) (t l m : ℕ) (all : Bool) where
 
   -- an act by which nobody else goes elsewhere
   alone : (p : NotifyAt) (p2 : Place) → IsLonely (notify_act all l m p) → IsCalmEvent (event p) → Follow p p2
-  alone p p2 h calm happens = calm_follow w (behind p p2) t (event p) happens calm
+  alone p p2 h calm happens = calm_follow w (afterwards p p2) t (event p) happens calm
       (lonely w t p2 (Condvar l (notifies p)) (notify_act all l m p) h)
 
-  module _ (steady : IsInductive w) (apart : m ≢ l) where
+  module _ (inductive : IsInductive w) (apart : m ≢ l) where
     wakes : (number : ℕ) → place_at w t ≡ Condvar l (notifies (notify.Leave true number)) → (p2 : Place)
         → Follow (notify.Leave true number) p2
-    wakes number is p2 h = wake_follows w t m steady (subst (CarriesAt m) (sym is)
+    wakes number is p2 h = wake_follows w t m inductive (subst (CarriesAt m) (sym is)
         (condvar_carries l m apart this refl)) (ap (λ q. carried_at q m) is
         ∙ ap (λ (y : Location). y.carries) (location_beside l m apart (At this) refl)) p2
         (state_with_sections w (Two (2 * l) (2 * m)) None) refl h
@@ -83,14 +83,14 @@ put_rights f x s u e k = elim (cases_eq k x) [
 
 module _ (w v : State) (t l m : ℕ) (all owned : Bool) (number : ℕ)
     (h : Happens w v t (Moves l m all owned number)) where
-  left_rights : (u : ℕ) → rights_of (locks.left_behind all (lock_state w l)) u ≡ rights_of (lock_state w l) u
+  left_rights : (u : ℕ) → rights_of (locks.left_after all (lock_state w l)) u ≡ rights_of (lock_state w l) u
   left_rights u = refl
 
   moved_rights : (u k : ℕ) → rights_of (lock_state v k) u ≡ rights_of (lock_state w k) u
   moved_rights u k = ap (λ s. rights_of s u) (h.led k)
-      ∙ put_rights (putting (lock_state w) l (locks.left_behind all (lock_state w l))) m _ u
-      (sym (put_rights (lock_state w) l (locks.left_behind all (lock_state w l)) u (left_rights u) m)) k
-      ∙ put_rights (lock_state w) l (locks.left_behind all (lock_state w l)) u (left_rights u) k
+      ∙ put_rights (putting (lock_state w) l (locks.left_after all (lock_state w l))) m _ u
+      (sym (put_rights (lock_state w) l (locks.left_after all (lock_state w l)) u (left_rights u) m)) k
+      ∙ put_rights (lock_state w) l (locks.left_after all (lock_state w l)) u (left_rights u) k
 
   -- the others follow where each thread that is moved or taken knows it
   moves_follow : ((u : ℕ) → u ≢ t → (r : ℕ → Rights) → call_state (place_at v u) r ≡ if_moved u
@@ -111,7 +111,7 @@ moves_event w t l m true false = (_, refl)
 moves_event w t l m false true = (_, refl)
 moves_event w t l m false false = (_, refl)
 
-module _ (w : State) (t l m : ℕ) (all : Bool) (steady : IsInductive w) (is_there : t < length w.places)
+module _ (w : State) (t l m : ℕ) (all : Bool) (inductive : IsInductive w) (is_there : t < length w.places)
     (apart : m ≢ l)
     (sort_l : (rules_in w l).sort ≡ locks.Condvar) (sort_m : (rules_in w m).sort ≡ locks.Mutex)
     (kept : IsCondvar (condvar_of w l)) (aside : WaitsAside (condvar_of w l) (site_of w m) m)
@@ -135,12 +135,13 @@ module _ (w : State) (t l m : ℕ) (all : Bool) (steady : IsInductive w) (is_the
       (next (notify.MarkMoved number)) tt tt
   notify_others (notify.Leave false number) is fits = alone w t l m all (notify.Leave false number)
       (next (notify.Leave false number)) tt tt
-  notify_others (notify.Leave true number) is fits = wakes w t l m all steady apart number is
+  notify_others (notify.Leave true number) is fits = wakes w t l m all inductive apart number is
       (next (notify.Leave true number))
   notify_others (notify.Move locked) is fits = let e = moves_event w t l m all locked in
       subst (λ x. Happens w after_move t x → OthersFollow w after_move t x) (sym e.1)
-      (λ h. moves_follow w after_move t l m all locked e.0 h (moves_calls w t l m steady is_there apart sort_l
+      (λ h. moves_follow w after_move t l m all locked e.0 h (moves_calls w t l m inductive is_there apart
+      sort_l
       sort_m kept aside line_l line_m all locked is fits))
     where
       after_move : State
-      after_move = behind w t l m all (notify.Move locked) (next (notify.Move locked))
+      after_move = afterwards w t l m all (notify.Move locked) (next (notify.Move locked))

@@ -28,7 +28,7 @@ use Rattle.spec_locks.specs.Locks.{keep_from}
 use Rattle.spec_locks.specs.Sites.{End, Main, Out, Site, has_readers}
 use Rattle.lot_machine.specs.Machine.{State, place_after_telling, place_at, put, queue_at, section_at}
 use Rattle.lot_machine.specs.Machine.{state_after_telling}
-use Rattle.lot_laws.specs.MutexDeeds.{acts}
+use Rattle.lot_laws.specs.ThreadDeeds.{acts}
 use Rattle.lot_laws.specs.Refinement.{taken_at}
 use Rattle.lot_laws.specs.Locations.{role_on, location_at}
 use Rattle.lot_laws.specs.SitesOf.{GoesAll, IsInductive, Sections, carried_at, condvar_of, hand_at, key_of}
@@ -43,7 +43,7 @@ use Rattle.lot_laws.proofs.sites.StandsKept.{Alike, calls_in, sections_same}
 use Rattle.lot_laws.proofs.sites.StandsMoved.{stands_by, there_in}
 use Rattle.lot_laws.proofs.sites.ToldAt.{HoldsHere, SameHands, by_told, calls_then, other_parts, places_are}
 use Rattle.lot_laws.proofs.sites.ToldAt as told
-use Rattle.lot_laws.proofs.sites.TwoLocks.{BehindIt, follow_two, goes_out_two, two_at}
+use Rattle.lot_laws.proofs.sites.TwoLocks.{AfterIt, follow_two, goes_out_two, two_at}
 use Rattle.lot_laws.proofs.condvar.TwoParts.{nothing_there, location_beside, location_there, taken_beside}
 use Rattle.lot_laws.proofs.condvar.TwoParts.{nothing_else}
 use Rattle.lot_laws.proofs.condvar.Replies as hears
@@ -56,7 +56,7 @@ use Rattle.lot_laws.proofs.sites.WakesAt as waking
 use Rattle.lot_laws.proofs.sites.WakesAt.{IsWokenAt, leaving_by}
 use Rattle.steps_condvar.specs.CondvarSteps.{notified}
 
-module _ (w : State) (t l m : ℕ) (all : Bool) (steady : IsInductive w) (is_there : t < length w.places)
+module _ (w : State) (t l m : ℕ) (all : Bool) (inductive : IsInductive w) (is_there : t < length w.places)
     (apart : m ≢ l)
     (sort_l : (rules_in w l).sort ≡ locks.Condvar) (sort_m : (rules_in w m).sort ≡ locks.Mutex)
     (plain : rules_in w m ≡ glue.mutex) (kept : IsCondvar (condvar_of w l))
@@ -105,40 +105,40 @@ module _ (w : State) (t l m : ℕ) (all : Bool) (steady : IsInductive w) (is_the
   same_hands k ne = (sym (unheld k), sym (carries_here k ne))
 
   holds : HoldsHere w t m
-  holds = holds_here w t m steady carries_here
+  holds = holds_here w t m inductive carries_here
 
   woken : (u : ℕ) (b : Bool) → hand_at (place_at w u) m ≡ hand t b → IsWokenAt w t m Normal (place_at w u)
   woken u b held = by_hand b held (sym (ap (λ (y : Location). y.carries) location_m)
-      ∙ steady.stands.hands.taken t u m b held)
+      ∙ inductive.stands.hands.taken t u m b held)
     where
       by_hand : (b : Bool) → hand_at (place_at w u) m ≡ hand t b → Some false ≡ Some b
           → IsWokenAt w t m Normal (place_at w u)
       by_hand false held e = let k : IsHeldThere m t (place_at w u) = held_there (place_at w u) t m
-          (calls_mutex_at w m (place_at w u) (steady.stands.calls u) plain) held in
+          (calls_mutex_at w m (place_at w u) (inductive.stands.calls u) plain) held in
           record {
             lets = tries m t (place_at w u) k;
             goes = k.woken.location;
             alike = k.woken.others;
-            fits = k.woken.fits tt w (steady.stands.calls u);
+            fits = k.woken.fits tt w (inductive.stands.calls u);
           }
       by_hand true held e = absurd cc
 
-  abbrev behind : ℕ → Place
-  behind = waking.behind w t m steady is_there Idle same_hands tt holds Normal woken
+  abbrev afterwards : ℕ → Place
+  afterwards = waking.afterwards w t m inductive is_there Idle same_hands tt holds Normal woken
 
   all_told : (u : ℕ) (b : Bool) → hand_at (place_at w u) m ≡ hand t b → told.IsToldAt w t m b None
       (Woken Normal) (place_at w u)
-  all_told = waking.all_told w t m steady is_there Idle same_hands tt holds Normal woken
+  all_told = waking.all_told w t m inductive is_there Idle same_hands tt holds Normal woken
 
-  -- ---------------------------------------------------------------- each lock behind it
+  -- ---------------------------------------------------------------- each lock after it
 
   abbrev v : State
-  v = put (state_after_telling (both.with_both w t l m all steady is_there apart sort_l sort_m kept aside
+  v = put (state_after_telling (both.with_both w t l m all inductive is_there apart sort_l sort_m kept aside
       section_l section_m None) t (Woken Normal)) t Idle
 
-  places : place_at v ≡ behind
-  places = places_are w t m steady Idle same_hands tt holds (Woken Normal) None all_told
-      (both.with_both w t l m all steady is_there apart sort_l sort_m kept aside section_l section_m None)
+  places : place_at v ≡ afterwards
+  places = places_are w t m inductive Idle same_hands tt holds (Woken Normal) None all_told
+      (both.with_both w t l m all inductive is_there apart sort_l sort_m kept aside section_l section_m None)
       refl is_there
 
   threads : length v.places ≡ length w.places
@@ -148,18 +148,20 @@ module _ (w : State) (t l m : ℕ) (all : Bool) (steady : IsInductive w) (is_the
   abbrev told_then : ℕ → Place
   told_then u = place_after_telling t (Woken Normal) (place_at w u)
 
-  own_then : behind t ≡ Idle
+  own_then : afterwards t ≡ Idle
   own_then = put_here told_then t Idle
 
   -- nobody is in its hand at the condition variable
   nobody_there : (u : ℕ) → hand_at (place_at w u) l ≡ hand t false → ⊥
-  nobody_there u h = let a : carried_at (place_at w t) l ≡ Some false = steady.stands.hands.taken t u l false
+  nobody_there u h = let a : carried_at (place_at w t) l ≡ Some false = inductive.stands.hands.taken t u l
+      false
       h in let b : carried_at (place_at w t) l ≡ None = carries_here l (λ e. apart (sym e)) in
       let c : ◌≡◌ {A = Option Bool} None (Some false) = sym b ∙ a in cc
 
-  lets_there : (u : ℕ) → u ≢ t → LetGo t l (place_at w u) (behind u)
+  lets_there : (u : ℕ) → u ≢ t → LetGo t l (place_at w u) (afterwards u)
   lets_there u ne = subst (LetGo t l (place_at w u)) (sym (put_other told_then t Idle u ne))
-      (by_told w t m steady Idle same_hands tt holds (Woken Normal) None all_told (LetGo t l (place_at w u)) u
+      (by_told w t m inductive Idle same_hands tt holds (Woken Normal) None all_told
+      (LetGo t l (place_at w u)) u
       (λ held. let z = (all_told u held.handed held.hand).alike l (λ e. apart (sym e)) in let k =
       stays t l (place_at w u) (untaken (place_at w u) t l (nobody_there u)) in record {
         taken = z.taken ∙ k.taken;
@@ -169,19 +171,21 @@ module _ (w : State) (t l m : ℕ) (all : Bool) (steady : IsInductive w) (is_the
 
   follows_m : FollowsBeside (rules_in w m) (site_of w m) (condvar_of w l) t m all leaving Done
   follows_m = notifiers_follow (rules_in w m) (site_of w m) (condvar_of w l) t m all leaving Done sort_m
-      (hears.role_beside w t l this steady is m refl) (notifier_hears w t l m all leaving steady kept aside is
+      (hears.role_beside w t l this inductive is m refl) (notifier_hears w t l m all leaving inductive kept
+      aside is
       refl)
 
   untaken_m : taken_at (place_at w t) m ≡ None
   untaken_m = ap (λ q. taken_at q m) is ∙ taken_beside l m apart (At this) refl
 
   same_word_of : (k : ℕ) → (parts_at w k).word ≡ code (rules_in w k) (glue.seen_in (rules_in w k) k
-      (parts_at w k) behind)
-  same_word_of k = steady.sites.word k ∙ same_word (rules_in w k).sort (rules_in w k).limit _ _ _ _ refl refl
+      (parts_at w k) afterwards)
+  same_word_of k = inductive.sites.word k ∙ same_word (rules_in w k).sort (rules_in w k).limit _ _ _ _ refl
+      refl
       refl refl refl refl
 
-  behind_l : BehindIt w v behind l (acts t (Out ∷ []))
-  behind_l = record {
+  after_l : AfterIt w v afterwards l (acts t (Out ∷ []))
+  after_l = record {
     parts = parts_at w l;
     here = λ i. record (parts_at w l) {
       base = record {
@@ -189,21 +193,24 @@ module _ (w : State) (t l m : ℕ) (all : Bool) (steady : IsInductive w) (is_the
         filled = (parts_at w l).base.filled;
       };
     };
-    led = leaving_by (rules_in w l) l (parts_at w l) (place_at w) behind t (ap (λ q. taken_at q l) own_then
-        ∙ sym (ap (keep_from t) (condvar.untaken w t l m this steady is_there apart sort_l is refl Done tt)))
+    led = leaving_by (rules_in w l) l (parts_at w l) (place_at w) afterwards t
+        (ap (λ q. taken_at q l) own_then
+        ∙ sym (ap (keep_from t) (condvar.untaken w t l m this inductive is_there apart sort_l is refl Done
+        tt)))
         lets_there (Out ∷ []) tt
         (ap (λ q. role_on q l) (own_then ∙ sym (put_here (place_at w) t Idle))
-        ∙ ap (λ (y : Site). y.role t) (condvar.out_steps w t l m this steady is_there apart sort_l is refl
+        ∙ ap (λ (y : Site). y.role t) (condvar.out_steps w t l m this inductive is_there apart sort_l is refl
         Done tt refl refl).site);
-    needed = (condvar.out_steps w t l m this steady is_there apart sort_l is refl Done tt refl refl).needed;
+    needed = (condvar.out_steps w t l m this inductive is_there apart sort_l is refl Done tt refl
+        refl).needed;
     coded = same_word_of l;
     sharers = refl;
     unshared = ap has_readers sort_l;
     by = λ e. absurd (let both : locks.Condvar ≡ locks.Semaphore = sym sort_l ∙ e in cc);
   }
 
-  behind_m : BehindIt w v behind m (acts t (Out ∷ End ∷ []))
-  behind_m = record {
+  after_m : AfterIt w v afterwards m (acts t (Out ∷ End ∷ []))
+  after_m = record {
     parts = parts_at w m;
     here = λ i. record (parts_at w m) {
       base = record {
@@ -211,8 +218,10 @@ module _ (w : State) (t l m : ℕ) (all : Bool) (steady : IsInductive w) (is_the
         filled = (parts_at w m).base.filled;
       };
     };
-    led = leaving_by (rules_in w m) m (parts_at w m) (place_at w) behind t (ap (λ q. taken_at q m) own_then
-        ∙ sym (ap (keep_from t) untaken_m)) (waking.lets w t m steady is_there Idle same_hands tt holds Normal
+    led = leaving_by (rules_in w m) m (parts_at w m) (place_at w) afterwards t
+        (ap (λ q. taken_at q m) own_then
+        ∙ sym (ap (keep_from t) untaken_m)) (waking.lets w t m inductive is_there Idle same_hands tt holds
+        Normal
         woken) (Out ∷ End ∷ []) tt
         (ap (λ q. role_on q m) own_then ∙ sym follows_m.role
         ∙ sym (ap (λ (y : Site). y.role t) (after_same (rules_in w m) (Out ∷ End ∷ []) (site_of w m) t)));
@@ -246,23 +255,25 @@ module _ (w : State) (t l m : ℕ) (all : Bool) (steady : IsInductive w) (is_the
     | inr nu ↦ other_outside u k nu
   ]
 
-  inside_then : (u k : ℕ) → (location_at (behind u) k).inside ≡ (outside u k).inside
+  inside_then : (u k : ℕ) → (location_at (afterwards u) k).inside ≡ (outside u k).inside
   inside_then u k = elim (cases_eq u t) [
     | inl e ↦ rw e (ap (λ q. (location_at q k).inside) own_then
         ∙ sym (ap (λ (y : Location). y.inside) (own_outside k)))
-    | inr nu ↦ other_parts w t m steady Idle same_hands tt holds (Woken Normal) None all_told (λ y. y.inside)
+    | inr nu ↦ other_parts w t m inductive Idle same_hands tt holds (Woken Normal) None all_told
+        (λ y. y.inside)
         (λ y h. refl) u k nu ∙ sym (ap (λ (y : Location). y.inside) (other_outside u k nu))
   ]
 
-  sections : Sections (locations_of behind) (section_at v)
-  sections = sections_same outside (locations_of behind) (section_at v)
-      (goes_out_two (locations_of (place_at w)) outside (section_at w) (queue_at w) (there_in w steady.stands)
-      t l m apart else_outside (section_at v) (both.elsewhere w t l m all steady is_there apart sort_l
+  sections : Sections (locations_of afterwards) (section_at v)
+  sections = sections_same outside (locations_of afterwards) (section_at v)
+      (goes_out_two (locations_of (place_at w)) outside (section_at w) (queue_at w)
+      (there_in w inductive.stands)
+      t l m apart else_outside (section_at v) (both.elsewhere w t l m all inductive is_there apart sort_l
       sort_m kept aside section_l section_m None)
-      (both.held_l w t l m all steady is_there apart sort_l sort_m kept aside section_l section_m None)
-      (both.held_m w t l m all steady is_there apart sort_l sort_m kept aside section_l section_m None)
+      (both.held_l w t l m all inductive is_there apart sort_l sort_m kept aside section_l section_m None)
+      (both.held_m w t l m all inductive is_there apart sort_l sort_m kept aside section_l section_m None)
       (ap (λ (y : Location). y.inside) location_l) (ap (λ (y : Location). y.inside) location_m
-      ∙ both.inside_leave w t l m all steady is_there apart sort_l sort_m kept aside section_l section_m
+      ∙ both.inside_leave w t l m all inductive is_there apart sort_l sort_m kept aside section_l section_m
       true number) (own_outside l) (own_outside m)).sections
       inside_then
 
@@ -276,21 +287,21 @@ module _ (w : State) (t l m : ℕ) (all : Bool) (steady : IsInductive w) (is_the
 
   pub goes_out_waking_both : GoesAll w v (two_at l m (acts t (Out ∷ [])) (acts t (Out ∷ End ∷ [])))
   goes_out_waking_both = record {
-    follows = follow_two w v steady behind places (λ k. refl) (record {
+    follows = follow_two w v inductive afterwards places (λ k. refl) (record {
       threads = threads;
       locks = refl;
       shares = refl;
-    }) l m others (acts t (Out ∷ [])) (acts t (Out ∷ End ∷ [])) apart behind_l behind_m;
-    stands = stands_by w v behind places (λ k. refl)
-        (waking.there_then w t m steady is_there Idle same_hands tt holds Normal woken refl own_hand
+    }) l m others (acts t (Out ∷ [])) (acts t (Out ∷ End ∷ [])) apart after_l after_m;
+    stands = stands_by w v afterwards places (λ k. refl)
+        (waking.there_then w t m inductive is_there Idle same_hands tt holds Normal woken refl own_hand
         (section_at v) sections (by_lock (λ k y. None ≡ y.stands) refl refl (λ k. refl))
         (by_lock (λ k y. None ≡ y.waits) refl refl (λ k. refl)))
-        (λ u. calls_in w v (behind u) (λ k. refl) (calls_then w t m steady Idle same_hands tt holds
+        (λ u. calls_in w v (afterwards u) (λ k. refl) (calls_then w t m inductive Idle same_hands tt holds
         (Woken Normal) None all_told u));
   }
     where
       others : (k : ℕ) → k ≢ l → k ≢ m → (parts_at v k ≡ parts_at w k)
-          × ((u : ℕ) → AlikeAt k (place_at w u) (behind u))
+          × ((u : ℕ) → AlikeAt k (place_at w u) (afterwards u))
       others k nl nm = (
         λ i. record (parts_at w k) {
           base = record {
@@ -298,7 +309,7 @@ module _ (w : State) (t l m : ℕ) (all : Bool) (steady : IsInductive w) (is_the
             filled = (parts_at w k).base.filled;
           };
         },
-        told.alike w t m steady Idle same_hands tt holds (Woken Normal) None all_told k nm (
+        told.alike w t m inductive Idle same_hands tt holds (Woken Normal) None all_told k nm (
           own_alike.taken,
           own_alike.role,
         ),

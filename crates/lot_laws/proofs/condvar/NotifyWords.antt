@@ -39,7 +39,7 @@ use Rattle.spec_locks.specs.Locks.{Rules}
 use Rattle.spec_locks.specs.Sites.{Deed, Main, MarkOwned, Site}
 use Rattle.lot_machine.specs.Machine.{State, can_do, owners_at, place_at, put, reply_to, state_after_act}
 use Rattle.lot_machine.specs.Machine.{word_at}
-use Rattle.lot_laws.specs.MutexDeeds.{acts}
+use Rattle.lot_laws.specs.ThreadDeeds.{acts}
 use Rattle.lot_laws.specs.Refinement.{taken_at}
 use Rattle.lot_laws.specs.Locations.{location_at}
 use Rattle.lot_laws.specs.SitesOf.{FitsItsLock, Goes, IsInductive, condvar_of, rules_in, site_of}
@@ -53,7 +53,7 @@ use Rattle.lot_laws.proofs.condvar.MutexUntouched as condvar
 use Rattle.lot_laws.proofs.condvar.MutexUntouched.{there_deeds, works_there}
 use Rattle.lot_laws.proofs.mutex.Acts.{IsOfWord, owned_by, works_at}
 
-module _ (w : State) (t l m : ℕ) (all : Bool) (steady : IsInductive w) (is_there : t < length w.places)
+module _ (w : State) (t l m : ℕ) (all : Bool) (inductive : IsInductive w) (is_there : t < length w.places)
     (apart : m ≢ l)
     (sort_l : (rules_in w l).sort ≡ locks.Condvar) (sort_m : (rules_in w m).sort ≡ locks.Mutex)
     (kept : IsCondvar (condvar_of w l)) where
@@ -84,14 +84,15 @@ module _ (w : State) (t l m : ℕ) (all : Bool) (steady : IsInductive w) (is_the
           → condvar.IsOfWord (condvar_deeds (notifies at) (Value (word_at w l)))
           → FitsItsLock w (condvar_goes l next)
           → KeptThere at f
-      works beside same stays of_word fits = works_there w t l m (notifies at) steady is_there apart sort_l is
+      works beside same stays of_word fits = works_there w t l m (notifies at) inductive is_there apart sort_l
+          is
           refl (Value (word_at w l)) beside fits
           (subst (λ q. Alike m q (condvar_goes l next)) (sym is) (alike_beside l m apart (At (notifies at))
           next refl beside same))
-          f lock acts_so refl (word_is w t l (notifies at) steady is) stays of_word
+          f lock acts_so refl (word_is w t l (notifies at) inductive is) stays of_word
           (condvar_steps_follow (condvar_of w l) t (notifies at) (Value (word_at w l)) kept
-          (at_it w t l (notifies at) steady is)
-          (subst (λ a. condvars_hear a) acts_so (may_hear w t l (notifies at) steady is can)))
+          (at_it w t l (notifies at) inductive is)
+          (subst (λ a. condvars_hear a) acts_so (may_hear w t l (notifies at) inductive is can)))
         where
           condvars_hear : Act → Type 0
           condvars_hear a = MayHear (condvar_of w l) t (notifies at) (reply_to w t a)
@@ -171,19 +172,19 @@ module _ (w : State) (t l m : ℕ) (all : Bool) (steady : IsInductive w) (is_the
 
       hears_it : MayHearBeside r here (condvar_of w l) t m all at (Value seen)
       hears_it = subst (λ a. MayHearBeside r here (condvar_of w l) t m all at (reply_to w t a)) acts_so
-          (notifier_hears w t l m all at steady kept aside is (subst (λ a. can_do w a ≡ true) (sym acts_so)
+          (notifier_hears w t l m all at inductive kept aside is (subst (λ a. can_do w a ≡ true) (sym acts_so)
           refl))
 
       follows : FollowsBeside r here (condvar_of w l) t m all at (Value seen)
       follows = notifiers_follow r here (condvar_of w l) t m all at (Value seen) sort_m
-          (hears.role_beside w t l (notifies at) steady is m refl) hears_it
+          (hears.role_beside w t l (notifies at) inductive is m refl) hears_it
 
       coded : apply f seen ≡ code r (laws.after_all r (does at) here t)
       coded = subst (λ v. apply f v ≡ code r
           (laws.after_all r (beside_deeds all (condvar_of w l).waiters at (Value v)) here t))
-          (sym (steady.sites.word m))
+          (sym (inductive.sites.word m))
           (notifiers_code r here (condvar_of w l) t l m all at f sort_m (λ e. apart (sym e))
-          (subst (λ v. MayHearBeside r here (condvar_of w l) t m all at (Value v)) (steady.sites.word m)
+          (subst (λ v. MayHearBeside r here (condvar_of w l) t m all at (Value v)) (inductive.sites.word m)
           hears_it) acts_so)
 
       works_beside : Beside m then_there → location_by (row_there then_there) ≡ there (notifies at)
@@ -196,7 +197,7 @@ module _ (w : State) (t l m : ℕ) (all : Bool) (steady : IsInductive w) (is_the
           → FitsItsLock w (condvar_goes l then_there)
           → KeptBeside at f
       works_beside beside stays same same_taken does_next unowned of_word keeps fits =
-          works_at w t m steady is_there sort_m (condvar_goes l then_there) alike fits
+          works_at w t m inductive is_there sort_m (condvar_goes l then_there) alike fits
           (Condvar l (notifies at)) f lock (does at) (owned_by r (does at) here t of_word) refl follows.needed
           (follows.role ∙ sym does_next ∙ sym (role_beside l m apart then_there beside)) (unowned
           ∙ sym (ap (with_exclusive (owners_at w m)) keeps)) coded
@@ -286,5 +287,5 @@ module _ (w : State) (t l m : ℕ) (all : Bool) (steady : IsInductive w) (is_the
         (rw some refl) refl refl refl tt refl fits
       where
         some : (number == 0) ≡ false
-        some = differ number 0 (hears.fits_here w t l (notifies (notify.MarkMoved number)) steady
+        some = differ number 0 (hears.fits_here w t l (notifies (notify.MarkMoved number)) inductive
             is).reached.1

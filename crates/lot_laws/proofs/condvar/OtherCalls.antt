@@ -106,14 +106,15 @@ condvar_carries l m apart at of k ne = elim (cases_eq k l) [
 ]
 
 -- a thread that it took there is woken
-module _ (w : State) (t m : ℕ) (steady : IsInductive w) (carries : CarriesAt m (place_at w t))
+module _ (w : State) (t m : ℕ) (inductive : IsInductive w) (carries : CarriesAt m (place_at w t))
     (took : carried_at (place_at w t) m ≡ Some false) (p2 : Place) where
   in_hand : (u : ℕ) → is_thread t (taker (place_at w u)) ≡ true → hand_at (place_at w u) m ≡ hand t false
   in_hand u e =
-      let x : IsInHandOf (place_at w u) t = in_hand_where (place_at w u) t (aparts w steady u) e in
+      let x : IsInHandOf (place_at w u) t = in_hand_where (place_at w u) t (aparts w inductive u) e in
       let here = subst (λ k. hand_at (place_at w u) k ≡ hand t x.handed) (in_hand_here (place_at w)
-      steady.stands.hands t m u carries x) x.hand in
-      let there : carried_at (place_at w t) m ≡ Some x.handed = steady.stands.hands.taken t u m x.handed here
+      inductive.stands.hands t m u carries x) x.hand in
+      let there : carried_at (place_at w t) m ≡ Some x.handed = inductive.stands.hands.taken t u m x.handed
+      here
       in
       here ∙ ap (hand t) (let g : Some x.handed ≡ Some false = sym there ∙ took in let f : x.handed ≡ false =
       cc in f)
@@ -128,8 +129,9 @@ module _ (w : State) (t m : ℕ) (steady : IsInductive w) (carries : CarriesAt m
     where
       same_test : (c : Bool) → is_thread t (taker (place_at w u)) ≡ c
           → is_thread t (taker (place_at w u)) ≡ is_taken_by t (taken_at (place_at w u) m)
-      same_test true e = e ∙ sym (taken_by_hand w (place_at w u) t m (steady.stands.calls u) (in_hand u e))
-      same_test false e = e ∙ sym (unless_held w steady t m u (λ h. let f : is_thread t (taker (place_at w u))
+      same_test true e = e ∙ sym (taken_by_hand w (place_at w u) t m (inductive.stands.calls u) (in_hand u e))
+      same_test false e = e ∙ sym (unless_held w inductive t m u
+          (λ h. let f : is_thread t (taker (place_at w u))
           ≡ true = held_tells (place_at w u) t m false h in cc))
 
   -- Calls of other threads say what their places say.
@@ -142,7 +144,7 @@ module _ (w : State) (t m : ℕ) (steady : IsInductive w) (carries : CarriesAt m
       v : State
       v = put (state_after_telling b t (Woken Normal)) t p2
 
-module _ (w : State) (t l m : ℕ) (timed : Bool) (steady : IsInductive w) (plain : (rules_in w m).sort
+module _ (w : State) (t l m : ℕ) (timed : Bool) (inductive : IsInductive w) (plain : (rules_in w m).sort
     ≡ locks.Mutex) where
   abbrev waits : WaitAt → CondvarPlace
   waits at = Wait m timed at
@@ -261,7 +263,7 @@ module _ (w : State) (t l m : ℕ) (timed : Bool) (steady : IsInductive w) (plai
       alone (wait.Release s (mutex.Unlock unlock.Enter)) tt tt
   quiet (wait.Release s (mutex.Unlock unlock.Take)) reached can calm = record {
     calm = two_calm m l _ None (taken (taken_by_wait w m (wait.Release s (mutex.Unlock unlock.Take)))) tt;
-    stays = λ p2. takes w t p2 steady m Main not_condvar
+    stays = λ p2. takes w t p2 inductive m Main not_condvar
         (Condvar l (waits (wait.Release s (mutex.Unlock unlock.Take)))) (2 * m) refl First;
   }
   quiet (wait.Release s (mutex.Unlock (unlock.Clear any))) reached can calm =
@@ -277,16 +279,17 @@ module _ (w : State) (t l m : ℕ) (timed : Bool) (steady : IsInductive w) (plai
   -- ---------------------------------------------------------------- a wait
 
   module _ (is_there : t < length w.places) (apart : m ≢ l) where
-    abbrev behind : WaitAt → Place → State
-    behind p p2 = put (state_after_act w t (Condvar l (waits p)) (wait_act l m p)) t p2
+    abbrev afterwards : WaitAt → Place → State
+    afterwards p p2 = put (state_after_act w t (Condvar l (waits p)) (wait_act l m p)) t p2
 
     -- it wakes the threads that it took
     wakes : (s : Stands) → place_at w t
         ≡ Condvar l (waits (wait.Release s (mutex.Unlock (unlock.Leave true)))) → (p2 : Place)
-        → Happens w (behind (wait.Release s (mutex.Unlock (unlock.Leave true))) p2) t (AtLock m locks.Wake)
-        → OthersFollow w (behind (wait.Release s (mutex.Unlock (unlock.Leave true))) p2) t
+        → Happens w (afterwards (wait.Release s (mutex.Unlock (unlock.Leave true))) p2) t
         (AtLock m locks.Wake)
-    wakes s is p2 h = wake_follows w t m steady (subst (CarriesAt m) (sym is)
+        → OthersFollow w (afterwards (wait.Release s (mutex.Unlock (unlock.Leave true))) p2) t
+        (AtLock m locks.Wake)
+    wakes s is p2 h = wake_follows w t m inductive (subst (CarriesAt m) (sym is)
         (condvar_carries l m apart this refl)) (ap (λ q. carried_at q m) is
         ∙ ap (λ (y : Location). y.carries) (location_beside l m apart (At this) refl)) p2
         (state_with_sections w (One (2 * m)) None) refl h
@@ -296,12 +299,13 @@ module _ (w : State) (t l m : ℕ) (timed : Bool) (steady : IsInductive w) (plai
 
     calmly : (p : WaitAt) → IsReached (waits p) → can_do w (wait_act l m p) ≡ true → (IsWaking p → ⊥)
         → (p2 : Place)
-        → Happens w (behind p p2) t (event p) → OthersFollow w (behind p p2) t (event p)
-    calmly p reached can calm p2 h = let q = quiet p reached can calm in calm_follow w (behind p p2) t
+        → Happens w (afterwards p p2) t (event p) → OthersFollow w (afterwards p p2) t (event p)
+    calmly p reached can calm p2 h = let q = quiet p reached can calm in calm_follow w (afterwards p p2) t
         (event p) h q.calm (q.stays p2)
 
     pub wait_others : (p : WaitAt) → IsReached (waits p) → place_at w t ≡ Condvar l (waits p)
         → can_do w (wait_act l m p) ≡ true
-        → (p2 : Place) → Happens w (behind p p2) t (event p) → OthersFollow w (behind p p2) t (event p)
+        → (p2 : Place) → Happens w (afterwards p p2) t (event p) → OthersFollow w (afterwards p p2) t
+        (event p)
     wait_others (wait.Release s (mutex.Unlock (unlock.Leave true))) reached is can p2 h = wakes s is p2 h
     wait_others p reached is can p2 h = calmly p reached can (λ e. e) p2 h

@@ -28,7 +28,7 @@ use Rattle.steps_condvar.specs.declared.wait.WaitAt.{WaitAt}
 use Rattle.steps_condvar.specs.declared.wait.WaitAt.TheVariants as wait
 use Rattle.steps_condvar.specs.CondvarCalls.{IsReached}
 use Rattle.steps_condvar.specs.CondvarProfiles.{has_given_up, has_released}
-use Rattle.steps_condvar.specs.CondvarSteps.{behind_release, condvar_act, condvar_first, condvar_next}
+use Rattle.steps_condvar.specs.CondvarSteps.{past_release, condvar_act, condvar_first, condvar_next}
 use Rattle.steps_condvar.specs.CondvarSteps.{in_notify, in_wait, is_shown, mutex_beside, mutex_shown}
 use Rattle.steps_condvar.specs.CondvarSteps.{next_notify, notified, notify_act, released, relocked}
 use Rattle.lot_steps.specs.declared.places.Place.TheVariants.{Condvar}
@@ -82,7 +82,7 @@ locker_stays : (n : ℕ) (timed late : Bool) (x : Next MutexPlace) (l : ℕ) (m 
 locker_stays n timed late (At at) l m e = e.2
 locker_stays n timed late (Over answer) l m e = e
 
-sleeper_stays : (n : ℕ) (timed : Bool) (s : Stands) → IsEntering (Wait n timed (behind_release s)) → ⊥
+sleeper_stays : (n : ℕ) (timed : Bool) (s : Stands) → IsEntering (Wait n timed (past_release s)) → ⊥
 sleeper_stays n timed (stands.Noted note.Normal) e = e
 sleeper_stays n timed (stands.Noted note.HandOff) e = e
 sleeper_stays n timed s e = e
@@ -205,7 +205,7 @@ IsReleasingNow (wait.Release s (mutex.Unlock unlock.Subtract)) = Unit {0}
 IsReleasingNow at = ⊥
 
 module _ (w : State) (t k n : ℕ) (timed : Bool) (r : ℕ → Rights) where
-  -- only then it has released its mutex behind a step before which it hadn't
+  -- only then it has released its mutex after a step before which it hadn't
   calm_unreleased : (at : WaitAt) → is_release at ≡ false → has_released at ≡ false
       → has_released_at k (next_of w t k (Wait n timed at) (Wait n timed at)) r ≡ true → ⊥
   calm_unreleased (wait.Release s at) calm before later = cc
@@ -236,10 +236,11 @@ module _ (w : State) (t k n : ℕ) (timed : Bool) (r : ℕ → Rights) where
 
 -- ---------------------------------------------------------------- a step
 
-module _ (w : State) (t k : ℕ) (at : CondvarPlace) (steady : IsInductive w) (is : place_at w t ≡ Condvar k at)
+module _ (w : State) (t k : ℕ) (at : CondvarPlace) (inductive : IsInductive w) (is : place_at w t
+    ≡ Condvar k at)
     (there : t < length w.places) where
   abbrev fits : FitsCondvar w k at
-  fits = fits_here w t k at steady is
+  fits = fits_here w t k at inductive is
 
   abbrev v : State
   v = state_after_going w t (Condvar k at)
@@ -270,7 +271,7 @@ module _ (w : State) (t k : ℕ) (at : CondvarPlace) (steady : IsInductive w) (i
             → SeesBy w t l m o v (call_state (Condvar k p) (rights w t))
         by_place (Wait j timed (wait.Release s (mutex.Unlock unlock.Subtract))) e sees =
             let sort : sort_at w l ≡ locks.Mutex = ap (sort_at w) (sym sees.0)
-            ∙ rules_beside w t k at steady is j (ap mutex_beside e) in (
+            ∙ rules_beside w t k at inductive is j (ap mutex_beside e) in (
               inl (sees.0, refl),
               sym sees.1,
               subst (λ (x : Sort). tells_by x (Some (Waits k j timed)) m (word_at w l) ≡ true) (sym sort)
@@ -306,7 +307,7 @@ module _ (w : State) (t k : ℕ) (at : CondvarPlace) (steady : IsInductive w) (i
             → SeesAt w (Wait j timed a) l m
         by_wait j timed a e here before later main saw =
             let sort : sort_at w l ≡ locks.Mutex = ap (sort_at w) (sym here)
-            ∙ rules_beside w t k at steady is j (ap mutex_beside e) in
+            ∙ rules_beside w t k at inductive is j (ap mutex_beside e) in
             let parked : is_parked (word_at w l) ≡ true =
             subst (λ (x : Sort). tells_of x Main (word_at w l) ≡ true) sort
             (subst (λ x. tells_of (sort_at w l) x (word_at w l) ≡ true) main saw) in
@@ -348,7 +349,8 @@ module _ (w : State) (t k : ℕ) (at : CondvarPlace) (steady : IsInductive w) (i
   -- it owes what it is inside, and what it has seen
   pub went_owing : IsInductive v → (l : ℕ) (m : Line)
       → Owes v t l m ↔ (IsInside v t l m ⊎ SeesWaiters w t l m (going_outcome w t (Condvar k at)) v)
-  went_owing behind l m = subst (λ o. Owes v t l m ↔ (IsInside v t l m ⊎ SeesWaiters w t l m o v)) (sym tells)
+  went_owing afterwards l m = subst (λ o. Owes v t l m ↔ (IsInside v t l m ⊎ SeesWaiters w t l m o v))
+      (sym tells)
       (by_next n refl goes)
     where
       called : (o : Outcome) → SeesBy w t l m o v (call_state (Condvar k at) (rights w t))
@@ -365,12 +367,12 @@ module _ (w : State) (t k : ℕ) (at : CondvarPlace) (steady : IsInductive w) (i
         (λ h. absurd (let none : ◌≡◌ {A = Option Line} None (Some m) = subst (λ p. line_owed p l ≡ Some m)
             stands h in cc)),
         λ h. elim h [
-          | inl i ↦ inside_owes_so v t behind l m i
+          | inl i ↦ inside_owes_so v t afterwards l m i
           | inr sees ↦ absurd (let o : told.End answer ≡ told.Step = sees.3 in cc)
         ],
       )
       by_next (At p) e stands = (
-        (λ h. elim ((two_owe v t behind k p stands l m).0 h) [
+        (λ h. elim ((two_owe v t afterwards k p stands l m).0 h) [
           | inl i ↦ inl i
           | inr enters ↦ (
               let way : IsOnItsWay k p (rights v t) = on_its_way k p (rights v t) enters.2 in
@@ -383,8 +385,8 @@ module _ (w : State) (t k : ℕ) (at : CondvarPlace) (steady : IsInductive w) (i
               )
         ]),
         λ h. elim h [
-          | inl i ↦ inside_owes_so v t behind l m i
-          | inr sees ↦ (two_owe v t behind k p stands l m).1
+          | inl i ↦ inside_owes_so v t afterwards l m i
+          | inr sees ↦ (two_owe v t afterwards k p stands l m).1
               (inr (subst (λ x. EntersNext x l m) e (sees_entering w t k at still.0 still.2 l m
               (seen_by l m (outcome_of (condvar_act k p)) (calls _ sees)))))
         ],
@@ -440,7 +442,11 @@ pub calm_owing : (w v : State) (t k : ℕ) (at : CondvarPlace) → IsInductive v
     → (IsEntering at → ⊥)
     → ((l : ℕ) → LetsOthersIn w t l → ⊥)
     → (l : ℕ) (m : Line) (o : Outcome) → Owes v t l m ↔ (IsInside v t l m ⊎ SeesWaiters w t l m o v)
-calm_owing w v t k at behind is calm shut l m o = (
-  (λ h. elim ((two_owe v t behind k at is l m).0 h) [ inl i ↦ inl i | inr enters ↦ absurd (calm enters.2) ]),
-  λ h. elim h [ inl i ↦ inside_owes_so v t behind l m i | inr sees ↦ absurd (shut l sees.0) ],
+calm_owing w v t k at afterwards is calm shut l m o = (
+  (λ h. elim ((two_owe v t afterwards k at is l m).0 h) [
+    | inl i ↦ inl i
+    | inr enters ↦
+        absurd (calm enters.2)
+  ]),
+  λ h. elim h [ inl i ↦ inside_owes_so v t afterwards l m i | inr sees ↦ absurd (shut l sees.0) ],
 )

@@ -26,7 +26,7 @@ use Rattle.steps_condvar.specs.declared.wait.WaitAt.{WaitAt}
 use Rattle.steps_condvar.specs.declared.wait.WaitAt.TheVariants as wait
 use Rattle.steps_condvar.specs.CondvarCalls.{IsLockOf, IsReached}
 use Rattle.steps_condvar.specs.CondvarProfiles.{wait_row}
-use Rattle.steps_condvar.specs.CondvarSteps.{stands_after, comes_from_another, behind_release, condvar_act}
+use Rattle.steps_condvar.specs.CondvarSteps.{stands_after, comes_from_another, past_release, condvar_act}
 use Rattle.steps_condvar.specs.CondvarSteps.{condvar_next, release_next, released}
 use Rattle.lot_steps.specs.declared.places.Place.{Place}
 use Rattle.lot_steps.specs.declared.places.Place.TheVariants.{Idle, Condvar}
@@ -135,14 +135,14 @@ release_stage : (m : ℕ) (s : Stands) (a : MutexPlace) (r : Reply) → (wait_ro
     ≡ None
 release_stage m s a r = by_reply (comes_from_another r)
   where
-    by_behind : (s : Stands) → (wait_row m (behind_release s)).stage ≡ None
-    by_behind (stands.Noted note.Normal) = refl
-    by_behind (stands.Noted note.HandOff) = refl
-    by_behind s = refl
+    by_after : (s : Stands) → (wait_row m (past_release s)).stage ≡ None
+    by_after (stands.Noted note.Normal) = refl
+    by_after (stands.Noted note.HandOff) = refl
+    by_after s = refl
 
     by_next : (n : Next MutexPlace) → (wait_row m (released s n)).stage ≡ None
     by_next (next.At b) = refl
-    by_next (next.End answer) = by_behind s
+    by_next (next.End answer) = by_after s
 
     by_reply : (b : Bool) → (wait_row m (if b then wait.Release (stands_after s r) a else released s
         (mutex_next a r))).stage ≡ None

@@ -55,7 +55,7 @@ pub record WokeItself (t : ℕ) (s s2 : Stands) (at : UnlockAt) : Type 0 where
   pub in_hand : s ≡ stands.InHand t
   pub noted : s2 ≡ stands.Noted note.Normal
 
-module _ (w : State) (t l m : ℕ) (timed : Bool) (steady : IsInductive w) (here : t < length w.places)
+module _ (w : State) (t l m : ℕ) (timed : Bool) (inductive : IsInductive w) (here : t < length w.places)
     (apart : m ≢ l)
     (sort : (rules_in w m).sort ≡ locks.Mutex) (plain : rules_in w m ≡ glue.mutex)
     (line : key_of m Main < length w.queues) (section : key_of m Main < length w.sections) where
@@ -72,33 +72,33 @@ module _ (w : State) (t l m : ℕ) (timed : Bool) (steady : IsInductive w) (here
     pub how : ((now ≡ s) × IsLeft t s at) ⊎ (TookItself w t m s now at ⊎ WokeItself t s now at)
 
   module _ (s : Stands) (is : place_at w t ≡ place_of s unlock.Take) where
-    abbrev behind_take : List Waiter → State
-    behind_take q = state_after_taking (record w { queues = queues_without_first w.queues (2 * m) }) t
+    abbrev after_take : List Waiter → State
+    after_take q = state_after_taking (record w { queues = queues_without_first w.queues (2 * m) }) t
         (first_of q)
 
     takes : (q : List Waiter) → queue_at w (2 * m) ≡ q → LeftAt s unlock.Take
     takes [] e = record {
       now = s;
-      place = ap (λ q. place_at (behind_take q) t) e ∙ is;
+      place = ap (λ q. place_at (after_take q) t) e ∙ is;
       how = inl (refl, λ f. absurd cc);
     }
     takes (x ∷ rest) e = elim (cases_eq x.thread t) [
       | inr other ↦ record {
         now = s;
-        place = ap (λ q. place_at (behind_take q) t) e ∙ get_or-set_other w.places x.thread t
+        place = ap (λ q. place_at (after_take q) t) e ∙ get_or-set_other w.places x.thread t
             (next_place (place_at w x.thread) (TakenBy t)) Idle (λ f. other (sym f)) ∙ is;
         how = inl (refl, λ f. absurd cc);
       }
       | inl itself ↦ record {
         now = stands.InHand t;
-        place = ap (λ q. place_at (behind_take q) t) e
+        place = ap (λ q. place_at (after_take q) t) e
             ∙ subst (λ u. get_or (set w.places u (next_place (place_at w u) (TakenBy t))) t Idle
             ≡ place_of (stands.InHand t) unlock.Take) (sym itself)
             (get_or-set_same w.places t (next_place (place_at w t) (TakenBy t)) Idle here
             ∙ ap (λ q. next_place q (TakenBy t)) is);
         how = inr (inl (record {
           takes = refl;
-          moved = moved_first w t l m timed steady here apart sort plain line s is x rest e itself;
+          moved = moved_first w t l m timed inductive here apart sort plain line s is x rest e itself;
           in_hand = refl;
           none_left = length rest == 0;
           told = ap (λ q. Took (is_there (first_of q)) (length (drop 1 q) == 0)) e;
@@ -112,7 +112,7 @@ module _ (w : State) (t l m : ℕ) (timed : Bool) (steady : IsInductive w) (here
 
   -- it opens its hand
   leaves : (s : Stands) → place_at w t ≡ place_of s (unlock.Leave true) → LeftAt s (unlock.Leave true)
-  leaves s is = by_stand s (not_given w t l m timed steady here apart sort plain section true s is)
+  leaves s is = by_stand s (not_given w t l m timed inductive here apart sort plain section true s is)
       (get_or-map (place_after_telling t (Woken note.Normal)) w.places t Idle
       ∙ ap (place_after_telling t (Woken note.Normal)) is)
     where

@@ -105,20 +105,21 @@ abbrev lock_out : LockAt → Type 0
 lock_out lock.Check = Unit {0}
 lock_out p = ⊥
 
-module _ (w : State) (t l : ℕ) (at : CondvarPlace) (steady : IsInductive w) (is : place_at w t ≡ Condvar l at)
+module _ (w : State) (t l : ℕ) (at : CondvarPlace) (inductive : IsInductive w) (is : place_at w t
+    ≡ Condvar l at)
   where
     pub fits_here : FitsCondvar w l at
-    fits_here = subst (FitsItsLock w) is (steady.stands.calls t)
+    fits_here = subst (FitsItsLock w) is (inductive.stands.calls t)
 
     abbrev pub here : CondvarSite
     here = condvar_of w l
 
     pub at_it : IsAt here t at
-    at_it = at_place w steady.stands t l at is
+    at_it = at_place w inductive.stands t l at is
 
     -- the word shows the mutex that is shown
     pub word_is : word_at w l ≡ word_showing here.shown
-    word_is = steady.sites.word l ∙ ap (λ sort. word_by sort (rules_in w l).limit (lock_state w l)
+    word_is = inductive.sites.word l ∙ ap (λ sort. word_by sort (rules_in w l).limit (lock_state w l)
         (site_of w l).aside_parked (site_of w l).parked) fits_here.sort ∙ shows here.shown
       where
         shows : (o : Option ℕ) → shown_code o ≡ word_showing o
@@ -218,10 +219,10 @@ module _ (w : State) (t l : ℕ) (at : CondvarPlace) (steady : IsInductive w) (i
       taken_beside = rw (is, differ l m (λ e. apart (sym e)), beside, same m) refl
 
       word_beside : word_at w m ≡ code rules there
-      word_beside = steady.sites.word m
+      word_beside = inductive.sites.word m
 
       free_beside : section_is_free w (2 * m) ≡ true → IsSectionFree there Main
-      free_beside free u h = let a : section_at w (2 * m) ≡ Some u = (steady.stands.sections u m Main).0
+      free_beside free u h = let a : section_at w (2 * m) ≡ Some u = (inductive.stands.sections u m Main).0
           (sym (inside_is (place_at w u) m) ∙ h) in
           let none : section_at w (2 * m) ≡ None = none_so (section_at w (2 * m)) free
           in let b : ◌≡◌ {A = Option ℕ} None (Some u) = sym none ∙ a in cc
@@ -231,7 +232,7 @@ module _ (w : State) (t l : ℕ) (at : CondvarPlace) (steady : IsInductive w) (i
       taken_nobody none u x h = let kept : keep_from t (taken_at (place_at w u) m) ≡ taken_at (place_at w u)
           m =
           untaken (place_at w u) t m (λ e. let a : carried_at (place_at w t) m ≡ Some false =
-          steady.stands.hands.taken t u m false e in let b : ◌≡◌ {A = Option Bool} None (Some false) =
+          inductive.stands.hands.taken t u m false e in let b : ◌≡◌ {A = Option Bool} None (Some false) =
           sym none
           ∙ a in cc) in
           let gone : keep_from t (Some (record { by = t; want = x })) ≡ Some (record { by = t; want = x }) =
@@ -265,12 +266,12 @@ module _ (w : State) (t l : ℕ) (at : CondvarPlace) (steady : IsInductive w) (i
           omega arith
         where
           stood : (n : Line) → times t (queue_at w (key_of m n)) ≡ 0
-          stood n = steady.stands.lines t m n ∙ ap (λ (y : Location). stood_in y.stands n) location_beside
+          stood n = inductive.stands.lines t m n ∙ ap (λ (y : Location). stood_in y.stands n) location_beside
               ∙ ap (λ o. stood_in o n) out
 
       stands_beside : (mutex_side at).stands ≡ Some Main → 1 ≤ locks.times t there.lock.queue
       stands_beside stands = let a : locks.times t there.lock.queue ≡ 1 = queued_times t (queue_at w (2 * m))
-          ∙ steady.stands.lines t m Main ∙ ap (λ (y : Location). stood_in y.stands Main) location_beside
+          ∙ inductive.stands.lines t m Main ∙ ap (λ (y : Location). stood_in y.stands Main) location_beside
           ∙ ap (λ o. stood_in o Main) stands in omega arith
 
       left_beside : (length (without t (queue_at w (2 * m))) == 0) ≡ is_empty
@@ -322,20 +323,20 @@ abbrev pub taken_by_wait : State → ℕ → WaitAt → Option ℕ
 taken_by_wait w m (wait.Release s (mutex.Unlock p)) = taken_first w m p
 taken_by_wait w m p = None
 
-module _ (w : State) (t l m : ℕ) (timed : Bool) (at : WaitAt) (steady : IsInductive w)
+module _ (w : State) (t l m : ℕ) (timed : Bool) (at : WaitAt) (inductive : IsInductive w)
     (is : place_at w t ≡ Condvar l (Wait m timed at)) where
   abbrev site_m : Site
   site_m = site_of w m
 
   wait_reached : IsReached (Wait m timed at)
-  wait_reached = (fits_here w t l (Wait m timed at) steady is).reached
+  wait_reached = (fits_here w t l (Wait m timed at) inductive is).reached
 
   out_of_line : (mutex_side (Wait m timed at)).stands ≡ None → (mutex_side (Wait m timed at)).hand ≡ None
       → standing t site_m.lock ≡ 0
-  out_of_line = nowhere_beside w t l (Wait m timed at) steady is m refl
+  out_of_line = nowhere_beside w t l (Wait m timed at) inductive is m refl
 
   carried : carried_at (place_at w t) m ≡ (mutex_side (Wait m timed at)).carries
-  carried = ap (λ (y : Location). y.carries) (location_beside w t l (Wait m timed at) steady is m refl)
+  carried = ap (λ (y : Location). y.carries) (location_beside w t l (Wait m timed at) inductive is m refl)
 
   pub waiter_hears : can_do w (wait_act l m at) ≡ true
       → MayHearWaiter (rules_in w m) site_m t at (taken_by_wait w m at) (reply_to w t (wait_act l m at))
@@ -348,7 +349,8 @@ module _ (w : State) (t l m : ℕ) (timed : Bool) (at : WaitAt) (steady : IsIndu
       by_place wait.Stand e = tt
       by_place wait.Leave e = tt
       by_place wait.Refuse e = tt
-      by_place (wait.Release s (mutex.Unlock p)) e = releasing_hears w t l (Wait m timed at) steady is m refl
+      by_place (wait.Release s (mutex.Unlock p)) e = releasing_hears w t l (Wait m timed at) inductive is m
+          refl
           s p
           (subst (λ q. IsReached (Wait m timed q)) e wait_reached).1 (carried
           ∙ ap (λ q. (mutex_side (Wait m timed q)).carries) e)
@@ -360,14 +362,14 @@ module _ (w : State) (t l m : ℕ) (timed : Bool) (at : WaitAt) (steady : IsIndu
       by_place wait.Hide e = tt
       by_place wait.GiveUp e = tt
       by_place wait.RemoveMoved e = (
-        stands_beside w t l (Wait m timed at) steady is m refl
+        stands_beside w t l (Wait m timed at) inductive is m refl
             (ap (λ q. (mutex_side (Wait m timed q)).stands) e),
-        left_beside w t l (Wait m timed at) steady is m
+        left_beside w t l (Wait m timed at) inductive is m
             refl,
       )
       by_place (wait.GiveUpMoved none_left) e = tt
       by_place (wait.Lock late (mutex.Lock entry.Lock retries p)) e = locking_hears w t l (Wait m timed at)
-          steady is m refl p
+          inductive is m refl p
           (subst (λ q. IsReached (Wait m timed q)) e wait_reached).1 (stood_out p e)
           (subst (λ q. can_do w (wait_act l m q) ≡ true) e can)
         where
@@ -380,7 +382,7 @@ module _ (w : State) (t l m : ℕ) (timed : Bool) (at : WaitAt) (steady : IsIndu
 
 -- ---------------------------------------------------------------- a notification, at the mutex
 
-module _ (w : State) (t l m : ℕ) (all : Bool) (at : NotifyAt) (steady : IsInductive w)
+module _ (w : State) (t l m : ℕ) (all : Bool) (at : NotifyAt) (inductive : IsInductive w)
     (condvars : IsCondvar (condvar_of w l))
     (aside : WaitsAside (condvar_of w l) (site_of w m) m) (is : place_at w t ≡ Condvar l (Notify all m at))
   where
@@ -391,14 +393,14 @@ module _ (w : State) (t l m : ℕ) (all : Bool) (at : NotifyAt) (steady : IsIndu
     this = Notify all m at
 
     notify_reached : IsReached this
-    notify_reached = (fits_here w t l this steady is).reached
+    notify_reached = (fits_here w t l this inductive is).reached
 
     pub fits_move : (locked : Bool) → at ≡ notify.Move locked → MoveFits (rules_in w m) all locked
         (condvar_of w l) beside_site t m
     fits_move locked e = condvar_moves_fit (rules_in w m) all locked (condvar_of w l) beside_site t m
-        (rules_beside w t l this steady is m refl) condvars aside
-        (subst (λ q. IsAt (condvar_of w l) t (Notify all m q)) e (at_it w t l this steady is))
-        (role_beside w t l this steady is m refl ∙ ap (λ q. (notify_row all m q).role) e)
+        (rules_beside w t l this inductive is m refl) condvars aside
+        (subst (λ q. IsAt (condvar_of w l) t (Notify all m q)) e (at_it w t l this inductive is))
+        (role_beside w t l this inductive is m refl ∙ ap (λ q. (notify_row all m q).role) e)
 
     -- somebody waits, so that the first of them is there
     any_waits : (q : List Waiter) → moved_of false (map queued_of q) ≢ [] → is_there (first_of q) ≡ true
@@ -432,19 +434,19 @@ module _ (w : State) (t l m : ℕ) (all : Bool) (at : NotifyAt) (steady : IsIndu
         by_place : (p : NotifyAt) → at ≡ p
             → MayHearBeside (rules_in w m) beside_site (condvar_of w l) t m all p
             (reply_to w t (notify_act all l m p))
-        by_place notify.Enter e = free_beside w t l this steady is m refl (both (section_is_free w (2 * l))
+        by_place notify.Enter e = free_beside w t l this inductive is m refl (both (section_is_free w (2 * l))
             (section_is_free w (2 * m)) (subst (λ q. can_do w (notify_act all l m q) ≡ true) e can)).1
         by_place notify.Again e = tt
         by_place notify.Hide e = tt
-        by_place notify.Mark e = steady.sites.word m
+        by_place notify.Mark e = inductive.sites.word m
         by_place (notify.Set seen) e = (
-          steady.sites.word m,
+          inductive.sites.word m,
           subst (λ q. IsReached (Notify all m q)) e
               notify_reached,
         )
         by_place (notify.Move locked) e = by_move all locked refl e
         by_place (notify.Clear any) e = tt
         by_place (notify.MarkMoved number) e = (subst (λ q. IsReached (Notify all m q)) e notify_reached).1
-        by_place (notify.Leave any number) e = taken_beside w t l this steady is m refl
+        by_place (notify.Leave any number) e = taken_beside w t l this inductive is m refl
             ∙ ap (λ q. taken_from (mutex_side (Notify all m q)).hand (mutex_side (Notify all m q)).wants true)
             e

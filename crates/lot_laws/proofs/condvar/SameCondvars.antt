@@ -25,7 +25,7 @@ use Rattle.spec_locks.specs.Sites.{Main}
 use Rattle.lot_machine.specs.Machine.{State, closed_place, place_at, put, section_at}
 use Rattle.lot_laws.specs.Refinement.{lock_state}
 use Rattle.lot_laws.specs.SitesOf.{AreCondvars, condvar_of, inside_as, key_of}
-use Rattle.lot_laws.proofs.calls.Closings.{closing, is_behind}
+use Rattle.lot_laws.proofs.calls.Closings.{closing, is_after}
 use Rattle.lot_laws.proofs.calls.Closures.{RunsOne}
 use Rattle.lot_laws.proofs.condvar.Rows.{names_of, row_says, stage_of}
 
@@ -130,6 +130,6 @@ pub closing_condvars : (w : State) (t : ℕ) (there : t < length w.places) (succ
     → AreCondvars w → AreCondvars (closing w t there succeeded one)
 closing_condvars w t there succeeded one condvars = put_condvars w t (closed_place w t succeeded) there
     (λ k. (
-      ap (λ q. stage_of q k) (is_behind w t there succeeded one) ∙ sym (ap (λ q. stage_of q k) one.is),
-      ap (λ q. names_of q k) (is_behind w t there succeeded one) ∙ sym (ap (λ q. names_of q k) one.is),
+      ap (λ q. stage_of q k) (is_after w t there succeeded one) ∙ sym (ap (λ q. stage_of q k) one.is),
+      ap (λ q. names_of q k) (is_after w t there succeeded one) ∙ sym (ap (λ q. names_of q k) one.is),
     )) condvars

@@ -141,13 +141,14 @@ condvar_lines c (Notify all m at) reached = notify_lines c m all at
 
 -- ---------------------------------------------------------------- the sections and queues that it touches
 
-module _ (w : State) (t c : ℕ) (at : CondvarPlace) (steady : IsInductive w) (is : place_at w t ≡ Condvar c at)
+module _ (w : State) (t c : ℕ) (at : CondvarPlace) (inductive : IsInductive w) (is : place_at w t
+    ≡ Condvar c at)
     (fits : FitsItsLock w (Condvar c at)) where
   -- it holds each section in which its row has it
   pub holds_key : (key : ℕ) → IsInsideKey c at key → section_at w key ≡ Some t
-  holds_key key (inl h) = ap (section_at w) h.0 ∙ (steady.stands.sections t c Main).0
-      (ap (λ (s : Location). s.inside) (location_there w steady.stands t c at is) ∙ h.1)
-  holds_key key (inr h) = ap (section_at w) h.2 ∙ (steady.stands.sections t h.0 Main).0
+  holds_key key (inl h) = ap (section_at w) h.0 ∙ (inductive.stands.sections t c Main).0
+      (ap (λ (s : Location). s.inside) (location_there w inductive.stands t c at is) ∙ h.1)
+  holds_key key (inr h) = ap (section_at w) h.2 ∙ (inductive.stands.sections t h.0 Main).0
       (ap (λ p. (location_at p h.0).inside) is ∙ ap (λ (s : Location). s.inside)
       (location_beside c h.0 (condvar_apart w c at fits h.0 h.1) at h.1) ∙ h.3)
 
@@ -187,9 +188,10 @@ module _ (w : State) (t c : ℕ) (at : CondvarPlace) (steady : IsInductive w) (i
     second_out k (Some Second) e = absurd (two_stand_main c at k e)
 
     stood_out : (k : ℕ) (n : Line) → key_of k n ≢ key → times t (queue_at w (key_of k n)) ≡ 0
-    stood_out k Main ne = steady.stands.lines t k Main ∙ ap (λ p. stood_in (location_at p k).stands Main) is
+    stood_out k Main ne = inductive.stands.lines t k Main ∙ ap (λ p. stood_in (location_at p k).stands Main)
+        is
         ∙ main_out k ne (location_at (Condvar c at) k).stands (stands_at c at k)
-    stood_out k Second ne = steady.stands.lines t k Second
+    stood_out k Second ne = inductive.stands.lines t k Second
         ∙ ap (λ p. stood_in (location_at p k).stands Second) is
         ∙ second_out k (location_at (Condvar c at) k).stands refl
 

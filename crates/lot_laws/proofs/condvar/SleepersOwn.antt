@@ -79,15 +79,15 @@ pub sleepers_own : (w : State) → IsInductive w → (t l m : ℕ) (timed : Bool
     → sleeps (act_of (place_at w t)) ≡ true → (call_at w t).gave_up ≡ None
     → (IsNotified (call_at w t).recalls → ⊥)
     → Trades (locks_of w) t (call_at w t) m (Some Exclusive) None
-sleepers_own w steady t l m timed waits asleep gave_up unnotified = elim (single_or_two (place_at w t)) [
-  | inl single ↦ absurd (subst CallsOneLock waits (calls_one_lock w t steady single))
+sleepers_own w inductive t l m timed waits asleep gave_up unnotified = elim (single_or_two (place_at w t)) [
+  | inl single ↦ absurd (subst CallsOneLock waits (calls_one_lock w t inductive single))
   | inr two ↦ loses (locks_of w) t (call_at w t) m Exclusive (by_two two)
 ]
   where
     by_two : IsOfTwo (place_at w t) → (k : ℕ)
         → one_more_at m Exclusive (rights w t) k ≡ (call_at w t).former k
     by_two two = subst (Gave (rights w t) m) (sym two.is)
-        (by_place (rights w t) two.lock two.at (fits_two w t steady two).reached
+        (by_place (rights w t) two.lock two.at (fits_two w t inductive two).reached
         (sym (ap act_of two.is) ∙ asleep_is (act_of (place_at w t)) asleep) l m timed
         (sym (two_purpose two.lock two.at (rights w t)) ∙ sym
         (ap (λ p. (call_state p (rights w t)).purpose) two.is) ∙ waits)

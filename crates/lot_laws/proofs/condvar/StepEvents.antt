@@ -33,7 +33,7 @@ use Rattle.spec_locks.specs.Runs.{woken}
 use Rattle.spec_locks.specs.Sites.{Deed, Site}
 use Rattle.spec_locks.proofs.Deeds.{deeds_lead, deeds_need}
 use Rattle.lot_machine.specs.Machine.{State, kind_at, place_at}
-use Rattle.lot_laws.specs.MutexDeeds.{Act, acts}
+use Rattle.lot_laws.specs.ThreadDeeds.{Act, acts}
 use Rattle.lot_laws.specs.Refinement.{call_at, call_on_both, call_state, lock_state, locks_of, taken_at}
 use Rattle.lot_laws.specs.SitesOf.{ActsNeeded, FollowAll, IsInductive, after_acts, rules_in, site_of}
 use Rattle.lot_laws.proofs.calls.Events.{CallLed, GoesAs, Happens, RunsNothing, never_starts, OthersFollow}

@@ -24,8 +24,8 @@ use Rattle.spec_locks.specs.Locks.{Rights}
 use Rattle.spec_locks.specs.Runs.{CallState, Event, GoesOn, going_on, is_taken_by, woken}
 use Rattle.lot_machine.specs.Fits.{IsWellFormed}
 use Rattle.lot_machine.specs.Machine.{State, can_do, place_at, reply_to, state_after_going, word_at}
-use Rattle.lot_laws.specs.MutexDeeds.{acts}
-use Rattle.lot_laws.specs.MutexDeeds as deeds
+use Rattle.lot_laws.specs.ThreadDeeds.{acts}
+use Rattle.lot_laws.specs.ThreadDeeds as deeds
 use Rattle.lot_laws.specs.Refinement.{lock_state, locks_of, taken_at}
 use Rattle.lot_laws.specs.SitesOf.{GoesAll, IsInductive, condvar_of}
 use Rattle.lot_laws.proofs.calls.Events.{OthersFollow, rights}
@@ -33,7 +33,7 @@ use Rattle.lot_laws.proofs.condvar.Replies.{fits_here, taken_by_wait, word_is}
 use Rattle.lot_laws.proofs.condvar.OwnStand.{look_place, notify_place}
 use Rattle.lot_laws.proofs.condvar.MutexUntouched.{there_deeds}
 use Rattle.lot_laws.proofs.condvar.MachineFollows.{goes_led}
-use Rattle.lot_laws.proofs.sites.Following.{goes_all_steady}
+use Rattle.lot_laws.proofs.sites.Following.{goes_all_inductive}
 use Rattle.lot_laws.proofs.condvar.LookEvents.{look_goes}
 use Rattle.lot_laws.proofs.condvar.NotifyEvents.{notify_goes}
 use Rattle.lot_laws.proofs.condvar.WaitEvents.{wait_goes, wait_goes_told}
@@ -65,12 +65,12 @@ abbrev pub IsUnwoken : State → ℕ → ℕ → ℕ → Bool → WaitAt → Typ
 IsUnwoken w t l m timed p = woken (locks_of w) t (own_event w t l m p) t (going_on (own_event w t l m p)
     (own_call w t l m timed p)) ≡ going_on (own_event w t l m p) (own_call w t l m timed p)
 
-module _ (w v : State) (t l : ℕ) (shape : IsWellFormed w) (steady : IsInductive w)
+module _ (w v : State) (t l : ℕ) (shape : IsWellFormed w) (inductive : IsInductive w)
     (condvar : IsCondvar (condvar_of w l))
     (there : t < length w.places) (lt : l < length w.locks) (all_deeds : ℕ → List deeds.Act)
     (goes : GoesAll w v all_deeds) where
   after : IsInductive v
-  after = goes_all_steady w v all_deeds steady goes.follows goes.stands
+  after = goes_all_inductive w v all_deeds inductive goes.follows goes.stands
 
   -- a wait that goes on from where it stood
   pub wait_step : (m : ℕ) (timed : Bool) (p : WaitAt) → place_at w t ≡ Condvar l (Wait m timed p)
@@ -85,12 +85,12 @@ module _ (w v : State) (t l : ℕ) (shape : IsWellFormed w) (steady : IsInductiv
       (condvar_does l (condvar_next (Wait m timed p) (reply_to w t (wait_act l m p)))))
       (locks_of v)
   wait_step m timed p is led can elsewhere at_l at_m goes_there unwoken others =
-      wait_goes w v t l m timed p steady after condvar is can all_deeds goes.follows elsewhere at_l at_m
+      wait_goes w v t l m timed p inductive after condvar is can all_deeds goes.follows elsewhere at_l at_m
       goes_there unwoken
       (ap (λ (x : State). (lock_state x l).shown) led
-      ∙ (goes_led w t l (Wait m timed p) shape steady is lt can).0)
+      ∙ (goes_led w t l (Wait m timed p) shape inductive is lt can).0)
       (wait_rests v t l m timed after (next_wait m timed p (reply_to w t (wait_act l m p))) goes_there
-      (wait_settles w t l m timed steady p is (fits_here w t l (Wait m timed p) steady is).reached can))
+      (wait_settles w t l m timed inductive p is (fits_here w t l (Wait m timed p) inductive is).reached can))
       others
 
   -- A thread goes on from where its own act has left it.
@@ -109,7 +109,8 @@ module _ (w v : State) (t l : ℕ) (shape : IsWellFormed w) (steady : IsInductiv
       → OthersFollow w v t (own_event w t l m p) → GoesOn (locks_of w) t (outcome_of (wait_act l m q2))
       (locks_of v)
   told_step m timed p q q2 is can elsewhere at_l at_m says there settled makes made woken_so others =
-      wait_goes_told w v t l m timed p steady after condvar is can all_deeds goes.follows elsewhere at_l at_m
+      wait_goes_told w v t l m timed p inductive after condvar is can all_deeds goes.follows elsewhere at_l
+      at_m
       q q2 says there makes made woken_so
       (wait_rests v t l m timed after (next.At q2) there settled) others
 
@@ -125,13 +126,14 @@ module _ (w v : State) (t l : ℕ) (shape : IsWellFormed w) (steady : IsInductiv
       → GoesOn (locks_of w) t (outcome_of
       (condvar_does l (condvar_next (Notify all m p) (reply_to w t (notify_act all l m p)))))
       (locks_of v)
-  notify_step m all p is led can elsewhere at_l at_m others = notify_goes w v t l m all p steady after condvar
-      (waits_aside w steady l (fits_here w t l (Notify all m p) steady is).sort m) is can all_deeds
+  notify_step m all p is led can elsewhere at_l at_m others = notify_goes w v t l m all p inductive after
+      condvar
+      (waits_aside w inductive l (fits_here w t l (Notify all m p) inductive is).sort m) is can all_deeds
       goes.follows elsewhere at_l at_m
       (ap (λ (x : State). place_at x t) led ∙ notify_place w t l m all p is
-      (fits_here w t l (Notify all m p) steady is).reached there) free
+      (fits_here w t l (Notify all m p) inductive is).reached there) free
       (ap (λ (x : State). (lock_state x l).shown) led
-      ∙ (goes_led w t l (Notify all m p) shape steady is lt can).0) others
+      ∙ (goes_led w t l (Notify all m p) shape inductive is lt can).0) others
     where
       free : (k : ℕ) → is_taken_by t (taken_at (place_at w t) k) ≡ false
       free k = ap (λ q. is_taken_by t (taken_at q k)) is ∙ either (is_lock k (Some m) && not (l == k))
@@ -155,11 +157,11 @@ module _ (w v : State) (t l : ℕ) (shape : IsWellFormed w) (steady : IsInductiv
   look_step all is led nothing others =
       subst (λ n. GoesOn (locks_of w) t (outcome_of (condvar_does l (condvar_next (Look all) (Value n))))
       (locks_of v)) (sym shows)
-      (look_goes w v t l all steady after is all_deeds goes.follows nothing stands_so free
+      (look_goes w v t l all inductive after is all_deeds goes.follows nothing stands_so free
       (subst (λ n. OthersFollow w v t (look_event l n)) shows others))
     where
       shows : word_at w l ≡ word_showing (lock_state w l).shown
-      shows = word_is w t l (Look all) steady is
+      shows = word_is w t l (Look all) inductive is
 
       stands_so : place_at v t ≡ condvar_goes l
           (condvar_next (Look all) (Value (word_showing (lock_state w l).shown)))

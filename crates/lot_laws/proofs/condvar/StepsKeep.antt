@@ -37,7 +37,7 @@ use Rattle.lot_machine.specs.Machine.{State, after, can_do, can_turn, is_free_un
 use Rattle.lot_machine.specs.Machine.{kind_at, place_at, put, queue_at, reply_to, runs_closure, section_at}
 use Rattle.lot_machine.specs.Machine.{state_after_going, state_after_late_on, state_after_look}
 use Rattle.lot_machine.specs.Machine.{state_after_turn, step_outcome}
-use Rattle.lot_machine.proofs.Shape.{both, looking_shaped}
+use Rattle.lot_machine.proofs.Shape.{both, looking_well_formed}
 use Rattle.lot_laws.specs.Refinement.{lock_state, locks_of}
 use Rattle.lot_laws.specs.Locations.{location_at}
 use Rattle.lot_laws.specs.SitesOf.{AreCondvars, AreCounted, FitsCondvar, FitsItsLock, IsInductive, Stands}
@@ -54,33 +54,33 @@ use Rattle.lot_laws.proofs.condvar.MachineFollows.{goes_led}
 use Rattle.lot_laws.proofs.machine.Parts.{calls_none, put_other, same}
 use Rattle.lot_laws.proofs.machine.KindsStay.{after_kinds}
 use Rattle.lot_laws.proofs.calls.LockSteps.{IsTurn, after_step}
-use Rattle.lot_laws.proofs.calls.Looking.{looking_steady}
+use Rattle.lot_laws.proofs.calls.Looking.{looking_inductive}
 use Rattle.lot_laws.proofs.sites.OneStep.{queued_times}
 use Rattle.lot_laws.proofs.sites.StandsMoved.{mutex_rules}
-use Rattle.lot_laws.proofs.sites.TurnsKept.{after_steady}
+use Rattle.lot_laws.proofs.sites.TurnsKept.{after_inductive}
 
 -- the other threads' places say of a condition variable what they said
 abbrev OthersSay : State → State → ℕ → ℕ → Type 0
 OthersSay w v t l = (u : ℕ) → u ≢ t → (stage_of (place_at v u) l ≡ stage_of (place_at w u) l)
     × (names_of (place_at v u) l ≡ names_of (place_at w u) l)
 
-module _ (w v : State) (t l : ℕ) (at : CondvarPlace) (shape : IsWellFormed w) (steady : IsInductive w)
+module _ (w v : State) (t l : ℕ) (at : CondvarPlace) (shape : IsWellFormed w) (inductive : IsInductive w)
     (stands_then : Stands v)
     (is : place_at w t ≡ Condvar l at) (there : t < length w.places) (lt : l < length w.locks)
     (condvar : IsCondvar (condvar_of w l)) (says : OthersSay w v t l) (section : SectionChanges
     (section_at w (key_of l Main)) t (section_at v (key_of l Main))) where
   fits : FitsCondvar w l at
-  fits = subst (FitsItsLock w) is (steady.stands.calls t)
+  fits = subst (FitsItsLock w) is (inductive.stands.calls t)
 
   -- it goes on
   goes_on : v ≡ state_after_going w t (Condvar l at) → can_do w (condvar_act l at) ≡ true
       → IsCondvar (condvar_of v l)
-  goes_on led can = condvar_stays w v t l at (reply_to w t (condvar_act l at)) steady.stands stands_then is
+  goes_on led can = condvar_stays w v t l at (reply_to w t (condvar_act l at)) inductive.stands stands_then is
       (went w t l at is fits.reached there)
       (ap (λ (x : State). place_at x t) led ∙ went_place w t l at is fits.reached there)
-      (went_alike w t l at is fits.reached there) condvar (may_hear w t l at steady is can) says section
-      (ap (λ (x : State). (lock_state x l).shown) led ∙ (goes_led w t l at shape steady is lt can).0)
-      (ap (λ (x : State). (lock_state x l).queue) led ∙ (goes_led w t l at shape steady is lt can).1)
+      (went_alike w t l at is fits.reached there) condvar (may_hear w t l at inductive is can) says section
+      (ap (λ (x : State). (lock_state x l).shown) led ∙ (goes_led w t l at shape inductive is lt can).0)
+      (ap (λ (x : State). (lock_state x l).queue) led ∙ (goes_led w t l at shape inductive is lt can).1)
 
   -- it goes into the section of the queue where it slept
   slept : (p : CondvarPlace) (key : ℕ) → at ≡ p → v ≡ state_after_late_on w t (Some key)
@@ -88,7 +88,7 @@ module _ (w v : State) (t l : ℕ) (at : CondvarPlace) (shape : IsWellFormed w) 
       → (lock_state v l).shown ≡ (after_condvar_deeds (condvar_deeds p Late) (condvar_of w l) t).shown
       → (lock_state v l).queue ≡ (after_condvar_deeds (condvar_deeds p Late) (condvar_of w l) t).waiters
       → IsCondvar (condvar_of v l)
-  slept p key e led hears shown waiters = condvar_stays w v t l p Late steady.stands stands_then (is
+  slept p key e led hears shown waiters = condvar_stays w v t l p Late inductive.stands stands_then (is
       ∙ ap (Condvar l) e) (condvar_next p Late)
       (ap (λ (x : State). place_at x t) led ∙ get_or-set_same w.places t (next_place (place_at w t) Late) Idle
       there ∙ ap (λ q. next_place q Late) (is ∙ ap (Condvar l) e))
@@ -104,7 +104,8 @@ module _ (w v : State) (t l : ℕ) (at : CondvarPlace) (shape : IsWellFormed w) 
           → v ≡ state_after_late_on w t (late_key (Condvar l (Wait m timed p)))
           → is_free_under w (late_key (Condvar l (Wait m timed p))) ≡ true → IsCondvar (condvar_of v l)
       by_wait m true (wait.Asleep stands.Listed) e led free = slept (Wait m true (wait.Asleep stands.Listed))
-          (2 * l) e led (free_inside w t l at steady is free) (ap (λ (x : State). (lock_state x l).shown) led)
+          (2 * l) e led (free_inside w t l at inductive is free) (ap (λ (x : State). (lock_state x l).shown)
+          led)
           (ap (λ (x : State). (lock_state x l).queue) led)
       by_wait m true (wait.Asleep stands.Moved) e led free = slept (Wait m true (wait.Asleep stands.Moved))
           (2 * m) e led tt (ap (λ (x : State). (lock_state x l).shown) led)
@@ -151,7 +152,7 @@ looks_from l (Wait m timed p) q is = absurd cc
 looks_from l (Look all) q is = absurd cc
 looks_from l (Notify all m p) q is = absurd cc
 
-module _ (w : State) (s : Step) (shape : IsWellFormed w) (steady : IsInductive w) (counted : AreCounted w)
+module _ (w : State) (s : Step) (shape : IsWellFormed w) (inductive : IsInductive w) (counted : AreCounted w)
     (condvars : AreCondvars w)
     (l : ℕ) (at : CondvarPlace) (is : place_at w s.thread ≡ Condvar l at) (lt : l < length w.locks)
     (condvar : IsCondvar (condvar_of w l)) where
@@ -162,7 +163,7 @@ module _ (w : State) (s : Step) (shape : IsWellFormed w) (steady : IsInductive w
   t = s.thread
 
   stands_then : Stands v
-  stands_then = (after_steady w s shape steady counted condvars).stands
+  stands_then = (after_inductive w s shape inductive counted condvars).stands
 
   says : OthersSay w v t l
   says u ne = (
@@ -172,14 +173,14 @@ module _ (w : State) (s : Step) (shape : IsWellFormed w) (steady : IsInductive w
 
   section : SectionChanges (section_at w (key_of l Main)) t (section_at v (key_of l Main))
   section = let step : IsTurn (locks_of w) s (step_outcome w s) (locks_of v) =
-      after_step w s shape steady counted condvars in step.0.sections (key_of l Main)
+      after_step w s shape inductive counted condvars in step.0.sections (key_of l Main)
 
   -- from where it looks
   looks : (q : Place) → t < length w.places → looking (place_at w t) ≡ Some q
       → v ≡ state_after_look w t (Some q)
       → IsCondvar (condvar_of v l)
-  looks q there looking_is led = goes_on looked v t l from.place (looking_shaped w t q shape looking_is)
-      (looking_steady w t there q looking_is steady) stands_then (here ∙ from.is)
+  looks q there looking_is led = goes_on looked v t l from.place (looking_well_formed w t q shape looking_is)
+      (looking_inductive w t there q looking_is inductive) stands_then (here ∙ from.is)
       (rw (length-set w.places t q) there) lt
       (subst IsCondvar (sym same_there) condvar) says_there section (led ∙ ap (state_after_going looked t)
       (here ∙ from.is)) (from.acts looked)
@@ -212,9 +213,10 @@ module _ (w : State) (s : Step) (shape : IsWellFormed w) (steady : IsInductive w
 
   turned : t < length w.places → (x : Turn) → can_turn w t x ≡ true → v ≡ state_after_turn w t x
       → IsCondvar (condvar_of v l)
-  turned there turn.TheVariants.Go can led = goes_on w v t l at shape steady stands_then is there lt condvar
+  turned there turn.TheVariants.Go can led = goes_on w v t l at shape inductive stands_then is there lt
+      condvar
       says section (led ∙ ap (state_after_going w t) is) (ap (λ p. can_do w (act_of p)) (sym is) ∙ can)
-  turned there turn.TheVariants.Late can led = late w v t l at shape steady stands_then is there lt condvar
+  turned there turn.TheVariants.Late can led = late w v t l at shape inductive stands_then is there lt condvar
       says section (led ∙ ap (λ p. state_after_late_on w t (late_key p)) is)
       (ap (λ p. is_free_under w (late_key p)) (sym is) ∙ can)
   turned there turn.TheVariants.Spin can led = by_look (looking (place_at w t)) refl led
@@ -248,11 +250,11 @@ module _ (w : State) (s : Step) (shape : IsWellFormed w) (steady : IsInductive w
 
 -- ---------------------------------------------------------------- a call begins
 
-module _ (w : State) (t l : ℕ) (steady : IsInductive w) (idle : place_at w t ≡ Idle) (there : t
+module _ (w : State) (t l : ℕ) (inductive : IsInductive w) (idle : place_at w t ≡ Idle) (there : t
     < length w.places)
     (condvar : IsCondvar (condvar_of w l)) where
   unlisted : times t (condvar_of w l).waiters ≡ 0
-  unlisted = queued_times t (queue_at w (2 * l)) ∙ steady.stands.lines t l Main
+  unlisted = queued_times t (queue_at w (2 * l)) ∙ inductive.stands.lines t l Main
       ∙ ap (λ p. stood_in (location_at p l).stands Main) idle
 
   not_inside_yet : IsInsideNot (condvar_of w l).inside t
@@ -262,7 +264,8 @@ module _ (w : State) (t l : ℕ) (steady : IsInductive w) (idle : place_at w t �
           → IsInsideNot (inside_as o (λ u. (profile_at (place_at w u) l).stage)) t
       by_section None e = tt
       by_section (Some u) e = λ own.
-          let in_it : (location_at (place_at w t) l).inside ≡ Some Main = (steady.stands.sections t l Main).1
+          let in_it : (location_at (place_at w t) l).inside ≡ Some Main =
+          (inductive.stands.sections t l Main).1
           (e ∙ ap Some own) in
           let out : (location_at (place_at w t) l).inside ≡ None = ap (λ p. (location_at p l).inside) idle in
           let never : ◌≡◌ {A = Option Line} None (Some Main) = sym out ∙ in_it in cc
@@ -326,7 +329,7 @@ is_or_not (Some j) k = elim (cases_eq j k) [ inl e ↦ inl (ap Some e) | inr ne 
 condvar_place : (w : State) → IsInductive w → (t l : ℕ) → (rules_in w l).sort ≡ locks.Condvar
     → called_lock (place_at w t) ≡ Some l
     → (at : CondvarPlace) × (place_at w t ≡ Condvar l at)
-condvar_place w steady t l sort own = by_place (place_at w t) refl (steady.stands.calls t) own
+condvar_place w inductive t l sort own = by_place (place_at w t) refl (inductive.stands.calls t) own
   where
     by_place : (p : Place) → place_at w t ≡ p → FitsItsLock w p → called_lock p ≡ Some l
         → (at : CondvarPlace) × (place_at w t ≡ Condvar l at)
@@ -344,7 +347,7 @@ condvar_place w steady t l sort own = by_place (place_at w t) refl (steady.stand
 
 pub after_condvars : (w : State) (s : Step) → IsWellFormed w → IsInductive w → AreCounted w → AreCondvars w
     → AreCondvars (after w s)
-after_condvars w s shape steady counted condvars l sort_then =
+after_condvars w s shape inductive counted condvars l sort_then =
     by_lock (is_or_not (called_lock (place_at w s.thread)) l)
     (is_or_not (called_lock (place_at (after w s) s.thread)) l)
   where
@@ -377,7 +380,7 @@ after_condvars w s shape steady counted condvars l sort_then =
             by_first (call.Condvar k x) e led = let here : k ≡ l = cc in
                 subst (λ (z : State). IsCondvar (condvar_of z l))
                 (sym (led ∙ ap (λ j. put w s.thread (Condvar j (condvar_first x))) here))
-                (begun w s.thread l steady idle there (condvars l sort) x)
+                (begun w s.thread l inductive idle there (condvars l sort) x)
 
         turned_idle : s.thread < length w.places → (x : Turn) → can_turn w s.thread x ≡ true
             → after w s ≡ state_after_turn w s.thread x → IsCondvar (condvar_of (after w s) l)
@@ -412,20 +415,20 @@ after_condvars w s shape steady counted condvars l sort_then =
         → (called_lock (place_at (after w s) s.thread) ≡ Some l)
         ⊎ (called_lock (place_at (after w s) s.thread) ≢ Some l)
         → IsCondvar (condvar_of (after w s) l)
-    by_lock (inl own) behind =
-        let at = condvar_place w steady s.thread l sort own in
+    by_lock (inl own) afterwards =
+        let at = condvar_place w inductive s.thread l sort own in
         let fits : PlaceFits (length w.locks) (Condvar l at.0) = subst (PlaceFits (length w.locks)) at.1
         (shape.places s.thread) in
-        own_condvar w s shape steady counted condvars l at.0 at.1 fits.0 (condvars l sort)
-    by_lock (inr other) (inl own) = elim (moved_on w s shape steady counted condvars) [
+        own_condvar w s shape inductive counted condvars l at.0 at.1 fits.0 (condvars l sort)
+    by_lock (inr other) (inl own) = elim (moved_on w s shape inductive counted condvars) [
       | inl stays ↦ absurd (elim stays [
         | inl same_lock ↦ other (sym same_lock ∙ own)
         | inr ended ↦
             let never : ◌≡◌ {A = Option ℕ} None (Some l) = sym ended ∙ own in cc
       ])
-      | inr none ↦ let at = condvar_place (after w s) (after_steady w s shape steady counted condvars)
+      | inr none ↦ let at = condvar_place (after w s) (after_inductive w s shape inductive counted condvars)
           s.thread l sort_then own in begins at.0 at.1 none
     ]
     by_lock (inr other) (inr other_then) =
-        subst IsCondvar (sym (condvar_kept w s shape steady counted condvars l sort other other_then))
+        subst IsCondvar (sym (condvar_kept w s shape inductive counted condvars l sort other other_then))
         (condvars l sort)

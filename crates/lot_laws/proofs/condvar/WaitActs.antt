@@ -24,7 +24,7 @@ use Rattle.spec_locks.specs.Locks as locks
 use Rattle.spec_locks.specs.Sites.{Main}
 use Rattle.lot_machine.specs.Machine.{State, can_do, place_at, put, queue_at, reply_to, section_at}
 use Rattle.lot_machine.specs.Machine.{state_after_act, word_at}
-use Rattle.lot_laws.specs.MutexDeeds.{acts}
+use Rattle.lot_laws.specs.ThreadDeeds.{acts}
 use Rattle.lot_laws.specs.Locations.{location_at}
 use Rattle.lot_laws.specs.SitesOf.{FitsItsLock, Goes, IsInductive, condvar_of, key_of, rules_in}
 use Rattle.lot_laws.proofs.sites.StandsKept.{Alike}
@@ -45,7 +45,7 @@ IsAtCondvar wait.Hide = Unit {0}
 IsAtCondvar wait.GiveUp = Unit {0}
 IsAtCondvar at = ⊥
 
-module _ (w : State) (t l m : ℕ) (timed : Bool) (steady : IsInductive w) (is_there : t < length w.places)
+module _ (w : State) (t l m : ℕ) (timed : Bool) (inductive : IsInductive w) (is_there : t < length w.places)
     (apart : m ≢ l)
     (sort : (rules_in w l).sort ≡ locks.Condvar) (condvar : IsCondvar (condvar_of w l))
     (lock : l < length w.locks) (section : key_of l Main < length w.sections) (line : key_of l Main
@@ -77,22 +77,24 @@ module _ (w : State) (t l m : ℕ) (timed : Bool) (steady : IsInductive w) (is_t
   enters : place_at w t ≡ Condvar l (waits wait.Enter) → can_do w (wait_act l m wait.Enter) ≡ true
       → FitsNext wait.Enter
       → Kept wait.Enter
-  enters is can fits = enters_there w t l m (waits wait.Enter) steady is_there apart sort is refl Done refl
+  enters is can fits = enters_there w t l m (waits wait.Enter) inductive is_there apart sort is refl Done refl
       fits (same_beside wait.Enter is (At (waits wait.Show)) refl (refl, refl, refl))
       section (none_so (section_at w (2 * l)) can) refl refl
 
   stands : place_at w t ≡ Condvar l (waits wait.Stand) → FitsNext wait.Stand → Kept wait.Stand
-  stands is fits = stands_there w t l m (waits wait.Stand) steady is_there apart sort is refl Done refl fits
+  stands is fits = stands_there w t l m (waits wait.Stand) inductive is_there apart sort is refl Done refl
+      fits
       (same_beside wait.Stand is (At (waits wait.Leave)) refl (refl, refl, refl)) (outside wait.Stand is refl)
       line refl refl
 
   leaves : place_at w t ≡ Condvar l (waits wait.Leave) → FitsNext wait.Leave → Kept wait.Leave
-  leaves is fits = leaves_there w t l m (waits wait.Leave) steady is_there apart sort is refl Done refl fits
+  leaves is fits = leaves_there w t l m (waits wait.Leave) inductive is_there apart sort is refl Done refl
+      fits
       (same_beside wait.Leave is (condvar_next (waits wait.Leave) Done) refl (refl, refl, refl)) section refl
       refl
 
   gives_up : place_at w t ≡ Condvar l (waits wait.GiveUp) → FitsNext wait.GiveUp → Kept wait.GiveUp
-  gives_up is fits = leaves_there w t l m (waits wait.GiveUp) steady is_there apart sort is refl Done refl
+  gives_up is fits = leaves_there w t l m (waits wait.GiveUp) inductive is_there apart sort is refl Done refl
       fits (same_beside wait.GiveUp is (condvar_next (waits wait.GiveUp) Done) refl (refl, refl, refl))
       section refl refl
 
@@ -113,7 +115,7 @@ module _ (w : State) (t l m : ℕ) (timed : Bool) (steady : IsInductive w) (is_t
   removed_there false = refl
 
   removes : place_at w t ≡ Condvar l (waits wait.Remove) → FitsNext wait.Remove → Kept wait.Remove
-  removes is fits = leaves_list w t l m (waits wait.Remove) steady is_there apart sort is refl
+  removes is fits = leaves_list w t l m (waits wait.Remove) inductive is_there apart sort is refl
       (Removed none_left) (removed_next none_left) fits (same_beside wait.Remove is
       (condvar_next (waits wait.Remove) (Removed none_left)) (removed_next none_left)
       (removed_same none_left))
@@ -145,13 +147,13 @@ module _ (w : State) (t l m : ℕ) (timed : Bool) (steady : IsInductive w) (is_t
   shows : place_at w t ≡ Condvar l (waits wait.Show) → can_do w (wait_act l m wait.Show) ≡ true
       → FitsNext wait.Show
       → Kept wait.Show
-  shows is can fits = works_there w t l m (waits wait.Show) steady is_there apart sort is refl (Value seen)
+  shows is can fits = works_there w t l m (waits wait.Show) inductive is_there apart sort is refl (Value seen)
       (shows_next (sees seen)) fits (same_beside wait.Show is (condvar_next (waits wait.Show) (Value seen))
       (shows_next (sees seen)) (shows_same (sees seen)))
-      (op.Exchange 0 (shown_as m)) lock refl refl (word_is w t l (waits wait.Show) steady is)
+      (op.Exchange 0 (shown_as m)) lock refl refl (word_is w t l (waits wait.Show) inductive is)
       (shows_there (sees seen)) (shows_deeds (sees seen))
       (condvar_steps_follow (condvar_of w l) t (waits wait.Show) (Value seen) condvar
-      (at_it w t l (waits wait.Show) steady is) (may_hear w t l (waits wait.Show) steady is can))
+      (at_it w t l (waits wait.Show) inductive is) (may_hear w t l (waits wait.Show) inductive is can))
     where
       seen : ℕ
       seen = word_at w l
@@ -162,15 +164,15 @@ module _ (w : State) (t l m : ℕ) (timed : Bool) (steady : IsInductive w) (is_t
   hides : place_at w t ≡ Condvar l (waits wait.Hide) → can_do w (wait_act l m wait.Hide) ≡ true
       → FitsNext wait.Hide
       → Kept wait.Hide
-  hides is can fits = works_there w t l m (waits wait.Hide) steady is_there apart sort is refl
+  hides is can fits = works_there w t l m (waits wait.Hide) inductive is_there apart sort is refl
       (Value (word_at w l)) refl fits (same_beside wait.Hide is (At (waits wait.GiveUp)) refl (
         refl,
         refl,
         refl,
       ))
-      (op.Store 0) lock refl refl (word_is w t l (waits wait.Hide) steady is) refl tt
+      (op.Store 0) lock refl refl (word_is w t l (waits wait.Hide) inductive is) refl tt
       (condvar_steps_follow (condvar_of w l) t (waits wait.Hide) (Value (word_at w l)) condvar
-      (at_it w t l (waits wait.Hide) steady is) (may_hear w t l (waits wait.Hide) steady is can))
+      (at_it w t l (waits wait.Hide) inductive is) (may_hear w t l (waits wait.Hide) inductive is can))
 
   pub waits_there : (at : WaitAt) → IsAtCondvar at → place_at w t ≡ Condvar l (waits at)
       → can_do w (wait_act l m at) ≡ true

@@ -42,8 +42,8 @@ use Rattle.steps_base.specs.Calls.{rights_where}
 use Rattle.steps_base.specs.Locations.{Location}
 use Rattle.lot_steps.specs.declared.places.Place.TheVariants.{Condvar}
 use Rattle.lot_steps.specs.Steps.{condvar_does, condvar_goes}
-use Rattle.lot_laws.specs.MutexDeeds.{acts}
-use Rattle.lot_laws.specs.MutexDeeds as deeds
+use Rattle.lot_laws.specs.ThreadDeeds.{acts}
+use Rattle.lot_laws.specs.ThreadDeeds as deeds
 use Rattle.lot_laws.specs.Refinement.{call_at, call_state, lock_state, locks_of}
 use Rattle.lot_laws.specs.SitesOf.{FollowAll, IsInductive, condvar_of, rules_in, site_of}
 use Rattle.lot_laws.proofs.machine.AtPlaces.{in_no_hand, taken_nobody}
@@ -208,7 +208,7 @@ never_moves m l None None c k n all owned e = cc
 never_moves m l None (Some b) c k n all owned e = cc
 never_moves m l (Some a) y c k n all owned e = cc
 
-module _ (w v : State) (t l m : ℕ) (timed : Bool) (p : WaitAt) (steady : IsInductive w)
+module _ (w v : State) (t l m : ℕ) (timed : Bool) (p : WaitAt) (inductive : IsInductive w)
     (after : IsInductive v)
     (condvar_holds : IsCondvar (condvar_of w l)) (is : place_at w t ≡ Condvar l (Wait m timed p))
     (can : can_do w (wait_act l m p) ≡ true)
@@ -225,60 +225,63 @@ module _ (w v : State) (t l m : ℕ) (timed : Bool) (p : WaitAt) (steady : IsInd
   event = wait_event l m p whom told
 
   reached : IsReached (Wait m timed p)
-  reached = (fits_here w t l (Wait m timed p) steady is).reached
+  reached = (fits_here w t l (Wait m timed p) inductive is).reached
 
   one : OneAtATime m p whom told
   one = wait_one w t l m timed p reached can
 
   apart_m : m ≢ l
-  apart_m = apart w t l (Wait m timed p) steady is m refl
+  apart_m = apart w t l (Wait m timed p) inductive is m refl
 
   -- it has nobody in hand but by its place
   nobody_there : HasTakenNobody (lock_state w l) t
-  nobody_there = taken_nobody w steady t l (rw (is, same l) refl)
+  nobody_there = taken_nobody w inductive t l (rw (is, same l) refl)
 
   nobody_beside : wait_carries p ≢ Some false → HasTakenNobody (lock_state w m) t
-  nobody_beside none = in_no_hand w steady t m
-      (λ h. none (sym (ap (λ (y : Location). y.carries) (location_beside w t l (Wait m timed p) steady is m
+  nobody_beside none = in_no_hand w inductive t m
+      (λ h. none (sym (ap (λ (y : Location). y.carries) (location_beside w t l (Wait m timed p) inductive is m
       refl)) ∙ h))
 
   pub wait_happened : Happens w v t event
-  wait_happened = wait_happens w v t l m apart_m steady after all f elsewhere p whom told at_l at_m one.there
+  wait_happened = wait_happens w v t l m apart_m inductive after all f elsewhere p whom told at_l at_m
+      one.there
       one.beside nobody_there nobody_beside one.alone
 
-  -- its mutex behind it
-  abbrev behind : LockState
-  behind = (after_all (rules_in w m) (waiter_deeds p whom told) (site_of w m) t).lock
+  -- its mutex after it
+  abbrev afterwards : LockState
+  afterwards = (after_all (rules_in w m) (waiter_deeds p whom told) (site_of w m) t).lock
 
-  led_beside : lock_state v m ≡ behind
-  led_beside = locks_led w v t l m apart_m steady after all f elsewhere m (acts t (waiter_deeds p whom told))
+  led_beside : lock_state v m ≡ afterwards
+  led_beside = locks_led w v t l m apart_m inductive after all f elsewhere m
+      (acts t (waiter_deeds p whom told))
       at_m ∙ deeds_by (rules_in w m) t (waiter_deeds p whom told) (site_of w m)
 
   led_there : lock_state v l ≡ (after_all (rules_in w l) (there_deeds (wait_deeds m p told)) (site_of w l)
       t).lock
-  led_there = locks_led w v t l m apart_m steady after all f elsewhere l
+  led_there = locks_led w v t l m apart_m inductive after all f elsewhere l
       (acts t (there_deeds (wait_deeds m p told))) at_l ∙ deeds_by (rules_in w l) t
       (there_deeds (wait_deeds m p told)) (site_of w l)
 
-  rights_led : (k : ℕ) → rights v t k ≡ rights_where m behind t (rights w t) k
-  rights_led k = put_is (rights w t) m (rights_of behind t) k (rights v t k)
+  rights_led : (k : ℕ) → rights v t k ≡ rights_where m afterwards t (rights w t) k
+  rights_led k = put_is (rights w t) m (rights_of afterwards t) k (rights v t k)
       (λ e. rw e (ap (λ s. rights_of s t) led_beside)) (λ nm. elim (cases_eq k l) [
         | inl e ↦ rw e (ap (λ s. rights_of s t) led_there ∙ there_rights (wait_deeds m p told) (rules_in w l)
             (site_of w l) t)
-        | inr nl ↦ ap (λ s. rights_of s t) (others w v t l m apart_m steady after all f elsewhere k nl nm)
+        | inr nl ↦ ap (λ s. rights_of s t) (others w v t l m apart_m inductive after all f elsewhere k nl nm)
       ])
 
   -- which mutex its deeds leave shown
   abbrev shown_then : Option ℕ
   shown_then = (condvar.after_condvar_deeds (condvar_deeds (Wait m timed p) told) (condvar_of w l) t).shown
 
-  follows : CallOfTwoFollows l m (Wait m timed p) told event shown_then (lock_state w m) behind t
+  follows : CallOfTwoFollows l m (Wait m timed p) told event shown_then (lock_state w m) afterwards t
       (condvar_next (Wait m timed p) told)
   follows = waits_tell (condvar_of w l) (rules_in w m) (site_of w m) t l m timed p whom told
-      (rules_beside w t l (Wait m timed p) steady is m refl) condvar_holds
-      (at_it w t l (Wait m timed p) steady is) (steady.sites.site m)
-      (role_beside w t l (Wait m timed p) steady is m refl) (may_hear w t l (Wait m timed p) steady is can)
-      (waiter_hears w t l m timed p steady is can) reached
+      (rules_beside w t l (Wait m timed p) inductive is m refl) condvar_holds
+      (at_it w t l (Wait m timed p) inductive is) (inductive.sites.site m)
+      (role_beside w t l (Wait m timed p) inductive is m refl) (may_hear w t l (Wait m timed p) inductive is
+      can)
+      (waiter_hears w t l m timed p inductive is can) reached
 
   -- its call
   abbrev pub call : CallState
@@ -288,7 +291,7 @@ module _ (w v : State) (t l m : ℕ) (timed : Bool) (p : WaitAt) (steady : IsInd
   call_is = call_named w t l m (Wait m timed p) is refl
 
   may : MayHappen (locks_of w) t event
-  may = may_go w v t l m (Wait m timed p) call_is told event wait_happened shown_then behind follows.may
+  may = may_go w v t l m (Wait m timed p) call_is told event wait_happened shown_then afterwards follows.may
       (λ c k every owned n e. absurd (never_moves m l _ _ c k n every owned e))
 
   -- the step goes on by that event, where it stands then as its reply says, isn't woken by itself, and the
@@ -301,8 +304,8 @@ module _ (w v : State) (t l m : ℕ) (timed : Bool) (p : WaitAt) (steady : IsInd
       → OthersFollow w v t event
       → GoesOn (locks_of w) t (outcome_of (condvar_does l (condvar_next (Wait m timed p) told))) (locks_of v)
   wait_goes there unwoken shown rests others_follow = condvar_goes_on w v t l m (Wait m timed p) call_is told
-      event wait_happened shown_then behind (condvar_next (Wait m timed p) told) _ may
-      (call_led w v t l m (Wait m timed p) call_is told event wait_happened shown_then behind
+      event wait_happened shown_then afterwards (condvar_next (Wait m timed p) told) _ may
+      (call_led w v t l m (Wait m timed p) call_is told event wait_happened shown_then afterwards
       (condvar_next (Wait m timed p) told) _ (unheard w t (wait_act l m p) _) unwoken
       follows.becomes there (names_wait m timed (next_wait m timed p told)) shown rights_led rests)
       others_follow (begins_two (locks_of w) l (Wait m timed p) event _ follows.may
@@ -317,7 +320,7 @@ module _ (w v : State) (t l m : ℕ) (timed : Bool) (p : WaitAt) (steady : IsInd
       → (k : ℕ) × GoesAs v t k (outcome_of (wait_act l m q2)) → OthersFollow w v t event
       → GoesOn (locks_of w) t (outcome_of (wait_act l m q2)) (locks_of v)
   wait_goes_told q q2 says there makes made woken_so goes_as others_follow =
-      condvar_goes_on w v t l m (Wait m timed p) call_is told event wait_happened shown_then behind
+      condvar_goes_on w v t l m (Wait m timed p) call_is told event wait_happened shown_then afterwards
       (next.At (Wait m timed q2)) _ may
       (inl (
         call_now ∙ made (rights v t)
@@ -331,10 +334,11 @@ module _ (w v : State) (t l m : ℕ) (timed : Bool) (p : WaitAt) (steady : IsInd
     where
       call_now : call_state (place_at v t) (rights v t) ≡ calls.condvar_call_by l m (Wait m timed q2)
           (rights v t)
-      call_now = call_then w v t l m (Wait m timed p) call_is told event wait_happened shown_then behind
+      call_now = call_then w v t l m (Wait m timed p) call_is told event wait_happened shown_then afterwards
           (Wait m timed q2) there refl
 
-      becomes : BecomesOfTwo l m (Wait m timed p) told event shown_then (lock_state w m) behind t
+      becomes : BecomesOfTwo l m (Wait m timed p) told event shown_then (lock_state w m) afterwards t
           (next.At (Wait m timed q))
-      becomes = subst (BecomesOfTwo l m (Wait m timed p) told event shown_then (lock_state w m) behind t) says
+      becomes = subst (BecomesOfTwo l m (Wait m timed p) told event shown_then (lock_state w m) afterwards t)
+          says
           follows.becomes

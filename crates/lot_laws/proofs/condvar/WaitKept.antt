@@ -33,8 +33,8 @@ use Rattle.spec_locks.specs.Locks as locks
 use Rattle.spec_locks.specs.Sites.{Main}
 use Rattle.lot_machine.specs.Machine.{State, can_do, place_at, put, reply_to, state_after_act}
 use Rattle.lot_machine.specs.Machine.{queues_with_last, word_at}
-use Rattle.lot_laws.specs.MutexDeeds.{acts}
-use Rattle.lot_laws.specs.MutexDeeds as deeds
+use Rattle.lot_laws.specs.ThreadDeeds.{acts}
+use Rattle.lot_laws.specs.ThreadDeeds as deeds
 use Rattle.lot_laws.specs.SitesOf.{FitsItsLock, Goes, GoesAll, IsInductive, condvar_of, key_of, rules_in}
 use Rattle.lot_laws.proofs.sites.Following.{goes_all, only_at}
 use Rattle.lot_laws.proofs.machine.Parts as glue
@@ -54,10 +54,10 @@ use Rattle.steps_base.specs.Acts.{holds}
 use Rattle.core_base.specs.declared.wants.Want.TheVariants.{Exclusive}
 
 -- a step of one of two locks
-module _ (w v : State) (l m : ℕ) (apart : m ≢ l) (steady : IsInductive w) where
+module _ (w v : State) (l m : ℕ) (apart : m ≢ l) (inductive : IsInductive w) where
   pub of_one : (ds none : List deeds.Act) → none ≡ [] → Goes w v l ds → GoesAll w v (two_at l m ds none)
   of_one ds none e g = subst (λ x. GoesAll w v (two_at l m ds x)) (sym e) (subst (GoesAll w v)
-      (λ i k. at_lock k i) (goes_all w v l ds steady g))
+      (λ i k. at_lock k i) (goes_all w v l ds inductive g))
     where
       at_lock : (k : ℕ) → only_at l ds k ≡ two_at l m ds [] k
       at_lock k = either (k == l) (k == m)
@@ -69,7 +69,7 @@ module _ (w v : State) (l m : ℕ) (apart : m ≢ l) (steady : IsInductive w) wh
 
   pub of_other : (none ds : List deeds.Act) → none ≡ [] → Goes w v m ds → GoesAll w v (two_at l m none ds)
   of_other none ds e g = subst (λ x. GoesAll w v (two_at l m x ds)) (sym e)
-      (subst (GoesAll w v) (λ i k. at_lock k i) (goes_all w v m ds steady g))
+      (subst (GoesAll w v) (λ i k. at_lock k i) (goes_all w v m ds inductive g))
     where
       at_lock : (k : ℕ) → only_at m ds k ≡ two_at l m [] ds k
       at_lock k = either (k == l) (k == m) refl refl
@@ -80,7 +80,7 @@ module _ (w v : State) (l m : ℕ) (apart : m ≢ l) (steady : IsInductive w) wh
           either true false e f = refl
           either false b e f = refl
 
-module _ (w : State) (t l m : ℕ) (timed : Bool) (steady : IsInductive w) (is_there : t < length w.places)
+module _ (w : State) (t l m : ℕ) (timed : Bool) (inductive : IsInductive w) (is_there : t < length w.places)
     (apart : m ≢ l)
     (sort_l : (rules_in w l).sort ≡ locks.Condvar) (sort_m : (rules_in w m).sort ≡ locks.Mutex)
     (plain : rules_in w m ≡ glue.mutex) (condvar : IsCondvar (condvar_of w l))
@@ -119,14 +119,14 @@ module _ (w : State) (t l m : ℕ) (timed : Bool) (steady : IsInductive w) (is_t
         → (FitsItsLock w next → Goes w (put (after at a) t next) l
         (acts t (there_deeds (wait_deeds m at (told a)))))
         → GoesOnBy at a
-    there none g = from_there _ (λ fits. of_one w (put (after at a) t next) l m apart steady
+    there none g = from_there _ (λ fits. of_one w (put (after at a) t next) l m apart inductive
         (acts t (there_deeds (wait_deeds m at (told a))))
         (acts t (waiter_deeds at (taken_by_wait w m at) (told a))) (ap (acts t) none) (g fits))
 
     beside : there_deeds (wait_deeds m at (told a)) ≡ [] → taken_by_wait w m at ≡ None
         → (FitsItsLock w next → Goes w (put (after at a) t next) m (acts t (waiter_deeds at None (told a))))
         → GoesOnBy at a
-    beside none nobody g = from_there _ (λ fits. of_other w (put (after at a) t next) l m apart steady
+    beside none nobody g = from_there _ (λ fits. of_other w (put (after at a) t next) l m apart inductive
         (acts t (there_deeds (wait_deeds m at (told a))))
         (acts t (waiter_deeds at (taken_by_wait w m at) (told a))) (ap (acts t) none)
         (subst (λ o. Goes w (put (after at a) t next) m (acts t (waiter_deeds at o (told a)))) (sym nobody)
@@ -140,18 +140,19 @@ module _ (w : State) (t l m : ℕ) (timed : Bool) (steady : IsInductive w) (is_t
   release_goes : (s : Stands) (at : UnlockAt) → place_at w t ≡ Condvar l (waits (releasing s at))
       → can_do w (unlock_act m at) ≡ true → GoesOnBy (releasing s at) (unlock_act m at)
   release_goes s unlock.Subtract is can = beside (releasing s unlock.Subtract) (unlock_act m unlock.Subtract)
-      is refl refl refl (subtracts w t l m timed steady is_there apart sort_m lock_m s is)
+      is refl refl refl (subtracts w t l m timed inductive is_there apart sort_m lock_m s is)
   release_goes s unlock.Enter is can = beside (releasing s unlock.Enter) (unlock_act m unlock.Enter) is refl
-      refl refl (enters_to_release w t l m timed steady is_there apart sort_m section_m line_m s is can)
-  release_goes s unlock.Take is can = λ fits. of_other w _ l m apart steady [] _ refl
-      (takes w t l m timed steady is_there apart sort_m plain line_m s is fits)
+      refl refl (enters_to_release w t l m timed inductive is_there apart sort_m section_m line_m s is can)
+  release_goes s unlock.Take is can = λ fits. of_other w _ l m apart inductive [] _ refl
+      (takes w t l m timed inductive is_there apart sort_m plain line_m s is fits)
   release_goes s (unlock.Clear any) is can = beside (releasing s (unlock.Clear any))
-      (unlock_act m (unlock.Clear any)) is refl refl refl (clears w t l m timed steady is_there apart sort_m
+      (unlock_act m (unlock.Clear any)) is refl refl refl (clears w t l m timed inductive is_there apart
+      sort_m
       lock_m s any is)
-  release_goes s (unlock.Leave true) is can = λ fits. of_other w _ l m apart steady [] _ refl
-      (leaves_waking w t l m timed steady is_there apart sort_m plain section_m s is fits)
-  release_goes s (unlock.Leave false) is can = λ fits. of_other w _ l m apart steady [] _ refl
-      (leaves_nobody w t l m timed steady is_there apart sort_m plain section_m s is fits)
+  release_goes s (unlock.Leave true) is can = λ fits. of_other w _ l m apart inductive [] _ refl
+      (leaves_waking w t l m timed inductive is_there apart sort_m plain section_m s is fits)
+  release_goes s (unlock.Leave false) is can = λ fits. of_other w _ l m apart inductive [] _ refl
+      (leaves_nobody w t l m timed inductive is_there apart sort_m plain section_m s is fits)
 
   -- ---------------------------------------------------------------- it locks it again
 
@@ -176,15 +177,15 @@ module _ (w : State) (t l m : ℕ) (timed : Bool) (steady : IsInductive w) (is_t
       → GoesOnBy (relocks late retries (lock.Decide x)) (decided_by m x a b)
   decided_goes late retries x is false b act_is can = beside (relocks late retries (lock.Decide x))
       (act.Word m (op.Exchange x (x + 1))) is refl (none_there late retries (lock.Decide x)
-      (act.Word m (op.Exchange x (x + 1)))) refl (decides w t l m timed steady is_there apart sort_m lock_m
+      (act.Word m (op.Exchange x (x + 1)))) refl (decides w t l m timed inductive is_there apart sort_m lock_m
       late retries x (op.Exchange x (x + 1)) is act_is)
   decided_goes late retries x is true true act_is can = beside (relocks late retries (lock.Decide x))
       (act.Word m (op.Exchange 1 3)) is refl (none_there late retries (lock.Decide x)
-      (act.Word m (op.Exchange 1 3))) refl (decides w t l m timed steady is_there apart sort_m lock_m late
+      (act.Word m (op.Exchange 1 3))) refl (decides w t l m timed inductive is_there apart sort_m lock_m late
       retries x (op.Exchange 1 3) is act_is)
   decided_goes late retries x is true false act_is can = beside (relocks late retries (lock.Decide x))
       (act.Enter (One (2 * m))) is refl (none_there late retries (lock.Decide x) (act.Enter (One (2 * m))))
-      refl (enters_to_park w t l m timed steady is_there apart sort_m section_m line_m late retries x is
+      refl (enters_to_park w t l m timed inductive is_there apart sort_m section_m line_m late retries x is
       act_is can)
 
   relock_goes : (late retries : Bool) (at : LockAt) → IsLockOf at → place_at w t ≡ Condvar l
@@ -192,15 +193,15 @@ module _ (w : State) (t l m : ℕ) (timed : Bool) (steady : IsInductive w) (is_t
       → can_do w (lock_act m at) ≡ true → GoesOnBy (relocks late retries at) (lock_act m at)
   relock_goes late retries lock.First of is can = beside (relocks late retries lock.First)
       (lock_act m lock.First) is refl (none_there late retries lock.First (lock_act m lock.First)) refl
-      (tries w t l m timed steady is_there apart sort_m lock_m late retries is)
+      (tries w t l m timed inductive is_there apart sort_m lock_m late retries is)
   relock_goes late retries lock.Load of is can = beside (relocks late retries lock.Load)
       (lock_act m lock.Load) is refl (none_there late retries lock.Load (lock_act m lock.Load)) refl
-      (loads w t l m timed steady is_there apart sort_m lock_m late retries is)
+      (loads w t l m timed inductive is_there apart sort_m lock_m late retries is)
   relock_goes late retries (lock.Decide x) of is can = decided_goes late retries x is (is_locked x) (x == 1)
       refl can
   relock_goes late retries lock.Check of is can = beside (relocks late retries lock.Check)
       (lock_act m lock.Check) is checked (none_there late retries lock.Check (lock_act m lock.Check)) refl
-      (parks w t l m timed steady is_there apart sort_m section_m line_m late retries is)
+      (parks w t l m timed inductive is_there apart sort_m section_m line_m late retries is)
     where
       checked : place_at (after (relocks late retries lock.Check) (lock_act m lock.Check)) t ≡ place_at w t
       checked = either (holds (WordIs 3) (word_at w m))
@@ -212,10 +213,11 @@ module _ (w : State) (t l m : ℕ) (timed : Bool) (steady : IsInductive w) (is_t
           either false = refl
   relock_goes late retries (lock.Leave parked) of is can = beside (relocks late retries (lock.Leave parked))
       (lock_act m (lock.Leave parked)) is refl (none_there late retries (lock.Leave parked)
-      (lock_act m (lock.Leave parked))) refl (leaves_parked w t l m timed steady is_there apart sort_m
+      (lock_act m (lock.Leave parked))) refl (leaves_parked w t l m timed inductive is_there apart sort_m
       section_m line_m late retries parked is)
   relock_goes late retries lock.Accept of is can = beside (relocks late retries lock.Accept) act.Accept is
-      refl (none_there late retries lock.Accept act.Accept) refl (accepts w t l m timed steady is_there apart
+      refl (none_there late retries lock.Accept act.Accept) refl (accepts w t l m timed inductive is_there
+      apart
       sort_m section_m line_m late retries is)
   relock_goes late retries lock.Asleep of is can = absurd cc
   relock_goes late retries (lock.Taken by) of is can = absurd cc
@@ -230,7 +232,7 @@ module _ (w : State) (t l m : ℕ) (timed : Bool) (steady : IsInductive w) (is_t
       → Goes w (put (after at (wait_act l m at)) t (next_place (Condvar l (waits at))
       (told (wait_act l m at)))) l
       (acts t (there_deeds (wait_deeds m at (told (wait_act l m at)))))
-  at_condvar = waits_there w t l m timed steady is_there apart sort_l condvar lock_l section_l line_l
+  at_condvar = waits_there w t l m timed inductive is_there apart sort_l condvar lock_l section_l line_l
 
   pub waits_go : (at : WaitAt) → IsReached (waits at) → place_at w t ≡ Condvar l (waits at)
       → can_do w (wait_act l m at) ≡ true
@@ -244,7 +246,7 @@ module _ (w : State) (t l m : ℕ) (timed : Bool) (steady : IsInductive w) (is_t
   waits_go wait.Leave reached is can = there wait.Leave (wait_act l m wait.Leave) is refl refl
       (at_condvar wait.Leave tt is can)
   waits_go wait.Refuse reached is can = from_there wait.Refuse (wait_act l m wait.Refuse) is refl _
-      (λ fits. refused w t l m timed steady is_there apart sort_l sort_m section_l is)
+      (λ fits. refused w t l m timed inductive is_there apart sort_l sort_m section_l is)
   waits_go wait.Remove reached is can = there wait.Remove (wait_act l m wait.Remove) is refl refl
       (at_condvar wait.Remove tt is can)
   waits_go wait.Hide reached is can = there wait.Hide (wait_act l m wait.Hide) is refl refl
@@ -252,9 +254,10 @@ module _ (w : State) (t l m : ℕ) (timed : Bool) (steady : IsInductive w) (is_t
   waits_go wait.GiveUp reached is can = there wait.GiveUp (wait_act l m wait.GiveUp) is refl refl
       (at_condvar wait.GiveUp tt is can)
   waits_go wait.RemoveMoved reached is can = beside wait.RemoveMoved (act.Remove (2 * m)) is refl refl refl
-      (leaves_line w t l m timed steady is_there apart sort_m section_m line_m is)
+      (leaves_line w t l m timed inductive is_there apart sort_m section_m line_m is)
   waits_go (wait.GiveUpMoved none_left) reached is can = beside (wait.GiveUpMoved none_left)
-      (wait_act l m (wait.GiveUpMoved none_left)) is refl refl refl (leaves_late w t l m timed steady is_there
+      (wait_act l m (wait.GiveUpMoved none_left)) is refl refl refl (leaves_late w t l m timed inductive
+      is_there
       apart sort_m section_m line_m none_left is)
   waits_go (wait.Asleep s) reached is can = absurd cc
   waits_go (wait.Release s (mutex.Unlock at)) reached is can = release_goes s at is can

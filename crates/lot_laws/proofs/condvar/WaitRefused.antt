@@ -17,7 +17,7 @@ use Rattle.spec_locks.specs.Locks as locks
 use Rattle.spec_locks.specs.Locks.{putting}
 use Rattle.spec_locks.specs.Sites.{End, Main, Out, has_readers}
 use Rattle.lot_machine.specs.Machine.{State, place_at, put, queue_at, section_at, state_with_sections}
-use Rattle.lot_laws.specs.MutexDeeds.{acts}
+use Rattle.lot_laws.specs.ThreadDeeds.{acts}
 use Rattle.lot_laws.specs.Refinement.{taken_at}
 use Rattle.lot_laws.specs.Locations.{location_at}
 use Rattle.lot_laws.specs.SitesOf.{GoesAll, IsInductive, key_of, rules_in, site_of, locations_of}
@@ -31,7 +31,7 @@ use Rattle.lot_laws.proofs.condvar.Replies.{waiter_hears}
 use Rattle.lot_laws.proofs.condvar.MutexUntouched.{out_steps, then_is, was}
 use Rattle.lot_laws.proofs.condvar.WaitWords as beside
 
-module _ (w : State) (t l m : ℕ) (timed : Bool) (steady : IsInductive w) (is_there : t < length w.places)
+module _ (w : State) (t l m : ℕ) (timed : Bool) (inductive : IsInductive w) (is_there : t < length w.places)
     (apart : m ≢ l)
     (sort_l : (rules_in w l).sort ≡ locks.Condvar) (sort_m : (rules_in w m).sort ≡ locks.Mutex)
     (section : key_of l Main < length w.sections) (is : place_at w t ≡ Condvar l (Wait m timed wait.Refuse))
@@ -55,8 +55,8 @@ module _ (w : State) (t l m : ℕ) (timed : Bool) (steady : IsInductive w) (is_t
     taken_m = ap (λ q. taken_at q m) is ∙ taken_beside l m apart (At this) refl
 
     follows : WaiterFollows (rules_in w m) (site_of w m) t m timed wait.Refuse None Done
-    follows = beside.follows w t l m timed steady is_there apart sort_m wait.Refuse is None Done
-        (waiter_hears w t l m timed wait.Refuse steady is refl)
+    follows = beside.follows w t l m timed inductive is_there apart sort_m wait.Refuse is None Done
+        (waiter_hears w t l m timed wait.Refuse inductive is refl)
 
     end_steps : Steps (rules_in w m) m (parts_at w m) (parts_at w m) (place_at w) t Idle (End ∷ [])
     end_steps = steps_by (rules_in w m) m (parts_at w m) (parts_at w m) (place_at w) t Idle (End ∷ [])
@@ -69,8 +69,9 @@ module _ (w : State) (t l m : ℕ) (timed : Bool) (steady : IsInductive w) (is_t
     unshared_m = ap has_readers sort_m
 
     places : place_at v ≡ putting (place_at w) t Idle
-    places = places_put w v steady t is_there Idle l m apart else_alike refl refl refl refl unshared_l
-        unshared_m (Out ∷ []) (End ∷ []) (out_steps w t l m this steady is_there apart sort_l is refl Done tt
+    places = places_put w v inductive t is_there Idle l m apart else_alike refl refl refl refl unshared_l
+        unshared_m (Out ∷ []) (End ∷ []) (out_steps w t l m this inductive is_there apart sort_l is refl Done
+        tt
         refl refl) end_steps
 
     still : (u k : ℕ) → (u ≡ t → k ≡ l → ⊥) → locations_of (putting (place_at w) t Idle) u k ≡ locations_of
@@ -85,19 +86,22 @@ module _ (w : State) (t l m : ℕ) (timed : Bool) (steady : IsInductive w) (is_t
 
     pub refused : GoesAll w v (two_at l m (acts t (Out ∷ [])) (acts t (End ∷ [])))
     refused = record {
-      follows = two_follow w v steady t is_there Idle l m apart else_alike refl refl refl refl unshared_l
-          unshared_m (Out ∷ []) (End ∷ []) (out_steps w t l m this steady is_there apart sort_l is refl Done
+      follows = two_follow w v inductive t is_there Idle l m apart else_alike refl refl refl refl unshared_l
+          unshared_m (Out ∷ []) (End ∷ []) (out_steps w t l m this inductive is_there apart sort_l is refl
+          Done
           tt
           refl refl) end_steps;
-      stands = stands_put w v steady.stands (λ k. refl) t Idle tt places (goes_out (locations_of (place_at w))
-          (locations_of (putting (place_at w) t Idle)) (section_at w) (queue_at w) (there_in w steady.stands)
+      stands = stands_put w v inductive.stands (λ k. refl) t Idle tt places
+          (goes_out (locations_of (place_at w))
+          (locations_of (putting (place_at w) t Idle)) (section_at w) (queue_at w)
+          (there_in w inductive.stands)
           t
           l still Main (section_at v)
           (λ key ne. get_or-set_other w.sections (key_of l Main) key None None ne)
           (get_or-set_same w.sections (key_of l Main) None None section)
-          (ap (λ (y : Location). y.inside) (was w t l m this steady is_there apart sort_l is refl Done tt))
-          (ap (λ q. location_at q l) (put_here (place_at w) t Idle) ∙ then_is w t l m this steady is_there
+          (ap (λ (y : Location). y.inside) (was w t l m this inductive is_there apart sort_l is refl Done tt))
+          (ap (λ q. location_at q l) (put_here (place_at w) t Idle) ∙ then_is w t l m this inductive is_there
           apart
           sort_l is refl Done tt ∙ sym (ap (λ (y : Location). record y { inside = None })
-          (was w t l m this steady is_there apart sort_l is refl Done tt))));
+          (was w t l m this inductive is_there apart sort_l is refl Done tt))));
     }

@@ -39,7 +39,7 @@ use Rattle.spec_locks.specs.Locks.{Park, Rules, keep_from}
 use Rattle.spec_locks.specs.Sites.{Case, Deed, Role, End, In, Main, Out, Site, wakened}
 use Rattle.lot_machine.specs.Machine.{State, can_do, place_at, put, reply_to, section_at, state_after_act}
 use Rattle.lot_machine.specs.Machine.{word_at, queues_with_last}
-use Rattle.lot_laws.specs.MutexDeeds.{acts}
+use Rattle.lot_laws.specs.ThreadDeeds.{acts}
 use Rattle.lot_laws.specs.Refinement.{taken_at}
 use Rattle.lot_laws.specs.Locations.{role_on, location_at}
 use Rattle.lot_laws.specs.SitesOf.{FitsItsLock, Goes, IsInductive, key_of, rules_in, site_of}
@@ -56,7 +56,7 @@ use Rattle.lot_laws.proofs.sites.OneStep.{steps_by}
 use Rattle.lot_laws.proofs.machine.Parts.{parts_at}
 use Rattle.lot_laws.proofs.condvar.TwoParts.{nothing_there, location_there}
 
-module _ (w : State) (t l m : ℕ) (timed : Bool) (steady : IsInductive w) (is_there : t < length w.places)
+module _ (w : State) (t l m : ℕ) (timed : Bool) (inductive : IsInductive w) (is_there : t < length w.places)
     (apart : m ≢ l)
     (sort : (rules_in w m).sort ≡ locks.Mutex) (section : key_of m Main < length w.sections)
     (line : key_of m Main < length w.queues) where
@@ -88,34 +88,36 @@ module _ (w : State) (t l m : ℕ) (timed : Bool) (steady : IsInductive w) (is_t
     next = next_wait m timed at told
 
     followed : WaiterFollows r here t m timed at None told
-    followed = beside.follows w t l m timed steady is_there apart sort at is None told
+    followed = beside.follows w t l m timed inductive is_there apart sort at is None told
         (subst (λ o. MayHearWaiter r here t at o told) nobody
         (subst (λ b. MayHearWaiter r here t at (taken_by_wait w m at) (reply_to w t b)) acts_so
-        (waiter_hears w t l m timed at steady is (subst (λ b. can_do w b ≡ true) (sym acts_so) can))))
+        (waiter_hears w t l m timed at inductive is (subst (λ b. can_do w b ≡ true) (sym acts_so) can))))
 
     needed : laws.AllNeeded r ds here t
     needed = subst (λ ds. laws.AllNeeded r ds here t) does followed.needed
 
-    behind : (laws.after_all r ds here t).role t ≡ itself_woken t here ds (waiter_next m next)
-    behind = subst (λ ds. (laws.after_all r ds here t).role t ≡ itself_woken t here ds (waiter_next m next))
+    afterwards : (laws.after_all r ds here t).role t ≡ itself_woken t here ds (waiter_next m next)
+    afterwards = subst (λ ds. (laws.after_all r ds here t).role t ≡ itself_woken t here ds
+        (waiter_next m next))
         does followed.role
 
-    module _ (stays : StaysThere w t l m timed steady is_there apart sort at (in_wait m timed next)) where
+    module _ (stays : StaysThere w t l m timed inductive is_there apart sort at (in_wait m timed next)) where
       abbrev p2 : Place
       p2 = condvar_goes l (in_wait m timed next)
 
       abbrev pub alike : AlikeBeside m (place_at w t) p2
-      alike = beside.alike w t l m timed steady is_there apart sort at is (in_wait m timed next) stays
+      alike = beside.alike w t l m timed inductive is_there apart sort at is (in_wait m timed next) stays
 
       abbrev was : Location
       was = location_by (row_beside (At (waits at)))
 
       pub location_was : location_at (place_at w t) m ≡ was
-      location_was = beside.location_was w t l m timed steady is_there apart sort at is (in_wait m timed next)
+      location_was = beside.location_was w t l m timed inductive is_there apart sort at is
+          (in_wait m timed next)
           stays
 
       pub location_then : location_at p2 m ≡ location_by (row_beside (in_wait m timed next))
-      location_then = beside.location_then w t l m timed steady is_there apart sort at is
+      location_then = beside.location_then w t l m timed inductive is_there apart sort at is
           (in_wait m timed next) stays
 
       abbrev SameTaken : Type 0
@@ -125,15 +127,16 @@ module _ (w : State) (t l m : ℕ) (timed : Bool) (steady : IsInductive w) (is_t
 
       taken_was : taken_at (place_at w t) m ≡ taken_from (row_beside (At (waits at))).hand
           (row_beside (At (waits at))).wants true
-      taken_was = beside.taken_was w t l m timed steady is_there apart sort at is (in_wait m timed next) stays
+      taken_was = beside.taken_was w t l m timed inductive is_there apart sort at is (in_wait m timed next)
+          stays
 
       same_taken : SameTaken → taken_at (place_at w t) m ≡ taken_at p2 m
       same_taken e = taken_was ∙ sym e
-          ∙ sym (beside.taken_then w t l m timed steady is_there apart sort at is (in_wait m timed next)
+          ∙ sym (beside.taken_then w t l m timed inductive is_there apart sort at is (in_wait m timed next)
           stays)
 
       does_next : role_on p2 m ≡ waiter_next m next
-      does_next = beside.does_next w t l m timed steady is_there apart sort next stays.0
+      does_next = beside.does_next w t l m timed inductive is_there apart sort next stays.0
 
   abbrev enter : Act
   enter = act.Enter (One (2 * m))
@@ -156,14 +159,14 @@ module _ (w : State) (t l m : ℕ) (timed : Bool) (steady : IsInductive w) (is_t
   pub enters_to_release : (s : Stands) → place_at w t ≡ Condvar l (waits (releasing s unlock.Enter))
       → can_do w enter ≡ true
       → FitsNext (releasing s unlock.Enter) enter → Kept (releasing s unlock.Enter) enter
-  enters_to_release s is can fits = goes_in_at w t m steady is_there sort
+  enters_to_release s is can fits = goes_in_at w t m inductive is_there sort
       (condvar_goes l (condvar_next (waits at) Done)) (alike at is enter refl can refl (In Main ∷ []) refl
       (refl, refl)) fits section (none_so (section_at w (2 * m)) can)
       (ap (λ (y : Location). y.inside) (location_was at is enter refl can refl (In Main ∷ []) refl (
         refl,
         refl,
       ))) (needed at is enter refl can refl (In Main ∷ []) refl)
-      (behind at is enter refl can refl (In Main ∷ []) refl
+      (afterwards at is enter refl can refl (In Main ∷ []) refl
       ∙ sym (does_next at is enter refl can refl (In Main ∷ []) refl (refl, refl)))
       (location_then at is enter refl can refl (In Main ∷ []) refl (refl, refl)
       ∙ sym (ap (λ (y : Location). record y { inside = Some Main }) (location_was at is enter refl can
@@ -179,14 +182,14 @@ module _ (w : State) (t l m : ℕ) (timed : Bool) (steady : IsInductive w) (is_t
       → wait_act l m (relocks late retries (lock.Decide x)) ≡ enter → can_do w enter ≡ true
       → FitsNext (relocks late retries (lock.Decide x)) enter → Kept (relocks late retries (lock.Decide x))
       enter
-  enters_to_park late retries x is acts_so can fits = goes_in_at w t m steady is_there sort
+  enters_to_park late retries x is acts_so can fits = goes_in_at w t m inductive is_there sort
       (condvar_goes l (condvar_next (waits at) Done)) (alike at is enter acts_so can refl (In Main ∷ []) refl
       (refl, refl)) fits section (none_so (section_at w (2 * m)) can)
       (ap (λ (y : Location). y.inside) (location_was at is enter acts_so can refl (In Main ∷ []) refl (
         refl,
         refl,
       ))) (needed at is enter acts_so can refl (In Main ∷ []) refl)
-      (behind at is enter acts_so can refl (In Main ∷ []) refl
+      (afterwards at is enter acts_so can refl (In Main ∷ []) refl
       ∙ sym (does_next at is enter acts_so can refl (In Main ∷ []) refl (refl, refl)))
       (location_then at is enter acts_so can refl (In Main ∷ []) refl (refl, refl)
       ∙ sym (ap (λ (y : Location). record y { inside = Some Main }) (location_was at is enter acts_so can
@@ -203,7 +206,7 @@ module _ (w : State) (t l m : ℕ) (timed : Bool) (steady : IsInductive w) (is_t
         (in_lock entry.Lock retries (if b then At lock.Asleep else At lock.Load)))
 
     parked_there : (b : Bool)
-        → StaysThere w t l m timed steady is_there apart sort (relocks late retries (lock.Leave b))
+        → StaysThere w t l m timed inductive is_there apart sort (relocks late retries (lock.Leave b))
         (parked_next b)
     parked_there true = (refl, refl)
     parked_there false = (refl, refl)
@@ -221,14 +224,14 @@ module _ (w : State) (t l m : ℕ) (timed : Bool) (steady : IsInductive w) (is_t
     pub leaves_parked : (b : Bool) → place_at w t ≡ Condvar l (waits (relocks late retries (lock.Leave b)))
         → FitsNext (relocks late retries (lock.Leave b)) leave → Kept (relocks late retries (lock.Leave b))
         leave
-    leaves_parked b is fits = goes_out_at w t m steady is_there sort
+    leaves_parked b is fits = goes_out_at w t m inductive is_there sort
         (condvar_goes l (condvar_next (waits at) Done)) (alike at is leave refl refl refl (Out ∷ []) refl
         (parked_there b)) fits section
         (ap (λ (y : Location). y.inside) (location_was at is leave refl refl refl (Out ∷ []) refl
         (parked_there b))) (ap (λ (y : Location). y.carries) (location_was at is leave refl refl refl
         (Out ∷ []) refl (parked_there b)))
         (Out ∷ []) tt (needed at is leave refl refl refl (Out ∷ []) refl)
-        (behind at is leave refl refl refl (Out ∷ []) refl
+        (afterwards at is leave refl refl refl (Out ∷ []) refl
         ∙ ap (λ o. wakened t o (waiter_next m (next_wait m timed at Done))) untaken
         ∙ sym (does_next at is leave refl refl refl (Out ∷ []) refl (parked_there b)))
         (location_then at is leave refl refl refl (Out ∷ []) refl (parked_there b) ∙ parked_beside b
@@ -246,7 +249,7 @@ module _ (w : State) (t l m : ℕ) (timed : Bool) (steady : IsInductive w) (is_t
   -- late, and out of its line
   pub leaves_late : (none_left : Bool) → place_at w t ≡ Condvar l (waits (wait.GiveUpMoved none_left))
       → FitsNext (wait.GiveUpMoved none_left) leave → Kept (wait.GiveUpMoved none_left) leave
-  leaves_late none_left is fits = goes_out_at w t m steady is_there sort
+  leaves_late none_left is fits = goes_out_at w t m inductive is_there sort
       (condvar_goes l (condvar_next (waits at) Done)) (alike at is leave refl refl refl (Out ∷ []) refl (
         refl,
         refl,
@@ -257,7 +260,7 @@ module _ (w : State) (t l m : ℕ) (timed : Bool) (steady : IsInductive w) (is_t
         refl,
       )))
       (Out ∷ []) tt (needed at is leave refl refl refl (Out ∷ []) refl)
-      (behind at is leave refl refl refl (Out ∷ []) refl
+      (afterwards at is leave refl refl refl (Out ∷ []) refl
       ∙ ap (λ o. wakened t o (waiter_next m (next_wait m timed at Done))) untaken
       ∙ sym (does_next at is leave refl refl refl (Out ∷ []) refl (refl, refl)))
       (location_then at is leave refl refl refl (Out ∷ []) refl (refl, refl)
@@ -276,10 +279,10 @@ module _ (w : State) (t l m : ℕ) (timed : Bool) (steady : IsInductive w) (is_t
   pub accepts : (late retries : Bool) → place_at w t ≡ Condvar l (waits (relocks late retries lock.Accept))
       → FitsNext (relocks late retries lock.Accept) act.Accept → Kept (relocks late retries lock.Accept)
       act.Accept
-  accepts late retries is fits = accepts_at w t m steady is_there sort
+  accepts late retries is fits = accepts_at w t m inductive is_there sort
       (condvar_goes l (condvar_next (waits at) Done)) (alike at is act.Accept refl refl refl (End ∷ []) refl
       (tt, refl)) fits
-      (needed at is act.Accept refl refl refl (End ∷ []) refl) (behind at is act.Accept refl refl refl
+      (needed at is act.Accept refl refl refl (End ∷ []) refl) (afterwards at is act.Accept refl refl refl
       (End ∷ []) refl ∙ sym (does_next at is act.Accept refl refl refl (End ∷ []) refl (tt, refl)))
       (location_then at is act.Accept refl refl refl (End ∷ []) refl (tt, refl)
       ∙ sym (location_was at is act.Accept refl refl refl (End ∷ []) refl (tt, refl)))
@@ -304,12 +307,12 @@ module _ (w : State) (t l m : ℕ) (timed : Bool) (steady : IsInductive w) (is_t
   pub leaves_line : place_at w t ≡ Condvar l (waits wait.RemoveMoved) → FitsNext wait.RemoveMoved
       (act.Remove (2 * m))
       → Kept wait.RemoveMoved (act.Remove (2 * m))
-  leaves_line is fits = leaves_line_at w t m steady is_there sort
+  leaves_line is fits = leaves_line_at w t m inductive is_there sort
       (condvar_goes l (condvar_next (waits at) told_it)) (alike at is remove refl refl refl gives_up refl
       (refl, refl)) fits line (stands_out at is refl)
       (ap (λ (y : Location). y.stands) (location_was at is remove refl refl refl gives_up refl (refl, refl)))
       (needed at is remove refl refl refl gives_up refl)
-      (behind at is remove refl refl refl gives_up refl
+      (afterwards at is remove refl refl refl gives_up refl
       ∙ sym (does_next at is remove refl refl refl gives_up refl (refl, refl)))
       (location_then at is remove refl refl refl gives_up refl (refl, refl)
       ∙ sym (ap (λ (y : Location). record y { stands = None; waits = None })
@@ -346,56 +349,64 @@ module _ (w : State) (t l m : ℕ) (timed : Bool) (steady : IsInductive w) (is_t
 
       park_follows : (b : Bool) → ParkedSo b → WaiterFollows r here t m timed check None (Parked b)
       park_follows b e = subst (λ b. WaiterFollows r here t m timed check None (Parked b)) e
-          (beside.follows w t l m timed steady is_there apart sort check is None
-          (Parked (holds (WordIs 3) (word_at w m))) (waiter_hears w t l m timed check steady is refl))
+          (beside.follows w t l m timed inductive is_there apart sort check is None
+          (Parked (holds (WordIs 3) (word_at w m))) (waiter_hears w t l m timed check inductive is refl))
 
       stands_last : ParkedSo true → FitsItsLock w (condvar_goes l (checks true))
           → Goes w (put (record w { queues = queues_with_last w.queues (2 * m) t Exclusive }) t
           (condvar_goes l (checks true))) m (acts t (Case (Park Exclusive) ∷ []))
-      stands_last e fits = stands_at w t m steady is_there sort (condvar_goes l (checks true))
-          (beside.alike w t l m timed steady is_there apart sort check is (checks true) (refl, refl)) fits
+      stands_last e fits = stands_at w t m inductive is_there sort (condvar_goes l (checks true))
+          (beside.alike w t l m timed inductive is_there apart sort check is (checks true) (refl, refl)) fits
           line
           (stands_out check is refl)
-          (ap (λ (y : Location). y.stands) (beside.location_was w t l m timed steady is_there apart sort check
+          (ap (λ (y : Location). y.stands) (beside.location_was w t l m timed inductive is_there apart sort
+          check
           is (checks true) (refl, refl))) (park_follows true e).needed
-          (beside.does_next w t l m timed steady is_there apart sort
+          (beside.does_next w t l m timed inductive is_there apart sort
           (relocked timed late (in_lock entry.Lock (still_retries retries (Parked true))
           (At (lock.Leave true)))) refl
           ∙ sym (ap (λ (d : Role). record d {
             retries = None;
             empty = None;
-          }) (hears.role_beside w t l (waits check) steady is m refl)))
-          (beside.location_then w t l m timed steady is_there apart sort check is (checks true) (refl, refl)
+          }) (hears.role_beside w t l (waits check) inductive is m refl)))
+          (beside.location_then w t l m timed inductive is_there apart sort check is (checks true) (
+            refl,
+            refl,
+          )
           ∙ sym (ap (λ (y : Location). record y {
             stands = Some Main;
             waits = Some Exclusive;
-          }) (beside.location_was w t l m timed steady is_there apart sort check is (checks true) (
+          }) (beside.location_was w t l m timed inductive is_there apart sort check is (checks true) (
             refl,
             refl,
           ))))
-          (beside.taken_was w t l m timed steady is_there apart sort check is (checks true) (refl, refl)
-          ∙ sym (beside.taken_then w t l m timed steady is_there apart sort check is (checks true) (
+          (beside.taken_was w t l m timed inductive is_there apart sort check is (checks true) (refl, refl)
+          ∙ sym (beside.taken_then w t l m timed inductive is_there apart sort check is (checks true) (
             refl,
             refl,
           )))
 
       turns : ParkedSo false → FitsItsLock w (condvar_goes l (checks false))
           → Goes w (put w t (condvar_goes l (checks false))) m (acts t [])
-      turns e fits = place_goes w t m steady is_there r refl (condvar_goes l (checks false))
-          (beside.alike w t l m timed steady is_there apart sort check is (checks false) (refl, refl)) fits []
+      turns e fits = place_goes w t m inductive is_there r refl (condvar_goes l (checks false))
+          (beside.alike w t l m timed inductive is_there apart sort check is (checks false) (refl, refl)) fits
+          []
           (λ h. tt)
           (steps_by r m (parts_at w m) (parts_at w m) (place_at w) t (condvar_goes l (checks false)) [] tt tt
-          (beside.taken_was w t l m timed steady is_there apart sort check is (checks false) (refl, refl)
-          ∙ sym (beside.taken_then w t l m timed steady is_there apart sort check is (checks false) (
+          (beside.taken_was w t l m timed inductive is_there apart sort check is (checks false) (refl, refl)
+          ∙ sym (beside.taken_then w t l m timed inductive is_there apart sort check is (checks false) (
             refl,
             refl,
           )))
           refl refl refl refl
-          (beside.does_next w t l m timed steady is_there apart sort
+          (beside.does_next w t l m timed inductive is_there apart sort
           (relocked timed late (in_lock entry.Lock (still_retries retries (Parked false))
           (At (lock.Leave false)))) refl ∙ sym (park_follows false e).role))
-          (beside.location_then w t l m timed steady is_there apart sort check is (checks false) (refl, refl)
-          ∙ sym (beside.location_was w t l m timed steady is_there apart sort check is (checks false) (
+          (beside.location_then w t l m timed inductive is_there apart sort check is (checks false) (
+            refl,
+            refl,
+          )
+          ∙ sym (beside.location_was w t l m timed inductive is_there apart sort check is (checks false) (
             refl,
             refl,
           )))

@@ -31,7 +31,7 @@ use Rattle.steps_condvar.specs.declared.wait.WaitAt.{WaitAt}
 use Rattle.steps_condvar.specs.declared.wait.WaitAt.TheVariants as wait
 use Rattle.steps_condvar.specs.CondvarCalls.{IsLockOf, IsReached}
 use Rattle.steps_condvar.specs.CondvarProfiles.{has_mutex, carries_beside, condvar_profile, mutex_side}
-use Rattle.steps_condvar.specs.CondvarSteps.{behind_release, mutex_beside, next_wait, released, relocked}
+use Rattle.steps_condvar.specs.CondvarSteps.{past_release, mutex_beside, next_wait, released, relocked}
 use Rattle.steps_condvar.specs.CondvarSteps.{wait_act}
 use Rattle.lot_steps.specs.declared.places.Place.{Place}
 use Rattle.lot_steps.specs.declared.places.Place.TheVariants.{Idle, Mutex, RwLock, Once, Condvar, Semaphore}
@@ -83,10 +83,10 @@ hands_none (Notify all m (notify.Leave true number)) reached h = cc
 hands_none (Notify all m (notify.Leave false number)) reached h = cc
 hands_none (Notify all m p) reached h = cc
 
-module _ (w : State) (steady : IsInductive w) (u m : ℕ) (sort : (rules_in w m).sort ≡ locks.Mutex) where
+module _ (w : State) (inductive : IsInductive w) (u m : ℕ) (sort : (rules_in w m).sort ≡ locks.Mutex) where
   has_handed : carried_at (place_at w u) m ≡ Some true
       → (b : Bool) × (place_at w u ≡ Mutex m (mutex.HandOff b (hand_off.Leave true)))
-  has_handed h = by_place (place_at w u) refl (steady.stands.calls u) h
+  has_handed h = by_place (place_at w u) refl (inductive.stands.calls u) h
     where
       by_place : (p : Place) → place_at w u ≡ p → FitsItsLock w p → carried_at p m ≡ Some true
           → (b : Bool) × (place_at w u ≡ Mutex m (mutex.HandOff b (hand_off.Leave true)))
@@ -139,27 +139,28 @@ module _ (w : State) (steady : IsInductive w) (u m : ℕ) (sort : (rules_in w m)
           either false false e g = absurd cc
 
 -- a thread that is inside the section of its mutex, and releases it, was not handed it meanwhile
-module _ (w : State) (t l m : ℕ) (timed : Bool) (steady : IsInductive w) where
+module _ (w : State) (t l m : ℕ) (timed : Bool) (inductive : IsInductive w) where
   never_handed : (u : ℕ) (any : Bool)
       → place_at w t ≡ Condvar l (Wait m timed (wait.Release (stands.Handed u)
       (mutex.Unlock (unlock.Leave any)))) → ⊥
   never_handed u any is =
       let here = location_beside w t l
-      (Wait m timed (wait.Release (stands.Handed u) (mutex.Unlock (unlock.Leave any)))) steady is m refl
+      (Wait m timed (wait.Release (stands.Handed u) (mutex.Unlock (unlock.Leave any)))) inductive is m refl
       in
       let in_hand_of : (location_at (place_at w t) m).hand ≡ hand u true = ap (λ (y : Location). y.hand) here
       in
-      let giver = has_handed w steady u m
+      let giver = has_handed w inductive u m
       (rules_beside w t l (Wait m timed (wait.Release (stands.Handed u)
-      (mutex.Unlock (unlock.Leave any)))) steady is m refl) (steady.stands.hands.taken u t m true
+      (mutex.Unlock (unlock.Leave any)))) inductive is m refl) (inductive.stands.hands.taken u t m true
       in_hand_of) in
       let giver_inside : (location_at (place_at w u) m).inside ≡ Some Main =
       ap (λ p. (location_at p m).inside) giver.1
       ∙ ap (λ (b : Bool). (if b then location (Mutex m (mutex.HandOff giver.0 (hand_off.Leave true)))
       else nowhere).inside) (same m) in
-      let by_giver : section_at w (key_of m Main) ≡ Some u = (steady.stands.sections u m Main).0 giver_inside
+      let by_giver : section_at w (key_of m Main) ≡ Some u = (inductive.stands.sections u m Main).0
+      giver_inside
       in
-      let by_own : section_at w (key_of m Main) ≡ Some t = (steady.stands.sections t m Main).0
+      let by_own : section_at w (key_of m Main) ≡ Some t = (inductive.stands.sections t m Main).0
       (ap (λ (y : Location). y.inside) here) in
       let both : Some u ≡ Some t = sym by_giver ∙ by_own in
       let one : u ≡ t = cc in
@@ -167,13 +168,13 @@ module _ (w : State) (t l m : ℕ) (timed : Bool) (steady : IsInductive w) where
       (Wait m timed (wait.Release (stands.Handed u) (mutex.Unlock (unlock.Leave any)))) = sym giver.1
       ∙ ap (place_at w) one ∙ is in cc
 
-  settled_behind : (s : Stands) → ((u : ℕ) → s ≡ stands.Handed u → ⊥) → IsSettled (behind_release s)
-  settled_behind stands.Listed free = tt
-  settled_behind stands.Moved free = tt
-  settled_behind (stands.InHand u) free = tt
-  settled_behind (stands.Handed u) free = free u refl
-  settled_behind (stands.Noted note.Normal) free = tt
-  settled_behind (stands.Noted note.HandOff) free = tt
+  settled_afterwards : (s : Stands) → ((u : ℕ) → s ≡ stands.Handed u → ⊥) → IsSettled (past_release s)
+  settled_afterwards stands.Listed free = tt
+  settled_afterwards stands.Moved free = tt
+  settled_afterwards (stands.InHand u) free = tt
+  settled_afterwards (stands.Handed u) free = free u refl
+  settled_afterwards (stands.Noted note.Normal) free = tt
+  settled_afterwards (stands.Noted note.HandOff) free = tt
 
   abbrev Step : WaitAt → Type 0
   Step p = IsSettledNext (next_wait m timed p (reply_to w t (wait_act l m p)))
@@ -189,7 +190,7 @@ module _ (w : State) (t l m : ℕ) (timed : Bool) (steady : IsInductive w) where
   subtracts : (s : Stands) → ((u : ℕ) → s ≡ stands.Handed u → ⊥) → (b : Bool)
       → IsSettled (released s (in_unlock (if b then next.At unlock.Enter else next.End answer.Ok)))
   subtracts s free true = tt
-  subtracts s free false = settled_behind s free
+  subtracts s free false = settled_afterwards s free
 
   takes : (s : Stands) (any b : Bool)
       → IsSettled (released s (in_unlock (if b then next.At (unlock.Clear any)
@@ -251,7 +252,7 @@ module _ (w : State) (t l m : ℕ) (timed : Bool) (steady : IsInductive w) where
   wait_settles (wait.Release s (mutex.Unlock unlock.Take)) is reached can = takes s _ _
   wait_settles (wait.Release s (mutex.Unlock (unlock.Clear any))) is reached can = tt
   wait_settles (wait.Release s (mutex.Unlock (unlock.Leave any))) is reached can =
-      settled_behind s (λ u e. never_handed u any (is
+      settled_afterwards s (λ u e. never_handed u any (is
       ∙ ap (λ x. Condvar l (Wait m timed (wait.Release x (mutex.Unlock (unlock.Leave any))))) e))
   wait_settles (wait.Release s a) is reached can = absurd reached.0
   wait_settles (wait.Asleep s) is reached can = absurd cc

@@ -46,24 +46,24 @@ abbrev pub IsSettledNext : Next WaitAt → Type 0
 IsSettledNext (next.At q) = IsSettled q
 IsSettledNext (next.End answer) = Unit {0}
 
-module _ (v : State) (t l m : ℕ) (timed : Bool) (steady : IsInductive v) where
+module _ (v : State) (t l m : ℕ) (timed : Bool) (inductive : IsInductive v) where
   module _ (q : WaitAt) (there : place_at v t ≡ Condvar l (Wait m timed q)) where
     listed : (wait_row m q).listed ≡ true → 1 ≤ standing t (lock_state v l)
     listed e = let a : (location_at (place_at v t) l).stands ≡ Some Main =
-        ap (λ (y : Location). y.stands) (location_there v steady.stands t l (Wait m timed q) there)
+        ap (λ (y : Location). y.stands) (location_there v inductive.stands t l (Wait m timed q) there)
         ∙ ap (λ (b : Bool). if b then Some Main else None) e in
         let one : stood_in (location_at (place_at v t) l).stands Main ≡ 1 = ap (λ o. stood_in o Main) a in
-        let by = standing_by v t steady l in omega arith
+        let by = standing_by v t inductive l in omega arith
 
     moved : (wait_row m q).moved ≡ true → 1 ≤ standing t (lock_state v m)
     moved e = let a : (location_at (place_at v t) m).stands ≡ Some Main = ap (λ (y : Location). y.stands)
-        (location_beside v t l (Wait m timed q) steady there m refl)
+        (location_beside v t l (Wait m timed q) inductive there m refl)
         ∙ ap (λ (b : Bool). if b then Some Main else None) e in
         let one : stood_in (location_at (place_at v t) m).stands Main ≡ 1 = ap (λ o. stood_in o Main) a in
-        let by = standing_by v t steady m in omega arith
+        let by = standing_by v t inductive m in omega arith
 
     held : one_if_some (taken_at (place_at v t) m) ≡ 1 → 1 ≤ standing t (lock_state v m)
-    held one = let by = standing_by v t steady m in omega arith
+    held one = let by = standing_by v t inductive m in omega arith
 
   rests_at : (q : WaitAt) → place_at v t ≡ Condvar l (Wait m timed q) → IsReached (Wait m timed q)
       → IsSettled q
@@ -88,7 +88,8 @@ module _ (v : State) (t l m : ℕ) (timed : Bool) (steady : IsInductive v) where
     inr (inl (
       refl,
       held (wait.Asleep (stands.InHand by)) there
-          (ap one_if_some (taken_beside v t l (Wait m timed (wait.Asleep (stands.InHand by))) steady there m
+          (ap one_if_some (taken_beside v t l (Wait m timed (wait.Asleep (stands.InHand by))) inductive there
+          m
           refl)),
     )),
   )
@@ -123,7 +124,8 @@ module _ (v : State) (t l m : ℕ) (timed : Bool) (steady : IsInductive v) where
       refl,
       held (wait.Lock late (mutex.Lock entry.Lock again (lock.Taken by))) there
           (ap one_if_some (taken_beside v t l
-          (Wait m timed (wait.Lock late (mutex.Lock entry.Lock again (lock.Taken by)))) steady there m refl)),
+          (Wait m timed (wait.Lock late (mutex.Lock entry.Lock again (lock.Taken by)))) inductive there m
+          refl)),
     )),
   )
   rests_at (wait.Lock late (mutex.Lock entry.Lock again (lock.Handed by))) there reached settled =
@@ -135,5 +137,5 @@ module _ (v : State) (t l m : ℕ) (timed : Bool) (steady : IsInductive v) where
   pub wait_rests : (n : Next WaitAt) → place_at v t ≡ condvar_goes l (in_wait m timed n) → IsSettledNext n
       → ToldSo v t (in_wait m timed n) (outcome_of (condvar_does l (in_wait m timed n)))
   wait_rests (next.At q) there settled =
-      rests_at q there (fits_here v t l (Wait m timed q) steady there).reached settled
+      rests_at q there (fits_here v t l (Wait m timed q) inductive there).reached settled
   wait_rests (next.End answer) there settled = refl

@@ -34,7 +34,7 @@ use Rattle.spec_locks.specs.Picks.{queued_of}
 use Rattle.spec_locks.specs.Sites.{Deed, Main, Site}
 use Rattle.lot_machine.specs.Machine.{State, is_there, place_at, put, queue_at, queues_without_first}
 use Rattle.lot_machine.specs.Machine.{state_after_taking}
-use Rattle.lot_laws.specs.MutexDeeds.{acts}
+use Rattle.lot_laws.specs.ThreadDeeds.{acts}
 use Rattle.lot_laws.specs.Refinement.{taken_at}
 use Rattle.lot_laws.specs.Locations.{role_on, location_at}
 use Rattle.lot_laws.specs.SitesOf.{FitsItsLock, Goes, IsInductive, key_of, rules_in, site_of}
@@ -45,11 +45,11 @@ use Rattle.lot_laws.proofs.condvar.Replies.{waiter_hears}
 use Rattle.lot_laws.proofs.mutex.Acts.{finds_nobody_at}
 use Rattle.lot_laws.proofs.mutex.Hands.{first_goes, first_sleeps, first_stands, takes_it}
 use Rattle.lot_laws.proofs.sites.StandsKept.{AlikeBeside}
-use Rattle.lot_laws.proofs.sites.TakesAt.{behind_take, member}
+use Rattle.lot_laws.proofs.sites.TakesAt.{after_take, member}
 use Rattle.lot_laws.proofs.mutex.Waiters.{SleepsAt, release_sleeps}
 use Rattle.lot_laws.proofs.condvar.WaitWords as beside
 
-module _ (w : State) (t l m : ℕ) (timed : Bool) (steady : IsInductive w) (here : t < length w.places)
+module _ (w : State) (t l m : ℕ) (timed : Bool) (inductive : IsInductive w) (here : t < length w.places)
     (apart : m ≢ l)
     (sort : (rules_in w m).sort ≡ locks.Mutex) (plain : rules_in w m ≡ glue.mutex) (line : key_of m Main
     < length w.queues) where
@@ -102,9 +102,9 @@ module _ (w : State) (t l m : ℕ) (timed : Bool) (steady : IsInductive w) (here
     follows : WaiterFollows (rules_in w m) lock t m timed (taking s)
         (first_thread (map queued_of (queue_at w (2 * m))))
         (told (queue_at w (2 * m)))
-    follows = beside.follows w t l m timed steady here apart sort (taking s) is
+    follows = beside.follows w t l m timed inductive here apart sort (taking s) is
         (first_thread (map queued_of (queue_at w (2 * m)))) (told (queue_at w (2 * m)))
-        (waiter_hears w t l m timed (taking s) steady is refl)
+        (waiter_hears w t l m timed (taking s) inductive is refl)
 
     follows_by : (q : List Waiter) → queue_at w (2 * m) ≡ q
         → WaiterFollows (rules_in w m) lock t m timed (taking s) (first_thread (map queued_of q)) (told q)
@@ -119,7 +119,7 @@ module _ (w : State) (t l m : ℕ) (timed : Bool) (steady : IsInductive w) (here
         then_at = Condvar l (waits (goes_to s2 any none_left))
 
         alike : AlikeBeside m (place_at w t) then_at
-        alike = beside.alike w t l m timed steady here apart sort (taking s) is
+        alike = beside.alike w t l m timed inductive here apart sort (taking s) is
             (At (waits (goes_to s2 any none_left))) (refl, stays)
 
         location_then : location_at then_at m ≡ beside_of (goes_to s2 any none_left)
@@ -129,7 +129,8 @@ module _ (w : State) (t l m : ℕ) (timed : Bool) (steady : IsInductive w) (here
         taken_then = taken_beside l m apart (At (waits (goes_to s2 any none_left))) refl
 
         does_then : role_on then_at m ≡ (wait_row m (goes_to s2 any none_left)).role
-        does_then = beside.does_next w t l m timed steady here apart sort (At (goes_to s2 any none_left)) refl
+        does_then = beside.does_next w t l m timed inductive here apart sort (At (goes_to s2 any none_left))
+            refl
 
     next_there : (any none_left : Bool) → location_by (row_there (At (waits (goes_to s any none_left))))
         ≡ there (waits (taking s))
@@ -140,7 +141,8 @@ module _ (w : State) (t l m : ℕ) (timed : Bool) (steady : IsInductive w) (here
     finds_nobody : queue_at w (2 * m) ≡ [] → FitsBy [] → KeptBy [] s
     finds_nobody empty fits = subst (λ p. FitsItsLock w (next_place p (told []))
         → Goes w (put (after []) t (next_place p (told []))) m (acts t (deeds_of [] s))) (sym is)
-        (λ fits. finds_nobody_at w t m steady here sort then_there (alike s false true refl) fits line empty
+        (λ fits. finds_nobody_at w t m inductive here sort then_there (alike s false true refl) fits line
+        empty
         (follows_by [] empty).needed ((follows_by [] empty).role ∙ sym (does_then s false true refl))
         (location_then s false true refl ∙ sym location_was) (taken_was
         ∙ sym (taken_then s false true refl))) fits
@@ -184,14 +186,14 @@ module _ (w : State) (t l m : ℕ) (timed : Bool) (steady : IsInductive w) (here
         takes_another : FitsBy (x ∷ rest) → KeptBy (x ∷ rest) s
         takes_another fits = subst (λ p. FitsItsLock w (next_place p (Took true none_left))
             → Goes w (put (after (x ∷ rest)) t (next_place p (Took true none_left))) m
-            (acts t (takes_it w m steady plain x rest first))) (sym place_then)
-            (λ fits. first_goes w m steady plain x rest first t here (then_at s true none_left
+            (acts t (takes_it w m inductive plain x rest first))) (sym place_then)
+            (λ fits. first_goes w m inductive plain x rest first t here (then_at s true none_left
             (next_there true none_left)) (alike s true none_left (next_there true none_left)) fits line
-            (first_sleeps w m steady plain x rest first t other (ap (λ (y : Location). y.inside)
+            (first_sleeps w m inductive plain x rest first t other (ap (λ (y : Location). y.inside)
             location_was)) bare
             (location_then s true none_left (next_there true none_left) ∙ next_beside none_left
             ∙ sym (ap (λ (y : Location). record y { carries = Some false }) location_was)
-            ∙ sym (ap (λ b. record (behind_take t b (location_at (place_at w t) m)) {
+            ∙ sym (ap (λ b. record (after_take t b (location_at (place_at w t) m)) {
               carries =
                   Some false;
             }) not_self))
@@ -238,7 +240,7 @@ module _ (w : State) (t l m : ℕ) (timed : Bool) (steady : IsInductive w) (here
     own_there false = refl
 
     own_beside : (b : Bool) → beside_of (goes_to (stands.InHand t) true b)
-        ≡ record (behind_take t true (beside_of (taking stands.Moved))) { carries = Some false }
+        ≡ record (after_take t true (beside_of (taking stands.Moved))) { carries = Some false }
     own_beside true = refl
     own_beside false = refl
 
@@ -255,16 +257,16 @@ module _ (w : State) (t l m : ℕ) (timed : Bool) (steady : IsInductive w) (here
     takes_itself : FitsBy (x ∷ rest) → KeptBy (x ∷ rest) stands.Moved
     takes_itself fits = subst (λ p. FitsItsLock w (next_place p (Took true nobody_left))
         → Goes w (put (after (x ∷ rest)) t (next_place p (Took true nobody_left))) m
-        (acts t (takes_it w m steady plain x rest first))) (sym own_place)
-        (λ fits. first_goes w m steady plain x rest first t here (then_at stands.Moved is (stands.InHand t)
+        (acts t (takes_it w m inductive plain x rest first))) (sym own_place)
+        (λ fits. first_goes w m inductive plain x rest first t here (then_at stands.Moved is (stands.InHand t)
         true nobody_left (own_there nobody_left)) (alike stands.Moved is (stands.InHand t) true
         nobody_left (own_there nobody_left)) fits line
         own_sleeps (bare stands.Moved is x rest first)
         (location_then stands.Moved is (stands.InHand t) true nobody_left (own_there nobody_left)
         ∙ own_beside nobody_left ∙ sym
-        (ap (λ (y : Location). record (behind_take t true y) { carries = Some false })
+        (ap (λ (y : Location). record (after_take t true y) { carries = Some false })
         (location_was stands.Moved is))
-        ∙ sym (ap (λ b. record (behind_take t b (location_at (place_at w t) m)) { carries = Some false })
+        ∙ sym (ap (λ b. record (after_take t b (location_at (place_at w t) m)) { carries = Some false })
         own_member))
         (taken_then stands.Moved is (stands.InHand t) true nobody_left (own_there nobody_left)
         ∙ own_taken nobody_left ∙ sym (taken_beside l m apart (At (waits (taking (stands.InHand t))))
@@ -280,7 +282,8 @@ module _ (w : State) (t l m : ℕ) (timed : Bool) (steady : IsInductive w) (here
       → (x : Waiter) (rest : List Waiter)
       → queue_at w (2 * m) ≡ x ∷ rest → x.thread ≡ t → s ≡ stands.Moved
   moved_first s is x rest e itself = moved_so s (sym (ap (λ (y : Location). y.stands) (location_was s is))
-      ∙ sym (ap (λ u. (location_at (place_at w u) m).stands) itself) ∙ first_stands w m steady plain x rest e)
+      ∙ sym (ap (λ u. (location_at (place_at w u) m).stands) itself) ∙ first_stands w m inductive plain x rest
+      e)
 
   -- ---------------------------------------------------------------- each thread that it takes
 

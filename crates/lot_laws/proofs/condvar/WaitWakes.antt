@@ -25,7 +25,7 @@ use Rattle.steps_condvar.specs.declared.wait.Stands.{Stands}
 use Rattle.steps_condvar.specs.declared.wait.Stands.TheVariants as stands
 use Rattle.steps_condvar.specs.declared.wait.WaitAt.{WaitAt}
 use Rattle.steps_condvar.specs.declared.wait.WaitAt.TheVariants as wait
-use Rattle.steps_condvar.specs.CondvarSteps.{behind_release}
+use Rattle.steps_condvar.specs.CondvarSteps.{past_release}
 use Rattle.steps_condvar.specs.CondvarMoves.{row_beside, row_there, there}
 use Rattle.steps_condvar.specs.CondvarProfiles.{hand_of, taker_of, wait_row}
 use Rattle.steps_condvar.specs.CondvarWaits.{WaiterFollows}
@@ -35,7 +35,7 @@ use Rattle.spec_locks.specs.Locks.{Taken, keep_from}
 use Rattle.spec_locks.specs.Sites.{Role, Main, Out, Site, wakened}
 use Rattle.lot_machine.specs.Machine.{State, place_after_telling, place_at, put, state_after_act}
 use Rattle.lot_machine.specs.Machine.{state_after_telling, state_with_sections}
-use Rattle.lot_laws.specs.MutexDeeds.{acts}
+use Rattle.lot_laws.specs.ThreadDeeds.{acts}
 use Rattle.lot_laws.specs.Refinement.{taken_at}
 use Rattle.lot_laws.specs.Locations.{role_on, location_at}
 use Rattle.lot_laws.specs.SitesOf.{FitsItsLock, Goes, IsInductive, carried_at, hand_at, key_of, rules_in}
@@ -63,7 +63,7 @@ unwoken t (Some x) d h = either (x.by == t) h
     either true e = absurd cc
     either false e = refl
 
-module _ (w : State) (t l m : ℕ) (timed : Bool) (steady : IsInductive w) (is_there : t < length w.places)
+module _ (w : State) (t l m : ℕ) (timed : Bool) (inductive : IsInductive w) (is_there : t < length w.places)
     (apart : m ≢ l)
     (sort : (rules_in w m).sort ≡ locks.Mutex) (plain : rules_in w m ≡ glue.mutex)
     (section : key_of m Main < length w.sections) where
@@ -96,17 +96,17 @@ module _ (w : State) (t l m : ℕ) (timed : Bool) (steady : IsInductive w) (is_t
 
   -- tells what leaving makes of how it stands
   record GoesOn (any : Bool) (s s2 : Stands) : Type 0 where
-    stays : location_by (row_there (At (waits (behind_release s2)))) ≡ there (waits (leaving any s))
-    side : beside_of (behind_release s2) ≡ record (beside_of (leaving any s)) {
+    stays : location_by (row_there (At (waits (past_release s2)))) ≡ there (waits (leaving any s))
+    side : beside_of (past_release s2) ≡ record (beside_of (leaving any s)) {
       inside = None;
       carries = None;
       hand = (if is_thread t (taker_of s) then None else hand_of s);
     }
-    taken : taken_of (behind_release s2) ≡ keep_from t (taken_of (leaving any s))
-    role : (wait_row m (behind_release s2)).role ≡ wakened t (taken_of (leaving any s))
-        (wait_row m (behind_release s)).role
+    taken : taken_of (past_release s2) ≡ keep_from t (taken_of (leaving any s))
+    role : (wait_row m (past_release s2)).role ≡ wakened t (taken_of (leaving any s))
+        (wait_row m (past_release s)).role
     told : next_place (place_after_telling t (Woken note.Normal) (Condvar l (waits (leaving any s)))) Done
-        ≡ Condvar l (waits (behind_release s2))
+        ≡ Condvar l (waits (past_release s2))
 
   goes_on : (any : Bool) (s : Stands) → (hand_of s ≡ hand t true → ⊥) → (s2 : Stands) × GoesOn any s s2
   goes_on any stands.Listed h = (
@@ -197,8 +197,8 @@ module _ (w : State) (t l m : ℕ) (timed : Bool) (steady : IsInductive w) (is_t
     taken_was = ap (λ q. taken_at q m) is ∙ taken_beside l m apart (At (waits (leaving any s))) refl
 
     follows : WaiterFollows (rules_in w m) here t m timed (leaving any s) None Done
-    follows = beside.follows w t l m timed steady is_there apart sort (leaving any s) is None Done
-        (waiter_hears w t l m timed (leaving any s) steady is refl)
+    follows = beside.follows w t l m timed inductive is_there apart sort (leaving any s) is None Done
+        (waiter_hears w t l m timed (leaving any s) inductive is refl)
 
     -- it has nobody in hand elsewhere
     carries_here : CarriesAt m (place_at w t)
@@ -212,7 +212,7 @@ module _ (w : State) (t l m : ℕ) (timed : Bool) (steady : IsInductive w) (is_t
     -- A thread has taken each waiter that it has in hand.
     pub not_given : hand_of s ≡ hand t true → ⊥
     not_given e = by_any any (ap (λ (y : Location). y.carries) location_was)
-        (steady.stands.hands.taken t t m true (ap (λ (y : Location). y.hand) location_was ∙ e))
+        (inductive.stands.hands.taken t t m true (ap (λ (y : Location). y.hand) location_was ∙ e))
       where
         by_any : (b : Bool) → carried_at (place_at w t) m ≡ in_hand b false → carried_at (place_at w t) m
             ≡ Some true → ⊥
@@ -223,18 +223,18 @@ module _ (w : State) (t l m : ℕ) (timed : Bool) (steady : IsInductive w) (is_t
     goes = goes_on any s not_given
 
     abbrev p2 : Place
-    p2 = Condvar l (waits (behind_release goes.0))
+    p2 = Condvar l (waits (past_release goes.0))
 
-    stays : StaysThere w t l m timed steady is_there apart sort (leaving any s)
-        (At (waits (behind_release goes.0)))
+    stays : StaysThere w t l m timed inductive is_there apart sort (leaving any s)
+        (At (waits (past_release goes.0)))
     stays = (refl, goes.1.stays)
 
     abbrev alike : AlikeBeside m (place_at w t) p2
-    alike = beside.alike w t l m timed steady is_there apart sort (leaving any s) is
-        (At (waits (behind_release goes.0))) stays
+    alike = beside.alike w t l m timed inductive is_there apart sort (leaving any s) is
+        (At (waits (past_release goes.0))) stays
 
-    location_then : location_at p2 m ≡ beside_of (behind_release goes.0)
-    location_then = location_beside l m apart (At (waits (behind_release goes.0))) refl
+    location_then : location_at p2 m ≡ beside_of (past_release goes.0)
+    location_then = location_beside l m apart (At (waits (past_release goes.0))) refl
 
     -- how it stands then, but for the threads that it has in hand
     side : location_at p2 m ≡ record (location_at (place_at w t) m) {
@@ -251,18 +251,18 @@ module _ (w : State) (t l m : ℕ) (timed : Bool) (steady : IsInductive w) (is_t
 
     -- tells what it does then
     role : (laws.after_all (rules_in w m) (Out ∷ []) here t).role t ≡ role_on p2 m
-    role = follows.role ∙ ap (λ o. wakened t o (wait_row m (behind_release s)).role) taken_was
-        ∙ sym goes.1.role ∙ sym (beside.does_next w t l m timed steady is_there apart sort
-        (At (behind_release goes.0)) refl)
+    role = follows.role ∙ ap (λ o. wakened t o (wait_row m (past_release s)).role) taken_was
+        ∙ sym goes.1.role ∙ sym (beside.does_next w t l m timed inductive is_there apart sort
+        (At (past_release goes.0)) refl)
 
     taken_then : taken_at p2 m ≡ keep_from t (taken_at (place_at w t) m)
-    taken_then = taken_beside l m apart (At (waits (behind_release goes.0))) refl ∙ goes.1.taken
+    taken_then = taken_beside l m apart (At (waits (past_release goes.0))) refl ∙ goes.1.taken
         ∙ sym (ap (keep_from t) taken_was)
 
   -- a thread that it has in hand tries again
   module _ (s : Stands) (is : place_at w t ≡ Condvar l (waits (leaving true s))) where
     abbrev then_at : Place
-    then_at = Condvar l (waits (behind_release (goes true s is).0))
+    then_at = Condvar l (waits (past_release (goes true s is).0))
 
     woken : (u : ℕ) (b : Bool) → hand_at (place_at w u) m ≡ hand t b → IsWokenAt w t m note.Normal
         (place_at w u)
@@ -270,17 +270,17 @@ module _ (w : State) (t l m : ℕ) (timed : Bool) (steady : IsInductive w) (is_t
       where
         taken_only : Some false ≡ Some b
         taken_only = sym (ap (λ (y : Location). y.carries) (location_was true s is))
-            ∙ steady.stands.hands.taken t u m b held
+            ∙ inductive.stands.hands.taken t u m b held
 
         by_hand : (b : Bool) → hand_at (place_at w u) m ≡ hand t b → Some false ≡ Some b
             → IsWokenAt w t m note.Normal (place_at w u)
         by_hand false held e = let k : IsHeldThere m t (place_at w u) = held_there (place_at w u) t m
-            (calls_mutex_at w m (place_at w u) (steady.stands.calls u) plain) held in
+            (calls_mutex_at w m (place_at w u) (inductive.stands.calls u) plain) held in
             record {
               lets = tries m t (place_at w u) k;
               goes = k.woken.location;
               alike = k.woken.others;
-              fits = k.woken.fits tt w (steady.stands.calls u);
+              fits = k.woken.fits tt w (inductive.stands.calls u);
             }
         by_hand true held e = absurd cc
 
@@ -307,8 +307,8 @@ module _ (w : State) (t l m : ℕ) (timed : Bool) (steady : IsInductive w) (is_t
 
     pub leaves_waking : FitsNext true s → Kept true s
     leaves_waking fits = subst (λ q. Goes w (put told_state t q) m (acts t (Out ∷ []))) (sym told_place)
-        (goes_out_waking w t m steady is_there sort then_at (alike true s is)
-        (subst (FitsItsLock w) told_place fits) section (holds_here w t m steady (carries_here true s is))
+        (goes_out_waking w t m inductive is_there sort then_at (alike true s is)
+        (subst (FitsItsLock w) told_place fits) section (holds_here w t m inductive (carries_here true s is))
         woken
         (ap (λ (y : Location). y.inside) (location_was true s is)) (ap (λ (y : Location). y.inside)
         (side true s is)) (ap (λ (y : Location). y.carries) (side true s is))
@@ -320,9 +320,9 @@ module _ (w : State) (t l m : ℕ) (timed : Bool) (steady : IsInductive w) (is_t
 
   module _ (s : Stands) (is : place_at w t ≡ Condvar l (waits (leaving false s))) where
     abbrev out_at : Place
-    out_at = Condvar l (waits (behind_release s))
+    out_at = Condvar l (waits (past_release s))
 
-    out_there : (s : Stands) → location_by (row_there (At (waits (behind_release s)))) ≡ there
+    out_there : (s : Stands) → location_by (row_there (At (waits (past_release s)))) ≡ there
         (waits (leaving false s))
     out_there stands.Listed = refl
     out_there stands.Moved = refl
@@ -331,7 +331,7 @@ module _ (w : State) (t l m : ℕ) (timed : Bool) (steady : IsInductive w) (is_t
     out_there (stands.Noted note.Normal) = refl
     out_there (stands.Noted note.HandOff) = refl
 
-    out_beside : (s : Stands) → beside_of (behind_release s) ≡ record (beside_of (leaving false s)) {
+    out_beside : (s : Stands) → beside_of (past_release s) ≡ record (beside_of (leaving false s)) {
       inside =
           None;
     }
@@ -342,7 +342,7 @@ module _ (w : State) (t l m : ℕ) (timed : Bool) (steady : IsInductive w) (is_t
     out_beside (stands.Noted note.Normal) = refl
     out_beside (stands.Noted note.HandOff) = refl
 
-    out_taken : (s : Stands) → taken_of (behind_release s) ≡ taken_of (leaving false s)
+    out_taken : (s : Stands) → taken_of (past_release s) ≡ taken_of (leaving false s)
     out_taken stands.Listed = refl
     out_taken stands.Moved = refl
     out_taken (stands.InHand by) = refl
@@ -350,14 +350,14 @@ module _ (w : State) (t l m : ℕ) (timed : Bool) (steady : IsInductive w) (is_t
     out_taken (stands.Noted note.Normal) = refl
     out_taken (stands.Noted note.HandOff) = refl
 
-    abbrev out_stays : StaysThere w t l m timed steady is_there apart sort (leaving false s)
-        (At (waits (behind_release s)))
+    abbrev out_stays : StaysThere w t l m timed inductive is_there apart sort (leaving false s)
+        (At (waits (past_release s)))
     out_stays = (refl, out_there s)
 
     -- nor is it in its own
     unheld : keep_from t (taken_at (place_at w t) m) ≡ taken_at (place_at w t) m
     unheld = untaken (place_at w t) t m (λ h. let a : carried_at (place_at w t) m ≡ Some false =
-        steady.stands.hands.taken t t m false h in
+        inductive.stands.hands.taken t t m false h in
         let b : carried_at (place_at w t) m ≡ None = ap (λ (y : Location). y.carries)
         (location_was false s is) in let c : ◌≡◌ {A = Option Bool} None (Some false) = sym b ∙ a in cc)
 
@@ -365,14 +365,15 @@ module _ (w : State) (t l m : ℕ) (timed : Bool) (steady : IsInductive w) (is_t
     leaves_nobody fits = subst (λ p. FitsItsLock w (next_place p Done)
         → Goes w (put (state_with_sections w (One (2 * m)) None) t (next_place p Done)) m (acts t (Out ∷ [])))
         (sym is)
-        (λ fits. goes_out_at w t m steady is_there sort out_at (beside.alike w t l m timed steady is_there
-        apart sort (leaving false s) is (At (waits (behind_release s))) out_stays) fits section
+        (λ fits. goes_out_at w t m inductive is_there sort out_at (beside.alike w t l m timed inductive
+        is_there
+        apart sort (leaving false s) is (At (waits (past_release s))) out_stays) fits section
         (ap (λ (y : Location). y.inside) (location_was false s is)) (ap (λ (y : Location). y.carries)
         (location_was false s is)) (Out ∷ []) tt (follows false s is).needed
         ((follows false s is).role ∙ unwoken t (taken_at (place_at w t) m)
-        (wait_row m (behind_release s)).role unheld
-        ∙ sym (beside.does_next w t l m timed steady is_there apart sort (At (behind_release s)) refl))
-        (location_beside l m apart (At (waits (behind_release s))) refl ∙ out_beside s
+        (wait_row m (past_release s)).role unheld
+        ∙ sym (beside.does_next w t l m timed inductive is_there apart sort (At (past_release s)) refl))
+        (location_beside l m apart (At (waits (past_release s))) refl ∙ out_beside s
         ∙ sym (ap (λ (y : Location). record y { inside = None }) (location_was false s is)))
         (taken_was false s is ∙ sym (out_taken s)
-        ∙ sym (taken_beside l m apart (At (waits (behind_release s))) refl)) unheld) fits
+        ∙ sym (taken_beside l m apart (At (waits (past_release s))) refl)) unheld) fits

@@ -34,7 +34,7 @@ use Rattle.steps_condvar.specs.declared.wait.Stands.TheVariants as stands
 use Rattle.steps_condvar.specs.declared.wait.WaitAt.{WaitAt}
 use Rattle.steps_condvar.specs.declared.wait.WaitAt.TheVariants as wait
 use Rattle.steps_condvar.specs.CondvarSteps.{condvar_next, condvar_owners, in_wait, next_wait, relocked}
-use Rattle.steps_condvar.specs.CondvarSteps.{released, wait_act, behind_release}
+use Rattle.steps_condvar.specs.CondvarSteps.{released, wait_act, past_release}
 use Rattle.steps_condvar.specs.CondvarMoves.{row_beside, row_there, there}
 use Rattle.steps_condvar.specs.CondvarWaits.{LeavesMutex, MayHearWaiter, WaiterFollows, itself_woken, unended}
 use Rattle.steps_condvar.specs.CondvarWaits.{waiter_deeds, waiter_next}
@@ -47,7 +47,7 @@ use Rattle.spec_locks.specs.Locks.{Enter, Leave, Rules}
 use Rattle.spec_locks.specs.Sites.{Case, Clear, Deed, Role, End, Main, Mark, MarkBrought, MarkOwned, Site}
 use Rattle.lot_machine.specs.Machine.{State, can_do, owners_at, place_at, put, reply_to}
 use Rattle.lot_machine.specs.Machine.{state_after_operation, word_at, state_after_act}
-use Rattle.lot_laws.specs.MutexDeeds.{acts}
+use Rattle.lot_laws.specs.ThreadDeeds.{acts}
 use Rattle.lot_laws.specs.Refinement.{taken_at}
 use Rattle.lot_laws.specs.Locations.{role_on, location_at}
 use Rattle.lot_laws.specs.SitesOf.{FitsItsLock, Goes, IsInductive, rules_in, site_of}
@@ -59,7 +59,7 @@ use Rattle.lot_laws.proofs.condvar.Replies.{taken_by_wait, waiter_hears}
 use Rattle.lot_laws.proofs.mutex.Acts.{IsOfWord, owned_by, works_at}
 use Rattle.steps_base.specs.declared.acts.Act.{Act}
 
-module _ (w : State) (t l m : ℕ) (timed : Bool) (steady : IsInductive w) (is_there : t < length w.places)
+module _ (w : State) (t l m : ℕ) (timed : Bool) (inductive : IsInductive w) (is_there : t < length w.places)
     (apart : m ≢ l)
     (sort : (rules_in w m).sort ≡ locks.Mutex) where
   abbrev waits : WaitAt → CondvarPlace
@@ -110,8 +110,8 @@ module _ (w : State) (t l m : ℕ) (timed : Bool) (steady : IsInductive w) (is_t
 
   pub follows : (at : WaitAt) → place_at w t ≡ Condvar l (waits at) → (whom : Option ℕ) (told : Reply)
       → MayHearWaiter r here t at whom told → WaiterFollows r here t m timed at whom told
-  follows at is whom told may = waiters_follow r here t m timed at whom told sort (steady.sites.site m)
-      (hears.role_beside w t l (waits at) steady is m refl) may
+  follows at is whom told may = waiters_follow r here t m timed at whom told sort (inductive.sites.site m)
+      (hears.role_beside w t l (waits at) inductive is m refl) may
 
   -- ---------------------------------------------------------------- the word
 
@@ -153,31 +153,31 @@ module _ (w : State) (t l m : ℕ) (timed : Bool) (steady : IsInductive w) (is_t
     may_hear : MayHearWaiter r here t at None (Value (word_at w m))
     may_hear = subst (λ o. MayHearWaiter r here t at o (Value (word_at w m))) nobody
         (subst (λ a. MayHearWaiter r here t at (taken_by_wait w m at) (reply_to w t a)) acts_so
-        (waiter_hears w t l m timed at steady is can))
+        (waiter_hears w t l m timed at inductive is can))
 
     f : WaiterFollows r here t m timed at None (Value (word_at w m))
     f = follows at is None (Value (word_at w m)) may_hear
 
     leaves : LeavesMutex r here t m timed at op (owners_at w m)
     leaves = waiters_code r here t l m timed at op (owners_at w m) sort (λ e. apart (sym e))
-        (steady.sites.site m) (hears.role_beside w t l (waits at) steady is m refl)
-        (subst (λ v. MayHearWaiter r here t at None (Value v)) (steady.sites.word m) may_hear) acts_so refl
+        (inductive.sites.site m) (hears.role_beside w t l (waits at) inductive is m refl)
+        (subst (λ v. MayHearWaiter r here t at None (Value v)) (inductive.sites.word m) may_hear) acts_so refl
 
     pub works : StaysThere at (in_wait m timed next) → StaysBeside at (in_wait m timed next)
         → FitsItsLock w (condvar_goes l (in_wait m timed next)) → IsOfWord does → KeepsOthers at
         → Goes w (put (state_after_operation w t (Condvar l (waits at)) m op) t
         (condvar_goes l (in_wait m timed next))) m
         (acts t does)
-    works stays same fits of_word others = works_at w t m steady is_there sort
+    works stays same fits of_word others = works_at w t m inductive is_there sort
         (condvar_goes l (in_wait m timed next)) (alike at is (in_wait m timed next) stays) fits
         (Condvar l (waits at)) op lt does (owned_by r does here t of_word) refl f.needed
         (f.role ∙ unwoken does (waiter_next m next) of_word ∙ sym (does_next next stays.0))
         (others ∙ ap (with_exclusive (owners_at w m))
         (subst (λ v. (condvar_owners (waits at) t v (owners_at w m)).exclusive
         ≡ (laws.after_all r (waiter_deeds at None (Value v)) here t).lock.exclusive)
-        (sym (steady.sites.word m)) leaves.owner))
+        (sym (inductive.sites.word m)) leaves.owner))
         (subst (λ v. apply op v ≡ code r (laws.after_all r (waiter_deeds at None (Value v)) here t))
-        (sym (steady.sites.word m)) leaves.word)
+        (sym (inductive.sites.word m)) leaves.word)
         (location_then at is (in_wait m timed next) stays ∙ same.0
         ∙ sym (location_was at is (in_wait m timed next) stays))
         (taken_was at is (in_wait m timed next) stays ∙ sym same.1
@@ -212,7 +212,7 @@ module _ (w : State) (t l m : ℕ) (timed : Bool) (steady : IsInductive w) (is_t
       subtracted_there true = (refl, refl)
       subtracted_there false = ended s
         where
-          ended : (s : Stands) → StaysThere (releasing s unlock.Subtract) (At (waits (behind_release s)))
+          ended : (s : Stands) → StaysThere (releasing s unlock.Subtract) (At (waits (past_release s)))
           ended stands.Listed = (refl, refl)
           ended stands.Moved = (refl, refl)
           ended (stands.InHand by) = (refl, refl)
@@ -224,7 +224,7 @@ module _ (w : State) (t l m : ℕ) (timed : Bool) (steady : IsInductive w) (is_t
       subtracted_beside true = (refl, refl)
       subtracted_beside false = ended s
         where
-          ended : (s : Stands) → StaysBeside (releasing s unlock.Subtract) (At (waits (behind_release s)))
+          ended : (s : Stands) → StaysBeside (releasing s unlock.Subtract) (At (waits (past_release s)))
           ended stands.Listed = (refl, refl)
           ended stands.Moved = (refl, refl)
           ended (stands.InHand by) = (refl, refl)

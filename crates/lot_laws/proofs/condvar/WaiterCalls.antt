@@ -23,7 +23,7 @@ use Rattle.steps_condvar.proofs.WaitTells.{waiters_are_told}
 use Rattle.spec_locks.specs.Locks.{Rights}
 use Rattle.steps_condvar.specs.CondvarCalls.{IsReached}
 use Rattle.steps_mutex.specs.declared.unlock.UnlockAt.TheVariants as unlock
-use Rattle.spec_locks.specs.Runs.{behind_wake, is_taken_by, one_more_at}
+use Rattle.spec_locks.specs.Runs.{after_wake, is_taken_by, one_more_at}
 use Rattle.lot_laws.specs.Refinement.{call_state, taken_at}
 use Rattle.spec_locks.specs.Sites.{Has, Line, Main, idle}
 use Rattle.lot_laws.specs.Locations.{role_on, nowhere, location, location_at, location_by}
@@ -102,7 +102,7 @@ wait_woken : (k l t : ℕ) (timed : Bool) (at : WaitAt) → (mutex_side (Wait l 
     (call_state (Condvar k (Wait l timed at)) r) {
       retries = Some l;
       recalls =
-          behind_wake (call_state (Condvar k (Wait l timed at)) r).recalls;
+          after_wake (call_state (Condvar k (Wait l timed at)) r).recalls;
     }
 wait_woken k l t timed (wait.Release (stands.InHand by) at) h r = waiters_are_told k l timed
     (wait.Release (stands.InHand by) at) (Woken note.Normal) tt tt r
@@ -120,14 +120,14 @@ pub waiter_woken : (k : ℕ) (at : CondvarPlace) (t l : ℕ) → is_taken_by t (
     ≡ record (call_state (Condvar k at) r) {
       retries = Some l;
       recalls =
-          behind_wake (call_state (Condvar k at) r).recalls;
+          after_wake (call_state (Condvar k at) r).recalls;
     }
 waiter_woken k at t l e r = let b = taken_beside k at t l e in
     subst (λ q. call_state (next_place (Condvar k q) (Woken note.Normal)) r
     ≡ record (call_state (Condvar k q) r) {
       retries = Some l;
       recalls =
-          behind_wake (call_state (Condvar k q) r).recalls;
+          after_wake (call_state (Condvar k q) r).recalls;
     }) (sym b.is) (wait_woken k l t b.timed b.place
     b.hand r)
 
@@ -140,7 +140,7 @@ wait_handed : (k l t : ℕ) (alone timed : Bool) (at : WaitAt) → (mutex_side (
     (call_state (Condvar k (Wait l timed at)) r) {
       retries = None;
       recalls =
-          behind_wake (call_state (Condvar k (Wait l timed at)) r).recalls;
+          after_wake (call_state (Condvar k (Wait l timed at)) r).recalls;
     }
 wait_handed k l t alone timed (wait.Release (stands.InHand by) at) h free r =
     waiters_are_told k l timed (wait.Release (stands.InHand by) at) (HandedBy t alone) tt free r
@@ -194,14 +194,14 @@ pub waiter_handed : (k : ℕ) (at : CondvarPlace) (t l : ℕ) (alone : Bool)
     ≡ record (call_state (Condvar k at) r) {
       retries = None;
       recalls =
-          behind_wake (call_state (Condvar k at) r).recalls;
+          after_wake (call_state (Condvar k at) r).recalls;
     }
 waiter_handed k at t l alone e free r = let b = taken_beside k at t l e in
     subst (λ q. call_state (next_place (Condvar k q) (HandedBy t alone)) (one_more_at l Exclusive r)
     ≡ record (call_state (Condvar k q) r) {
       retries = None;
       recalls =
-          behind_wake (call_state (Condvar k q) r).recalls;
+          after_wake (call_state (Condvar k q) r).recalls;
     }) (sym b.is)
     (wait_handed k l t alone b.timed b.place b.hand (ap (λ q. (mutex_side q).role.claims) (sym b.is) ∙ free)
     r)

@@ -43,7 +43,7 @@ pub record WaitsThere (w : State) (u l : ℕ) : Type 0 where
   pub is : place_at w u ≡ Condvar l at
   pub listed : (condvar_row at).listed ≡ true
 
-module _ (w : State) (steady : IsInductive w) (l : ℕ) (sort : (rules_in w l).sort ≡ locks.Condvar) where
+module _ (w : State) (inductive : IsInductive w) (l : ℕ) (sort : (rules_in w l).sort ≡ locks.Condvar) where
   no_mutex : (rules_in w l).sort ≡ locks.Mutex → ⊥
   no_mutex mutex = let both : locks.Mutex ≡ locks.Condvar = sym mutex ∙ sort in cc
 
@@ -123,9 +123,9 @@ module _ (w : State) (steady : IsInductive w) (l : ℕ) (sort : (rules_in w l).s
         either false e h = beside (mutex_beside at) refl h
 
     pub waits_there : 1 ≤ locks.times u (lock_state w l).queue → WaitsThere w u l
-    waits_there some = by_place (place_at w u) refl (steady.stands.calls u)
+    waits_there some = by_place (place_at w u) refl (inductive.stands.calls u)
         (let n : locks.times u (lock_state w l).queue ≡ stood_in (location_at (place_at w u) l).stands Main =
-        queued_times u (queue_at w (2 * l)) ∙ steady.stands.lines u l Main in omega arith)
+        queued_times u (queue_at w (2 * l)) ∙ inductive.stands.lines u l Main in omega arith)
 
   pub waits_aside : (m : ℕ) → WaitsAside (condvar_of w l) (site_of w m) m
   waits_aside m u some names = let x = waits_there u some in by_at x.at x.is x.listed
@@ -147,7 +147,7 @@ module _ (w : State) (steady : IsInductive w) (l : ℕ) (sort : (rules_in w l).s
           named = let both : Some k ≡ Some m = sym (ap (λ (y : Profile). y.names) row) ∙ names in cc
 
           fits : FitsCondvar w l (Wait k timed at)
-          fits = subst (FitsItsLock w) is (steady.stands.calls u)
+          fits = subst (FitsItsLock w) is (inductive.stands.calls u)
 
           apart : l ≢ k
           apart e = no_mutex (subst (λ j. (rules_in w j).sort ≡ locks.Mutex) (sym e)
@@ -168,7 +168,7 @@ module _ (w : State) (steady : IsInductive w) (l : ℕ) (sort : (rules_in w l).s
               (ap (λ (h : Option Hand). taken_from h (mutex_side (Wait k timed at)).wants true) side.hand)
 
           standing_none : standing u (lock_state w k) ≡ 0
-          standing_none = standing_by w u steady k
+          standing_none = standing_by w u inductive k
               ∙ (λ i. stood_in (stands_none i) Main + stood_in (stands_none i) Second + one_if_some
               (taken_none i))
 

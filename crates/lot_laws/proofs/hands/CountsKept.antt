@@ -12,7 +12,7 @@ use Rattle.steps_once.specs.declared.places.OncePlace.TheVariants.{Run}
 use Rattle.lot_machine.specs.Machine.{reply_to, state_after_close, state_after_go, state_after_going}
 use Rattle.spec_locks.specs.Sites.{has_readers}
 use Rattle.lot_laws.proofs.calls.Closures.{RunsOne, closes_one}
-use Rattle.lot_laws.proofs.calls.Closings.{closing, closing_there, is_behind}
+use Rattle.lot_laws.proofs.calls.Closings.{closing, closing_there, is_after}
 use Rattle.lot_laws.proofs.calls.OwnPlace.{gone, gone_place}
 use Rattle.std.proofs.lemmas.Bool.{cases_eq, ltb-true}
 use Rattle.core_base.specs.declared.ops.Op.{Op}
@@ -71,12 +71,13 @@ use Rattle.lot_laws.proofs.hands.Cases.{others_hold}
 use Rattle.lot_laws.proofs.hands.Counted.{counted_stays, same_hand}
 use Rattle.lot_laws.proofs.hands.InHand.{wanted_of}
 use Rattle.lot_laws.proofs.calls.LockSteps.{IsTurn, after_step}
-use Rattle.lot_laws.proofs.calls.Looking.{closing_here, looking_steady, set_keeps}
-use Rattle.lot_laws.proofs.sites.TurnsKept.{after_steady}
+use Rattle.lot_laws.proofs.calls.Looking.{closing_here, looking_inductive, set_keeps}
+use Rattle.lot_laws.proofs.sites.TurnsKept.{after_inductive}
 
 -- ---------------------------------------------------------------- another thread goes on
 
-module _ (w v : State) (a : ℕ) (steady : IsInductive w) (behind : IsInductive v) (counted : AreCounted w)
+module _ (w v : State) (a : ℕ) (inductive : IsInductive w) (afterwards : IsInductive v)
+    (counted : AreCounted w)
     (size : length v.places ≡ length w.places) where
   module _ (t l : ℕ) (k : Counted) (was : counted_on (place_at w t) l ≡ Some k)
       (now : counted_on (place_at v t) l ≡ Some k) where
@@ -89,19 +90,20 @@ module _ (w v : State) (a : ℕ) (steady : IsInductive w) (behind : IsInductive 
     -- a lock that is shared
     readers : has_readers (rules_in w l).sort ≡ true
     readers = let h = counting l k (place_at w t) was in let fits : FitsItsLock w
-        (RwLock l h.admission h.call) = subst (FitsItsLock w) h.is (steady.stands.calls t) in fits.0.0
+        (RwLock l h.admission h.call) = subst (FitsItsLock w) h.is (inductive.stands.calls t) in fits.0.0
 
     -- a thread that it has in hand, the abstract lock says, and no case of another changes that
     same_wanted : t ≢ a → (x : Turn) (o : Outcome) → Turned (locks_of w) a x o (locks_of v) → (u : ℕ)
         → wanted_of t (held (place_at v u)) ≡ wanted_of t (held (place_at w u))
-    same_wanted ne x o turned u = same_hand v t l behind then_so.of then_so.any then_so.carries u
+    same_wanted ne x o turned u = same_hand v t l afterwards then_so.of then_so.any then_so.carries u
         ∙ turned_so (λ (s z : LockState). wanted_of t (z.taken u) ≡ wanted_of t (s.taken u)) (locks_of w)
         (locks_of v) a l (λ c m every owned number may. moves_no_readers (locks_of w) a c m every owned
         number l readers may (λ z. wanted_of t (z.taken u) ≡ wanted_of t ((lock_state w l).taken u)) refl)
         refl
-        (λ c needs. others_hold (rules_in w l) (lock_state w l) t a u (steady.sites.site l).state ne c needs)
+        (λ c needs. others_hold (rules_in w l) (lock_state w l) t a u (inductive.sites.site l).state ne c
+        needs)
         x o turned
-        ∙ sym (same_hand w t l steady before.of before.any before.carries u)
+        ∙ sym (same_hand w t l inductive before.of before.any before.carries u)
 
     pub another_counts : t ≢ a → (x : Turn) (o : Outcome) → Turned (locks_of w) a x o (locks_of v)
         → IsCountOfHand v t k
@@ -110,7 +112,8 @@ module _ (w v : State) (a : ℕ) (steady : IsInductive w) (behind : IsInductive 
 
 -- ---------------------------------------------------------------- the thread itself goes on
 
-module _ (w : State) (t : ℕ) (steady : IsInductive w) (counted : AreCounted w) (there : t < length w.places)
+module _ (w : State) (t : ℕ) (inductive : IsInductive w) (counted : AreCounted w) (there : t
+    < length w.places)
   where
     abbrev goes_to : Place → State
     goes_to p = put (state_after_act w t p (act_of p)) t (next_place p (reply_to w t (act_of p)))
@@ -237,22 +240,24 @@ module _ (w : State) (t : ℕ) (steady : IsInductive w) (counted : AreCounted w)
 
       hand_over_counts : (to : HandOverAt) → place_at w t ≡ at to → IsInductive (goes_to (at to))
           → Turned (locks_of w) t y o (locks_of (goes_to (at to))) → Counts to
-      hand_over_counts handing.Load is behind turned k e =
+      hand_over_counts handing.Load is afterwards turned k e =
           absurd (none_is k (in_hand_of (HandOver x b (looked (word_at w l)))) (looked_bare (word_at w l)) e)
-      hand_over_counts (handing.Free expected) is behind turned k e = free_counts expected k e
-      hand_over_counts handing.Enter is behind turned k e = absurd cc
-      hand_over_counts handing.Take is behind turned k e =
-          let so : Some (picked_now w t l a x b steady there is) ≡ Some k =
-          sym (took_is x b (picked_now w t l a x b steady there is)) ∙ e in
-          let same_count : picked_now w t l a x b steady there is ≡ k = cc in
-          subst (IsCountOfHand (goes_to (at handing.Take)) t) same_count (take_counts w t l a x b steady there
-          is behind y o turned)
-      hand_over_counts (handing.Store m) is behind turned k e = absurd cc
-      hand_over_counts (handing.Look m) is behind turned k e =
+      hand_over_counts (handing.Free expected) is afterwards turned k e = free_counts expected k e
+      hand_over_counts handing.Enter is afterwards turned k e = absurd cc
+      hand_over_counts handing.Take is afterwards turned k e =
+          let so : Some (picked_now w t l a x b inductive there is) ≡ Some k =
+          sym (took_is x b (picked_now w t l a x b inductive there is)) ∙ e in
+          let same_count : picked_now w t l a x b inductive there is ≡ k = cc in
+          subst (IsCountOfHand (goes_to (at handing.Take)) t) same_count (take_counts w t l a x b inductive
+          there
+          is afterwards y o turned)
+      hand_over_counts (handing.Store m) is afterwards turned k e = absurd cc
+      hand_over_counts (handing.Look m) is afterwards turned k e =
           keeps_count (state_after_operation w t (at (handing.Look m)) l operation.Load) m k (handing.Look m)
           (handing.Exchange m (word_at w l)) refl is refl refl (let z : m ≡ k = cc in z)
-      hand_over_counts (handing.Exchange m expected) is behind turned k e = exchange_counts m expected is k e
-      hand_over_counts (handing.Leave any given) is behind turned k e =
+      hand_over_counts (handing.Exchange m expected) is afterwards turned k e =
+          exchange_counts m expected is k e
+      hand_over_counts (handing.Leave any given) is afterwards turned k e =
           absurd (none_is k (counted_next (released x b)) released_bare e)
 
     -- by the reply to the act of its place
@@ -263,7 +268,7 @@ module _ (w : State) (t : ℕ) (steady : IsInductive w) (counted : AreCounted w)
           → IsCountOfHand (goes_to p) t k
 
       bare_goes : (j : ℕ) (a : Admission) (c : RwLockCallPlace) → (IsHandOver c → ⊥) → Goes (RwLock j a c)
-      bare_goes j a c other is behind turned l k e =
+      bare_goes j a c other is afterwards turned l k e =
           absurd (none_is k _ (goes_counted l j a n ∙ ap (λ z. if j == l then z else None)
           (others_bare a c (reply_to w t (call_act j a c)) other) ∙ nothing (j == l)) e)
         where
@@ -271,16 +276,16 @@ module _ (w : State) (t : ℕ) (steady : IsInductive w) (counted : AreCounted w)
           n = call_next a c (reply_to w t (call_act j a c))
 
       going_counts : (p : Place) → Goes p
-      going_counts Idle is behind turned l k e = absurd cc
-      going_counts (Mutex j m) is behind turned l k e =
+      going_counts Idle is afterwards turned l k e = absurd cc
+      going_counts (Mutex j m) is afterwards turned l k e =
           absurd (none_is k _ (mutex_counted l j (mutex_next m (reply_to w t (mutex_act j m)))) e)
-      going_counts (Once j m) is behind turned l k e =
+      going_counts (Once j m) is afterwards turned l k e =
           absurd (none_is k _ (once_counted l j (once_next m (reply_to w t (once_act j m)))) e)
-      going_counts (Semaphore j m) is behind turned l k e =
+      going_counts (Semaphore j m) is afterwards turned l k e =
           absurd (none_is k _ (semaphore_counted l j (semaphore_next m (reply_to w t (semaphore_act j m)))) e)
-      going_counts (Condvar j m) is behind turned l k e =
+      going_counts (Condvar j m) is afterwards turned l k e =
           absurd (none_is k _ (condvar_counted l j (condvar_next m (reply_to w t (condvar_act j m)))) e)
-      going_counts (RwLock j a (HandOver x b to)) is behind turned l k e =
+      going_counts (RwLock j a (HandOver x b to)) is afterwards turned l k e =
           either (j == l) (sym (goes_counted l j a n) ∙ e)
         where
           n : Next RwLockCallPlace
@@ -288,26 +293,29 @@ module _ (w : State) (t : ℕ) (steady : IsInductive w) (counted : AreCounted w)
 
           either : (c : Bool) → (if c then counted_next n else None) ≡ Some k
               → IsCountOfHand (goes_to (RwLock j a (HandOver x b to))) t k
-          either true f = hand_over_counts j a x b y o to is behind turned k f
+          either true f = hand_over_counts j a x b y o to is afterwards turned k f
           either false f = absurd cc
-      going_counts (RwLock j a (Plain p)) is behind turned l k e = bare_goes j a (Plain p) (λ no. no) is
-          behind
+      going_counts (RwLock j a (Plain p)) is afterwards turned l k e = bare_goes j a (Plain p) (λ no. no) is
+          afterwards
           turned l k e
-      going_counts (RwLock j a (Bump p)) is behind turned l k e = bare_goes j a (Bump p) (λ no. no) is behind
+      going_counts (RwLock j a (Bump p)) is afterwards turned l k e = bare_goes j a (Bump p) (λ no. no) is
+          afterwards
           turned l k e
-      going_counts (RwLock j a (Glance x)) is behind turned l k e = bare_goes j a (Glance x) (λ no. no) is
-          behind turned l k e
-      going_counts (RwLock j a (Handed x how b to)) is behind turned l k e =
-          bare_goes j a (Handed x how b to) (λ no. no) is behind turned l k e
+      going_counts (RwLock j a (Glance x)) is afterwards turned l k e = bare_goes j a (Glance x) (λ no. no) is
+          afterwards turned l k e
+      going_counts (RwLock j a (Handed x how b to)) is afterwards turned l k e =
+          bare_goes j a (Handed x how b to) (λ no. no) is afterwards turned l k e
 
 -- in a call of two locks it counts nobody
 two_bare : (w : State) (t : ℕ) → IsInductive w → t < length w.places → IsOfTwo (place_at w t) → (l : ℕ)
     → counted_on (place_at (state_after_go w t) t) l ≡ None
-two_bare w t steady there two l = ap (λ p. counted_on (place_at (state_after_going w t p) t) l) two.is
-    ∙ ap (λ p. counted_on p l) (went_place w t two.lock two.at two.is (fits_two w t steady two).reached there)
-    ∙ condvar_counted l two.lock (went w t two.lock two.at two.is (fits_two w t steady two).reached there)
+two_bare w t inductive there two l = ap (λ p. counted_on (place_at (state_after_going w t p) t) l) two.is
+    ∙ ap (λ p. counted_on p l) (went_place w t two.lock two.at two.is (fits_two w t inductive two).reached
+    there)
+    ∙ condvar_counted l two.lock (went w t two.lock two.at two.is (fits_two w t inductive two).reached there)
 
-module _ (w : State) (t : ℕ) (steady : IsInductive w) (counted : AreCounted w) (there : t < length w.places)
+module _ (w : State) (t : ℕ) (inductive : IsInductive w) (counted : AreCounted w) (there : t
+    < length w.places)
   where
     -- it looks at the word once more
     spun_counts : (p : Option Place) → looking (place_at w t) ≡ p → (l : ℕ) (k : Counted)
@@ -319,7 +327,7 @@ module _ (w : State) (t : ℕ) (steady : IsInductive w) (counted : AreCounted w)
       | inl single ↦ ap (λ p. counted_on p l) (gone_place moved t single there_moved
           ∙ ap (λ p. next_place p (go_reply moved t)) (get_or-set_same w.places t q Idle there))
           ∙ (looks_bare (place_at w t) q is).goes_on (go_reply moved t) l
-      | inr two ↦ two_bare moved t (looking_steady w t there q is steady) there_moved two l
+      | inr two ↦ two_bare moved t (looking_inductive w t there q is inductive) there_moved two l
     ]) e)
       where
         moved : State
@@ -342,11 +350,11 @@ module _ (w : State) (t : ℕ) (steady : IsInductive w) (counted : AreCounted w)
     closed_bare succeeded one l =
         let v = closing w t there succeeded one in
         ap (λ p. counted_on p l) (gone_place v t
-        (subst IsSingle (sym (closing_here w t there succeeded one ∙ is_behind w t there succeeded one)) tt)
+        (subst IsSingle (sym (closing_here w t there succeeded one ∙ is_after w t there succeeded one)) tt)
         (closing_there w t there succeeded one))
         ∙ ap (λ p. counted_on (next_place p (reply_to v t (act_of p))) l) (closing_here w t there succeeded
         one
-        ∙ is_behind w t there succeeded one)
+        ∙ is_after w t there succeeded one)
         ∙ once_counted l one.lock (once_next (Run one.forced (run.Close succeeded))
         (reply_to v t (act_of (Once one.lock (Run one.forced (run.Close succeeded))))))
 
@@ -355,40 +363,42 @@ module _ (w : State) (t : ℕ) (steady : IsInductive w) (counted : AreCounted w)
         → counted_on (place_at (state_after_turn w t x) t) l ≡ Some k → IsCountOfHand (state_after_turn w t x)
         t
         k
-    turned_counts (turn.TheVariants.Begin c) can behind o turned l k e =
+    turned_counts (turn.TheVariants.Begin c) can afterwards o turned l k e =
         absurd (none_is k _ (ap (λ p. counted_on p l) (get_or-set_same w.places t
         (first_place (kind_at w (lock_in c)) c) Idle there) ∙ begins_bare l (kind_at w (lock_in c)) c) e)
-    turned_counts turn.TheVariants.Go can behind o turned l k e = elim (single_or_two (place_at w t)) [
+    turned_counts turn.TheVariants.Go can afterwards o turned l k e = elim (single_or_two (place_at w t)) [
       | inl single ↦ (let same = gone w t single in
-          subst (λ (v : State). IsCountOfHand v t k) (sym same) (going_counts w t steady counted there
+          subst (λ (v : State). IsCountOfHand v t k) (sym same) (going_counts w t inductive counted there
           turn.TheVariants.Go o (place_at w t) refl
-          (subst IsInductive same behind)
+          (subst IsInductive same afterwards)
           (subst (λ (v : State). Turned (locks_of w) t turn.TheVariants.Go o (locks_of v)) same turned) l k
           (ap (λ p. counted_on p l) (sym (gone_place w t single there)) ∙ e)))
-      | inr two ↦ absurd (none_is k _ (two_bare w t steady there two l) e)
+      | inr two ↦ absurd (none_is k _ (two_bare w t inductive there two l) e)
     ]
-    turned_counts turn.TheVariants.Spin can behind o turned l k e = spun_counts (looking (place_at w t)) refl
+    turned_counts turn.TheVariants.Spin can afterwards o turned l k e = spun_counts (looking (place_at w t))
+        refl
         l
         k e
-    turned_counts turn.TheVariants.Late can behind o turned l k e = late_counts (late_key (place_at w t)) refl
+    turned_counts turn.TheVariants.Late can afterwards o turned l k e = late_counts (late_key (place_at w t))
+        refl
         l
         k e
-    turned_counts turn.TheVariants.Ok can behind o turned l k e =
+    turned_counts turn.TheVariants.Ok can afterwards o turned l k e =
         absurd (none_is k _ (closed_bare true (closes_one w t true can) l) e)
-    turned_counts turn.TheVariants.Err can behind o turned l k e =
+    turned_counts turn.TheVariants.Err can afterwards o turned l k e =
         absurd (none_is k _ (closed_bare false (closes_one w t false can) l) e)
 
 -- ---------------------------------------------------------------- every step
 
 pub counted_after : (w : State) (s : Step) → IsWellFormed w → IsInductive w → AreCounted w → AreCondvars w
     → AreCounted (after w s)
-counted_after w s shape steady counted condvars = are_counted (after w s) each
+counted_after w s shape inductive counted condvars = are_counted (after w s) each
   where
-    behind : IsInductive (after w s)
-    behind = after_steady w s shape steady counted condvars
+    afterwards : IsInductive (after w s)
+    afterwards = after_inductive w s shape inductive counted condvars
 
     stepped : IsTurn (locks_of w) s (step_outcome w s) (locks_of (after w s))
-    stepped = after_step w s shape steady counted condvars
+    stepped = after_step w s shape inductive counted condvars
 
     own : (b : Bool) → is_possible w s ≡ b → IsInductive (if b then state_after_turn w s.thread s.turn else w)
         → Turned (locks_of w) s.thread s.turn (step_outcome w s)
@@ -396,18 +406,21 @@ counted_after w s shape steady counted condvars = are_counted (after w s) each
         → (l : ℕ) (k : Counted) → counted_on (place_at (if b then state_after_turn w s.thread s.turn else w)
         s.thread) l ≡ Some k
         → IsCountOfHand (if b then state_after_turn w s.thread s.turn else w) s.thread k
-    own true can behind turned l k e = let h = both (nat_lt s.thread (length w.places))
+    own true can afterwards turned l k e = let h = both (nat_lt s.thread (length w.places))
         (can_turn w s.thread s.turn) can in
-        turned_counts w s.thread steady counted (ltb-true s.thread (length w.places) h.0) s.turn h.1 behind
+        turned_counts w s.thread inductive counted (ltb-true s.thread (length w.places) h.0) s.turn h.1
+        afterwards
         (step_outcome w s) turned l k e
-    own false cannot behind turned l k e = counts_there w s.thread l k counted e
+    own false cannot afterwards turned l k e = counts_there w s.thread l k counted e
 
     each : (t l : ℕ) (k : Counted) → counted_on (place_at (after w s) t) l ≡ Some k
         → IsCountOfHand (after w s) t k
     each t l k e = elim (cases_eq t s.thread) [
-      | inl mine ↦ subst (λ u. IsCountOfHand (after w s) u k) (sym mine) (own (is_possible w s) refl behind
+      | inl mine ↦ subst (λ u. IsCountOfHand (after w s) u k) (sym mine) (own (is_possible w s) refl
+          afterwards
           stepped.1 l k (ap (λ u. counted_on (place_at (after w s) u) l) (sym mine) ∙ e))
-      | inr ne ↦ another_counts w (after w s) s.thread steady behind counted (after_size w s).threads t l k
+      | inr ne ↦ another_counts w (after w s) s.thread inductive afterwards counted (after_size w s).threads t
+          l k
           (sym (others_keep_it (λ p. counted_on p l) (counted_befallen l) w s t ne) ∙ e) e ne s.turn
           (step_outcome w s) stepped.1
     ]

@@ -55,12 +55,12 @@ queued_more : (xs : List Waiter) → wanting_more (map queued_of xs) ≡ hands.w
 queued_more [] = refl
 queued_more (x ∷ xs) = ap (λ n. (if wants_shared x.want then 0 else 1) + n) (queued_more xs)
 
-module _ (w : State) (t l : ℕ) (steady : IsInductive w) where
+module _ (w : State) (t l : ℕ) (inductive : IsInductive w) where
   few_picked : (start : Option Want) → wanting_more (picked (rules_in w l).sort start (lock_state w l).queue)
       ≤ 1
   few_picked start = subst (λ q. wanting_more q ≤ 1) (picks_tied (rules_in w l).sort start (2 * l)
       (queue_at w (2 * l)) (under_of (locations_of (place_at w)) l Main (queue_at w (2 * l))
-      (steady.stands.waits l Main)))
+      (inductive.stands.waits l Main)))
       (let one : hands.wanting_more (lock_picked start (is_recursive (rules_in w l).sort)
       (queue_at w (2 * l))) ≤ 1 = one_more_picked start (is_recursive (rules_in w l).sort)
       (queue_at w (2 * l)) in
@@ -76,7 +76,7 @@ module _ (w : State) (t l : ℕ) (steady : IsInductive w) where
       → OneMore (lock_state v l).taken t
   one_more_then single v x o lock turned none = turned_so (λ (s z : LockState). OneMore z.taken t)
       (locks_of w) (locks_of v) t l (λ c m every owned number may. absurd (moves_nobody (locks_of w) t
-      (calls_one_lock w t steady single) c m every owned number may)) (nobody_more t (lock_state w l).taken
+      (calls_one_lock w t inductive single) c m every owned number may)) (nobody_more t (lock_state w l).taken
       none)
       (λ c needs. takes_one_more (lock_state w l) t none (rules_in w l) lock few_picked c needs) x o turned
 
@@ -85,14 +85,14 @@ one_in_hand : (v : State) (t l : ℕ) → IsInductive v → HasCounted l (place_
     → OneMore (lock_state v l).taken t
     → (u i : ℕ) (x y : Want) → wants_more_in_hand t (held (place_at v u)) ≡ Some x
     → wants_more_in_hand t (held (place_at v i)) ≡ Some y → u ≡ i
-one_in_hand v t l steady has one u i x y e f = let a = is_more t (held (place_at v u)) x e in let b =
+one_in_hand v t l inductive has one u i x y e f = let a = is_more t (held (place_at v u)) x e in let b =
     is_more t (held (place_at v i)) y f in
     one u i x y (taken_so u x a.0) a.1 (taken_so i y b.0) b.1
   where
     taken_so : (j : ℕ) (z : Want) → wanted_of t (held (place_at v j)) ≡ Some z → (lock_state v l).taken j
         ≡ Some (record { by = t; want = z })
     taken_so j z g = is_wanted t ((lock_state v l).taken j) z
-        (sym (same_hand v t l steady has.of has.any has.carries j) ∙ g)
+        (sym (same_hand v t l inductive has.of has.any has.carries j) ∙ g)
 
 -- ---------------------------------------------------------------- the take
 
@@ -116,7 +116,7 @@ took_is access.Shared b k = refl
 took_is access.Upgradable b k = refl
 took_is access.Exclusive b k = refl
 
-module _ (w : State) (t l : ℕ) (a : Admission) (x : Access) (b : Bool) (steady : IsInductive w)
+module _ (w : State) (t l : ℕ) (a : Admission) (x : Access) (b : Bool) (inductive : IsInductive w)
     (there : t < length w.places)
     (is : place_at w t ≡ RwLock l a (HandOver x b handing.Take)) where
   abbrev taken_all : State
@@ -157,7 +157,7 @@ module _ (w : State) (t l : ℕ) (a : Admission) (x : Access) (b : Bool) (steady
       ((counting_row l picked_now place_then counts).unheld ∙ sym (ap held still)))
 
   nobody_before : HasTakenNobody (lock_state w l) t
-  nobody_before = in_no_hand w steady t l (λ h. let none : carried_at (place_at w t) l ≡ None =
+  nobody_before = in_no_hand w inductive t l (λ h. let none : carried_at (place_at w t) l ≡ None =
       ap (λ p. carried_at p l) is ∙ ap (λ y. (if y then location (RwLock l a (HandOver x b handing.Take))
       else nowhere).carries) (same l) in
       let f : ◌≡◌ {A = Option Bool} None (Some false) = sym none ∙ h in cc)
@@ -166,17 +166,17 @@ module _ (w : State) (t l : ℕ) (a : Admission) (x : Access) (b : Bool) (steady
   shared : (rules_in w l).sort ≢ Once
   shared once =
       let fits : FitsItsLock w (RwLock l a (HandOver x b handing.Take)) = subst (FitsItsLock w) is
-      (steady.stands.calls t) in
+      (inductive.stands.calls t) in
       let f : has_readers Once ≡ true = subst (λ sort. has_readers sort ≡ true) once fits.0.0 in cc
 
   pub take_counts : IsInductive state_then → (y : Turn) (o : Outcome) → Turned (locks_of w) t y o
       (locks_of state_then)
       → IsCountOfHand state_then t picked_now
-  take_counts behind y o turned = record {
+  take_counts afterwards y o turned = record {
     number = same_sharers taken_all state_then t (length-set taken_all.places t place_then) same_wants;
     more = ap want_of_successor (same_successor taken_all state_then t (length-set taken_all.places t
         place_then) same_wants);
-    one = one_in_hand state_then t l behind (subst (HasCounted l) (sym at_then)
-        (counting_row l picked_now place_then counts)) (one_more_then w t l steady
+    one = one_in_hand state_then t l afterwards (subst (HasCounted l) (sym at_then)
+        (counting_row l picked_now place_then counts)) (one_more_then w t l inductive
         (subst IsSingle (sym is) tt) state_then y o shared turned nobody_before);
   }

@@ -12,10 +12,10 @@ use Rattle.lot_steps.specs.declared.places.Place.TheVariants.{Idle}
 use Rattle.lot_steps.specs.Steps.{next_place}
 use Rattle.spec_locks.specs.Locks.{Queued, Rights, Taken, HandOff, IsTaken, handed, putting, readers}
 use Rattle.spec_locks.specs.Locks.{rights_of}
-use Rattle.spec_locks.specs.Runs.{AtLock, behind_wake, is_taken_by}
+use Rattle.spec_locks.specs.Runs.{AtLock, after_wake, is_taken_by}
 use Rattle.lot_machine.specs.Machine.{State, place_at}
 use Rattle.lot_laws.specs.Refinement.{call_state, lock_state, taken_at}
-use Rattle.lot_laws.specs.MutexDeeds.{Act}
+use Rattle.lot_laws.specs.ThreadDeeds.{Act}
 use Rattle.lot_laws.specs.SitesOf.{rules_in}
 use Rattle.lot_laws.proofs.machine.Parts.{past_all, put_same, same, IsSingle}
 use Rattle.lot_laws.proofs.calls.Events.{AreClaims, Happens, OthersFollow, rights, rights_led}
@@ -100,7 +100,7 @@ module _ (w v : State) (t l : ℕ) (right : Want) (successor : Option Queued)
           else place_at w u) (rights v u)
           ≡ (if is_taken_by t o then record (call_state (place_at w u) (rights w u)) {
             retries = None;
-            recalls = behind_wake (call_state (place_at w u) (rights w u)).recalls;
+            recalls = after_wake (call_state (place_at w u) (rights w u)).recalls;
           } else call_state
           (place_at w u) (rights w u))
       by_hand None e = other_call (λ x is. let f : ◌≡◌ {A = Option Taken} None
@@ -111,7 +111,7 @@ module _ (w v : State) (t l : ℕ) (right : Want) (successor : Option Queued)
               → call_state (if b then next_place (place_at w u) (HandedBy t alone) else place_at w u)
               (rights v u) ≡ (if b then record (call_state (place_at w u) (rights w u)) {
                 retries = None;
-                recalls = behind_wake (call_state (place_at w u) (rights w u)).recalls;
+                recalls = after_wake (call_state (place_at w u) (rights w u)).recalls;
               } else call_state
               (place_at w u) (rights w u))
           either true f = let mine : IsTaken (lock_state w l) t u g.want = e

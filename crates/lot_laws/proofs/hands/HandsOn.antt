@@ -59,7 +59,7 @@ use Rattle.lot_machine.specs.Machine.{sharers_in_hand, state_after_act, successo
 use Rattle.lot_machine.specs.Machine.{word_at}
 use Rattle.lot_machine.specs.Fits.{IsWellFormed}
 use Rattle.lot_laws.specs.Refinement.{taken_at}
-use Rattle.lot_laws.specs.MutexDeeds.{acts}
+use Rattle.lot_laws.specs.ThreadDeeds.{acts}
 use Rattle.lot_laws.specs.SitesOf.{FitsItsLock, Goes, LimitHasRoom, IsCountOfHand, IsInductive, carried_at}
 use Rattle.lot_laws.specs.SitesOf.{hand_at, rules_in}
 use Rattle.lot_laws.specs.Locations.{role_on, location}
@@ -195,7 +195,7 @@ heir_same (Some x) (Some y) e = let both : record { thread = 0; want = x } ≡ r
 
 -- ---------------------------------------------------------------- the step
 
-module _ (w : State) (t l : ℕ) (a : Admission) (c : RwLockCallPlace) (steady : IsInductive w)
+module _ (w : State) (t l : ℕ) (a : Admission) (c : RwLockCallPlace) (inductive : IsInductive w)
     (shape : IsWellFormed w)
     (there : t < length w.places) (lt : l < length w.locks) (is : place_at w t ≡ RwLock l a c)
     (k : Counted) (is_k : in_hand_of c ≡ Some k) (count : IsCountOfHand w t k) (op : Op) (e : call_act l a c
@@ -204,16 +204,16 @@ module _ (w : State) (t l : ℕ) (a : Admission) (c : RwLockCallPlace) (steady :
   here = lock_by w l (rules_in w l)
 
   fits : FitsItsLock w (RwLock l a c)
-  fits = fits_now w t l a c steady shape there lt is
+  fits = fits_now w t l a c inductive shape there lt is
 
   abbrev pub of : IsOf l (place_at w t)
-  of = own w t l a c steady shape there lt is
+  of = own w t l a c inductive shape there lt is
 
   abbrev pub row : profile (place_at w t) ≡ call_profile a c
-  row = same_row w t l a c steady shape there lt is
+  row = same_row w t l a c inductive shape there lt is
 
   abbrev readers : has_readers (rules_in w l).sort ≡ true
-  readers = (admits w t l a c steady shape there lt is).0
+  readers = (admits w t l a c inductive shape there lt is).0
 
   pub g : HandsOver (call_move a c) op
   g = (hand_overs_move l l a c op k fits.1 is_k e).1
@@ -230,21 +230,21 @@ module _ (w : State) (t l : ℕ) (a : Admission) (c : RwLockCallPlace) (steady :
 
   abbrev hands : Hands (rules_in w l) a here t c whom
   hands = record {
-    call = at_now w t l a c steady shape there lt is;
+    call = at_now w t l a c inductive shape there lt is;
     free = free_of (place_at w t) l (of_single l (place_at w t) of) bare;
     taken = k;
     is = is_k;
-    in_hand = has_in_hand w t l steady of g.any carries k count;
+    in_hand = has_in_hand w t l inductive of g.any carries k count;
   }
 
   limits : LimitHasRoom (length w.places) (rules_in w l) × HasLimit (rules_in w l) here.lock
-  limits = steady.sites.limits l fits.0.0
+  limits = inductive.sites.limits l fits.0.0
 
   room : a.limit < 2 ^ 60 - 1
   room = subst (λ n. n < 2 ^ 60 - 1) fits.0.2 limits.0.1
 
   few : code (rules_in w l) here < 2 ^ 64
-  few = word_few (rules_in w l) here fits.0.0 (steady.sites.site l) limits.0.1 limits.1
+  few = word_few (rules_in w l) here fits.0.0 (inductive.sites.site l) limits.0.1 limits.1
 
   fewer : k.sharers < a.limit
   fewer = let x : sharers_in_hand t w.places < length w.places =
@@ -254,7 +254,7 @@ module _ (w : State) (t l : ℕ) (a : Admission) (c : RwLockCallPlace) (steady :
       let n : sharers_in_hand t w.places ≡ k.sharers = count.number in omega arith
 
   now : word_at w l ≡ code (rules_in w l) here
-  now = steady.sites.word l
+  now = inductive.sites.word l
 
   -- tells what it makes of its call
   pub hands_tell : CallTells (rules_in w l) a here t l c whom (Value (word_at w l))
@@ -262,7 +262,7 @@ module _ (w : State) (t l : ℕ) (a : Admission) (c : RwLockCallPlace) (steady :
       (hand_overs_tell (rules_in w l) a here t l c op whom hands e)
 
   abbrev Followed : ℕ → Type 0
-  Followed v = IsFollowed w t l steady there of (rules_in w l) refl (call_move a c) row whom (Value v)
+  Followed v = IsFollowed w t l inductive there of (rules_in w l) refl (call_move a c) row whom (Value v)
       (next_place (place_at w t) (Value v))
 
   follows : Followed (word_at w l)
@@ -272,7 +272,8 @@ module _ (w : State) (t l : ℕ) (a : Admission) (c : RwLockCallPlace) (steady :
       × (apply op v ≡ code (rules_in w l) (laws.after_all (rules_in w l) (call_deeds a c whom (Value v)) here
       t))) (sym now)
       (let f = hand_overs_follow (rules_in w l) a here t l c op whom hands e in (
-        followed_by w t l a c steady shape there lt is whom (Value (code (rules_in w l) here)) f.needed f.role
+        followed_by w t l a c inductive shape there lt is whom (Value (code (rules_in w l) here)) f.needed
+            f.role
             (call_told_value a c (code (rules_in w l) here) few),
         hand_overs_code (rules_in w l) a here t l c op whom hands e fewer few room limits.1,
       ))
@@ -301,7 +302,7 @@ module _ (w : State) (t l : ℕ) (a : Admission) (c : RwLockCallPlace) (steady :
     more_right f = facts.more (sym same_right ∙ f)
 
     unpending : here.lock.pending ≡ None
-    unpending = no_pending (rules_in w l) here.lock t g.right (steady.sites.site l).state owns
+    unpending = no_pending (rules_in w l) here.lock t g.right (inductive.sites.site l).state owns
         (λ f. facts.more (sym same_right ∙ f))
 
     -- nobody in its hand claims anything yet
@@ -315,7 +316,7 @@ module _ (w : State) (t l : ℕ) (a : Admission) (c : RwLockCallPlace) (steady :
           let some : here.lock.pending ≡ Some (record {
             thread = u;
             falls_back = pends.0;
-          }) = (steady.sites.site l).held u (Pends pends.0) claims in
+          }) = (inductive.sites.site l).held u (Pends pends.0) claims in
           let none = unpending in cc)
     ]
 
@@ -325,7 +326,7 @@ module _ (w : State) (t l : ℕ) (a : Admission) (c : RwLockCallPlace) (steady :
     given u b held = by_place (place_at w u) refl held
       where
         fresh : b ≡ false
-        fresh = by_any g.any (sym carries ∙ steady.stands.hands.taken t u l b held)
+        fresh = by_any g.any (sym carries ∙ inductive.stands.hands.taken t u l b held)
           where
             by_any : (y : Bool) → in_hand y false ≡ Some b → b ≡ false
             by_any true f = let z : false ≡ b = cc in sym z
@@ -335,13 +336,13 @@ module _ (w : State) (t l : ℕ) (a : Admission) (c : RwLockCallPlace) (steady :
             → IsGiven w t l b (unshared_then w t l) q
         by_place Idle f h = absurd cc
         by_place (Condvar j at) f h = absurd (let none : hand_at (Condvar j at) l ≡ None =
-            condvar_unheld j at l (beside_no_call w t l a c steady shape there lt is u j at f)
+            condvar_unheld j at l (beside_no_call w t l a c inductive shape there lt is u j at f)
             in let both : ◌≡◌ {A = Option Hand} None (hand t b) = sym none ∙ h in cc)
         by_place (Once j at) f h = either (j == l) refl h
           where
             either : (y : Bool) → (j == l) ≡ y → (if y then location (Once j at) else nowhere).hand ≡ hand t b
                 → IsGiven w t l b (unshared_then w t l) (Once j at)
-            either true same_lock z = absurd (of_no_once w t l a c steady shape there lt is u j at f
+            either true same_lock z = absurd (of_no_once w t l a c inductive shape there lt is u j at f
                 (eqb-true j l same_lock))
             either false same_lock z = absurd cc
         by_place (Semaphore j at) f h = either (j == l) refl h
@@ -349,20 +350,20 @@ module _ (w : State) (t l : ℕ) (a : Admission) (c : RwLockCallPlace) (steady :
             either : (y : Bool) → (j == l) ≡ y → (if y then location (Semaphore j at) else nowhere).hand
                 ≡ hand t b
                 → IsGiven w t l b (unshared_then w t l) (Semaphore j at)
-            either true same_lock z = absurd (of_no_semaphore w t l a c steady shape there lt is u j at f
+            either true same_lock z = absurd (of_no_semaphore w t l a c inductive shape there lt is u j at f
                 (eqb-true j l same_lock))
             either false same_lock z = absurd cc
         by_place (Mutex j m) f h = either (j == l) refl h
           where
             either : (y : Bool) → (j == l) ≡ y → (if y then location (Mutex j m) else nowhere).hand ≡ hand t b
                 → IsGiven w t l b (unshared_then w t l) (Mutex j m)
-            either true same_lock z = absurd (of_no_mutex w t l a c steady shape there lt is u j m f
+            either true same_lock z = absurd (of_no_mutex w t l a c inductive shape there lt is u j m f
                 (eqb-true j l same_lock))
             either false same_lock z = absurd cc
         by_place (RwLock j d q) f h = either (j == l) refl h
           where
             fits_u : FitsItsLock w (RwLock j d q)
-            fits_u = subst (FitsItsLock w) f (steady.stands.calls u)
+            fits_u = subst (FitsItsLock w) f (inductive.stands.calls u)
 
             told : Place
             told = next_place (RwLock j d q) (HandedBy t (unshared_then w t l))
@@ -387,7 +388,7 @@ module _ (w : State) (t l : ℕ) (a : Admission) (c : RwLockCallPlace) (steady :
                       Some (claim_handed (unshared_then w t l) waits.want);
                 })
                 (role_here l (RwLock j d q) same_lock)))
-                (fits_next w t l a c steady shape there lt is j d
+                (fits_next w t l a c inductive shape there lt is j d
                 (call_next d q (HandedBy t (unshared_then w t l))) fits_u.0
                 (fair_calls_stand d q (HandedBy t (unshared_then w t l)) fits_u.1
                 (call_told_other d q (HandedBy t (unshared_then w t l)) tt)))
@@ -403,7 +404,7 @@ module _ (w : State) (t l : ℕ) (a : Admission) (c : RwLockCallPlace) (steady :
         (Value (word_at w l)))) l
         (acts t (call_deeds a c whom (Value (word_at w l))) ++ claims_given t (unshared_then w t l)
         (λ u. taken_at (place_at w u) l) (length w.places))
-    hands_goes = hands_all w t l steady there of (rules_in w l) refl readers (call_move a c) row lt
+    hands_goes = hands_all w t l inductive there of (rules_in w l) refl readers (call_move a c) row lt
         (RwLock l a c) op g takes (next_place (place_at w t) (Value (word_at w l))) follows.0 given
         (same_successor ∙ sym count.more)
         (facts.owners t (shares_at w l) (owners_at w l) (queue_at w (2 * l)) (queue_at w (2 * l + 1))
@@ -416,7 +417,7 @@ module _ (w : State) (t l : ℕ) (a : Admission) (c : RwLockCallPlace) (steady :
       (put (state_after_act w t (RwLock l a c) (act.HandOver l op)) t (next_place (place_at w t)
       (Value (word_at w l)))) l
       (acts t (call_deeds a c whom (Value (word_at w l))))
-  hands_fails fails = looks_again w t l steady there of (rules_in w l) refl readers (call_move a c) row lt
+  hands_fails fails = looks_again w t l inductive there of (rules_in w l) refl readers (call_move a c) row lt
       (RwLock l a c) op g fails (next_place (place_at w t) (Value (word_at w l))) follows.0
       (λ i. lock_seen (shares_then_same i) (facts.fails fails t (owners_at w l) i) (queue_at w (2 * l))
       (queue_at w (2 * l + 1)) (λ u. taken_at (place_at w u) l))

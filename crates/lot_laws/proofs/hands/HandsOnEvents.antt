@@ -38,8 +38,8 @@ use Rattle.spec_locks.specs.Sites.{Deed}
 use Rattle.lot_machine.specs.Fits.{IsWellFormed}
 use Rattle.lot_machine.specs.Machine.{State, place_after_telling, place_at, put, state_after_act}
 use Rattle.lot_machine.specs.Machine.{state_after_hand_over_by, unshared_then, word_at}
-use Rattle.lot_laws.specs.MutexDeeds.{acts}
-use Rattle.lot_laws.specs.MutexDeeds as deeds
+use Rattle.lot_laws.specs.ThreadDeeds.{acts}
+use Rattle.lot_laws.specs.ThreadDeeds as deeds
 use Rattle.lot_laws.specs.Refinement.{call_state, lock_state, taken_at}
 use Rattle.lot_laws.specs.SitesOf.{FitsItsLock, Goes, IsCountOfHand, IsInductive, carried_at, rules_in}
 use Rattle.lot_laws.proofs.machine.AtPlaces.{in_no_hand, unless_held}
@@ -69,7 +69,7 @@ gains false Shared l r = refl
 gains false Wait l r = refl
 gains false CallOnce l r = refl
 
-module _ (w : State) (t l : ℕ) (a : Admission) (c : RwLockCallPlace) (steady : IsInductive w)
+module _ (w : State) (t l : ℕ) (a : Admission) (c : RwLockCallPlace) (inductive : IsInductive w)
     (shape : IsWellFormed w)
     (there : t < length w.places) (lt : l < length w.locks) (is : place_at w t ≡ RwLock l a c)
     (k : Counted) (is_k : in_hand_of c ≡ Some k) (count : IsCountOfHand w t k) (op : Op) (e : call_act l a c
@@ -78,10 +78,10 @@ module _ (w : State) (t l : ℕ) (a : Admission) (c : RwLockCallPlace) (steady :
   alone = unshared_then w t l
 
   abbrev heir : Option ℕ
-  heir = whom w t l a c steady shape there lt is k is_k count op e
+  heir = whom w t l a c inductive shape there lt is k is_k count op e
 
-  abbrev pub behind : State
-  behind = put (state_after_act w t (RwLock l a c) (act.HandOver l op)) t (next_place (RwLock l a c)
+  abbrev pub afterwards : State
+  afterwards = put (state_after_act w t (RwLock l a c) (act.HandOver l op)) t (next_place (RwLock l a c)
       (Value (word_at w l)))
 
   abbrev pub done : List Deed
@@ -90,37 +90,38 @@ module _ (w : State) (t l : ℕ) (a : Admission) (c : RwLockCallPlace) (steady :
   abbrev claims : List deeds.Act
   claims = claims_given t alone (λ u. taken_at (place_at w u) l) (length w.places)
 
-  went : Goes w behind l (acts t done ++ claims)
+  went : Goes w afterwards l (acts t done ++ claims)
   went = subst (λ q. Goes w (put (state_after_act w t (RwLock l a c) (act.HandOver l op)) t
-      (next_place q (Value (word_at w l)))) l (acts t done ++ claims)) is (hands_goes w t l a c steady shape
+      (next_place q (Value (word_at w l)))) l (acts t done ++ claims)) is (hands_goes w t l a c inductive
+      shape
       there lt is k is_k count op e takes)
 
   abbrev pub right : Want
-  right = (g w t l a c steady shape there lt is k is_k count op e).right
+  right = (g w t l a c inductive shape there lt is k is_k count op e).right
 
   abbrev pub successor : Option Queued
-  successor = heir_of heir (g w t l a c steady shape there lt is k is_k count op e).successor
+  successor = heir_of heir (g w t l a c inductive shape there lt is k is_k count op e).successor
 
   carried_now : carried_at (place_at w t) l ≡ (call_profile a c).carries
   carried_now = ap (λ (y : Location). y.carries) (location_here l (place_at w t)
-      (of w t l a c steady shape there lt is k is_k count op e)) ∙ ap (λ (y : Profile). y.carries)
-      (row w t l a c steady shape there lt is k is_k count op e)
+      (of w t l a c inductive shape there lt is k is_k count op e)) ∙ ap (λ (y : Profile). y.carries)
+      (row w t l a c inductive shape there lt is k is_k count op e)
 
   abbrev event : Event
   event = event_by l (case_of (call_profile a c).carries done)
 
   one_case : event ≡ AtLock l (HandOff right successor)
   one_case = ap (λ ds. event_by l (case_of (call_profile a c).carries ds))
-      ((g w t l a c steady shape there lt is k is_k count op e).deeds heir (word_at w l) takes)
+      ((g w t l a c inductive shape there lt is k is_k count op e).deeds heir (word_at w l) takes)
 
-  pub hands_happen : Happens w behind t event
-  hands_happen = happens w behind t l (call_profile a c).carries done claims steady went
+  pub hands_happen : Happens w afterwards t event
+  hands_happen = happens w afterwards t l (call_profile a c).carries done claims inductive went
       (claims_are t alone (λ u. taken_at (place_at w u) l) (length w.places))
-      (hands_tell w t l a c steady shape there lt is k is_k count op e).one
-      (λ none. in_no_hand w steady t l (λ h. none (sym carried_now ∙ h)))
+      (hands_tell w t l a c inductive shape there lt is k is_k count op e).one
+      (λ none. in_no_hand w inductive t l (λ h. none (sym carried_now ∙ h)))
 
   -- all in its hand are told, and nobody else
-  befalls : Befalls w behind t l (HandedBy t alone)
+  befalls : Befalls w afterwards t l (HandedBy t alone)
   befalls u ne = get_or-set_other (state_after_act w t (RwLock l a c) (act.HandOver l op)).places t u
       (next_place (RwLock l a c) (Value (word_at w l))) Idle ne
       ∙ ap (λ b. get_or (state_after_hand_over_by b w t (RwLock l a c) l op).places u Idle) takes
@@ -130,11 +131,12 @@ module _ (w : State) (t l : ℕ) (a : Admission) (c : RwLockCallPlace) (steady :
     where
       same_test : (b : Bool) → is_thread t (taker (place_at w u)) ≡ b
           → is_thread t (taker (place_at w u)) ≡ is_taken_by t (taken_at (place_at w u) l)
-      same_test true f = f ∙ sym (taken_by_hand w (place_at w u) t l (steady.stands.calls u)
-          (hand_there w t l steady (of w t l a c steady shape there lt is k is_k count op e)
-          (g w t l a c steady shape there lt is k is_k count op e).any
-          (carries w t l a c steady shape there lt is k is_k count op e) u f))
-      same_test false f = f ∙ sym (unless_held w steady t l u (λ h. let z : is_thread t (taker (place_at w u))
+      same_test true f = f ∙ sym (taken_by_hand w (place_at w u) t l (inductive.stands.calls u)
+          (hand_there w t l inductive (of w t l a c inductive shape there lt is k is_k count op e)
+          (g w t l a c inductive shape there lt is k is_k count op e).any
+          (carries w t l a c inductive shape there lt is k is_k count op e) u f))
+      same_test false f = f ∙ sym (unless_held w inductive t l u
+          (λ h. let z : is_thread t (taker (place_at w u))
           ≡ true = held_tells (place_at w u) t l false h in cc))
 
   -- a thread that waits for a lock that is no mutex is in a call of it alone
@@ -144,7 +146,7 @@ module _ (w : State) (t l : ℕ) (a : Admission) (c : RwLockCallPlace) (steady :
       by_place : (q : Place) → place_at w u ≡ q → taken_at q l ≡ Some (record { by = t; want = x })
           → IsSingle q
       by_place (Condvar j at) f h = let none : taken_at (Condvar j at) l ≡ None =
-          condvar_untaken j at l (beside_no_call w t l a c steady shape there lt is u j at f)
+          condvar_untaken j at l (beside_no_call w t l a c inductive shape there lt is u j at f)
           in let both : ◌≡◌ {A = Option Taken} None (Some (record { by = t; want = x })) = sym none ∙ h in cc
       by_place Idle f h = tt
       by_place (Mutex j m) f h = tt
@@ -160,14 +162,14 @@ module _ (w : State) (t l : ℕ) (a : Admission) (c : RwLockCallPlace) (steady :
           → IsHandedCall l t alone x q
       by_place Idle f h = absurd cc
       by_place (Condvar j at) f h = absurd (let none : taken_at (Condvar j at) l ≡ None =
-          condvar_untaken j at l (beside_no_call w t l a c steady shape there lt is u j at f)
+          condvar_untaken j at l (beside_no_call w t l a c inductive shape there lt is u j at f)
           in let both : ◌≡◌ {A = Option Taken} None (Some (record { by = t; want = x })) = sym none ∙ h in cc)
       by_place (Once j at) f h = either (j == l) refl h
         where
           either : (y : Bool) → (j == l) ≡ y → taken_from (profile (Once j at)).hand
               (profile (Once j at)).wants y ≡ Some (record { by = t; want = x })
               → IsHandedCall l t alone x (Once j at)
-          either true same_lock z = absurd (of_no_once w t l a c steady shape there lt is u j at f
+          either true same_lock z = absurd (of_no_once w t l a c inductive shape there lt is u j at f
               (eqb-true j l same_lock))
           either false same_lock z = absurd (untaken (profile (Once j at)).hand (profile (Once j at)).wants z)
             where
@@ -182,7 +184,7 @@ module _ (w : State) (t l : ℕ) (a : Admission) (c : RwLockCallPlace) (steady :
           either : (y : Bool) → (j == l) ≡ y → taken_from (profile (Semaphore j at)).hand
               (profile (Semaphore j at)).wants y ≡ Some (record { by = t; want = x })
               → IsHandedCall l t alone x (Semaphore j at)
-          either true same_lock z = absurd (of_no_semaphore w t l a c steady shape there lt is u j at f
+          either true same_lock z = absurd (of_no_semaphore w t l a c inductive shape there lt is u j at f
               (eqb-true j l same_lock))
           either false same_lock z = absurd (untaken (profile (Semaphore j at)).hand
               (profile (Semaphore j at)).wants z)
@@ -198,7 +200,7 @@ module _ (w : State) (t l : ℕ) (a : Admission) (c : RwLockCallPlace) (steady :
           either : (y : Bool) → (j == l) ≡ y → taken_from (profile (Mutex j m)).hand
               (profile (Mutex j m)).wants y ≡ Some (record { by = t; want = x })
               → IsHandedCall l t alone x (Mutex j m)
-          either true same_lock z = absurd (of_no_mutex w t l a c steady shape there lt is u j m f
+          either true same_lock z = absurd (of_no_mutex w t l a c inductive shape there lt is u j m f
               (eqb-true j l same_lock))
           either false same_lock z = absurd (untaken (profile (Mutex j m)).hand (profile (Mutex j m)).wants z)
             where
@@ -212,14 +214,15 @@ module _ (w : State) (t l : ℕ) (a : Admission) (c : RwLockCallPlace) (steady :
           (calls (RwLock j d q) l) refl refl refl h
         where
           fits_u : FitsItsLock w (RwLock j d q)
-          fits_u = subst (FitsItsLock w) f (steady.stands.calls u)
+          fits_u = subst (FitsItsLock w) f (inductive.stands.calls u)
 
           at_lock : j ≡ l → (call_profile d q).hand ≡ hand t false → (call_profile d q).wants ≡ Some x
               → IsHandedCall l t alone x (RwLock j d q)
           at_lock same_lock z wants r = by_next (call_next d q (HandedBy t alone)) refl
             where
               unclaimed_now : (call_profile d q).role.claims ≡ None
-              unclaimed_now = unclaimed w t l a c steady shape there lt is k is_k count op e takes u j d q f
+              unclaimed_now = unclaimed w t l a c inductive shape there lt is k is_k count op e takes u j d q
+                  f
                   same_lock z
 
               by_next : (n : Next RwLockCallPlace) → call_next d q (HandedBy t alone) ≡ n
@@ -250,12 +253,16 @@ module _ (w : State) (t l : ℕ) (a : Admission) (c : RwLockCallPlace) (steady :
               ∙ ap (λ (y : Taken). Some y.want) both)
           by_row (Some (Of v false)) (Some s) false p1 p2 p3 z = absurd cc
 
-  pub hands_others : OthersFollow w behind t event
-  hands_others = subst (OthersFollow w behind t) (sym one_case) (hands_many w behind t l right successor
-      (subst (Happens w behind t) one_case hands_happen) alone
-      (alone_is w t l steady (of w t l a c steady shape there lt is k is_k count op e) there lt (RwLock l a c)
-      (place_at w t) (of w t l a c steady shape there lt is k is_k count op e) (steady.stands.calls t) op
-      (rules_in w l) refl (admits w t l a c steady shape there lt is).0
-      (given w t l a c steady shape there lt is k is_k count op e takes) (bare w t l a c steady shape there lt
-      is k is_k count op e) right (more_right w t l a c steady shape there lt is k is_k count op e takes))
+  pub hands_others : OthersFollow w afterwards t event
+  hands_others = subst (OthersFollow w afterwards t) (sym one_case) (hands_many w afterwards t l right
+      successor
+      (subst (Happens w afterwards t) one_case hands_happen) alone
+      (alone_is w t l inductive (of w t l a c inductive shape there lt is k is_k count op e) there lt
+      (RwLock l a c)
+      (place_at w t) (of w t l a c inductive shape there lt is k is_k count op e) (inductive.stands.calls t)
+      op
+      (rules_in w l) refl (admits w t l a c inductive shape there lt is).0
+      (given w t l a c inductive shape there lt is k is_k count op e takes)
+      (bare w t l a c inductive shape there lt
+      is k is_k count op e) right (more_right w t l a c inductive shape there lt is k is_k count op e takes))
       befalls handed_calls handed_single)

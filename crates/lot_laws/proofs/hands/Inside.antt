@@ -33,15 +33,15 @@ role_inside p l = by_locks (calls p l) (is_lock l (beside_of p))
     by_locks false true h = (beside_facts p).carries h
     by_locks false false h = absurd cc
 
-module _ (w : State) (steady : IsInductive w) where
+module _ (w : State) (inductive : IsInductive w) where
   -- by what its thread does it is inside a section of the machine
   holds_section : (t l : ℕ) (m : Line) → (role_on (place_at w t) l).inside ≡ Some m → IsInside w t l m
-  holds_section t l m h = (steady.stands.sections t l m).0 (sym (inside_is (place_at w t) l) ∙ h)
+  holds_section t l m h = (inductive.stands.sections t l m).0 (sym (inside_is (place_at w t) l) ∙ h)
 
   pub hands_inside : (u l : ℕ) (h : Taken) → (lock_state w l).taken u ≡ Some h → (m : Line)
       × IsInside w h.by l m
   hands_inside u l h e =
-      let there = role_inside (place_at w h.by) l ((steady.sites.site l).carried u h e) in
+      let there = role_inside (place_at w h.by) l ((inductive.sites.site l).carried u h e) in
       (there.0, holds_section h.by l there.0 there.1)
 
 -- ---------------------------------------------------------------- threads that are yet to set a bit
@@ -75,12 +75,12 @@ owes_soon p l = elim (single_or_two p) [
         ap (λ o. or_else o None) ((beside_facts (Condvar k at)).owed sets wakes)
     beside k at false false sets wakes = absurd cc
 
-module _ (w : State) (steady : IsInductive w) where
+module _ (w : State) (inductive : IsInductive w) where
   pub is_to_mark : (u l : ℕ) → IsAboutToMark w u l → IsToMark w u l
   is_to_mark u l sets = (
     sets,
-    elim ((steady.sites.site l).setting u sets) [
-      | inl covers ↦ inl (holds_section w steady u l Main ((steady.sites.site l).covered u covers).0)
+    elim ((inductive.sites.site l).setting u sets) [
+      | inl covers ↦ inl (holds_section w inductive u l Main ((inductive.sites.site l).covered u covers).0)
       | inr once ↦ inr (once.0, owes_soon (place_at w u) l sets once.1)
     ],
   )

@@ -46,8 +46,8 @@ use Rattle.lot_machine.specs.Machine.{with_share, successor_from, owners_of_succ
 use Rattle.lot_machine.specs.Machine.{owners_with_pending}
 use Rattle.lot_machine.proofs.ShareLemmas.{given_count}
 use Rattle.lot_laws.specs.Refinement.{taken_at}
-use Rattle.lot_laws.specs.MutexDeeds.{acts}
-use Rattle.lot_laws.specs.MutexDeeds as deeds
+use Rattle.lot_laws.specs.ThreadDeeds.{acts}
+use Rattle.lot_laws.specs.ThreadDeeds as deeds
 use Rattle.lot_laws.specs.Locations.{Location, location, location_at, nowhere, role_on}
 use Rattle.lot_laws.specs.SitesOf.{locations_of, ActsNeeded, LimitHasRoom, IsInductive, Goes, Hands, TakesOne}
 use Rattle.lot_laws.specs.SitesOf.{FitsItsLock, after_acts, rules_in, carried_at, hand_at}
@@ -352,7 +352,7 @@ given_of w t l handed alone p want of fresh wants_it was goes role fits = record
     of_2 : IsOf l p2
     of_2 = next_of l p (HandedBy t alone) of
 
-module _ (w : State) (t l : ℕ) (steady : IsInductive w) (own : IsOf l (place_at w t)) (there : t
+module _ (w : State) (t l : ℕ) (inductive : IsInductive w) (own : IsOf l (place_at w t)) (there : t
     < length w.places)
     (lt : l < length w.locks) (p p2 : Place) (of : IsOf l p2) (fits : FitsItsLock w p2) (op : Op) (r : Rules)
     (rules : rules_in w l ≡ r) (sharers : has_readers r.sort ≡ true)
@@ -368,7 +368,7 @@ module _ (w : State) (t l : ℕ) (steady : IsInductive w) (own : IsOf l (place_a
   taken u = taken_at (place_at w u) l
 
   site : IsSite r here
-  site = site_by w t l steady own there r rules p2 of fits
+  site = site_by w t l inductive own there r rules p2 of fits
 
   -- they stand as the machine tells them
   pub beside : AlikeBeside l (place_at w t) p2
@@ -378,7 +378,7 @@ module _ (w : State) (t l : ℕ) (steady : IsInductive w) (own : IsOf l (place_a
   same_there = same_hands l (place_at w t) p2 beside
 
   abbrev in_hands : HoldsHere w t l
-  in_hands = holds_here w t l steady (of_carries l (place_at w t) own)
+  in_hands = holds_here w t l inductive (of_carries l (place_at w t) own)
 
   pub all_told : (u : ℕ) (b : Bool) → hand_at (place_at w u) l ≡ hand t b
       → IsToldAt w t l b (hand t true) (hand_over_told w t l) (place_at w u)
@@ -391,20 +391,22 @@ module _ (w : State) (t l : ℕ) (steady : IsInductive w) (own : IsOf l (place_a
   is_here = location_here l p2 of
 
   abbrev is_told : ℕ → Bool
-  is_told = has w t l steady p2 same_there fits in_hands (hand_over_told w t l) (hand t true) all_told
+  is_told = has w t l inductive p2 same_there fits in_hands (hand_over_told w t l) (hand t true) all_told
 
-  abbrev pub places_behind : ℕ → Place
-  places_behind = places_then w t l steady p2 same_there fits in_hands (hand_over_told w t l) (hand t true)
+  abbrev pub places_after : ℕ → Place
+  places_after = places_then w t l inductive p2 same_there fits in_hands (hand_over_told w t l) (hand t true)
       all_told
 
   abbrev told_now : ℕ → Place
-  told_now = told w t l steady p2 same_there fits in_hands (hand_over_told w t l) (hand t true) all_told
+  told_now = told w t l inductive p2 same_there fits in_hands (hand_over_told w t l) (hand t true) all_told
 
   -- a thread that t has in hand
   module _ (u : ℕ) (h : is_told u ≡ true) where
-    at_hand : HeldHere w t l steady p2 same_there fits in_hands (hand_over_told w t l) (hand t true) all_told
+    at_hand : HeldHere w t l inductive p2 same_there fits in_hands (hand_over_told w t l) (hand t true)
+        all_told
         u
-    at_hand = held_here w t l steady p2 same_there fits in_hands (hand_over_told w t l) (hand t true) all_told
+    at_hand = held_here w t l inductive p2 same_there fits in_hands (hand_over_told w t l) (hand t true)
+        all_told
         u h
 
     given : IsGiven w t l at_hand.handed alone (place_at w u)
@@ -428,7 +430,7 @@ module _ (w : State) (t l : ℕ) (steady : IsInductive w) (own : IsOf l (place_a
           (hand t (at_hand t h).handed) = sym none ∙ held_so in cc)
 
   not_taken : (u : ℕ) → is_told u ≡ false → keep_from t (taken u) ≡ taken u
-  not_taken u h = untaken (place_at w u) t l (not_held w t l steady p2 same_there fits in_hands
+  not_taken u h = untaken (place_at w u) t l (not_held w t l inductive p2 same_there fits in_hands
       (hand_over_told w t l) (hand t true) all_told u h false)
 
   -- a thread that gets a share
@@ -447,17 +449,18 @@ module _ (w : State) (t l : ℕ) (steady : IsInductive w) (own : IsOf l (place_a
   -- ---------------------------------------------------------------- the rights that are given
 
   limits : HasLimit r here.lock
-  limits = subst (λ x. HasLimit x here.lock) rules (steady.sites.limits l (ap (λ x. has_readers x.sort) rules
+  limits = subst (λ x. HasLimit x here.lock) rules (inductive.sites.limits l
+      (ap (λ x. has_readers x.sort) rules
       ∙ sharers)).1
 
   room : (r.limit < 2 ^ 60 - 1) × (length w.places ≤ r.limit)
   room = let all_room = subst (λ x. LimitHasRoom (length w.places) x) rules
-      (steady.sites.limits l (ap (λ x. has_readers x.sort) rules ∙ sharers)).0 in (all_room.1, all_room.2)
+      (inductive.sites.limits l (ap (λ x. has_readers x.sort) rules ∙ sharers)).0 in (all_room.1, all_room.2)
 
   shares_are : shares_handed_over w t l ≡ sharing_from t taken 0 (shares_at w l)
   shares_are = given_is t 0 taken w.places (shares_at w l)
       (λ j. subst (λ k. shares_handed t (taken k) ≡ (if shares_in_hand t (held (place_at w j)) then 1 else 0))
-      (let z : j ≡ 0 + j = omega arith in z) (share_is j)) (sym (steady.numbers.threads l))
+      (let z : j ≡ 0 + j = omega arith in z) (share_is j)) (sym (inductive.numbers.threads l))
       (let a : locks.count here.lock ≡ sum (shares_at w l) + locks.one_if_some (owners_at w l).upgradable =
       refl in let b : locks.count here.lock ≤ r.limit + 1 = limits.top in let c : r.limit < 2 ^ 60 - 1 =
       room.0 in omega arith)
@@ -539,7 +542,7 @@ module _ (w : State) (t l : ℕ) (steady : IsInductive w) (own : IsOf l (place_a
           (acts_keep r (acts t own_deeds) here site needed)
 
       -- a thread that is in hand still
-      taken_then : (u : ℕ) → taken_at (places_behind u) l ≡ let_go t taken u
+      taken_then : (u : ℕ) → taken_at (places_after u) l ≡ let_go t taken u
       taken_then u = elim (cases_eq u t) [
         | inl e ↦ rw e (ap (λ q. taken_at q l) (put_here told_now t p2) ∙ free_of p2 l (of_single l p2 of)
             unheld ∙ sym (ap (keep_from t) (free_of (place_at w t) l (of_single l (place_at w t) own) free)))
@@ -547,16 +550,16 @@ module _ (w : State) (t l : ℕ) (steady : IsInductive w) (own : IsOf l (place_a
       ]
         where
           either : (b : Bool) → is_told u ≡ b → taken_at (told_now u) l ≡ keep_from t (taken u)
-          either true h = ap (λ q. taken_at q l) (told_on w t l steady p2 same_there fits in_hands
+          either true h = ap (λ q. taken_at q l) (told_on w t l inductive p2 same_there fits in_hands
               (hand_over_told w t l) (hand t true) all_told u h) ∙ free_then u h
               ∙ sym (ap (keep_from t) (taken_is u h) ∙ ap (λ b. if b then None else Some (record {
                 by = t;
                 want = (given u h).want;
               })) (same t))
-          either false h = ap (λ q. taken_at q l) (told_off w t l steady p2 same_there fits in_hands
+          either false h = ap (λ q. taken_at q l) (told_off w t l inductive p2 same_there fits in_hands
               (hand_over_told w t l) (hand t true) all_told u h) ∙ sym (not_taken u h)
 
-      lock_then : lock_in parts_then (λ u. taken_at (places_behind u) l) ≡ between.lock
+      lock_then : lock_in parts_then (λ u. taken_at (places_after u) l) ≡ between.lock
       lock_then = (λ i. lock_in parts_then (λ u. taken_then u i))
           ∙ heirs_are (shares_handed_over w t l) keeps (queue_at w (2 * l)) (queue_at w (2 * l + 1))
           (let_go t taken) (successor_from t 0 w.places) (unshared_successor here.lock t heir is_heir)
@@ -583,7 +586,7 @@ module _ (w : State) (t l : ℕ) (steady : IsInductive w) (own : IsOf l (place_a
 
           shares_it : h.want ≡ Shared → Holds (handed t right heir here.lock) u (Has Shared)
           shares_it wants_so = shares_handed_on t u right heir here.lock h right_more more_or
-              (subst (λ n. u < n) (sym (steady.numbers.threads l)) lt) e mine wants_so
+              (subst (λ n. u < n) (sym (inductive.numbers.threads l)) lt) e mine wants_so
 
           by_want : (x : Want) (b : Bool) → h.want ≡ x → alone ≡ b → Knows r.sort x
               → (x ≢ Shared → heir ≡ Some (record { thread = u; want = x }))
@@ -604,11 +607,11 @@ module _ (w : State) (t l : ℕ) (steady : IsInductive w) (own : IsOf l (place_a
               absurd (unknown r.sort CallOnce sharers (λ g. cc) (λ g. cc) (λ g. cc) known)
 
       -- all of it, one deed after another
-      abbrev behind : Site
-      behind = after_acts r (acts t own_deeds ++ claims) here
+      abbrev afterwards : Site
+      afterwards = after_acts r (acts t own_deeds ++ claims) here
 
-      behind_is : behind ≡ record between { role = λ u. with_claim t alone (taken u) (between.role u) }
-      behind_is = after_both r (acts t own_deeds) claims here
+      past_is : afterwards ≡ record between { role = λ u. with_claim t alone (taken u) (between.role u) }
+      past_is = after_both r (acts t own_deeds) claims here
           ∙ ap (after_acts r claims) (after_same r own_deeds here t) ∙ claims_so t alone taken r
           (length w.places) between none_past
 
@@ -635,7 +638,7 @@ module _ (w : State) (t l : ℕ) (steady : IsInductive w) (own : IsOf l (place_a
       single_bit true = (tt, (tt, tt))
       single_bit false = (tt, (tt, tt))
 
-      role_then : (u : ℕ) → role_on (places_behind u) l ≡ with_claim t alone (taken u) (between.role u)
+      role_then : (u : ℕ) → role_on (places_after u) l ≡ with_claim t alone (taken u) (between.role u)
       role_then u = elim (cases_eq u t) [
         | inl e ↦ rw e (ap (λ q. role_on q l) (put_here told_now t p2) ∙ sym law.role
             ∙ sym (ap (λ o. with_claim t alone o (between.role t)) (free_of (place_at w t) l
@@ -648,18 +651,18 @@ module _ (w : State) (t l : ℕ) (steady : IsInductive w) (own : IsOf l (place_a
         where
           either : (b : Bool) → is_told u ≡ b → role_on (told_now u) l ≡ with_claim t alone (taken u)
               (role_on (place_at w u) l)
-          either true h = ap (λ q. role_on q l) (told_on w t l steady p2 same_there fits in_hands
+          either true h = ap (λ q. role_on q l) (told_on w t l inductive p2 same_there fits in_hands
               (hand_over_told w t l) (hand t true) all_told u h) ∙ (given u h).role
               ∙ sym (ap (λ o. with_claim t alone o (role_on (place_at w u) l)) (taken_is u h)
               ∙ ap (λ b. if b then record (role_on (place_at w u) l) {
                 claims =
                     Some (claim_handed alone (given u h).want);
               } else role_on (place_at w u) l) (same t))
-          either false h = ap (λ q. role_on q l) (told_off w t l steady p2 same_there fits in_hands
+          either false h = ap (λ q. role_on q l) (told_off w t l inductive p2 same_there fits in_hands
               (hand_over_told w t l) (hand t true) all_told u h)
               ∙ sym (unclaimed t alone (taken u) (role_on (place_at w u) l) (not_taken u h))
 
-      led : seen_in r l parts_then places_behind ≡ behind
+      led : seen_in r l parts_then places_after ≡ afterwards
       led = (λ i. record {
         lock = lock_then i;
         parked = (parked_read r.sort (apply op (word_at w l)) sharers ∙ ap has_parked law.word
@@ -668,7 +671,7 @@ module _ (w : State) (t l : ℕ) (steady : IsInductive w) (own : IsOf l (place_a
             ∙ told_true.aside) i;
         filled = full_now i;
         role = λ u. role_then u i;
-      }) ∙ sym behind_is
+      }) ∙ sym past_is
 
       -- every lock is a site again
       module _ (any : Bool) (inside : (location p2).inside ≡ (location (place_at w t)).inside)
@@ -676,8 +679,8 @@ module _ (w : State) (t l : ℕ) (steady : IsInductive w) (own : IsOf l (place_a
           (waits : (location p2).waits ≡ (location (place_at w t)).waits)
           (carried : (location (place_at w t)).carries ≡ in_hand_if any false)
           (carries_now : (location p2).carries ≡ in_hand_if any true) where
-        places : place_at v ≡ places_behind
-        places = places_are w t l steady p2 same_there fits in_hands (hand_over_told w t l) (hand t true)
+        places : place_at v ≡ places_after
+        places = places_are w t l inductive p2 same_there fits in_hands (hand_over_told w t l) (hand t true)
             all_told (state_after_hand_over w t p l op) refl there
 
         threads : length v.places ≡ length w.places
@@ -700,12 +703,12 @@ module _ (w : State) (t l : ℕ) (steady : IsInductive w) (own : IsOf l (place_a
             ≡ get_or w.locks k (unlocked kind.TheVariants.Mutex)
         other_lock k ne = get_or-set_other w.locks l k lock_here (unlocked kind.TheVariants.Mutex) ne
 
-        moves : Moves w v l parts_then places_behind
+        moves : Moves w v l parts_then places_after
         moves = record {
           here = λ i. record parts_then {
             base = record {
               shared = get_or-set_same w.shares l (shares_handed_over w t l) (replicate (length v.places) 0)
-                  (rw steady.numbers.locks lt) i;
+                  (rw inductive.numbers.locks lt) i;
               filled = (same_lock i).filled;
             };
             word = (same_lock i).word;
@@ -722,7 +725,8 @@ module _ (w : State) (t l : ℕ) (steady : IsInductive w) (own : IsOf l (place_a
           };
           places = places;
           kinds = given_kinds w t p l op;
-          alike = λ k ne. alike w t l steady p2 same_there fits in_hands (hand_over_told w t l) (hand t true)
+          alike = λ k ne. alike w t l inductive p2 same_there fits in_hands (hand_over_told w t l)
+              (hand t true)
               all_told k ne ((beside k ne).taken, (beside k ne).role);
           numbers = record {
             threads = threads;
@@ -732,21 +736,21 @@ module _ (w : State) (t l : ℕ) (steady : IsInductive w) (own : IsOf l (place_a
           sharers = given_count t w.places (shares_at w l);
         }
 
-        coded : apply op (word_at w l) ≡ code r (seen_in r l parts_then places_behind)
+        coded : apply op (word_at w l) ≡ code r (seen_in r l parts_then places_after)
         coded = law.word ∙ sym (code_role r between (λ u. with_claim t alone (taken u) (between.role u)))
-            ∙ sym (ap (code r) (led ∙ behind_is))
+            ∙ sym (ap (code r) (led ∙ past_is))
 
-        within : HasLimit r behind.lock
-        within = subst (λ s. HasLimit r s) (sym (ap (λ (s : Site). s.lock) behind_is ∙ lock_between))
+        within : HasLimit r afterwards.lock
+        within = subst (λ s. HasLimit r s) (sym (ap (λ (s : Site). s.lock) past_is ∙ lock_between))
             (handed_limit r right heir here.lock t site.state law.needed.0.0
-            (subst (λ n. t < n) (sym (steady.numbers.threads l)) there)
+            (subst (λ n. t < n) (sym (inductive.numbers.threads l)) there)
             (free_of (place_at w t) l (of_single l (place_at w t) own) free)
-            (subst (λ n. n ≤ r.limit) (sym (steady.numbers.threads l)) room.1))
+            (subst (λ n. n ≤ r.limit) (sym (inductive.numbers.threads l)) room.1))
 
         held_before : carried_at (place_at w t) l ≡ in_hand_if any false
         held_before = ap (λ (y : Location). y.carries) (location_here l (place_at w t) own) ∙ carried
 
-        -- it has somebody in hand behind it exactly where it had before
+        -- it has somebody in hand after it exactly where it had before
         some_held : (b : Bool) → (location p2).carries ≡ Some b → (b ≡ true) × ((u : ℕ) × (is_told u ≡ true))
         some_held b e = by_any any refl (sym carries_now ∙ e)
           where
@@ -754,7 +758,7 @@ module _ (w : State) (t l : ℕ) (steady : IsInductive w) (own : IsOf l (place_a
                 × ((u : ℕ) × (is_told u ≡ true))
             by_any true f g = (
               let h : true ≡ b = cc in sym h,
-              let u = steady.stands.hands.carried t l false
+              let u = inductive.stands.hands.carried t l false
                   (held_before ∙ ap (λ a. in_hand_if a false) f)
                   in (u.0, held_tells (place_at w u.0) t l false u.1),
             )
@@ -764,7 +768,7 @@ module _ (w : State) (t l : ℕ) (steady : IsInductive w) (own : IsOf l (place_a
         full_hand u h = carries_now ∙ by_any any refl
           where
             held_so : carried_at (place_at w t) l ≡ Some (at_hand u h).handed
-            held_so = steady.stands.hands.taken t u l (at_hand u h).handed (at_hand u h).hand
+            held_so = inductive.stands.hands.taken t u l (at_hand u h).handed (at_hand u h).hand
 
             by_any : (a : Bool) → any ≡ a → in_hand_if a true ≡ Some true
             by_any true f = refl
@@ -772,14 +776,14 @@ module _ (w : State) (t l : ℕ) (steady : IsInductive w) (own : IsOf l (place_a
                 ∙ ap (λ a. in_hand_if a false) f in let g : ◌≡◌ {A = Option Bool} None
                 (Some (at_hand u h).handed) = sym none ∙ held_so in cc)
 
-        hands_now : Hands (TakesOne w) places_behind
-        hands_now = hands_given (TakesOne w) (locations_of (place_at w)) (locations_of places_behind)
-            steady.stands.hands t l is_told (location p2).carries
-            (in_hand w t l steady p2 same_there fits in_hands (hand_over_told w t l) (hand t true) all_told
+        hands_now : Hands (TakesOne w) places_after
+        hands_now = hands_given (TakesOne w) (locations_of (place_at w)) (locations_of places_after)
+            inductive.stands.hands t l is_told (location p2).carries
+            (in_hand w t l inductive p2 same_there fits in_hands (hand_over_told w t l) (hand t true) all_told
             (ap (λ (y : Location). y.hand) is_here ∙ unheld
             ∙ sym (ap (λ c. if c then hand t true else (location_at (place_at w t) l).hand) not_told
             ∙ ap (λ (y : Location). y.hand) was_here ∙ free)))
-            (λ i k. carries w t l steady p2 same_there fits in_hands (hand_over_told w t l) (hand t true)
+            (λ i k. carries w t l inductive p2 same_there fits in_hands (hand_over_told w t l) (hand t true)
             all_told i k ∙ ap (λ c. if (i == t) && (k == l) then c else carried_at (place_at w i) k)
             (ap (λ (y : Location). y.carries) is_here))
             (λ u h. ((at_hand u h).handed, (at_hand u h).hand)) (λ u b h. held_tells (place_at w u) t l b h)
@@ -787,8 +791,8 @@ module _ (w : State) (t l : ℕ) (steady : IsInductive w) (own : IsOf l (place_a
 
         part_kept : {A : Type 0} (g : Location → A) → ((y : Location) (h : Option Hand)
             → g (record y { hand = h }) ≡ g y) → g (location p2) ≡ g (location (place_at w t)) → (u k : ℕ)
-            → g (location_at (places_behind u) k) ≡ g (location_at (place_at w u) k)
-        part_kept g part e = all_parts w t l steady p2 same_there fits in_hands (hand_over_told w t l)
+            → g (location_at (places_after u) k) ≡ g (location_at (place_at w u) k)
+        part_kept g part e = all_parts w t l inductive p2 same_there fits in_hands (hand_over_told w t l)
             (hand t true) all_told g part (λ k. elim (cases_eq k l) [
               | inl f ↦ rw f (ap g is_here ∙ e ∙ sym (ap g was_here))
               | inr ne ↦ ap g (beside k ne).location
@@ -796,21 +800,21 @@ module _ (w : State) (t l : ℕ) (steady : IsInductive w) (own : IsOf l (place_a
 
         pub hand_over_goes : Goes w v l (acts t own_deeds ++ claims)
         hand_over_goes = record {
-          follows = follows_by w v l parts_then places_behind moves r rules (acts t own_deeds ++ claims)
+          follows = follows_by w v l parts_then places_after moves r rules (acts t own_deeds ++ claims)
               (λ e. absurd (let f : true ≡ false = sym sharers ∙ ap has_readers e in cc)) (λ h. within) led
               all_needed coded;
-          stands = stands_by w v places_behind places moves.kinds
+          stands = stands_by w v places_after places moves.kinds
               (record {
-                sections = sections_same (locations_of (place_at w)) (locations_of places_behind)
-                    (section_at w) steady.stands.sections (part_kept (λ y. y.inside) (λ y h. refl) inside);
-                lines = lines_same (locations_of (place_at w)) (locations_of places_behind) (queue_at w)
-                    (queue_at v) steady.stands.lines (part_kept (λ y. y.stands) (λ y h. refl) stands)
+                sections = sections_same (locations_of (place_at w)) (locations_of places_after)
+                    (section_at w) inductive.stands.sections (part_kept (λ y. y.inside) (λ y h. refl) inside);
+                lines = lines_same (locations_of (place_at w)) (locations_of places_after) (queue_at w)
+                    (queue_at v) inductive.stands.lines (part_kept (λ y. y.stands) (λ y h. refl) stands)
                     (λ key. refl);
-                waits = waits_same (locations_of (place_at w)) (locations_of places_behind) (queue_at w)
-                    (queue_at v) steady.stands.waits (part_kept (λ y. y.waits) (λ y h. refl) waits)
+                waits = waits_same (locations_of (place_at w)) (locations_of places_after) (queue_at w)
+                    (queue_at v) inductive.stands.waits (part_kept (λ y. y.waits) (λ y h. refl) waits)
                     (λ key. refl);
                 hands = hands_now;
               })
-              (λ u. calls_in w v (places_behind u) moves.kinds (calls_then w t l steady p2 same_there fits
+              (λ u. calls_in w v (places_after u) moves.kinds (calls_then w t l inductive p2 same_there fits
               in_hands (hand_over_told w t l) (hand t true) all_told u));
         }

@@ -25,8 +25,8 @@ use Rattle.lot_machine.specs.Machine.{State, place_at, word_at, owners_at, share
 use Rattle.lot_machine.specs.Machine.{state_after_act, state_after_leave, state_after_hand_over_by}
 use Rattle.lot_machine.specs.Machine.{successor_from, unshared_then, want_of_successor}
 use Rattle.lot_laws.specs.Refinement.{taken_at}
-use Rattle.lot_laws.specs.MutexDeeds.{acts}
-use Rattle.lot_laws.specs.MutexDeeds as deeds
+use Rattle.lot_laws.specs.ThreadDeeds.{acts}
+use Rattle.lot_laws.specs.ThreadDeeds as deeds
 use Rattle.lot_laws.specs.Locations.{role_on, hand, location}
 use Rattle.lot_laws.specs.SitesOf.{ActsNeeded, IsInductive, Goes, after_acts, key_of, rules_in, hand_at}
 use Rattle.lot_laws.proofs.sites.ActsKept.{lock_by, operated, place_goes}
@@ -47,7 +47,7 @@ heirs_same : (x : Option Successor) → heir_of (thread_of x) (want_of_successor
 heirs_same None = refl
 heirs_same (Some x) = refl
 
-module _ (w : State) (t l : ℕ) (steady : IsInductive w) (there : t < length w.places)
+module _ (w : State) (t l : ℕ) (inductive : IsInductive w) (there : t < length w.places)
     (own : IsOf l (place_at w t)) (r : Rules)
     (rules : rules_in w l ≡ r) (readers : has_readers r.sort ≡ true) (x : Move)
     (same_row : profile (place_at w t) ≡ x.row)
@@ -73,7 +73,7 @@ module _ (w : State) (t l : ℕ) (steady : IsInductive w) (there : t < length w.
 
   -- where the operation takes effect
   module _ (takes : takes_effect op seen ≡ true) (p2 : Place)
-      (f : IsFollowed w t l steady there own r rules x same_row whom (Value seen) p2)
+      (f : IsFollowed w t l inductive there own r rules x same_row whom (Value seen) p2)
       (given : (u : ℕ) (b : Bool) → hand_at (place_at w u) l ≡ hand t b
       → IsGiven w t l b (unshared_then w t l) (place_at w u)) (knows : g.successor ≡ want_of_successor
       (successor_from t 0 w.places)) where
@@ -97,14 +97,14 @@ module _ (w : State) (t l : ℕ) (steady : IsInductive w) (there : t < length w.
         (acts t ds ++ claims)) (sym deeds_are)
         (subst (λ b. Goes w (put (state_after_hand_over_by b w t p l op) t p2) l (acts t hands ++ claims))
         (sym takes)
-        (hand_over_goes w t l steady own there lt p p2 f.of f.fits op r rules readers given free g.right
+        (hand_over_goes w t l inductive own there lt p p2 f.of f.fits op r rules readers given free g.right
         g.none_left law (ap (λ (y : Location). y.hand) there_is) g.any
         (ap (λ (y : Location). y.inside) there_is ∙ sym (ap (λ (y : Location). y.inside) location_is))
         (ap (λ (y : Location). y.stands) there_is ∙ sym (ap (λ (y : Location). y.stands) location_is))
         (ap (λ (y : Location). y.waits) there_is ∙ sym (ap (λ (y : Location). y.waits) location_is))
         (ap (λ (y : Location). y.carries) location_is) (ap (λ (y : Location). y.carries) there_is)))
       where
-        law : HandsLawful w t l steady own there lt p p2 f.of f.fits op r rules readers given free g.right
+        law : HandsLawful w t l inductive own there lt p p2 f.of f.fits op r rules readers given free g.right
             g.none_left
         law = record {
           needed = subst (λ ds. laws.AllNeeded r ds here t) deeds_are f.needed;
@@ -116,7 +116,7 @@ module _ (w : State) (t l : ℕ) (steady : IsInductive w) (there : t < length w.
 
   -- where it fails, the thread looks again
   module _ (fails : takes_effect op seen ≡ false) (p2 : Place)
-      (f : IsFollowed w t l steady there own r rules x same_row whom (Value seen) p2) where
+      (f : IsFollowed w t l inductive there own r rules x same_row whom (Value seen) p2) where
     nothing : x.deeds whom (Value seen) ≡ []
     nothing = g.fails whom seen fails
 
@@ -129,7 +129,7 @@ module _ (w : State) (t l : ℕ) (steady : IsInductive w) (there : t < length w.
     looks_again owners word = subst (λ ds. Goes w (put (state_after_act w t p (act.HandOver l op)) t p2) l
         (acts t ds)) (sym nothing)
         (subst (λ b. Goes w (put (state_after_hand_over_by b w t p l op) t p2) l []) (sym fails)
-        (lawful_goes w t l steady own there r rules p2 f.of f.fits readers p op []
+        (lawful_goes w t l inductive own there r rules p2 f.of f.fits readers p op []
         (record {
           needed = tt;
           role = ap (λ ds. (laws.after_all r ds here t).role t) (sym nothing) ∙ f.role
@@ -143,7 +143,7 @@ module _ (w : State) (t l : ℕ) (steady : IsInductive w) (there : t < length w.
 
 -- ---------------------------------------------------------------- they are told so
 
-module _ (w : State) (t l : ℕ) (steady : IsInductive w) (there : t < length w.places)
+module _ (w : State) (t l : ℕ) (inductive : IsInductive w) (there : t < length w.places)
     (own : IsOf l (place_at w t)) (r : Rules)
     (rules : rules_in w l ≡ r) (x : Move) (same_row : profile (place_at w t) ≡ x.row)
     (hears : Hears) where
@@ -162,7 +162,7 @@ module _ (w : State) (t l : ℕ) (steady : IsInductive w) (there : t < length w.
 
     -- out of the section, and the threads to which it has handed its right hear of it
     pub tells_handed : (p2 : Place) → key_of l Main < length w.sections
-        → IsFollowed w t l steady there own r rules x same_row None Done p2
+        → IsFollowed w t l inductive there own r rules x same_row None Done p2
         → ((u : ℕ) (b : Bool) → hand_at (place_at w u) l ≡ hand t b → IsWokenAt w t l HandOffNote
         (place_at w u))
         → Goes w (put (state_after_leave w t (One (key_of l Main)) wakes) t p2) l (acts t (x.deeds None Done))
@@ -180,11 +180,12 @@ module _ (w : State) (t l : ℕ) (steady : IsInductive w) (there : t < length w.
         either : (b : Bool) → g.any ≡ b
             → Goes w (put (state_after_leave w t (One (key_of l Main)) (wakes_taken b HandOffNote)) t p2) l
             (acts t (x.deeds None Done))
-        either false e = goes_out_alone w t l steady there own r rules x same_row hears Main p2 line g.deeds
+        either false e = goes_out_alone w t l inductive there own r rules x same_row hears Main p2 line
+            g.deeds
             (ap (λ (y : Location). y.inside) g.was) (ap (λ (y : Location). y.carries) g.was
             ∙ ap (λ b. in_hand b true) e) (ap (λ (y : Location). y.hand) g.was)
             (g.goes ∙ sym (ap (λ (y : Location). record y { inside = None; carries = None }) g.was)) f
-        either true e = wake_goes w t l steady own there p2 f.of f.fits HandOffNote woken bare
+        either true e = wake_goes w t l inductive own there p2 f.of f.fits HandOffNote woken bare
             (ap (λ (y : Location). y.carries) goes_nowhere) (ap (λ (y : Location). y.hand) goes_nowhere)
             Main line (ap (λ (y : Location). y.inside) stands_so) (ap (λ (y : Location). y.stands)
             goes_nowhere ∙ sym (ap (λ (y : Location). y.stands) stands_so))
@@ -196,10 +197,10 @@ module _ (w : State) (t l : ℕ) (steady : IsInductive w) (there : t < length w.
 
   -- a thread that was told so ends its call
   pub accepts : (g : Accepts x hears) (p2 : Place)
-      → (hears r now t None Done → IsFollowed w t l steady there own r rules x same_row None Done p2)
+      → (hears r now t None Done → IsFollowed w t l inductive there own r rules x same_row None Done p2)
       → Goes w (put w t p2) l (acts t (x.deeds None Done))
   accepts g p2 followed = subst (λ ds. Goes w (put w t p2) l (acts t ds)) (sym g.deeds)
-      (place_goes w t l steady own there r rules p2 f.of f.fits (End ∷ []) (λ h. tt)
+      (place_goes w t l inductive own there r rules p2 f.of f.fits (End ∷ []) (λ h. tt)
       (steps_by r l (parts_at w l) (parts_at w l) (place_at w) t p2 (End ∷ [])
       (subst (λ ds. ActsNeeded r (acts t ds) now) g.deeds (needed_same r (x.deeds None Done) now t
       f.needed)) (tt, tt)
@@ -210,7 +211,7 @@ module _ (w : State) (t l : ℕ) (steady : IsInductive w) (there : t < length w.
       ∙ ap (λ ds. (laws.after_all r ds now t).role t) g.deeds))
       (goes_nowhere ∙ sym stood))
     where
-      f : IsFollowed w t l steady there own r rules x same_row None Done p2
+      f : IsFollowed w t l inductive there own r rules x same_row None Done p2
       f = followed (g.may r now t)
 
       stood : location (place_at w t) ≡ nowhere

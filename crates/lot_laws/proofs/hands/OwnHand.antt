@@ -21,7 +21,7 @@ bare (Once l at) single = (once_facts l at).bare
 bare (Semaphore l at) single = (semaphore_facts l at).bare
 bare (Condvar l at) single = absurd single
 
-module _ (w : State) (steady : IsInductive w) (t l : ℕ) (single : IsSingle (place_at w t)) where
+module _ (w : State) (inductive : IsInductive w) (t l : ℕ) (single : IsSingle (place_at w t)) where
   nobody : (profile (place_at w t)).carries ≡ None → carried_at (place_at w t) l ≡ None
   nobody none = ap (λ (x : Location). x.carries) (single_location (place_at w t) l single)
       ∙ either (calls (place_at w t) l)
@@ -33,7 +33,7 @@ module _ (w : State) (steady : IsInductive w) (t l : ℕ) (single : IsSingle (pl
   pub own_hand : is_taken_by t (taken_at (place_at w t) l) ≡ false
   own_hand = elim (bare (place_at w t) single) [
     | inl free ↦ ap (is_taken_by t) (free_of (place_at w t) l single free)
-    | inr none ↦ unless_held w steady t l t (λ h. let some : carried_at (place_at w t) l ≡ Some false =
-        steady.stands.hands.taken t t l false h in let empty : carried_at (place_at w t) l ≡ None =
+    | inr none ↦ unless_held w inductive t l t (λ h. let some : carried_at (place_at w t) l ≡ Some false =
+        inductive.stands.hands.taken t t l false h in let empty : carried_at (place_at w t) l ≡ None =
         nobody none in cc)
   ]

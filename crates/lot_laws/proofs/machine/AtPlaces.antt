@@ -14,7 +14,7 @@ use Rattle.spec_locks.specs.Sites.{Main, Has}
 use Rattle.lot_machine.specs.Machine.{State, place_at, word_at, owners_at, kind_at, queue_at}
 use Rattle.lot_laws.specs.Refinement.{lock_state, taken_at}
 use Rattle.lot_laws.specs.MutexPromises.{IsMutexWord}
-use Rattle.lot_laws.specs.MutexDeeds.{mutex_role}
+use Rattle.lot_laws.specs.ThreadDeeds.{mutex_role}
 use Rattle.lot_laws.specs.Locations.{hand, location, location_at, role_on}
 use Rattle.lot_laws.specs.SitesOf.{IsInductive, FitsItsLock, rules_in, carried_at, hand_at, stood_in}
 use Rattle.lot_laws.proofs.hands.Counts.{without_absent}
@@ -24,15 +24,15 @@ use Rattle.lot_laws.proofs.sites.OneStep.{queued_times}
 use Rattle.lot_laws.proofs.sites.StandsMoved.{mutex_rules}
 use Rattle.lot_laws.proofs.promises.SitesPromise.{coded_at}
 
-module _ (w : State) (steady : IsInductive w) where
+module _ (w : State) (inductive : IsInductive w) where
   -- the word says whether the mutex is owned
   pub coded : (l : ℕ) → rules_in w l ≡ mutex → IsMutexWord (word_at w l) (owners_at w l).exclusive
-  coded = coded_at w steady
+  coded = coded_at w inductive
 
   -- a lock that a thread calls as a mutex is one
   pub rules_for : (t l : ℕ) (at : MutexPlace) → place_at w t ≡ Mutex l at → rules_in w l ≡ mutex
   rules_for t l at is = mutex_rules (kind_at w l) (let c : FitsItsLock w (Mutex l at) =
-      rw is at (steady.stands.calls t) in c)
+      rw is at (inductive.stands.calls t) in c)
 
   pub coded_for : (t l : ℕ) (at : MutexPlace) → place_at w t ≡ Mutex l at → IsMutexWord (word_at w l)
       (owners_at w l).exclusive
@@ -42,7 +42,7 @@ module _ (w : State) (steady : IsInductive w) where
   pub taken_nobody : (t l : ℕ) → (role_on (place_at w t) l).carries ≡ false
       → HasTakenNobody (lock_state w l) t
   taken_nobody t l none u x h = let some : (role_on (place_at w t) l).carries ≡ true =
-      (steady.sites.site l).carried u (record { by = t; want = x }) h in cc
+      (inductive.sites.site l).carried u (record { by = t; want = x }) h in cc
 
   module _ (t l : ℕ) where
     -- a thread that is not in its hand, to be woken or to be handed the lock, it hasn't taken
@@ -61,19 +61,19 @@ module _ (w : State) (steady : IsInductive w) where
 
     pub in_no_hand : (carried_at (place_at w t) l ≡ Some false → ⊥) → HasTakenNobody (lock_state w l) t
     in_no_hand none u x h = let free : is_taken_by t (taken_at (place_at w u) l) ≡ false =
-        unless_held u (λ g. none (steady.stands.hands.taken t u l false g)) in
+        unless_held u (λ g. none (inductive.stands.hands.taken t u l false g)) in
         let mine : is_taken_by t (taken_at (place_at w u) l) ≡ true = ap (is_taken_by t) h ∙ same t in cc
 
   module _ (t l : ℕ) where
     -- how often it stands in the queue
     pub queued_by : locks.times t (lock_state w l).queue ≡ stood_in (location_at (place_at w t) l).stands Main
-    queued_by = queued_times t (queue_at w (2 * l)) ∙ steady.stands.lines t l Main
+    queued_by = queued_times t (queue_at w (2 * l)) ∙ inductive.stands.lines t l Main
 
   -- a thread that stands in no line leaves none, in a call of one lock
   module _ (t : ℕ) (single : IsSingle (place_at w t)) (nowhere_now : (location (place_at w t)).stands ≡ None)
     where
       pub absent : (l : ℕ) → times t (queue_at w (2 * l)) ≡ 0
-      absent l = steady.stands.lines t l Main
+      absent l = inductive.stands.lines t l Main
           ∙ ap (λ x. stood_in x Main) (nothing_at (place_at w t) l single (λ x. x.stands) refl nowhere_now)
 
       pub same_without : (l : ℕ) → get_or (map (without t) w.queues) (2 * l) [] ≡ queue_at w (2 * l)
@@ -85,4 +85,4 @@ module _ (w : State) (steady : IsInductive w) where
     own_role = ap (λ p. role_on p l) is ∙ role_here l (Mutex l at) refl
 
     pub owns : (mutex_role at).claims ≡ Some (Has Exclusive) → (owners_at w l).exclusive ≡ Some t
-    owns h = (steady.sites.site l).held t (Has Exclusive) (ap (λ x. x.claims) own_role ∙ h)
+    owns h = (inductive.sites.site l).held t (Has Exclusive) (ap (λ x. x.claims) own_role ∙ h)

@@ -90,7 +90,7 @@ module _ (w : State) (t : ℕ) (world : IsWorld w) (b : IsBarred w t) where
 
   -- the section that bars it is one that its call may enter
   pub enters_own : Own
-  enters_own = by_place (place_at w t) refl (subst (FitsItsLock w) refl (world.steady.stands.calls t))
+  enters_own = by_place (place_at w t) refl (subst (FitsItsLock w) refl (world.inductive.stands.calls t))
       b.enters
     where
       by_place : (p : Place) → place_at w t ≡ p → FitsItsLock w p → EntersSection (key_of b.lock b.line)

@@ -128,7 +128,7 @@ filled_after w s h l = by_marks (after w s) h (after_marks w s l)
         → ((filled_at v l ≡ filled_at w l)
         ⊎ (filled_at v l ≡ (filled_at w l || fills (rules_of (kind_at v l)) (word_at v l))))
         → filled_at v l ≡ full_by (filled_at w) (locks_of v) l
-    by_marks v k (inl same) = noted (rules_in v l) (site_of v l) (k.steady.sites.site l)
+    by_marks v k (inl same) = noted (rules_in v l) (site_of v l) (k.inductive.sites.site l)
         ∙ ap (λ b. b || is_full (rules_in v l) (lock_state v l)) same
     by_marks v k (inr marks) = marks ∙ ap (λ b. filled_at w l || b) (fills_by (rules_in v l) (site_of v l)
-        (word_at v l) (k.steady.sites.site l) (k.steady.sites.word l))
+        (word_at v l) (k.inductive.sites.site l) (k.inductive.sites.word l))

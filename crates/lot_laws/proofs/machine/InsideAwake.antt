@@ -21,5 +21,5 @@ role_goes p l = by_locks (calls p l) (is_lock l (beside_of p))
 
 pub inside_goes : (w : State) → IsInductive w → (t l : ℕ) (m : Line) → IsInside w t l m
     → IsFree (act_of (place_at w t))
-inside_goes w steady t l m h = role_goes (place_at w t) l m (inside_is (place_at w t) l
-    ∙ (steady.stands.sections t l m).1 h)
+inside_goes w inductive t l m h = role_goes (place_at w t) l m (inside_is (place_at w t) l
+    ∙ (inductive.stands.sections t l m).1 h)

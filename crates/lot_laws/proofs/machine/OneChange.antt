@@ -3,10 +3,10 @@ use Rattle.std.proofs.Common.{subst, sym, ℕ, Bool, true, false, Option, Some, 
 use Rattle.std.proofs.Common.{◌⊎◌, inl, inr, List, [], ◌∷◌, ◌++◌, get_or, set, map, drop, refl, ◌∙◌, ap}
 use Rattle.std.proofs.Common.{get_or-set_other}
 use Rattle.steps_base.specs.declared.acts.Reply.TheVariants.{Value}
-use Rattle.steps_once.specs.OnceSteps.{word_behind}
+use Rattle.steps_once.specs.OnceSteps.{word_after}
 use Rattle.lot_machine.specs.Machine.{state_after_close, state_after_operation, closed_place}
 use Rattle.lot_laws.proofs.calls.Closures.{RunsOne, closes_one}
-use Rattle.lot_laws.proofs.calls.Closings.{behind, closing, goes_there, is_behind}
+use Rattle.lot_laws.proofs.calls.Closings.{afterwards, closing, goes_there, is_after}
 use Rattle.lot_laws.proofs.calls.Looking.{closing_here}
 use Rattle.lot_laws.proofs.calls.OwnPlace.{goes_from_there}
 use Rattle.std.proofs.lemmas.Bool.{cases_eq, ltb-true}
@@ -84,7 +84,7 @@ put_one : (w v : State) (t u : ℕ) (p : Place) → ChangesOneThing w t v → Ch
 put_one w v t u p (inl h) = inl h
 put_one w v t u p (inr h) = inr h
 
-module _ (w : State) (t : ℕ) (steady : IsInductive w) (there : t < length w.places) where
+module _ (w : State) (t : ℕ) (inductive : IsInductive w) (there : t < length w.places) where
   word_one : (p : Place) (l : ℕ) (f : op.Op) → ChangesOneThing w t (state_after_operation w t p l f)
   word_one p l f = inl (
     l,
@@ -168,14 +168,15 @@ module _ (w : State) (t : ℕ) (steady : IsInductive w) (there : t < length w.pl
     act_one p (act.TheVariants.Word k f) h = word_one p k f
     act_one p (act.TheVariants.HandOver k f) h = given_one p k f (takes_effect f (word_at w k))
     act_one p (act.TheVariants.Enter keys) h = filled_one keys (Some t)
-    act_one p (act.TheVariants.Park k key check x) h = park_one key x (holds_line w t l steady is_of key h.0)
-        (removed_at w t l steady is_of h.0.0 h.0.1 h.1) (holds check (word_at w k))
-    act_one p (act.TheVariants.Stand key x) h = park_one key x (holds_line w t l steady is_of key h.0)
-        (removed_at w t l steady is_of h.0.0 h.0.1 h.1) true
-    act_one p (act.TheVariants.Take key x) h = take_one key (holds_line w t l steady is_of key h) x
+    act_one p (act.TheVariants.Park k key check x) h =
+        park_one key x (holds_line w t l inductive is_of key h.0)
+        (removed_at w t l inductive is_of h.0.0 h.0.1 h.1) (holds check (word_at w k))
+    act_one p (act.TheVariants.Stand key x) h = park_one key x (holds_line w t l inductive is_of key h.0)
+        (removed_at w t l inductive is_of h.0.0 h.0.1 h.1) true
+    act_one p (act.TheVariants.Take key x) h = take_one key (holds_line w t l inductive is_of key h) x
     act_one p (act.TheVariants.Requeue from to how) h = absurd h
     act_one p (act.TheVariants.Remove key) h =
-        inr ((λ k. refl), removed_at w t l steady is_of h.0.0 h.0.1 h.1)
+        inr ((λ k. refl), removed_at w t l inductive is_of h.0.0 h.0.1 h.1)
     act_one p (act.TheVariants.Leave keys x) h = left_one keys x
     act_one p act.TheVariants.Rest h = stays
     act_one p act.TheVariants.Sleep h = stays
@@ -207,16 +208,18 @@ module _ (w : State) (t : ℕ) (steady : IsInductive w) (there : t < length w.pl
     act_of_two p (act.TheVariants.HandOver k f) h = given_one p k f (takes_effect f (word_at w k))
     act_of_two p (act.TheVariants.Enter keys) h = filled_one keys (Some t)
     act_of_two p (act.TheVariants.Park k key check x) h =
-        park_one key x (holds_key w t c at steady is fits key h.0) (left_at w t c at steady is fits key h.1
+        park_one key x (holds_key w t c at inductive is fits key h.0) (left_at w t c at inductive is fits key
+        h.1
         h.0) (holds check (word_at w k))
-    act_of_two p (act.TheVariants.Stand key x) h = park_one key x (holds_key w t c at steady is fits key h.0)
-        (left_at w t c at steady is fits key h.1 h.0) true
-    act_of_two p (act.TheVariants.Take key x) h = take_one key (holds_key w t c at steady is fits key h) x
+    act_of_two p (act.TheVariants.Stand key x) h =
+        park_one key x (holds_key w t c at inductive is fits key h.0)
+        (left_at w t c at inductive is fits key h.1 h.0) true
+    act_of_two p (act.TheVariants.Take key x) h = take_one key (holds_key w t c at inductive is fits key h) x
     act_of_two p (act.TheVariants.Requeue from to how) h =
-        requeued_one from to how (holds_key w t c at steady is fits from h.0)
-        (holds_key w t c at steady is fits to h.1)
+        requeued_one from to how (holds_key w t c at inductive is fits from h.0)
+        (holds_key w t c at inductive is fits to h.1)
     act_of_two p (act.TheVariants.Remove key) h =
-        inr ((λ k. refl), left_at w t c at steady is fits key h.1 h.0)
+        inr ((λ k. refl), left_at w t c at inductive is fits key h.1 h.0)
     act_of_two p (act.TheVariants.Leave keys x) h = left_one keys x
     act_of_two p act.TheVariants.Rest h = stays
     act_of_two p act.TheVariants.Sleep h = stays
@@ -226,7 +229,7 @@ module _ (w : State) (t : ℕ) (steady : IsInductive w) (there : t < length w.pl
 
   two_gone : (two : IsOfTwo (place_at w t))
       → ChangesOneThing w t (state_after_act w t (place_at w t) (act_of (place_at w t)))
-  two_gone two = let fits = fits_two w t steady two in
+  two_gone two = let fits = fits_two w t inductive two in
       act_of_two two.lock two.at two.is fits (place_at w t) (act_of (place_at w t))
       (subst (λ p. IsActOfTwo two.lock two.at (act_of p)) (sym two.is)
       (condvar_lines two.lock two.at fits.reached))
@@ -252,16 +255,16 @@ module _ (w : State) (t : ℕ) (steady : IsInductive w) (there : t < length w.pl
       → ChangesOneThing w t (state_after_close w t succeeded)
   closed_one succeeded one = subst (ChangesOneThing w t) (sym (goes_there w t there succeeded one
       ∙ goes_from_there (closing w t there succeeded one) t swaps (closing_here w t there succeeded one
-      ∙ is_behind w t there succeeded one) tt))
+      ∙ is_after w t there succeeded one) tt))
       (put_one w (put swapped t (closed_place w t succeeded)) t t
       (next_place swaps (Value (word_at w one.lock))) (put_one w swapped t t (closed_place w t succeeded)
-      (word_one swaps one.lock (op.TheVariants.Swap (word_behind succeeded)))))
+      (word_one swaps one.lock (op.TheVariants.Swap (word_after succeeded)))))
     where
       swaps : Place
-      swaps = behind w t there succeeded one
+      swaps = afterwards w t there succeeded one
 
       swapped : State
-      swapped = state_after_operation w t swaps one.lock (op.TheVariants.Swap (word_behind succeeded))
+      swapped = state_after_operation w t swaps one.lock (op.TheVariants.Swap (word_after succeeded))
 
   turned_one : (x : Turn) → can_turn w t x ≡ true → ChangesOneThing w t (state_after_turn w t x)
   turned_one (turn.TheVariants.Begin c) can = put_one w w t t (first_place (kind_at w (lock_in c)) c) stays
@@ -275,12 +278,12 @@ module _ (w : State) (t : ℕ) (steady : IsInductive w) (there : t < length w.pl
   turned_one turn.TheVariants.Err can = closed_one false (closes_one w t false can)
 
 pub one_thing : (w : State) (s : Step) → IsInductive w → ChangesOneThing w s.thread (after w s)
-one_thing w s steady = either (is_possible w s) refl
+one_thing w s inductive = either (is_possible w s) refl
   where
     either : (b : Bool) → is_possible w s ≡ b → ChangesOneThing w s.thread
         (if b then state_after_turn w s.thread s.turn else w)
     either true can = let parts = both (nat_lt s.thread (length w.places)) (can_turn w s.thread s.turn) can in
-        turned_one w s.thread steady (ltb-true s.thread (length w.places) parts.0) s.turn parts.1
+        turned_one w s.thread inductive (ltb-true s.thread (length w.places) parts.0) s.turn parts.1
     either false can = same_one w w s.thread (λ k. refl, λ key. refl)
 
 -- ---------------------------------------------------------------- turns that touch nothing

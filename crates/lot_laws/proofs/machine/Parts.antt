@@ -51,7 +51,7 @@ use Rattle.lot_machine.specs.Machine.{shares_given, wants_more_in_hand, successo
 use Rattle.lot_machine.specs.Machine.{held_by}
 use Rattle.lot_machine.specs.declared.hands.Successor.{Successor}
 use Rattle.lot_laws.specs.Refinement.{lock_seen, taken_at}
-use Rattle.lot_laws.specs.MutexDeeds.{mutex_location, mutex_role}
+use Rattle.lot_laws.specs.ThreadDeeds.{mutex_location, mutex_role}
 use Rattle.lot_laws.specs.Locations.{Location, hand, location, location_at, nowhere, role_on, location_by}
 use Rattle.lot_laws.specs.SitesOf.{rules_in, hand_at, FitsItsLock, IsInductive, TakesOne}
 
@@ -226,7 +226,7 @@ single_or_two (Condvar k at) = inr (record { lock = k; at = at; is = refl })
 -- a call of two locks fits them
 pub fits_two : (w : State) (t : ℕ) → IsInductive w → (two : IsOfTwo (place_at w t))
     → FitsItsLock w (Condvar two.lock two.at)
-fits_two w t steady two = subst (FitsItsLock w) two.is (steady.stands.calls t)
+fits_two w t inductive two = subst (FitsItsLock w) two.is (inductive.stands.calls t)
 
 -- has no other beside it
 pub none_beside : (p : Place) → IsSingle p → beside_of p ≡ None
@@ -732,7 +732,7 @@ fits_apart w (Semaphore k at) fits m e = absurd cc
 fits_apart w (Condvar k at) fits m e = differ k m (condvar_apart w k at fits m e)
 
 pub aparts : (w : State) → IsInductive w → (t : ℕ) → IsApart (place_at w t)
-aparts w steady t = fits_apart w (place_at w t) (steady.stands.calls t)
+aparts w inductive t = fits_apart w (place_at w t) (inductive.stands.calls t)
 
 -- nobody is in a hand at a condition variable: a thread that is in one by the place, at either of its locks,
 -- is so by the taker

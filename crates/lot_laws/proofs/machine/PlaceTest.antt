@@ -76,7 +76,7 @@ use Rattle.steps_condvar.specs.CondvarSteps.{condvar_act, move_act}
 use Rattle.lot_steps.specs.declared.places.Place.{Place}
 use Rattle.lot_steps.specs.declared.places.Place.TheVariants.{Idle, Mutex, RwLock, Once, Condvar, Semaphore}
 use Rattle.lot_steps.specs.Steps.{act_of, profile, profile_beside}
-use Rattle.lot_laws.specs.MutexDeeds.{mutex_row}
+use Rattle.lot_laws.specs.ThreadDeeds.{mutex_row}
 use Rattle.lot_laws.specs.Promises.{IsTry}
 use Rattle.lot_laws.specs.Refinement.{keys_entered, runs_closure, sleeps}
 use Rattle.lot_laws.specs.SitesOf.{key_of}

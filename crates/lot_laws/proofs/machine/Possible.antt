@@ -145,29 +145,30 @@ called_of w p r can = by_lock (beside_of p) (called_lock p) refl
 
 acting_of : (w : State) (t : ℕ) → IsInductive w → (call_state (place_at w t) (rights w t)).purpose ≢ None
     → is_acting (act_of (place_at w t)) ≡ true
-acting_of w t steady called = elim (single_or_two (place_at w t)) [
+acting_of w t inductive called = elim (single_or_two (place_at w t)) [
   | inl single ↦ by_lock single (called_lock (place_at w t)) refl
   | inr two ↦ ap (λ p. is_acting (act_of p)) two.is ∙ condvar_acts two.lock two.at
 ]
   where
     by_lock : IsSingle (place_at w t) → (o : Option ℕ) → called_lock (place_at w t) ≡ o
         → is_acting (act_of (place_at w t)) ≡ true
-    by_lock single (Some l) e = (row_promises w t steady l single e).acts
+    by_lock single (Some l) e = (row_promises w t inductive l single e).acts
     by_lock single None e = absurd
         (called (ap (λ (c : CallState). c.purpose) (call_none (place_at w t) e (rights w t))))
 
 late_two : (w : State) (t : ℕ) → IsInductive w → (two : IsOfTwo (place_at w t)) → (key : ℕ)
     → late_key (place_at w t) ≡ Some key
     → IsLate two.lock two.at key
-late_two w t steady two key e = two_late two.lock two.at
-    (condvar_apart w two.lock two.at (fits_two w t steady two)) key (sym (ap late_key two.is) ∙ e)
+late_two w t inductive two key e = two_late two.lock two.at
+    (condvar_apart w two.lock two.at (fits_two w t inductive two)) key (sym (ap late_key two.is) ∙ e)
 
 pub may_go : (w : State) (t : ℕ) → can_go w t ≡ true → MayGo (locks_of w) t
 may_go w t can = let is = can_is w (act_of (place_at w t)) can in
     record { called = called_of w (place_at w t) (rights w t) can; awake = is.0; outside = is.1; free = is.2 }
 
 pub go_possible : (w : State) (t : ℕ) → IsInductive w → MayGo (locks_of w) t → can_go w t ≡ true
-go_possible w t steady may = can_if w (act_of (place_at w t)) (acting_of w t steady may.called) may.awake
+go_possible w t inductive may = can_if w (act_of (place_at w t)) (acting_of w t inductive may.called)
+    may.awake
     may.outside may.free
 
 -- ---------------------------------------------------------------- being late
@@ -176,17 +177,17 @@ sleeps_is : (a : Act) → sleeps a ≡ true → a ≡ Sleep
 sleeps_is Sleep h = refl
 sleeps_is a h = absurd cc
 
-module _ (w : State) (t : ℕ) (steady : IsInductive w) where
+module _ (w : State) (t : ℕ) (inductive : IsInductive w) where
   -- a thread in whose line the section is free may be late there
   stands_freely : (l : ℕ) (m : Line) → (location_at (place_at w t) l).stands ≡ Some m
       → section_at w (key_of l m) ≡ None
       → StandsFreely (locks_of w) t l
   stands_freely l Main stands free = inl (
     let n : locks.times t (lock_state w l).queue ≡ 1 =
-        queued_by w steady t l ∙ ap (λ x. stood_in x Main) stands in omega arith,
+        queued_by w inductive t l ∙ ap (λ x. stood_in x Main) stands in omega arith,
     free,
   )
-  stands_freely l Second stands free = inr (in_second w t steady l stands, free)
+  stands_freely l Second stands free = inr (in_second w t inductive l stands, free)
 
   stands_free : (l : ℕ) → StandsFreely (locks_of w) t l
       → (m : Line) × ((location_at (place_at w t) l).stands ≡ Some m)
@@ -194,13 +195,13 @@ module _ (w : State) (t : ℕ) (steady : IsInductive w) where
   stands_free l (inl h) = (
     Main,
     in_main (location_at (place_at w t) l).stands
-        (subst (λ n. 1 ≤ n) (queued_by w steady t l) h.0),
+        (subst (λ n. 1 ≤ n) (queued_by w inductive t l) h.0),
     ap is_none h.1,
   )
   stands_free l (inr h) = (
     Second,
     in_line (location_at (place_at w t) l).stands
-        (subst (λ n. 1 ≤ n) (steady.stands.lines t l Second) (first_times t (queue_at w (2 * l + 1)) h.0)),
+        (subst (λ n. 1 ≤ n) (inductive.stands.lines t l Second) (first_times t (queue_at w (2 * l + 1)) h.0)),
     ap is_none h.1,
   )
     where
@@ -221,11 +222,11 @@ module _ (w : State) (t : ℕ) (steady : IsInductive w) where
       by_one : IsSingle (place_at w t) → MayBeLate (locks_of w) t
       by_one single =
           let of = late_line (place_at w t) key single e in
-          let row = (row_promises w t steady of.0 single of.1).late of.2.0 of.2.1 in
+          let row = (row_promises w t inductive of.0 single of.1).late of.2.0 of.2.1 in
           record {
             lock = of.0;
             timed = subst (λ (c : CallState). IsTimed c.purpose c.recalls of.0)
-                (sym (call_own w t steady of.0 single of.1)) row.timed;
+                (sym (call_own w t inductive of.0 single of.1)) row.timed;
             asleep = ap sleeps row.asleep;
             stands = stands_freely of.0 of.2.0 (ap (λ (x : Location). x.stands)
                 (location_own (place_at w t) of.0 of.1) ∙ row.stands)
@@ -235,7 +236,7 @@ module _ (w : State) (t : ℕ) (steady : IsInductive w) where
 
       by_two : IsOfTwo (place_at w t) → MayBeLate (locks_of w) t
       by_two two =
-          let is_late = late_two w t steady two key e in
+          let is_late = late_two w t inductive two key e in
           record {
             lock = is_late.lock;
             timed = subst (λ p. IsTimed (call_state p (rights w t)).purpose
@@ -261,15 +262,15 @@ module _ (w : State) (t : ℕ) (steady : IsInductive w) where
         let timed : IsTimed (Some ((profile (place_at w t)).purpose may.lock))
         (profile (place_at w t)).recalls may.lock =
         subst (λ (c : CallState). IsTimed c.purpose c.recalls may.lock)
-        (call_own w t steady may.lock single own) may.timed in
+        (call_own w t inductive may.lock single own) may.timed in
         let row : (profile (place_at w t)).late_line ≡ Some n =
-        (row_promises w t steady may.lock single own).may_be_late n stands
+        (row_promises w t inductive may.lock single own).may_be_late n stands
         (sleeps_is (act_of (place_at w t)) may.asleep) timed in
         ap (is_free_under w) (single_late (place_at w t) single ∙ (λ i. key_in (own i) (row i))) ∙ free
 
     late_of_two : IsOfTwo (place_at w t) → is_free_under w (late_key (place_at w t)) ≡ true
     late_of_two two =
-        let fits = fits_two w t steady two in
+        let fits = fits_two w t inductive two in
         let asleep : condvar_act two.lock two.at ≡ Sleep = sym (ap act_of two.is)
         ∙ sleeps_is (act_of (place_at w t)) may.asleep in
         let timed = subst (λ p. IsTimed (call_state p (rights w t)).purpose
@@ -529,7 +530,7 @@ module _ (w : State) (t : ℕ) where
   took_all key (whom.TheVariants.Picked start recursive) k = refl
   took_all key whom.TheVariants.All k = refl
 
-  module _ (shape : IsWellFormed w) (steady : IsInductive w) (l : ℕ) (is_of : IsOf l (place_at w t))
+  module _ (shape : IsWellFormed w) (inductive : IsInductive w) (l : ℕ) (is_of : IsOf l (place_at w t))
       (lt : l < length w.locks) where
     there_is : (key : ℕ) → IsOfLine l key → key < length w.sections
     there_is key h = subst (λ k. k < length w.sections) (sym h.1) (key_there w l h.0 shape lt)
@@ -542,7 +543,8 @@ module _ (w : State) (t : ℕ) where
         (inr (inl (none_is (section_at w k) can, refl))) key
     act_sections p (Enter (Two first second)) can h key = absurd h
     act_sections p (act.Leave (One k) x) can h key = rw (left_sections (One k) x key)
-        (filled_changes k None (there_is k (h.0, h.2)) (inr (inr (holds_line w t l steady is_of k h, refl)))
+        (filled_changes k None (there_is k (h.0, h.2))
+        (inr (inr (holds_line w t l inductive is_of k h, refl)))
         key)
     act_sections p (act.Leave (Two first second) x) can h key = absurd h
     act_sections p (Park k key_there check x) can h key =
@@ -554,7 +556,7 @@ module _ (w : State) (t : ℕ) where
     act_sections p Rest can h key = inl refl
     act_sections p a can h key = inl refl
 
-  module _ (shape : IsWellFormed w) (steady : IsInductive w) (c : ℕ) (at : CondvarPlace) (is : place_at w t
+  module _ (shape : IsWellFormed w) (inductive : IsInductive w) (c : ℕ) (at : CondvarPlace) (is : place_at w t
       ≡ Condvar c at)
       (fits : FitsItsLock w (Condvar c at)) where
     key_is : (key : ℕ) → IsItsKey c at key → key < length w.sections
@@ -583,12 +585,12 @@ module _ (w : State) (t : ℕ) where
         (inr (inl (free.1, refl))) key
     two_sections p (act.Leave (One k) x) can h key = rw (left_sections (One k) x key)
         (filled_changes k None (key_is k (inside_its c at k h))
-        (inr (inr (holds_key w t c at steady is fits k h, refl))) key)
+        (inr (inr (holds_key w t c at inductive is fits k h, refl))) key)
     two_sections p (act.Leave (Two first second) x) can h key = rw (left_sections (Two first second) x key)
         (filled_both first second None (key_is first (inside_its c at first h.0))
         (key_is second (inside_its c at second h.1))
-        (inr (inr (holds_key w t c at steady is fits first h.0, refl)))
-        (inr (inr (holds_key w t c at steady is fits second h.1, refl))) key)
+        (inr (inr (holds_key w t c at inductive is fits first h.0, refl)))
+        (inr (inr (holds_key w t c at inductive is fits second h.1, refl))) key)
     two_sections p (Park k key_there check x) can h key =
         inl (parked_sections (holds check (word_at w k)) _ key)
     two_sections p (Take k x) can h key = inl (took_all k x key)
@@ -599,7 +601,7 @@ module _ (w : State) (t : ℕ) where
 
 pub gone_sections : (w : State) (t : ℕ) → IsWellFormed w → IsInductive w → can_go w t ≡ true → (key : ℕ)
     → SectionChanges (section_at w key) t (section_at (state_after_go w t) key)
-gone_sections w t shape steady can = elim (single_or_two (place_at w t)) [
+gone_sections w t shape inductive can = elim (single_or_two (place_at w t)) [
   | inl single ↦
       by_lock single (called_lock (place_at w t)) refl
   | inr two ↦ by_two two
@@ -608,7 +610,7 @@ gone_sections w t shape steady can = elim (single_or_two (place_at w t)) [
     by_lock : IsSingle (place_at w t) → (o : Option ℕ) → called_lock (place_at w t) ≡ o → (key : ℕ)
         → SectionChanges (section_at w key) t
         (section_at (state_after_act w t (place_at w t) (act_of (place_at w t))) key)
-    by_lock single (Some l) own key = act_sections w t shape steady l (of_own l (place_at w t) single own)
+    by_lock single (Some l) own key = act_sections w t shape inductive l (of_own l (place_at w t) single own)
         (calls_there (length w.locks) (place_at w t) l own (shape.places t)) (place_at w t)
         (act_of (place_at w t)) can (line_act (place_at w t) l single own) key
     by_lock single None none key = absurd (let e : can_do w (act_of (place_at w t)) ≡ false =
@@ -617,8 +619,9 @@ gone_sections w t shape steady can = elim (single_or_two (place_at w t)) [
     by_two : (two : IsOfTwo (place_at w t)) → (key : ℕ)
         → SectionChanges (section_at w key) t
         (section_at (state_after_act w t (place_at w t) (act_of (place_at w t))) key)
-    by_two two key = let fits = fits_two w t steady two in
-        two_sections w t shape steady two.lock two.at two.is fits (place_at w t) (act_of (place_at w t)) can
+    by_two two key = let fits = fits_two w t inductive two in
+        two_sections w t shape inductive two.lock two.at two.is fits (place_at w t) (act_of (place_at w t))
+        can
         (subst (λ p. IsActOfTwo two.lock two.at (act_of p)) (sym two.is)
         (condvar_lines two.lock two.at fits.reached)) key
 
@@ -627,14 +630,14 @@ gone_sections w t shape steady can = elim (single_or_two (place_at w t)) [
 module _ (w : State) (t : ℕ) (there : t < length w.places) where
   pub late_awake : IsInductive w → (o : Option ℕ) → late_key (place_at w t) ≡ o → is_free_under w o ≡ true
       → sleeps (act_of (place_at (state_after_late_on w t o) t)) ≡ false
-  late_awake steady None e can = absurd cc
-  late_awake steady (Some key) e can =
+  late_awake inductive None e can = absurd cc
+  late_awake inductive (Some key) e can =
       ap (λ p. sleeps (act_of p)) (get_or-set_same w.places t (next_place (place_at w t) Late) Idle there)
       ∙ awake_is (act_of (next_place (place_at w t) Late)) (elim (single_or_two (place_at w t)) [
         | inl single ↦ (let of = late_line (place_at w t) key single e
             in (late_next (place_at w t) of.2.0 single of.2.1).awake)
         | inr two ↦ subst (λ p. act_of (next_place p Late) ≢ Sleep) (sym two.is)
-            (late_two w t steady two key e).awake
+            (late_two w t inductive two key e).awake
       ])
 
 module _ (w : State) (t : ℕ) (shape : IsWellFormed w) where
@@ -642,7 +645,7 @@ module _ (w : State) (t : ℕ) (shape : IsWellFormed w) where
   pub late_sections : IsInductive w → (p : Place) → place_at w t ≡ p → PlaceFits (length w.locks) p
       → is_free_under w (late_key p) ≡ true → (key : ℕ)
       → SectionChanges (section_at w key) t (section_at (state_after_late_on w t (late_key p)) key)
-  late_sections steady p is fits can = by_key (late_key p) refl can
+  late_sections inductive p is fits can = by_key (late_key p) refl can
     where
       by_key : (o : Option ℕ) → late_key p ≡ o → is_free_under w o ≡ true → (key : ℕ)
           → SectionChanges (section_at w key) t (section_at (state_after_late_on w t o) key)
@@ -651,7 +654,8 @@ module _ (w : State) (t : ℕ) (shape : IsWellFormed w) where
         | inl single ↦ (let of = late_line p k single e in subst (λ j. j < length w.sections) (sym of.2.2)
             (key_there w of.0 of.2.0 shape (calls_there (length w.locks) p of.0 of.1 fits)))
         | inr two ↦ (let is_late = two_late two.lock two.at (condvar_apart w two.lock two.at
-            (subst (FitsItsLock w) (is ∙ two.is) (steady.stands.calls t))) k (sym (ap late_key two.is) ∙ e) in
+            (subst (FitsItsLock w) (is ∙ two.is) (inductive.stands.calls t))) k (sym (ap late_key two.is) ∙ e)
+            in
             subst (λ j. j < length w.sections) (sym is_late.under) (key_there w is_late.lock Main shape
             (is_late.there (length w.locks) (subst (PlaceFits (length w.locks)) two.is fits))))
       ]) (inr (inl (none_is (section_at w k) can, refl))) key

@@ -23,7 +23,7 @@ use Rattle.lot_machine.specs.Machine.{share_at, shares_at, state_after_operation
 use Rattle.lot_machine.specs.Machine.{word_at, state_after_telling, queues_with_last, queues_without_first}
 use Rattle.lot_machine.specs.Machine.{queues_without}
 use Rattle.lot_laws.specs.Refinement.{lock_seen, taken_at}
-use Rattle.lot_laws.specs.MutexDeeds.{acts}
+use Rattle.lot_laws.specs.ThreadDeeds.{acts}
 use Rattle.lot_laws.specs.Locations.{role_on, location_at, hand}
 use Rattle.lot_laws.specs.SitesOf.{FitsItsLock, Goes, IsInductive, after_acts, key_of, rules_in, hand_at}
 use Rattle.lot_laws.specs.SitesOf.{carried_at, stood_in}
@@ -90,7 +90,7 @@ bit_read None false = refl
 bit_read (Some u) true = refl
 bit_read (Some u) false = refl
 
-module _ (w : State) (t m : ℕ) (steady : IsInductive w) (is_there : t < length w.places)
+module _ (w : State) (t m : ℕ) (inductive : IsInductive w) (is_there : t < length w.places)
     (sort : (rules_in w m).sort ≡ locks.Mutex)
     (p2 : Place) (alike : AlikeBeside m (place_at w t) p2) (fits : FitsItsLock w p2) where
   abbrev r : Rules
@@ -114,21 +114,22 @@ module _ (w : State) (t m : ℕ) (steady : IsInductive w) (is_there : t < length
       (laws.after_all r ds here t).lock.exclusive)
       (coded : apply op (word_at w m) ≡ code r (laws.after_all r ds here t)) (same_location : location_at p2 m
       ≡ location_at (place_at w t) m) (same_hand : taken_at (place_at w t) m ≡ taken_at p2 m) where
-    abbrev behind : Site
-    behind = laws.after_all r ds here t
+    abbrev afterwards : Site
+    afterwards = laws.after_all r ds here t
 
-    lock_then : lock_in (operated w t before m op) (λ u. taken_at (place_at w u) m) ≡ behind.lock
+    lock_then : lock_in (operated w t before m op) (λ u. taken_at (place_at w u) m) ≡ afterwards.lock
     lock_then = ap (λ x. lock_seen (shares_then (shares_at w m) t x) (owners_after before t (word_at w m)
         (owners_at w m)) (queue_at w (2 * m)) (queue_at w (2 * m + 1)) (λ u. taken_at (place_at w u) m))
         no_share
         ∙ ap (λ o. lock_seen (shares_at w m) o (queue_at w (2 * m)) (queue_at w (2 * m + 1))
         (λ u. taken_at (place_at w u) m)) owner ∙ sym by_owner.lock
 
-    code_is : apply op (word_at w m) ≡ one_if_some behind.lock.exclusive + 2 * codes.bit behind.parked
-    code_is = coded ∙ ap (λ x. word_by x r.limit behind.lock behind.aside_parked behind.parked) sort
+    code_is : apply op (word_at w m) ≡ one_if_some afterwards.lock.exclusive + 2 * codes.bit afterwards.parked
+    code_is = coded ∙ ap (λ x. word_by x r.limit afterwards.lock afterwards.aside_parked afterwards.parked)
+        sort
 
-    same_behind : after_acts r (acts t ds) here ≡ behind
-    same_behind = after_same r ds here t
+    same_after : after_acts r (acts t ds) here ≡ afterwards
+    same_after = after_same r ds here t
 
     filled_then : (operated w t before m op).base.filled ≡ (after_acts r (acts t ds) here).filled
     filled_then = ap (λ b. filled_at w m || (b && nat_le r.limit (count_in (apply op (word_at w m)))))
@@ -137,18 +138,18 @@ module _ (w : State) (t m : ℕ) (steady : IsInductive w) (is_there : t < length
     steps : Steps r m (parts_at w m) (operated w t before m op) (place_at w) t p2 ds
     steps = steps_by r m (parts_at w m) (operated w t before m op) (place_at w) t p2 ds
         (needed_same r ds here t needed) by_owner.single same_hand
-        (lock_then ∙ sym (ap (λ (s : Site). s.lock) same_behind))
+        (lock_then ∙ sym (ap (λ (s : Site). s.lock) same_after))
         (ap (λ x. parked_in x (apply op (word_at w m))) sort ∙ ap (parked_in locks.Mutex) code_is
-        ∙ bit_read behind.lock.exclusive behind.parked ∙ sym (ap (λ (s : Site). s.parked) same_behind))
+        ∙ bit_read afterwards.lock.exclusive afterwards.parked ∙ sym (ap (λ (s : Site). s.parked) same_after))
         (ap (λ x. aside_in x (apply op (word_at w m))) sort ∙ sym (ap (λ x. aside_in x (word_at w m)) sort)
-        ∙ sym by_owner.aside ∙ sym (ap (λ (s : Site). s.aside_parked) same_behind))
+        ∙ sym by_owner.aside ∙ sym (ap (λ (s : Site). s.aside_parked) same_after))
         filled_then
-        (sym role ∙ sym (ap (λ (s : Site). s.role t) same_behind))
+        (sym role ∙ sym (ap (λ (s : Site). s.role t) same_after))
 
     pub works_at : Goes w (put (state_after_operation w t before m op) t p2) m (acts t ds)
-    works_at = acting.word_goes w t m steady is_there r refl p2 alike fits before lt
-        (rw steady.numbers.locks lt) op ds (λ h. plain_so h) steps
-        (coded ∙ sym (ap (code r) same_behind) ∙ sym (ap (code r) steps.site)) same_location
+    works_at = acting.word_goes w t m inductive is_there r refl p2 alike fits before lt
+        (rw inductive.numbers.locks lt) op ds (λ h. plain_so h) steps
+        (coded ∙ sym (ap (code r) same_after) ∙ sym (ap (code r) steps.site)) same_location
 
   -- ---------------------------------------------------------------- sections
 
@@ -160,7 +161,7 @@ module _ (w : State) (t m : ℕ) (steady : IsInductive w) (is_there : t < length
         → location_at p2 m ≡ record (location_at (place_at w t) m) { inside = Some Main }
         → taken_at (place_at w t) m ≡ taken_at p2 m
         → Goes w (put (state_with_sections w (One (key_of m Main)) (Some t)) t p2) m (acts t (In Main ∷ []))
-    goes_in_at free outside needed role goes same_hand = acting.enter_goes w t m steady is_there r refl p2
+    goes_in_at free outside needed role goes same_hand = acting.enter_goes w t m inductive is_there r refl p2
         alike fits Main line free outside
         (steps_by r m (parts_at w m) (parts_at w m) (place_at w) t p2 (In Main ∷ []) (needed.0, tt) (tt, tt)
         same_hand refl refl refl refl (sym role)) goes
@@ -174,7 +175,7 @@ module _ (w : State) (t m : ℕ) (steady : IsInductive w) (is_there : t < length
         → taken_at (place_at w t) m ≡ taken_at p2 m
         → keep_from t (taken_at (place_at w t) m) ≡ taken_at (place_at w t) m
         → Goes w (put (state_with_sections w (One (key_of m Main)) None) t p2) m (acts t ds)
-    goes_out_at within bare ds leaving needed role goes same_hand kept = acting.leave_goes w t m steady
+    goes_out_at within bare ds leaving needed role goes same_hand kept = acting.leave_goes w t m inductive
         is_there r refl p2 alike fits Main line within ds (λ h. plain_so h)
         (record {
           site = leaving_by r m (parts_at w m) (place_at w) (putting (place_at w) t p2) t
@@ -187,7 +188,8 @@ module _ (w : State) (t m : ℕ) (steady : IsInductive w) (is_there : t < length
         }) goes
       where
         nobody : (u : ℕ) → hand_at (place_at w u) m ≡ hand t false → ⊥
-        nobody u h = let a : carried_at (place_at w t) m ≡ Some false = steady.stands.hands.taken t u m false
+        nobody u h = let a : carried_at (place_at w t) m ≡ Some false = inductive.stands.hands.taken t u m
+            false
             h in let c : ◌≡◌ {A = Option Bool} None (Some false) = sym bare ∙ a in cc
 
     -- out of it, and each thread that is in its hand is woken, itself too where it is
@@ -207,7 +209,8 @@ module _ (w : State) (t m : ℕ) (steady : IsInductive w) (is_there : t < length
         (Woken Normal)) t p2) m
         (acts t ds)
     goes_out_waking holds woken within out bare stood waited own_hand own_taken ds leaving needed role =
-        wake_goes w t m steady is_there p2 (same_hands m (place_at w t) p2 alike) fits holds Normal woken bare
+        wake_goes w t m inductive is_there p2 (same_hands m (place_at w t) p2 alike) fits holds Normal woken
+        bare
         own_hand alike Main line within stood waited out r refl own_taken
         ds leaving (needed_same r ds here t needed) (sym role
         ∙ sym (ap (λ (s : Site). s.role t) (after_same r ds here t)))
@@ -222,13 +225,13 @@ module _ (w : State) (t m : ℕ) (steady : IsInductive w) (is_there : t < length
         → taken_at (place_at w t) m ≡ taken_at p2 m
         → Goes w (put (record w { queues = queues_without_first w.queues (key_of m Main) }) t p2) m
         (acts t (FindNobody Main ∷ []))
-    finds_nobody_at empty needed role same_location same_hand = acting.nobody_goes w t m steady is_there r
+    finds_nobody_at empty needed role same_location same_hand = acting.nobody_goes w t m inductive is_there r
         refl p2 alike fits Main (FindNobody Main ∷ []) (λ h. tt) line empty
         (steps_by r m (parts_at w m) (parts_at w m) (place_at w) t p2 (FindNobody Main ∷ []) (needed.0, tt)
         (tt, tt) same_hand refl refl refl refl (sym role)) same_location
 
-    -- it stands behind the last
-    pub stands_at : acting.IsOut w t m steady is_there r refl p2 alike fits
+    -- it stands after the last
+    pub stands_at : acting.IsOut w t m inductive is_there r refl p2 alike fits
         → (location_at (place_at w t) m).stands ≡ None → laws.AllNeeded r (Case (Park Exclusive) ∷ []) here t
         → role_on p2 m ≡ record (role_on (place_at w t) m) { retries = None; empty = None }
         → location_at p2 m ≡ record (location_at (place_at w t) m) {
@@ -239,35 +242,38 @@ module _ (w : State) (t m : ℕ) (steady : IsInductive w) (is_there : t < length
         → taken_at (place_at w t) m ≡ taken_at p2 m
         → Goes w (put (record w { queues = queues_with_last w.queues (key_of m Main) t Exclusive }) t p2) m
         (acts t (Case (Park Exclusive) ∷ []))
-    stands_at out nowhere_else needed role goes same_hand = acting.park_goes w t m steady is_there r refl p2
+    stands_at out nowhere_else needed role goes same_hand = acting.park_goes w t m inductive is_there r refl
+        p2
         alike fits out Main Exclusive (Case (Park Exclusive) ∷ []) (λ h. ((λ k. k), tt)) line nowhere_else
-        (parks r m (parts_at w m) (place_at w) t p2 (steady.sites.site m) same_hand (key_of m Main) Exclusive
+        (parks r m (parts_at w m) (place_at w) t p2 (inductive.sites.site m) same_hand (key_of m Main)
+        Exclusive
         (needed.0, tt) role) goes
 
     -- its time is up, and it leaves the line
-    pub leaves_line_at : acting.IsOut w t m steady is_there r refl p2 alike fits
+    pub leaves_line_at : acting.IsOut w t m inductive is_there r refl p2 alike fits
         → (location_at (place_at w t) m).stands ≡ Some Main → laws.AllNeeded r (Case locks.Late ∷ []) here t
         → (laws.after_all r (Case locks.Late ∷ []) here t).role t ≡ role_on p2 m
         → location_at p2 m ≡ record (location_at (place_at w t) m) { stands = None; waits = None }
         → taken_at (place_at w t) m ≡ taken_at p2 m
         → Goes w (put (record w { queues = queues_without w.queues t }) t p2) m
         (acts t (Case locks.Late ∷ []))
-    leaves_line_at out stands needed role goes same_hand = acting.remove_goes w t m steady is_there r refl p2
+    leaves_line_at out stands needed role goes same_hand = acting.remove_goes w t m inductive is_there r refl
+        p2
         alike fits out Main (Case locks.Late ∷ []) (λ h. ((λ k. k), tt)) stands
-        (lates r m (parts_at w m) (place_at w) t p2 (steady.sites.site m) same_hand Main
+        (lates r m (parts_at w m) (place_at w) t p2 (inductive.sites.site m) same_hand Main
         (without t (queue_at w (key_of m Main))) (queued_without t (queue_at w (key_of m Main)))
         (sym (aside_kept t (first_of (queue_at w (key_of m Second)))
         (first_out t (queue_at w (key_of m Second)) not_aside))) (needed.0, tt) (sym role)) goes
       where
         not_aside : times t (queue_at w (key_of m Second)) ≡ 0
-        not_aside = steady.stands.lines t m Second ∙ ap (λ o. stood_in o Second) stands
+        not_aside = inductive.stands.lines t m Second ∙ ap (λ o. stood_in o Second) stands
 
   -- it was handed the mutex, and its call goes on
   pub accepts_at : laws.AllNeeded r (End ∷ []) here t → (laws.after_all r (End ∷ []) here t).role t
       ≡ role_on p2 m
       → location_at p2 m ≡ location_at (place_at w t) m → taken_at (place_at w t) m ≡ taken_at p2 m
       → Goes w (put w t p2) m (acts t (End ∷ []))
-  accepts_at needed role same_location same_hand = acting.place_goes w t m steady is_there r refl p2 alike
+  accepts_at needed role same_location same_hand = acting.place_goes w t m inductive is_there r refl p2 alike
       fits (End ∷ []) (λ h. tt)
       (steps_by r m (parts_at w m) (parts_at w m) (place_at w) t p2 (End ∷ []) (needed.0, tt) (tt, tt)
       same_hand refl refl refl refl (sym role)) same_location

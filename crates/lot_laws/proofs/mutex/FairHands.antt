@@ -116,22 +116,23 @@ module _ (w : State) (h : IsWorld w) (l : ℕ) (sort : (rules_in w l).sort ≡ l
   -- it is owned while somebody is in a hand
   pub in_hand : (t : ℕ) (x : Taken) → (lock_state w l).taken t ≡ Some x → (lock_state w l).exclusive ≢ None
   in_hand t x e =
-      let carries = h.steady.stands.hands.taken x.by t l false (taken_held (place_at w t) x.by l x.want e) in
-      let claims = owner w l sort (place_at w x.by) _ (h.steady.stands.calls x.by) (fairly.apart x.by)
+      let carries = h.inductive.stands.hands.taken x.by t l false (taken_held (place_at w t) x.by l x.want e)
+      in
+      let claims = owner w l sort (place_at w x.by) _ (h.inductive.stands.calls x.by) (fairly.apart x.by)
       (fairly.calls x.by) carries in
-      let own : (lock_state w l).exclusive ≡ Some x.by = (h.steady.sites.site l).held x.by (Has Exclusive)
+      let own : (lock_state w l).exclusive ≡ Some x.by = (h.inductive.sites.site l).held x.by (Has Exclusive)
       claims in
       λ none. (let f : ◌≡◌ {A = Option ℕ} (Some x.by) None = sym own ∙ none in cc)
 
 pub given_up_fairly : (w : State) → IsWorld w → (l : ℕ) → kind_at w l ≡ kinds.Fair → IsGivenUpFairly w l
 given_up_fairly w h l fair = record {
   calls = (h.settled.fair l fair).calls;
-  apart = λ t. fair_apart w l fair (place_at w t) (h.steady.stands.calls t);
+  apart = λ t. fair_apart w l fair (place_at w t) (h.inductive.stands.calls t);
 }
 
 module _ (w : State) (h : IsWorld w) (l : ℕ) (fair : kind_at w l ≡ kinds.Fair) where
   state : locks.IsLockState (rules_in w l) (lock_state w l)
-  state = (h.steady.sites.site l).state
+  state = (h.inductive.sites.site l).state
 
   unwritten : (lock_state w l).pending ≡ None
   unwritten =

@@ -52,7 +52,7 @@ module _ (w : State) (s : Step) (h : IsWorld w) (l : ℕ) (fair : kind_at w l �
   one_owner = fair_mutex (kind_at w l) fair
 
   turn_is : Rattle.lot_laws.proofs.calls.LockSteps.IsTurn (locks_of w) s (step_outcome w s) (locks_of v)
-  turn_is = after_step w s h.shaped h.steady h.counted h.condvars
+  turn_is = after_step w s h.well_formed h.inductive h.counted h.condvars
 
   some_stands : (q : List Queued) → q ≢ [] → (u : ℕ) × (1 ≤ times u q)
   some_stands [] n = absurd (n refl)
@@ -77,12 +77,12 @@ fair_after w s h l fair = still_fair w s h l (sym (after_kinds w s l) ∙ fair)
 
 pub settled_after : (w : State) (s : Step) → IsWellFormed w → IsInductive w → AreCounted w → AreCondvars w
     → IsSettled w → IsSettled (after w s)
-settled_after w s shape steady counted condvars h = record {
-  runs = running_after w s shape steady counted condvars h.runs;
-  unmarked = unmarked_after w s shape steady h.unmarked;
+settled_after w s shape inductive counted condvars h = record {
+  runs = running_after w s shape inductive counted condvars h.runs;
+  unmarked = unmarked_after w s shape inductive h.unmarked;
   fair = fair_after w s (record {
-    shaped = shape;
-    steady = steady;
+    well_formed = shape;
+    inductive = inductive;
     counted = counted;
     condvars = condvars;
     settled = h;

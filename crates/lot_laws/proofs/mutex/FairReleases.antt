@@ -95,24 +95,24 @@ module _ (w : State) (s : Step) (h : IsWorld w) (l : ℕ) (one_owner : is_mutex 
   v = after w s
 
   turn_is : IsTurn (locks_of w) s (step_outcome w s) (locks_of v)
-  turn_is = after_step w s h.shaped h.steady h.counted h.condvars
+  turn_is = after_step w s h.well_formed h.inductive h.counted h.condvars
 
   sort : (rules_in w l).sort ≡ locks.Mutex
   sort = mutex_sort (kind_at w l) one_owner
 
   -- each fair release hands it over where somebody waits
   pub hands_over : LetsGoWhileSomeWait (locks_of w) (locks_of v) s.thread l → ⊥
-  hands_over lets = elim ((is_fair w s h.shaped h.steady h.counted h.condvars).gives s.thread l
+  hands_over lets = elim ((is_fair w s h.well_formed h.inductive h.counted h.condvars).gives s.thread l
       (lets.releases, lets.owner, one_owner)) [
         | inl on ↦ (let e : ◌≡◌ {A = Option ℕ} None (Some s.thread) = sym lets.gone ∙ on.0 in cc)
         | inr other ↦ elim other [
           | inl hands ↦ (let e : ◌≡◌ {A = Option ℕ} None (Some hands.0) = sym lets.gone ∙ hands.2 in cc)
           | inr goes ↦ elim goes.2 [
-            | inl clear ↦ elim ((h.steady.sites.site l).parked lets.waiter) [
+            | inl clear ↦ elim ((h.inductive.sites.site l).parked lets.waiter) [
               | inl set ↦ (let e : false ≡ true = sym clear ∙ (ap (λ x. parked_in x (word_at w l)) (sym sort)
                   ∙ set) in cc)
               | inr sets ↦ (let e : false ≡ true = sym (place_sets w l sort (place_at w sets.0)
-                  (h.steady.stands.calls sets.0) (fairly.apart sets.0)) ∙ sets.1 in cc)
+                  (h.inductive.stands.calls sets.0) (fairly.apart sets.0)) ∙ sets.1 in cc)
             ]
             | inr empty ↦ lets.waiter empty
           ]
@@ -121,7 +121,7 @@ module _ (w : State) (s : Step) (h : IsWorld w) (l : ℕ) (one_owner : is_mutex 
 
   pub goes_fairly : FairlyGoes (locks_of w) (locks_of v) s.thread l
   goes_fairly = fairly_goes (locks_of w) (locks_of v) s.thread l (step_outcome w s) (λ k.
-      (h.steady.sites.site k).state) sort fairly.calls s.turn turn_is.1
+      (h.inductive.sites.site k).state) sort fairly.calls s.turn turn_is.1
 
   pub stays_owned : (t : ℕ) → WaitsFor v t l → owner_at w l ≢ None → owner_at v l ≢ None
   stays_owned t waits owned = elim (goes_fairly.owned t waits (λ some. owned)) [

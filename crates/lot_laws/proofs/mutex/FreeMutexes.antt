@@ -17,7 +17,7 @@ use Rattle.spec_locks.specs.Locks as locks
 use Rattle.spec_locks.specs.Locks.{LockState, LockCase, Mutex, Queued, Rules, Taken, Needs, Enter, Pend}
 use Rattle.spec_locks.specs.Locks.{Settle, Leave, Convert, Park, Aside, TakeFirst, TakeAside, TakePicked}
 use Rattle.spec_locks.specs.Locks.{Wake, HandOff, Late, Rollback, OfOnce, OfCondvar, SeeOwner, IsLockState}
-use Rattle.spec_locks.specs.Locks.{after_case, left_behind, putting, times}
+use Rattle.spec_locks.specs.Locks.{after_case, left_after, putting, times}
 use Rattle.spec_locks.specs.Runs.{LocksState, AreLockStates, Event, Nothing, AtLock, Moves, Does, GoesOn}
 use Rattle.spec_locks.specs.Runs.{MayHappen, Turned, joined_by, locks_after, rules_at}
 use Rattle.spec_locks.proofs.Runs.{needs_of}
@@ -142,14 +142,14 @@ module _ (w v : LocksState) (t l : ℕ) (o : Outcome) (all : AreLockStates w) (m
           (w.calls t).purpose may))
   by_event (Moves c m every locked n) may = inl (at_mutex (l == m) refl)
     where
-      at_condvar : (b : Bool) → (l == c) ≡ b → (if b then left_behind every
+      at_condvar : (b : Bool) → (l == c) ≡ b → (if b then left_after every
           (w.locks c) else w.locks l).exclusive ≡ None
       at_condvar false e = free
       at_condvar true e = ap (λ j. (w.locks j).exclusive) (sym (eqb-true l c e)) ∙ free
 
       at_mutex : (b : Bool) → (l == m) ≡ b
           → (if b then joined_by locked t (moved_of every (w.locks c).queue)
-          (w.locks m) else putting w.locks c (left_behind every (w.locks c)) l).exclusive ≡ None
+          (w.locks m) else putting w.locks c (left_after every (w.locks c)) l).exclusive ≡ None
       at_mutex false e = at_condvar (l == c) refl
       at_mutex true e = ap (λ j. (w.locks j).exclusive) (sym (eqb-true l m e)) ∙ free
 

@@ -4,7 +4,7 @@ use Rattle.std.proofs.Common.{ℕ, Bool, true, false, Some, None, if◌then◌el
 use Rattle.std.proofs.Common.{◌*◌, ◌<◌, List, [], ◌∷◌, length, drop, map, inl, inr, refl, sym, ◌∙◌, ap, subst}
 use Rattle.std.proofs.Common.{arith, length-set, get_or-set_same, get_or-set_other}
 use Rattle.spec_locks.specs.Picks.{queued_of}
-use Rattle.lot_laws.specs.MutexDeeds.{acts}
+use Rattle.lot_laws.specs.ThreadDeeds.{acts}
 use Rattle.lot_laws.specs.Locations.{location_at}
 use Rattle.lot_laws.proofs.machine.Parts.{put_places}
 use Rattle.spec_locks.specs.Locks.{IsLockState}
@@ -29,7 +29,7 @@ use Rattle.spec_locks.specs.Locks as locks
 use Rattle.spec_locks.specs.Sites.{Has, Deed, Site, Main, Begin, Mark, Clear, Case, wakened}
 use Rattle.lot_machine.specs.Machine.{held}
 use Rattle.lot_laws.specs.Refinement.{lock_seen, lock_state, taken_at}
-use Rattle.lot_laws.specs.MutexDeeds.{Act, mutex_location, queued}
+use Rattle.lot_laws.specs.ThreadDeeds.{Act, mutex_location, queued}
 use Rattle.lot_laws.specs.Locations.{hand, nowhere, role_on}
 use Rattle.lot_laws.specs.SitesOf.{after_acts, hand_at, Hands}
 use Rattle.lot_laws.proofs.machine.Parts.{mutex, Base, seen, LetGo, untaken, put_here, put_other, same}
@@ -41,7 +41,7 @@ use Rattle.lot_machine.specs.Machine.{queues_without_first, state_after_reply}
 use Rattle.lot_machine.proofs.QueueLemmas.{told_count}
 use Rattle.lot_laws.proofs.sites.StandsKept.{AlikeBeside}
 use Rattle.lot_laws.proofs.sites.Following.{lock_by}
-use Rattle.lot_laws.proofs.sites.TakesAt.{IsTakenAt, SplitsAt, behind_take, member, told_by, told_places}
+use Rattle.lot_laws.proofs.sites.TakesAt.{IsTakenAt, SplitsAt, after_take, member, told_by, told_places}
 use Rattle.lot_laws.proofs.sites.TakesAt.{take_goes, only_member}
 use Rattle.lot_laws.specs.SitesOf.{locations_of, AreWaiting, FitsItsLock, Goes, IsInductive, rules_in}
 use Rattle.lot_laws.specs.SitesOf.{stood_in}
@@ -76,7 +76,7 @@ exclusive_wanted : (x : Want) → Knows locks.Mutex x → x ≡ Exclusive
 exclusive_wanted Exclusive k = refl
 exclusive_wanted x k = absurd k
 
-module _ (w : State) (l : ℕ) (steady : IsInductive w) (rules : rules_in w l ≡ mutex) (x : Waiter)
+module _ (w : State) (l : ℕ) (inductive : IsInductive w) (rules : rules_in w l ≡ mutex) (x : Waiter)
     (rest : List Waiter)
     (first : queue_at w (2 * l) ≡ x ∷ rest) where
   abbrev r : Rules
@@ -92,12 +92,12 @@ module _ (w : State) (l : ℕ) (steady : IsInductive w) (rules : rules_in w l �
   wants = exclusive_wanted x.want (let known : KnowsAll locks.Mutex (map queued_of (x ∷ rest)) =
       subst (λ (q : List Waiter). KnowsAll locks.Mutex (map queued_of q)) first
       (subst (λ s. KnowsAll s here.lock.queue) (ap (λ (y : Rules). y.sort) rules)
-      (steady.sites.site l).state.known_queue) in known.0)
+      (inductive.sites.site l).state.known_queue) in known.0)
 
   pub first_stands : (location_at (place_at w x.thread) l).stands ≡ Some Main
   first_stands = in_main (location_at (place_at w x.thread) l).stands (let a : times x.thread
       (queue_at w (2 * l)) ≡ stood_in (location_at (place_at w x.thread) l).stands Main =
-      steady.stands.lines x.thread l Main in
+      inductive.stands.lines x.thread l Main in
       let b : times x.thread (queue_at w (2 * l)) ≡ times x.thread (x ∷ rest) = ap (times x.thread) first in
       let c : ◌≡◌ {A = ℕ} (if x.thread == x.thread then 1 else 0) 1 = ap (λ (b : Bool). if b then 1 else 0)
       (same x.thread) in omega arith)
@@ -107,10 +107,10 @@ module _ (w : State) (l : ℕ) (steady : IsInductive w) (rules : rules_in w l �
       → SleepsAt l (place_at w x.thread)
   first_sleeps t other inside =
       elim (stands_or_sleeps (place_at w x.thread) l (calls_mutex_at w l (place_at w x.thread)
-      (steady.stands.calls x.thread) rules) first_stands) [
+      (inductive.stands.calls x.thread) rules) first_stands) [
         | inl within ↦ absurd (other (let a : section_at w (2 * l) ≡ Some x.thread =
-            (steady.stands.sections x.thread l Main).0 within in
-            let b : section_at w (2 * l) ≡ Some t = (steady.stands.sections t l Main).0 inside
+            (inductive.stands.sections x.thread l Main).0 within in
+            let b : section_at w (2 * l) ≡ Some t = (inductive.stands.sections t l Main).0 inside
             in let c : Some x.thread ≡ Some t = sym a ∙ b in cc))
         | inr asleep ↦ asleep
       ]
@@ -130,7 +130,7 @@ module _ (w : State) (l : ℕ) (steady : IsInductive w) (rules : rules_in w l �
       goes = k.location;
       alike = k.others;
       role = k.role;
-      fits = k.fits tt w (steady.stands.calls x.thread);
+      fits = k.fits tt w (inductive.stands.calls x.thread);
     }
 
     splits : SplitsAt w t l Main (x ∷ []) rest
@@ -138,7 +138,7 @@ module _ (w : State) (l : ℕ) (steady : IsInductive w) (rules : rules_in w l �
       counts = λ u. let a : times u (queue_at w (2 * l)) ≡ times u (x ∷ rest) = ap (times u) first
           in omega arith;
       sleeps = λ u h. subst (λ j. IsTakenAt w t l Main (place_at w j)) (only_member x u h) at_line;
-      lefts = (subst (AreWaiting (locations_of (place_at w)) l Main) first (steady.stands.waits l Main)).1;
+      lefts = (subst (AreWaiting (locations_of (place_at w)) l Main) first (inductive.stands.waits l Main)).1;
       wants = ((sleeps.taken t).taken ∙ (λ i. Some (record { by = t; want = sym wants i })), tt);
     }
 
@@ -157,13 +157,14 @@ module _ (w : State) (l : ℕ) (steady : IsInductive w) (rules : rules_in w l �
     same_one = rw (same x.thread) refl
 
     pub first_goes : (location_at (place_at w t) l).carries ≡ None → location_at p2 l ≡ record
-        (behind_take t (member t (x ∷ [])) (location_at (place_at w t) l)) { carries = Some false }
+        (after_take t (member t (x ∷ [])) (location_at (place_at w t) l)) { carries = Some false }
         → taken_at p2 l
         ≡ (if member t (x ∷ []) then taken_at (next_place (place_at w t) (TakenBy t)) l else taken_at
         (place_at w t) l)
         → laws.AllNeeded r takes_it here t → (laws.after_all r takes_it here t).role t ≡ role_on p2 l
         → Goes w taken_state l (acts t takes_it)
-    first_goes bare now own_taken needed role = take_goes w t l steady there p2 beside fits Main (x ∷ []) rest
+    first_goes bare now own_taken needed role = take_goes w t l inductive there p2 beside fits Main (x ∷ [])
+        rest
         splits
         (λ one u v h g. sym (only_member x u h) ∙ only_member x v g) bare (Some false) now r refl own_taken
         taken_state refl refl refl threads places
@@ -178,7 +179,7 @@ module _ (w : State) (l : ℕ) (steady : IsInductive w) (rules : rules_in w l �
             want = wants i;
           } ∷ []) (λ u. taken_at (place_at w u) l);
         })
-        refl refl (noted r here (steady.sites.site l)) (sym role)
+        refl refl (noted r here (inductive.sites.site l)) (sym role)
 
 -- ---------------------------------------------------------------- the one in hand is the heir
 
@@ -190,10 +191,10 @@ abbrev want_of : Option Queued → Want
 want_of None = Exclusive
 want_of (Some q) = q.want
 
-module _ (w : State) (t l u : ℕ) (steady : IsInductive w) (rules : rules_in w l ≡ mutex)
+module _ (w : State) (t l u : ℕ) (inductive : IsInductive w) (rules : rules_in w l ≡ mutex)
     (held : hand_at (place_at w u) l ≡ hand t false) where
   hand_is : IsHeldThere l t (place_at w u)
-  hand_is = held_there (place_at w u) t l (calls_mutex_at w l (place_at w u) (steady.stands.calls u) rules)
+  hand_is = held_there (place_at w u) t l (calls_mutex_at w l (place_at w u) (inductive.stands.calls u) rules)
       held
 
   -- only that one is in hand
@@ -201,14 +202,14 @@ module _ (w : State) (t l u : ℕ) (steady : IsInductive w) (rules : rules_in w 
   only_one y x h = (
     by_hand (cases_eq y u),
     exclusive_wanted x ((subst (λ r. IsLockState r (lock_state w l)) rules
-        (steady.sites.site l).state).known_taken y (record { by = t; want = x }) h),
+        (inductive.sites.site l).state).known_taken y (record { by = t; want = x }) h),
   )
     where
       by_hand : ((y ≡ u) ⊎ (y ≢ u)) → y ≡ u
       by_hand (inl e) = e
       by_hand (inr ne) = absurd (let none : keep_from t (taken_at (place_at w y) l) ≡ taken_at (place_at w y)
           l = untaken (place_at w y) t l
-          (λ g. ne (steady.stands.hands.alone t l u y false false (takes_one w l rules) held g)) in
+          (λ g. ne (inductive.stands.hands.alone t l u y false false (takes_one w l rules) held g)) in
           let g : keep_from t (Some (record { by = t; want = x })) ≡ Some (record { by = t; want = x }) =
           rw h at none in let f : ◌≡◌ {A = Option Taken} None (Some (record { by = t; want = x })) =
           rw (same t) at g in cc)

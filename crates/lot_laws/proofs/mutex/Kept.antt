@@ -47,7 +47,7 @@ use Rattle.lot_machine.specs.Machine.{kind_at, state_after_act, state_after_hand
 use Rattle.lot_machine.specs.Machine.{state_after_operation, state_after_reply, unshared_then, word_at}
 use Rattle.lot_machine.specs.Fits.{GivesUpTimed, IsWellFormed, PlaceFits}
 use Rattle.lot_laws.specs.Refinement.{taken_at}
-use Rattle.lot_laws.specs.MutexDeeds.{Act as OneDeed, acts, claims_of}
+use Rattle.lot_laws.specs.ThreadDeeds.{Act as OneDeed, acts, claims_of}
 use Rattle.lot_laws.proofs.calls.Events.{AreClaims}
 use Rattle.lot_laws.specs.Locations.{hand, location, location_at}
 use Rattle.lot_laws.specs.SitesOf.{ActsNeeded, AreCounted, FitsItsLock, Goes, IsInductive, carried_at}
@@ -71,14 +71,14 @@ use Rattle.lot_laws.proofs.sites.ByAct.{line_there, none_is, on_time, out_of, pa
 use Rattle.lot_laws.proofs.sites.ByAct.{tells_all, took_first}
 use Rattle.lot_laws.proofs.rwlock.Steps.{rwlock_goes_on}
 use Rattle.lot_laws.proofs.semaphore.Kept.{goes_semaphore}
-use Rattle.lot_laws.proofs.sites.ActsKept.{goes_steady, lock_by}
+use Rattle.lot_laws.proofs.sites.ActsKept.{goes_inductive, lock_by}
 use Rattle.lot_laws.proofs.sites.FirstTaken.{TakesFirst}
 use Rattle.lot_laws.proofs.sites.FirstTaken as first
 use Rattle.lot_laws.proofs.sites.MovesKept.{IsFollowed, goes_in, location_is, there_is}
 use Rattle.lot_laws.proofs.sites.SitesKept.{go_by, hands_over, one_held}
 use Rattle.lot_laws.proofs.sites.StandsKept.{own_alike}
 use Rattle.lot_laws.proofs.sites.StandsMoved.{mutex_rules}
-use Rattle.lot_laws.proofs.sites.TakesAt.{behind_take, member}
+use Rattle.lot_laws.proofs.sites.TakesAt.{after_take, member}
 use Rattle.lot_laws.proofs.sites.WakesAt.{IsWokenAt}
 
 -- where a place leads, its row does
@@ -108,7 +108,7 @@ takes_calm : (who : Option ℕ) → AreCalm (take_deeds who)
 takes_calm None = tt
 takes_calm (Some u) = tt
 
--- ---------------------------------------------------------------- the claimant of the mutex behind a step
+-- ---------------------------------------------------------------- the claimant of the mutex after a step
 
 -- a thread to which it is handed
 abbrev pub claims_at : MutexPlace → Option ℕ → List OneDeed
@@ -128,11 +128,11 @@ no_claims p who h = refl
 
 -- ---------------------------------------------------------------- one thread
 
-module _ (w : State) (t l : ℕ) (at : MutexPlace) (steady : IsInductive w) (shape : IsWellFormed w)
+module _ (w : State) (t l : ℕ) (at : MutexPlace) (inductive : IsInductive w) (shape : IsWellFormed w)
     (there : t < length w.places)
     (lt : l < length w.locks) (is : place_at w t ≡ Mutex l at) where
   fits_now : is_mutex (kind_at w l) ≡ true
-  fits_now = let c : FitsItsLock w (Mutex l at) = subst (FitsItsLock w) is (steady.stands.calls t) in c
+  fits_now = let c : FitsItsLock w (Mutex l at) = subst (FitsItsLock w) is (inductive.stands.calls t) in c
 
   pub rules_are : rules_in w l ≡ mutex
   rules_are = mutex_rules (kind_at w l) fits_now
@@ -159,7 +159,7 @@ module _ (w : State) (t l : ℕ) (at : MutexPlace) (steady : IsInductive w) (sha
   pub at_now : IsAt r here t at
   at_now = record {
     sort = sort_is;
-    site = steady.sites.site l;
+    site = inductive.sites.site l;
     role = role_here l (place_at w t) own ∙ ap (λ (y : Profile). y.role) same_row;
   }
 
@@ -169,7 +169,7 @@ module _ (w : State) (t l : ℕ) (at : MutexPlace) (steady : IsInductive w) (sha
 
   -- tells what its laws conclude
   abbrev Followed : Option ℕ → Reply → Type 0
-  Followed who told = IsFollowed w t l steady there own r refl (mutex_move at) same_row who told
+  Followed who told = IsFollowed w t l inductive there own r refl (mutex_move at) same_row who told
       (next_place (place_at w t) told)
 
   followed : (who : Option ℕ) (told : Reply) → MayHear r here t at who told → Followed who told
@@ -227,7 +227,7 @@ module _ (w : State) (t l : ℕ) (at : MutexPlace) (steady : IsInductive w) (sha
   line = line_there w l shape lt Main
 
   word_is : word_at w l ≡ code r here
-  word_is = steady.sites.word l
+  word_is = inductive.sites.word l
 
   -- one operation on the word
   on_word : (op : Op) → mutex_act l at ≡ act.Word l op → claims_at at None ≡ []
@@ -239,7 +239,8 @@ module _ (w : State) (t l : ℕ) (at : MutexPlace) (steady : IsInductive w) (sha
       ⊎ HandsOn (place_at w t) (act.Word l op) None
       → GoesFrom (place_at w t) (act.Word l op)
   on_word op e none may by_owner free goes others = plainly None none
-      (works_at w t l steady there sort_is p2 (own_alike l (place_at w t) p2 own f.of) f.fits (Mutex l at) op
+      (works_at w t l inductive there sort_is p2 (own_alike l (place_at w t) p2 own f.of) f.fits (Mutex l at)
+      op
       lt (deeds_of None (Value (word_at w l))) by_owner refl f.needed
       (f.role ∙ sym (role_here l p2 f.of ∙ ap (λ (y : Profile). y.role) f.row))
       (owner_alone at t (word_at w l) (owners_at w l) ∙ ap (with_exclusive (owners_at w l))
@@ -266,10 +267,10 @@ module _ (w : State) (t l : ℕ) (at : MutexPlace) (steady : IsInductive w) (sha
       f = followed None (Value (word_at w l)) sees
 
       was : location (place_at w t) ≡ location_of (mutex_move at)
-      was = location_is w t l steady there own r refl (mutex_move at) same_row
+      was = location_is w t l inductive there own r refl (mutex_move at) same_row
 
       same_location : location p2 ≡ location (place_at w t)
-      same_location = there_is w t l steady there own r refl (mutex_move at) same_row None
+      same_location = there_is w t l inductive there own r refl (mutex_move at) same_row None
           (Value (word_at w l)) p2 f ∙ goes ∙ sym was
 
   -- a thread that it has in hand it has taken, or handed the mutex
@@ -277,15 +278,15 @@ module _ (w : State) (t l : ℕ) (at : MutexPlace) (steady : IsInductive w) (sha
       → hand_at (place_at w u) l ≡ hand t b → b ≡ c
   held_so any c b carries u held =
       by_any any (sym (ap (λ (y : Location). y.carries) (location_here l (place_at w t) own
-      ∙ location_is w t l steady there own r refl (mutex_move at) same_row) ∙ carries)
-      ∙ steady.stands.hands.taken t u l b held)
+      ∙ location_is w t l inductive there own r refl (mutex_move at) same_row) ∙ carries)
+      ∙ inductive.stands.hands.taken t u l b held)
     where
       by_any : (any : Bool) → in_hand any c ≡ Some b → b ≡ c
       by_any true e = let f : c ≡ b = cc in sym f
       by_any false e = absurd cc
 
   calls_it : (u : ℕ) → CallsMutex l (place_at w u)
-  calls_it u = calls_mutex_at w l (place_at w u) (steady.stands.calls u) rules_are
+  calls_it u = calls_mutex_at w l (place_at w u) (inductive.stands.calls u) rules_are
 
   -- each of them tries again, or has the mutex
   tries_again : (any : Bool) → (location_of (mutex_move at)).carries ≡ in_hand any false → (u : ℕ) (b : Bool)
@@ -296,7 +297,7 @@ module _ (w : State) (t l : ℕ) (at : MutexPlace) (steady : IsInductive w) (sha
         lets = tries l t (place_at w u) k;
         goes = k.woken.location;
         alike = k.woken.others;
-        fits = k.woken.fits tt w (steady.stands.calls u);
+        fits = k.woken.fits tt w (inductive.stands.calls u);
       }
 
   has_it : (any : Bool) → (location_of (mutex_move at)).carries ≡ in_hand any true → (u : ℕ) (b : Bool)
@@ -307,7 +308,7 @@ module _ (w : State) (t l : ℕ) (at : MutexPlace) (steady : IsInductive w) (sha
         lets = has_now l t t (place_at w u) k;
         goes = k.told.location;
         alike = k.told.others;
-        fits = k.told.fits tt w (steady.stands.calls u);
+        fits = k.told.fits tt w (inductive.stands.calls u);
       }
 
   -- ---------------------------------------------------------------- by each act but the store of a hand-off
@@ -316,7 +317,7 @@ module _ (w : State) (t l : ℕ) (at : MutexPlace) (steady : IsInductive w) (sha
     brief : (told : Reply) → IsBrief told → MayHear r here t at None told → Followed None told
     brief told now hears = followed None told hears
 
-    go_on : (who : Option ℕ) (y : Act) → GoesBy w t l steady shape there lt own (mutex_move at) same_row
+    go_on : (who : Option ℕ) (y : Act) → GoesBy w t l inductive shape there lt own (mutex_move at) same_row
         (mutex_hears at) (Mutex l at) brief who y → GoesFrom (place_at w t) y
     go_on who y b = plainly {q = place_at w t} {y = y} who (no_claims at who nothing) b.goes b.told
         (on_time (reply_to w t y) b.brief) b.free (inl b.others)
@@ -332,26 +333,29 @@ module _ (w : State) (t l : ℕ) (at : MutexPlace) (steady : IsInductive w) (sha
     -- the first of the line, if there is one
     module _ (g : TakesFirst take_deeds (mutex_move at) (mutex_hears at)) where
       is_now : location_at (place_at w t) l ≡ inside_of Main
-      is_now = location_here l (place_at w t) own ∙ first.is_now w t l steady there own r refl (mutex_move at)
+      is_now = location_here l (place_at w t) own ∙ first.is_now w t l inductive there own r refl
+          (mutex_move at)
           same_row (mutex_hears at) take_deeds line g
 
       takes_one : (y : Waiter) (rest : List Waiter) → queue_at w (2 * l) ≡ y ∷ rest
           → Followed (Some y.thread) (Took true (length rest == 0))
-          → first.KeptBy w t l steady there own r refl (mutex_move at) same_row (mutex_hears at) take_deeds
+          → first.KeptBy w t l inductive there own r refl (mutex_move at) same_row (mutex_hears at) take_deeds
           line g (y ∷ rest)
       takes_one y rest e f = subst (λ ds. Goes w
           (put (state_after_reply (record w { queues = queues_without_first w.queues (2 * l) }) y.thread
           (TakenBy t)) t p2) l (acts t ds)) (sym does)
-          (first_goes w l steady rules_are y rest e t there p2 (own_alike l (place_at w t) p2 own f.of) f.fits
-          line (first_sleeps w l steady rules_are y rest e t apart (ap (λ (z : Location). z.inside)
+          (first_goes w l inductive rules_are y rest e t there p2 (own_alike l (place_at w t) p2 own f.of)
+          f.fits
+          line (first_sleeps w l inductive rules_are y rest e t apart (ap (λ (z : Location). z.inside)
           is_now)) (ap (λ (z : Location). z.carries) is_now)
-          (location_here l p2 f.of ∙ first.is_then w t l steady there own r refl (mutex_move at) same_row
+          (location_here l p2 f.of ∙ first.is_then w t l inductive there own r refl (mutex_move at) same_row
           (mutex_hears at) take_deeds line g (Some y.thread) true (length rest == 0) f
-          ∙ sym (λ j. record (behind_take t (not_self j) (is_now j)) { carries = Some false }))
-          (first.hand_then w t l steady there own r refl (mutex_move at) same_row (mutex_hears at) take_deeds
+          ∙ sym (λ j. record (after_take t (not_self j) (is_now j)) { carries = Some false }))
+          (first.hand_then w t l inductive there own r refl (mutex_move at) same_row (mutex_hears at)
+          take_deeds
           line g (Some y.thread) true (length rest == 0) f
           ∙ sym (ap (λ b. if b then taken_at (next_place (place_at w t) (TakenBy t)) l else taken_at
-          (place_at w t) l) not_self ∙ first.hand_now w t l steady there own r refl (mutex_move at)
+          (place_at w t) l) not_self ∙ first.hand_now w t l inductive there own r refl (mutex_move at)
           same_row (mutex_hears at) take_deeds line g))
           (subst (λ ds. laws.AllNeeded r ds here t) does f.needed)
           (ap (λ ds. (laws.after_all r ds here t).role t) (sym does) ∙ f.role
@@ -366,7 +370,7 @@ module _ (w : State) (t l : ℕ) (at : MutexPlace) (steady : IsInductive w) (sha
           apart : y.thread ≢ t
           apart same_one = let a : (location_at (place_at w t) l).stands ≡ Some Main =
               subst (λ j. (location_at (place_at w j) l).stands ≡ Some Main) same_one
-              (first_stands w l steady rules_are y rest e) in let b : (location_at (place_at w t) l).stands
+              (first_stands w l inductive rules_are y rest e) in let b : (location_at (place_at w t) l).stands
               ≡ None = ap (λ (z : Location). z.stands) is_now in cc
 
           not_self : member t (y ∷ []) ≡ false
@@ -376,25 +380,28 @@ module _ (w : State) (t l : ℕ) (at : MutexPlace) (steady : IsInductive w) (sha
         → can_do w y ≡ true → GoesFrom (place_at w t) y
     by_act (act.Word k op) e g can = subst (λ j. GoesFrom (place_at w t) (act.Word j op)) (sym g.0)
         (works op (e ∙ ap (λ j. act.Word j op) g.0) g.1)
-    by_act (act.Enter keys) e g can = go_on None (act.Enter keys) (into w t l steady shape there lt own
+    by_act (act.Enter keys) e g can = go_on None (act.Enter keys) (into w t l inductive shape there lt own
         (mutex_move at) same_row (mutex_hears at) (Mutex l at) brief Main keys g.0 can g.1)
     by_act (act.Park k key check want) e g can = go_on None (act.Park k key check want)
-        (parked w t l steady shape there lt own (mutex_move at) same_row (mutex_hears at) (Mutex l at) brief
+        (parked w t l inductive shape there lt own (mutex_move at) same_row (mutex_hears at) (Mutex l at)
+        brief
         Main k key check want g.0 g.1 g.2)
     by_act (act.Take key whoms.First) e g can = go_on (first_of (queue_at w key)) (act.Take key whoms.First)
-        (took_first w t l steady shape there lt own (mutex_move at) same_row (mutex_hears at) (Mutex l at)
+        (took_first w t l inductive shape there lt own (mutex_move at) same_row (mutex_hears at) (Mutex l at)
         brief take_deeds g.1 refl takes_calm (λ who any none_left h. followed who (Took any none_left) h)
         (takes_one g.1) key g.0)
-    by_act (act.Remove key) e g can = go_on None (act.Remove key) (left_main w t l steady shape there lt own
+    by_act (act.Remove key) e g can = go_on None (act.Remove key) (left_main w t l inductive shape there lt
+        own
         (mutex_move at) same_row (mutex_hears at) (Mutex l at) brief key g.0 g.1)
     by_act (act.Leave keys wakes) e g can = elim g.1 [
-      | inl h ↦ go_on None (act.Leave keys wakes) (out_of w t l steady shape there lt own (mutex_move at)
+      | inl h ↦ go_on None (act.Leave keys wakes) (out_of w t l inductive shape there lt own (mutex_move at)
           same_row (mutex_hears at) (Mutex l at) brief Main keys wakes g.0 h (tries_again h.any h.carries))
-      | inr h ↦ go_on None (act.Leave keys wakes) (tells_all w t l steady shape there lt own (mutex_move at)
+      | inr h ↦ go_on None (act.Leave keys wakes) (tells_all w t l inductive shape there lt own
+          (mutex_move at)
           same_row (mutex_hears at) (Mutex l at) brief keys wakes g.0 h
           (has_it h.any (ap (λ (y : Location). y.carries) h.was)))
     ]
-    by_act act.Accept e g can = go_on None act.Accept (accepted w t l steady shape there lt own
+    by_act act.Accept e g can = go_on None act.Accept (accepted w t l inductive shape there lt own
         (mutex_move at) same_row (mutex_hears at) (Mutex l at) brief g)
     by_act act.Sleep e g can = absurd cc
     by_act y e g can = absurd g
@@ -407,13 +414,14 @@ module _ (w : State) (t l : ℕ) (at : MutexPlace) (steady : IsInductive w) (sha
   -- its time is up
   pub mutex_goes_late : (m : Line) → mutex_late_line at ≡ Some m → is_free_in w (key_of l m) ≡ true
       → Goes w (state_after_late_under w t (key_of l m)) l (acts t (deeds_of None Late))
-  mutex_goes_late m e free = goes_in w t l steady there own r refl (mutex_move at) same_row (mutex_hears at) m
+  mutex_goes_late m e free = goes_in w t l inductive there own r refl (mutex_move at) same_row
+      (mutex_hears at) m
       Late (next_place (place_at w t) Late) (section_there w l shape lt m)
       (none_is (section_at w (key_of l m)) free) (mutex_late_move at m e) (λ h. followed None Late h)
 
 -- ---------------------------------------------------------------- the store of a hand-off
 
-module _ (w : State) (t l : ℕ) (bumps none_left : Bool) (steady : IsInductive w) (shape : IsWellFormed w)
+module _ (w : State) (t l : ℕ) (bumps none_left : Bool) (inductive : IsInductive w) (shape : IsWellFormed w)
     (there : t < length w.places)
     (lt : l < length w.locks) where
   -- to nobody
@@ -429,18 +437,19 @@ module _ (w : State) (t l : ℕ) (bumps none_left : Bool) (steady : IsInductive 
 
     lets_go : locks.handed t Exclusive None now.lock ≡ record now.lock { exclusive = None }
     lets_go = handed_is t (base_at w l) (owners_at w l) (queue_at w (2 * l)) (queue_at w (2 * l + 1))
-        (place_at w) l None (subst (λ x. IsLockState x now.lock) (rules_are w t l at_none steady shape there
-        lt is) (steady.sites.site l).state)
+        (place_at w) l None (subst (λ x. IsLockState x now.lock) (rules_are w t l at_none inductive shape
+        there
+        lt is) (inductive.sites.site l).state)
         ∙ (λ i. record now.lock { exclusive = None; taken = λ u. none u i })
       where
         none : (u : ℕ) → let_go t (λ v. taken_at (place_at w v) l) u ≡ taken_at (place_at w u) l
         none u = untaken (place_at w u) t l (λ h. let a : carried_at (place_at w t) l ≡ Some false =
-            steady.stands.hands.taken t u l false h in let c : ◌≡◌ {A = Option Bool} None (Some false) =
+            inductive.stands.hands.taken t u l false h in let c : ◌≡◌ {A = Option Bool} None (Some false) =
             sym bare_now ∙ a in cc)
 
-    stores_nobody : GoesFrom w t l at_none steady shape there lt is (Mutex l at_none) (mutex_act l at_none)
-    stores_nobody = subst (λ q. GoesFrom w t l at_none steady shape there lt is q (mutex_act l at_none)) is
-        (on_word w t l at_none steady shape there lt is (ops.Store 0) refl refl (
+    stores_nobody : GoesFrom w t l at_none inductive shape there lt is (Mutex l at_none) (mutex_act l at_none)
+    stores_nobody = subst (λ q. GoesFrom w t l at_none inductive shape there lt is q (mutex_act l at_none)) is
+        (on_word w t l at_none inductive shape there lt is (ops.Store 0) refl refl (
           refl,
           refl,
           heirless,
@@ -450,12 +459,13 @@ module _ (w : State) (t l : ℕ) (bumps none_left : Bool) (steady : IsInductive 
           single = (tt, (tt, tt));
           lock = lets_go ∙ sym (ap (λ x. record now.lock { exclusive = x })
               (ap (λ (s : locks.LockState). s.exclusive) lets_go));
-          aside = sym (ap (λ x. aside_in x (word_at w l)) (sort_is w t l at_none steady shape there lt is));
+          aside = sym (ap (λ x. aside_in x (word_at w l)) (sort_is w t l at_none inductive shape there lt
+              is));
         }) refl refl
         (inr (
           true,
           refl,
-          befalls_nobody w t l steady (rw is refl) (next_place (place_at w t)
+          befalls_nobody w t l inductive (rw is refl) (next_place (place_at w t)
               (Value (word_at w l))) (state_after_operation w t (Mutex l at_none) l (ops.Store 0))
               (HandedBy t true) refl bare_now,
           ap (λ p. taken_at p l) is,
@@ -464,7 +474,7 @@ module _ (w : State) (t l : ℕ) (bumps none_left : Bool) (steady : IsInductive 
         heirless : IsSuccessor now.lock t None
         heirless u x = (
           λ h. absurd cc,
-          λ h. absurd (in_no_hand w steady t l (λ g. let c : ◌≡◌ {A = Option Bool} None (Some false) =
+          λ h. absurd (in_no_hand w inductive t l (λ g. let c : ◌≡◌ {A = Option Bool} None (Some false) =
               sym bare_now ∙ g in cc) u x h.0),
         )
 
@@ -482,19 +492,19 @@ module _ (w : State) (t l : ℕ) (bumps none_left : Bool) (steady : IsInductive 
     abbrev deeds_to : ℕ → List Deed
     deeds_to u = mutex_deeds at_one (Some u) (Value (code (rules_in w l) site_now))
 
-    stores : GoesFrom w t l at_one steady shape there lt is (Mutex l at_one) (mutex_act l at_one)
+    stores : GoesFrom w t l at_one inductive shape there lt is (Mutex l at_one) (mutex_act l at_one)
     stores = record {
       whom = Some one.0;
-      goes = hands_over w t l steady there lt bumps none_left one.0 is one.1
+      goes = hands_over w t l inductive there lt bumps none_left one.0 is one.1
           (subst (λ x. ActsNeeded x (acts t (deeds_to one.0) ++ claims_of (Some one.0)) (lock_by w l x)) plain
           (follows.needed.0, (follows.needed.1.0, (hands.owner, tt))));
       tells = mutex_steps_tell (rules_in w l) site_now t l at_one (Some one.0) (Value (word_at w l)) at_it
           (subst (λ v. MayHear (rules_in w l) site_now t at_one (Some one.0) (Value v))
-          (sym (steady.sites.word l)) may) (λ x. cc);
+          (sym (inductive.sites.word l)) may) (λ x. cc);
       others = inr (
         unshared_then w t l,
         refl,
-        befalls w t l steady (rw is refl)
+        befalls w t l inductive (rw is refl)
             (Mutex l (HandOff bumps (hand_off.Leave true))) (state_after_hand_over w t (Mutex l at_one) l
             store)
             (hand_over_told w t l) refl (ap (λ (y : Location). y.carries) (own_stance l (place_at w t) at_one
@@ -505,16 +515,16 @@ module _ (w : State) (t l : ℕ) (bumps none_left : Bool) (steady : IsInductive 
     }
       where
         one : (u : ℕ) × (hand_at (place_at w u) l ≡ hand t false)
-        one = one_held w t l steady there at_one is false refl
+        one = one_held w t l inductive there at_one is false refl
 
         plain : rules_in w l ≡ mutex
-        plain = rules_are w t l at_one steady shape there lt is
+        plain = rules_are w t l at_one inductive shape there lt is
 
         at_it : IsAt (rules_in w l) site_now t at_one
-        at_it = at_now w t l at_one steady shape there lt is
+        at_it = at_now w t l at_one inductive shape there lt is
 
         may : MayHear (rules_in w l) site_now t at_one (Some one.0) (Value (code (rules_in w l) site_now))
-        may = (refl, refl, hands_to w t l one.0 steady plain one.1, ap (λ p. taken_at p l) is)
+        may = (refl, refl, hands_to w t l one.0 inductive plain one.1, ap (λ p. taken_at p l) is)
 
         follows : Follows (rules_in w l) site_now t at_one (Some one.0) (Value (code (rules_in w l) site_now))
         follows = mutex_steps_follow (rules_in w l) site_now t at_one (Some one.0)
@@ -525,28 +535,30 @@ module _ (w : State) (t l : ℕ) (bumps none_left : Bool) (steady : IsInductive 
 
 -- ---------------------------------------------------------------- wherever it stands
 
-pub goes_mutex : (w : State) (t l : ℕ) (at : MutexPlace) (steady : IsInductive w) (shape : IsWellFormed w)
+pub goes_mutex : (w : State) (t l : ℕ) (at : MutexPlace) (inductive : IsInductive w) (shape : IsWellFormed w)
     (there : t < length w.places) (lt : l < length w.locks)
-    (is : place_at w t ≡ Mutex l at) → can_do w (mutex_act l at) ≡ true → GoesFrom w t l at steady shape there
+    (is : place_at w t ≡ Mutex l at) → can_do w (mutex_act l at) ≡ true → GoesFrom w t l at inductive shape
+    there
     lt is (Mutex l at) (mutex_act l at)
-goes_mutex w t l (HandOff bumps (hand_off.Store true none_left)) steady shape there lt is can =
-    stores w t l bumps none_left steady shape there lt is
-goes_mutex w t l (HandOff bumps (hand_off.Store false none_left)) steady shape there lt is can =
-    stores_nobody w t l bumps none_left steady shape there lt is
-goes_mutex w t l at steady shape there lt is can = goes_plainly w t l at steady shape there lt is tt can
+goes_mutex w t l (HandOff bumps (hand_off.Store true none_left)) inductive shape there lt is can =
+    stores w t l bumps none_left inductive shape there lt is
+goes_mutex w t l (HandOff bumps (hand_off.Store false none_left)) inductive shape there lt is can =
+    stores_nobody w t l bumps none_left inductive shape there lt is
+goes_mutex w t l at inductive shape there lt is can = goes_plainly w t l at inductive shape there lt is tt can
 
 -- a thread goes on
-module _ (w : State) (t : ℕ) (steady : IsInductive w) (shape : IsWellFormed w) (there : t < length w.places)
+module _ (w : State) (t : ℕ) (inductive : IsInductive w) (shape : IsWellFormed w) (there : t
+    < length w.places)
   where
     pub gone_kept : AreCounted w → (p : Place) → place_at w t ≡ p → IsSingle p → PlaceFits (length w.locks) p
         → can_do w (act_of p) ≡ true → IsInductive (go_by w t p (act_of p))
     gone_kept counted Idle is single fits can = absurd cc
     gone_kept counted (Condvar l at) is single fits can = absurd single
-    gone_kept counted (Once l at) is single fits can = goes_steady w _ l _ steady
-        (goes_once w t l at steady shape there fits is can).goes
+    gone_kept counted (Once l at) is single fits can = goes_inductive w _ l _ inductive
+        (goes_once w t l at inductive shape there fits is can).goes
     gone_kept counted (Semaphore l at) is single fits can =
-        goes_steady w _ l _ steady (goes_semaphore w t l at steady shape there fits is can).goes
-    gone_kept counted (Mutex l at) is single fits can = goes_steady w _ l _ steady
-        (goes_mutex w t l at steady shape there fits.0 is can).goes
+        goes_inductive w _ l _ inductive (goes_semaphore w t l at inductive shape there fits is can).goes
+    gone_kept counted (Mutex l at) is single fits can = goes_inductive w _ l _ inductive
+        (goes_mutex w t l at inductive shape there fits.0 is can).goes
     gone_kept counted (RwLock l a c) is single fits can =
-        (rwlock_goes_on w t l a c steady shape there fits is counted can).happened.after
+        (rwlock_goes_on w t l a c inductive shape there fits is counted can).happened.after

@@ -39,7 +39,7 @@ use Rattle.lot_laws.proofs.machine.AtPlaces.{coded_for, owns}
 use Rattle.lot_steps.specs.Steps.{line_owed, profile}
 use Rattle.lot_laws.proofs.promises.RowPromises.{LetsIn, RowSees, RowOwesNext, IsLateNext, Befalls}
 use Rattle.lot_laws.proofs.mutex.Rows.{lock_owes, shut}
-use Rattle.lot_laws.specs.MutexDeeds.{mutex_row}
+use Rattle.lot_laws.specs.ThreadDeeds.{mutex_row}
 use Rattle.steps_mutex.specs.MutexSteps.{mutex_act, mutex_next, is_timed}
 use Rattle.lot_laws.specs.Owing.{line_let_in, tells_of}
 use Rattle.spec_locks.specs.Locks as locks
@@ -118,13 +118,13 @@ abbrev pub OwesNext : ℕ → ℕ → MutexPlace → Next MutexPlace → Type 0
 OwesNext k word at n = RowOwesNext locks.Mutex k word (mutex_row at) (outcome_of (mutex_does k n))
     (profile (mutex_goes k n))
 
-module _ (w : State) (t : ℕ) (steady : IsInductive w) (k : ℕ) where
+module _ (w : State) (t : ℕ) (inductive : IsInductive w) (k : ℕ) where
   -- the word of an owner that isn't 1 says that somebody may wait
   beside_owner : (at : MutexPlace) → place_at w t ≡ Mutex k at → owner_at w k ≡ Some t → (word_at w k == 1)
       ≡ false
       → is_parked (word_at w k) ≡ true
   beside_owner at is own ne = by_code (subst (λ o. IsMutexWord (word_at w k) o) own
-      (coded_for w steady t k at is))
+      (coded_for w inductive t k at is))
     where
       by_code : IsMutexWord (word_at w k) (Some t) → is_parked (word_at w k) ≡ true
       by_code (inl e) = let f : (1 == 1) ≡ false = rw e at ne in absurd cc
@@ -199,7 +199,7 @@ module _ (w : State) (t : ℕ) (steady : IsInductive w) (k : ℕ) where
           (looked false (not b))
       either true e = ended (word_at w k) k UnlockFair answer.TheVariants.Ok
       either false e = seen_parked (word_at w k) k UnlockFair (Mutex k (HandOff false hand_off.Enter))
-          (inl refl) (beside_owner UnlockFair is (owns w steady t k UnlockFair is refl) e) refl refl
+          (inl refl) (beside_owner UnlockFair is (owns w inductive t k UnlockFair is refl) e) refl refl
   mutex_owes_next Bump is = either (is_parked (word_at w k)) refl
     where
       either : (b : Bool) → is_parked (word_at w k) ≡ b → OwesNext k (word_at w k) Bump (looked true b)

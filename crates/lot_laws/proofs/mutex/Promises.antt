@@ -161,7 +161,7 @@ mutexes_are_kept w l kept of_mutex = mutex_kept w l kept of_mutex
 -- ---------------------------------------------------------------- a step
 
 module _ (w v : State) (t l : ℕ) (o : Outcome) (since : OwesSince w t o v) (kept : IsKept v)
-    (before : is_mutex (kind_at w l) ≡ true) (behind : is_mutex (kind_at v l) ≡ true) where
+    (before : is_mutex (kind_at w l) ≡ true) (afterwards : is_mutex (kind_at v l) ≡ true) where
   seen : SeesWaiters w t l Main o v → SeesParkedBit w t l o v
   seen s = (
     only_releases w l before t s.0,
@@ -184,9 +184,9 @@ module _ (w v : State) (t l : ℕ) (o : Outcome) (since : OwesSince w t o v) (ke
       by_purpose (Some (Waits j m timed)) knows k = k
       by_purpose (Some (Notifies j all)) knows k = k
       by_purpose (Some (Releases j x fair)) knows k =
-          k.2 (only_exclusive x (subst (λ s. Knows s x) (ap (sort_at v) k.0 ∙ sort v l behind) knows))
+          k.2 (only_exclusive x (subst (λ s. Knows s x) (ap (sort_at v) k.0 ∙ sort v l afterwards) knows))
       by_purpose (Some (Bumps j x)) knows k =
-          k.1 (only_exclusive x (subst (λ s. Knows s x) (ap (sort_at v) k.0 ∙ sort v l behind) knows))
+          k.1 (only_exclusive x (subst (λ s. Knows s x) (ap (sort_at v) k.0 ∙ sort v l afterwards) knows))
 
   sees : SeesParkedBit w t l o v → SeesWaiters w t l Main o v
   sees s = (
@@ -202,7 +202,7 @@ module _ (w v : State) (t l : ℕ) (o : Outcome) (since : OwesSince w t o v) (ke
   pub owes_since : OwesMutexSince w t l o v
   owes_since = record {
     own = λ ne. (
-      (λ h. elim ((since.own l Main ne).0 (shown v l kept behind t h)) [
+      (λ h. elim ((since.own l Main ne).0 (shown v l kept afterwards t h)) [
         | inl i ↦ inl i
         | inr s ↦
             inr (seen s)
@@ -217,4 +217,4 @@ module _ (w v : State) (t l : ℕ) (o : Outcome) (since : OwesSince w t o v) (ke
   }
 
 pub mutexes_owe : MutexesOwe
-mutexes_owe w v t l o since kept before behind = owes_since w v t l o since kept before behind
+mutexes_owe w v t l o since kept before afterwards = owes_since w v t l o since kept before afterwards

@@ -61,20 +61,20 @@ in_line e = cc
 in_hand_of : (h : Hand) → Some h ≡ None → ⊥
 in_hand_of h e = cc
 
-module _ (w : State) (t l : ℕ) (at : MutexPlace) (steady : IsInductive w) (shape : IsWellFormed w)
+module _ (w : State) (t l : ℕ) (at : MutexPlace) (inductive : IsInductive w) (shape : IsWellFormed w)
     (there : t < length w.places)
     (lt : l < length w.locks) (is : place_at w t ≡ Mutex l at) (can : can_do w (mutex_act l at) ≡ true) where
   abbrev told : Reply
   told = reply_to w t (mutex_act l at)
 
-  abbrev behind : State
-  behind = go_by w t (Mutex l at) (mutex_act l at)
+  abbrev afterwards : State
+  afterwards = go_by w t (Mutex l at) (mutex_act l at)
 
-  kept : GoesFrom w t l at steady shape there lt is (Mutex l at) (mutex_act l at)
-  kept = goes_mutex w t l at steady shape there lt is can
+  kept : GoesFrom w t l at inductive shape there lt is (Mutex l at) (mutex_act l at)
+  kept = goes_mutex w t l at inductive shape there lt is can
 
   sort : (rules_in w l).sort ≡ locks.Mutex
-  sort = sort_is w t l at steady shape there lt is
+  sort = sort_is w t l at inductive shape there lt is
 
   carries : carried_at (place_at w t) l ≡ (mutex_row at).carries
   carries = ap (λ (y : Location). y.carries) (own_stance l (place_at w t) at is)
@@ -82,32 +82,33 @@ module _ (w : State) (t l : ℕ) (at : MutexPlace) (steady : IsInductive w) (sha
   abbrev case : Option LockCase
   case = case_of (mutex_row at).carries (mutex_deeds at kept.whom told)
 
-  happened : Happens w behind t (event_by l case)
-  happened = happens w behind t l (mutex_row at).carries (mutex_deeds at kept.whom told)
-      (claims_at at kept.whom) steady kept.goes (are_claims at kept.whom) kept.tells.one
-      (λ none. in_no_hand w steady t l (λ h. none (sym carries ∙ h)))
+  happened : Happens w afterwards t (event_by l case)
+  happened = happens w afterwards t l (mutex_row at).carries (mutex_deeds at kept.whom told)
+      (claims_at at kept.whom) inductive kept.goes (are_claims at kept.whom) kept.tells.one
+      (λ none. in_no_hand w inductive t l (λ h. none (sym carries ∙ h)))
 
-  others : OthersFollow w behind t (event_by l case)
+  others : OthersFollow w afterwards t (event_by l case)
   others = elim kept.others [
-    | inl own ↦ others_follow w behind t l case happened (hands_nothing w behind t l case happened
+    | inl own ↦ others_follow w afterwards t l case happened (hands_nothing w afterwards t l case happened
         (mutex_row at).carries (mutex_act l at) case own)
-        (wakes_own w t l steady (rw is refl) (next_place (Mutex l at) told) (λ e. let both : locks.Condvar
+        (wakes_own w t l inductive (rw is refl) (next_place (Mutex l at) told) (λ e. let both : locks.Condvar
         ≡ locks.Mutex = sym e ∙ sort in cc) (Mutex l at) (mutex_act l at)
         (takes_here l (location (Mutex l at)) (mutex_act l at) (mutex_row_facts l at).line) case
         (subst (λ h. WakesOwn h (mutex_act l at) case) (sym carries) own))
-    | inr on ↦ subst (λ c. OthersFollow w behind t (event_by l c)) (sym on.1)
-        (hands_others w behind t l kept.whom (subst (λ c. Happens w behind t (event_by l c)) on.1 happened)
-        (rules_are w t l at steady shape there lt is) on.3 on.0 on.2)
+    | inr on ↦ subst (λ c. OthersFollow w afterwards t (event_by l c)) (sym on.1)
+        (hands_others w afterwards t l kept.whom (subst (λ c. Happens w afterwards t (event_by l c)) on.1
+        happened)
+        (rules_are w t l at inductive shape there lt is) on.3 on.0 on.2)
   ]
 
   -- where it is then
-  waits : (q : MutexPlace) → place_at behind t ≡ Mutex l q → IsWaiting (mutex_row q)
-      → 1 ≤ standing t (lock_state behind l)
-  waits q e h = waiting_stands behind t happened.after l (ap called_lock e)
+  waits : (q : MutexPlace) → place_at afterwards t ≡ Mutex l q → IsWaiting (mutex_row q)
+      → 1 ≤ standing t (lock_state afterwards l)
+  waits q e h = waiting_stands afterwards t happened.after l (ap called_lock e)
       (subst (λ (x : Profile). IsWaiting x) (sym (ap profile e)) h)
 
-  rests : (q : MutexPlace) → place_at behind t ≡ Mutex l q → (mutex_row q).hand ≡ None
-      → GoesAs behind t l (outcome_of (mutex_act l q))
+  rests : (q : MutexPlace) → place_at afterwards t ≡ Mutex l q → (mutex_row q).hand ≡ None
+      → GoesAs afterwards t l (outcome_of (mutex_act l q))
   rests (Lock entry retries lock.Asleep) e free =
       inr (inl (refl, waits (Lock entry retries lock.Asleep) e (inl in_line)))
   rests (Lock entry retries (lock.Taken by)) e free = absurd (in_hand_of (Of by false) free)
@@ -121,13 +122,15 @@ module _ (w : State) (t l : ℕ) (at : MutexPlace) (steady : IsInductive w) (sha
   rests (HandOff bumps to) e free = inl refl
   rests q e free = inl refl
 
-  leads : LeadsTo behind t l (next_row (mutex_next at told)) (outcome_of (mutex_does l (mutex_next at told)))
+  leads : LeadsTo afterwards t l (next_row (mutex_next at told))
+      (outcome_of (mutex_does l (mutex_next at told)))
   leads = by_next (mutex_next at told)
       (get_or-set_same (state_after_act w t (Mutex l at) (mutex_act l at)).places t _ Idle
       (rw (performed_counts w t (Mutex l at) (mutex_act l at)).0 there)) kept.unheld
     where
-      by_next : (n : Next MutexPlace) → place_at behind t ≡ mutex_goes l n → (row_of (next_row n)).hand ≡ None
-          → LeadsTo behind t l (next_row n) (outcome_of (mutex_does l n))
+      by_next : (n : Next MutexPlace) → place_at afterwards t ≡ mutex_goes l n → (row_of (next_row n)).hand
+          ≡ None
+          → LeadsTo afterwards t l (next_row n) (outcome_of (mutex_does l n))
       by_next (next.At q) e free = (ap called_lock e, ap profile e, rests q e free, subst IsSingle (sym e) tt)
       by_next (next.End answer) e free = (e, refl)
 
@@ -143,8 +146,8 @@ module _ (w : State) (t l : ℕ) (at : MutexPlace) (steady : IsInductive w) (sha
   tells_none (next.At p) = closure_told (mutex_act l p) ∙ mutex_runs_none l p
   tells_none (next.End answer) = refl
 
-  pub mutex_step : GoesOn (locks_of w) t (outcome_of (next_act (Mutex l at) told)) (locks_of behind)
-  mutex_step = goes_by w behind t l case happened (Mutex l at) is refl tt kept.tells.may
+  pub mutex_step : GoesOn (locks_of w) t (outcome_of (next_act (Mutex l at) told)) (locks_of afterwards)
+  mutex_step = goes_by w afterwards t l case happened (Mutex l at) is refl tt kept.tells.may
       (next_row (mutex_next at told)) _ kept.tells.comes leads others
       (begins_nothing (locks_of w) l (mutex_row at) case _ runs kept.tells.may
       (tells_none (mutex_next at told)))
@@ -152,7 +155,7 @@ module _ (w : State) (t l : ℕ) (at : MutexPlace) (steady : IsInductive w) (sha
 -- ---------------------------------------------------------------- a look at the word once more
 
 -- the thread only decides anew
-module _ (w : State) (t l : ℕ) (e : Entry) (again : Bool) (steady : IsInductive w) (shape : IsWellFormed w)
+module _ (w : State) (t l : ℕ) (e : Entry) (again : Bool) (inductive : IsInductive w) (shape : IsWellFormed w)
     (there : t < length w.places)
     (lt : l < length w.locks) (is : place_at w t ≡ Mutex l (Lock e again lock.Load)) where
   abbrev loading : Place
@@ -176,7 +179,7 @@ module _ (w : State) (t l : ℕ) (e : Entry) (again : Bool) (steady : IsInductiv
       })
     where
       locks_stay : (k : ℕ) → lock_state decided k ≡ lock_state w k
-      locks_stay k = let h : Happens w decided t Nothing = happened w t l (Lock e again lock.Load) steady
+      locks_stay k = let h : Happens w decided t Nothing = happened w t l (Lock e again lock.Load) inductive
           shape there lt is refl in h.led k
 
       rights_stay : (u : ℕ) → rights decided u ≡ rights w u

@@ -33,7 +33,7 @@ use Rattle.spec_locks.specs.Sites.{Role, Line, Main, Has, has_readers, idle}
 use Rattle.lot_machine.specs.Machine.{State, place_at}
 use Rattle.lot_laws.specs.Refinement.{taken_at}
 use Rattle.steps_mutex.specs.MutexProfiles.{mutex_profile}
-use Rattle.lot_laws.specs.MutexDeeds.{mutex_row, mutex_location}
+use Rattle.lot_laws.specs.ThreadDeeds.{mutex_row, mutex_location}
 use Rattle.lot_laws.specs.Locations.{Location, Hand, hand, nowhere, location, location_at, location_by}
 use Rattle.lot_laws.specs.Locations.{role_on}
 use Rattle.lot_laws.specs.SitesOf.{FitsItsLock, IsInductive, Hands, hand_at, rules_in}
@@ -514,8 +514,8 @@ held_alone p apart hands t l here mutexes u h = let x = in_hand_where (p u) t (a
 
 -- each thread that is in the hand of t is so by the taker, at the lock where it has somebody in hand
 pub holds_here : (w : State) (t l : ℕ) → IsInductive w → CarriesAt l (place_at w t) → HoldsHere w t l
-holds_here w t l steady here = record {
-  held = λ u h. let k = in_hand_where (place_at w u) t (aparts w steady u) h in record {
+holds_here w t l inductive here = record {
+  held = λ u h. let k = in_hand_where (place_at w u) t (aparts w inductive u) h in record {
     lock = k.lock;
     handed = k.handed;
     hand = k.hand;

@@ -39,7 +39,7 @@ use Rattle.steps_once.specs.declared.places.OncePlace.TheVariants.{Look, Run, Gi
 use Rattle.steps_once.specs.OnceCalls.{CallFollowsBy, next_row}
 use Rattle.steps_once.specs.OnceDeeds.{Follows, IsAt, OnceSectionsFollow, MayHear, closes, role_next}
 use Rattle.steps_once.specs.OnceDeeds.{exchanged_deeds, looked_deeds, once_deeds, once_role}
-use Rattle.steps_once.specs.OnceMoves.{OnceMoves, RestsBehind, TakesAll, once_hears, once_move}
+use Rattle.steps_once.specs.OnceMoves.{OnceMoves, RestsAfter, TakesAll, once_hears, once_move}
 use Rattle.steps_once.specs.OnceProfiles.{once_profile}
 use Rattle.steps_once.specs.OnceSteps.{course_act, course_of, once_act, once_first, once_next, once_owners}
 use Rattle.steps_once.proofs.OnceActs.{once_acts_move, once_late_move, once_sleepers_move}
@@ -58,7 +58,7 @@ use Rattle.lot_machine.specs.Machine.{owners_at, place_at, put, queue_at, reply_
 use Rattle.lot_machine.specs.Machine.{state_after_act, word_at}
 use Rattle.lot_machine.specs.Fits.{IsWellFormed}
 use Rattle.lot_laws.specs.Refinement.{taken_at}
-use Rattle.lot_laws.specs.MutexDeeds.{acts}
+use Rattle.lot_laws.specs.ThreadDeeds.{acts}
 use Rattle.lot_laws.specs.Locations.{role_on, location}
 use Rattle.lot_laws.specs.SitesOf.{FitsItsLock, Goes, IsInductive, TakesOne, is_mutex, key_of, rules_in}
 use Rattle.lot_laws.proofs.sites.ActsKept.{lock_by, place_goes}
@@ -181,11 +181,11 @@ once_sections_follow r s t p told a h = absurd h
 
 -- ---------------------------------------------------------------- one thread
 
-module _ (w : State) (t l : ℕ) (at : OncePlace) (steady : IsInductive w) (shape : IsWellFormed w)
+module _ (w : State) (t l : ℕ) (at : OncePlace) (inductive : IsInductive w) (shape : IsWellFormed w)
     (there : t < length w.places)
     (lt : l < length w.locks) (is : place_at w t ≡ Once l at) where
   pub sort_is : (rules_in w l).sort ≡ locks.Once
-  sort_is = subst (FitsItsLock w) is (steady.stands.calls t)
+  sort_is = subst (FitsItsLock w) is (inductive.stands.calls t)
 
   own : IsOf l (place_at w t)
   own = rw is refl
@@ -200,7 +200,7 @@ module _ (w : State) (t l : ℕ) (at : OncePlace) (steady : IsInductive w) (shap
   role_now = role_here l (place_at w t) own ∙ ap (λ (y : Profile). y.role) same_row
 
   pub at_now : IsAt (rules_in w l) here t at
-  at_now = record { sort = sort_is; site = steady.sites.site l; role = role_now }
+  at_now = record { sort = sort_is; site = inductive.sites.site l; role = role_now }
 
   unshared : has_readers (rules_in w l).sort ≡ false
   unshared = ap has_readers sort_is
@@ -212,7 +212,7 @@ module _ (w : State) (t l : ℕ) (at : OncePlace) (steady : IsInductive w) (shap
 
   -- tells what its laws conclude
   abbrev Followed : Reply → Type 0
-  Followed told = IsFollowed w t l steady there own (rules_in w l) refl (once_move at) same_row None told
+  Followed told = IsFollowed w t l inductive there own (rules_in w l) refl (once_move at) same_row None told
       (next_place (place_at w t) told)
 
   followed_by : (told : Reply) → Follows (rules_in w l) here t at told → Followed told
@@ -232,21 +232,21 @@ module _ (w : State) (t l : ℕ) (at : OncePlace) (steady : IsInductive w) (shap
   many : TakesOne w l → ⊥
   many one = let both : locks.Mutex ≡ locks.Once = sym one ∙ sort_is in cc
 
-  asleep : (u : ℕ) → SleepsIfCalls w t l steady there own (rules_in w l) refl (once_move at) same_row u
+  asleep : (u : ℕ) → SleepsIfCalls w t l inductive there own (rules_in w l) refl (once_move at) same_row u
   asleep u = record {
-    apart = not_beside w (place_at w u) l (steady.stands.calls u) many;
+    apart = not_beside w (place_at w u) l (inductive.stands.calls u) many;
     sleeper = λ h. by_place (place_at w u) refl h;
   }
     where
       of_condvar : (k : ℕ) (c : CondvarPlace) → place_at w u ≡ Condvar k c → k ≡ l → ⊥
       of_condvar k c e same_lock =
-          let fits : FitsItsLock w (Condvar k c) = subst (FitsItsLock w) e (steady.stands.calls u) in
+          let fits : FitsItsLock w (Condvar k c) = subst (FitsItsLock w) e (inductive.stands.calls u) in
           let both : locks.Condvar ≡ locks.Once = sym fits.sort ∙ ap (λ j. (rules_in w j).sort) same_lock
           ∙ sort_is in cc
 
       of_mutex : (k : ℕ) (m : MutexPlace) → place_at w u ≡ Mutex k m → k ≡ l → ⊥
       of_mutex k m e same_lock =
-          let fits : is_mutex (kind_at w k) ≡ true = subst (FitsItsLock w) e (steady.stands.calls u) in
+          let fits : is_mutex (kind_at w k) ≡ true = subst (FitsItsLock w) e (inductive.stands.calls u) in
           let one : (rules_in w k).sort ≡ locks.Mutex = ap (λ (r : Rules). r.sort)
           (mutex_rules (kind_at w k) fits) in
           let both : locks.Mutex ≡ locks.Once = sym one ∙ ap (λ j. (rules_in w j).sort) same_lock ∙ sort_is
@@ -254,18 +254,18 @@ module _ (w : State) (t l : ℕ) (at : OncePlace) (steady : IsInductive w) (shap
 
       of_rwlock : (k : ℕ) (a : Admission) (c : RwLockCallPlace) → place_at w u ≡ RwLock k a c → k ≡ l → ⊥
       of_rwlock k a c e same_lock =
-          let fits : FitsItsLock w (RwLock k a c) = subst (FitsItsLock w) e (steady.stands.calls u) in
+          let fits : FitsItsLock w (RwLock k a c) = subst (FitsItsLock w) e (inductive.stands.calls u) in
           let both : true ≡ false = sym fits.0.0 ∙ ap (λ j. has_readers (rules_in w j).sort) same_lock
           ∙ unshared in cc
 
       of_semaphore : (k : ℕ) (p : SemaphorePlace) → place_at w u ≡ Semaphore k p → k ≡ l → ⊥
       of_semaphore k p e same_lock =
-          let fits : FitsItsLock w (Semaphore k p) = subst (FitsItsLock w) e (steady.stands.calls u) in
+          let fits : FitsItsLock w (Semaphore k p) = subst (FitsItsLock w) e (inductive.stands.calls u) in
           let both : locks.Semaphore ≡ locks.Once = sym fits.0 ∙ ap (λ j. (rules_in w j).sort) same_lock
           ∙ sort_is in cc
 
       by_place : (q : Place) → place_at w u ≡ q → calls q l ≡ true
-          → IsSleeper w t l steady there own (rules_in w l) refl (once_move at) same_row u
+          → IsSleeper w t l inductive there own (rules_in w l) refl (once_move at) same_row u
       by_place Idle e g = absurd cc
       by_place (Condvar k c) e g = absurd (of_condvar k c e (eqb-true k l g))
       by_place (Semaphore k p) e g = absurd (of_semaphore k p e (eqb-true k l g))
@@ -288,7 +288,7 @@ module _ (w : State) (t l : ℕ) (at : OncePlace) (steady : IsInductive w) (shap
           z = once_sleepers_move p
 
           fits_u : FitsItsLock w (Once k p)
-          fits_u = subst (FitsItsLock w) e (steady.stands.calls u)
+          fits_u = subst (FitsItsLock w) e (inductive.stands.calls u)
 
   -- ---------------------------------------------------------------- each act
 
@@ -315,7 +315,7 @@ module _ (w : State) (t l : ℕ) (at : OncePlace) (steady : IsInductive w) (shap
   brief : (told : Reply) → IsBrief told → MayHear (rules_in w l) here t at told → Followed told
   brief told now hears = followed told hears
 
-  go_on : (y : Act) → GoesBy w t l steady shape there lt own (once_move at) same_row (once_hears at)
+  go_on : (y : Act) → GoesBy w t l inductive shape there lt own (once_move at) same_row (once_hears at)
       (Once l at) brief None y → GoesFrom (place_at w t) y
   go_on y b = record {
     goes = b.goes;
@@ -324,13 +324,13 @@ module _ (w : State) (t l : ℕ) (at : OncePlace) (steady : IsInductive w) (shap
   }
 
   word_is : word_at w l ≡ code (rules_in w l) here
-  word_is = steady.sites.word l
+  word_is = inductive.sites.word l
 
   -- one operation on the word
   on_word : (op : Op) → once_act l at ≡ act.Word l op → StaysPut (once_move at)
       → GoesFrom (place_at w t) (act.Word l op)
   on_word op e g = record {
-    goes = stays_unshared w t l steady there own (rules_in w l) refl (once_move at) same_row unshared
+    goes = stays_unshared w t l inductive there own (rules_in w l) refl (once_move at) same_row unshared
         (Once l at) (next_place (place_at w t) (Value (word_at w l))) op g on.0 lt on.1 on.2 parked aside;
     tells = subst (λ v. CallFollowsBy (rules_in w l) here t l at (Value v)) (sym word_is)
         (once_steps_tell (rules_in w l) here t l at op at_now e);
@@ -355,28 +355,28 @@ module _ (w : State) (t l : ℕ) (at : OncePlace) (steady : IsInductive w) (shap
         once_steps_code (rules_in w l) here t l at op at_now e,
       )
 
-      behind : Site
-      behind = laws.after_all (rules_in w l) (once_deeds at (Value (word_at w l))) here t
+      afterwards : Site
+      afterwards = laws.after_all (rules_in w l) (once_deeds at (Value (word_at w l))) here t
 
-      parked : parked_in (rules_in w l).sort (apply op (word_at w l)) ≡ behind.parked
+      parked : parked_in (rules_in w l).sort (apply op (word_at w l)) ≡ afterwards.parked
       parked = ap (λ x. parked_in x (apply op (word_at w l))) sort_is
-          ∙ ap is_marked (on.2 ∙ words.coded (rules_in w l) behind sort_is)
-          ∙ words.marks_tell behind.parked behind.lock.phase
+          ∙ ap is_marked (on.2 ∙ words.coded (rules_in w l) afterwards sort_is)
+          ∙ words.marks_tell afterwards.parked afterwards.lock.phase
 
-      aside : aside_in (rules_in w l).sort (apply op (word_at w l)) ≡ behind.aside_parked
+      aside : aside_in (rules_in w l).sort (apply op (word_at w l)) ≡ afterwards.aside_parked
       aside = ap (λ x. aside_in x (apply op (word_at w l))) sort_is
           ∙ sym (ap (λ x. aside_in x (word_at w l)) sort_is)
           ∙ sym (stays_aside (rules_in w l) here t at (word_at w l))
 
   rested : (k key : ℕ) (check : Check) (want : Want) → k ≡ l → key ≡ key_of l Main
-      → RestsBehind (once_move at) (once_hears at) check want
+      → RestsAfter (once_move at) (once_hears at) check want
       → GoesFrom (place_at w t) (act.Park k key check want)
   rested k key check x ke e g = subst (λ j. GoesFrom (place_at w t) (act.Park j key check x)) (sym ke)
       (subst (λ j. GoesFrom (place_at w t) (act.Park l j check x)) (sym e) (record {
-        goes = rests_or_turns w t l steady there own (rules_in w l) refl (once_move at) same_row
+        goes = rests_or_turns w t l inductive there own (rules_in w l) refl (once_move at) same_row
             (once_hears at)
             check x line g (λ b h. followed (Parked b) h);
-        tells = tells_by (Parked (holds check (word_at w l))) tt (told_so w t l steady there own
+        tells = tells_by (Parked (holds check (word_at w l))) tt (told_so w t l inductive there own
             (rules_in w l)
             refl (once_move at) same_row (once_hears at) check x line g (λ b h. followed (Parked b) h)
             (holds check (word_at w l)) refl);
@@ -390,9 +390,11 @@ module _ (w : State) (t l : ℕ) (at : OncePlace) (steady : IsInductive w) (shap
   took : (key : ℕ) → key ≡ key_of l Main → TakesAll (once_move at) (once_hears at)
       → GoesFrom (place_at w t) (act.Take key whom.All)
   took key e g = subst (λ j. GoesFrom (place_at w t) (act.Take j whom.All)) (sym e) (record {
-    goes = takes_all w t l steady there own (rules_in w l) refl (once_move at) same_row asleep (once_hears at)
+    goes = takes_all w t l inductive there own (rules_in w l) refl (once_move at) same_row asleep
+        (once_hears at)
         many line g follows;
-    tells = tells_by _ tt (all_hears w t l steady there own (rules_in w l) refl (once_move at) same_row asleep
+    tells = tells_by _ tt (all_hears w t l inductive there own (rules_in w l) refl (once_move at) same_row
+        asleep
         (once_hears at) many line g follows);
     others = calm_by (Case (OfOnce TakeAll) ∷ []) (g.deeds _ _) tt;
   })
@@ -407,15 +409,15 @@ module _ (w : State) (t l : ℕ) (at : OncePlace) (steady : IsInductive w) (shap
       → GoesFrom (place_at w t) y
   by_act (act.Word k op) e h g can = subst (λ j. GoesFrom (place_at w t) (act.Word j op)) (sym g.0)
       (on_word op (e ∙ ap (λ j. act.Word j op) g.0) g.1)
-  by_act (act.Enter keys) e h g can = go_on (act.Enter keys) (into w t l steady shape there lt own
+  by_act (act.Enter keys) e h g can = go_on (act.Enter keys) (into w t l inductive shape there lt own
       (once_move at) same_row (once_hears at) (Once l at) brief g.0 keys g.1 can g.2)
   by_act (act.Park k key check want) e h g can = rested k key check want g.0 g.1 g.2
   by_act (act.Take key whom.All) e h g can = took key g.0 g.1
-  by_act (act.Remove key) e h g can = go_on (act.Remove key) (left w t l steady shape there lt own
+  by_act (act.Remove key) e h g can = go_on (act.Remove key) (left w t l inductive shape there lt own
       (once_move at) same_row (once_hears at) (Once l at) brief asleep g.0 key g.1 g.2)
   by_act (act.Leave keys wakes) e h g can =
-      go_on (act.Leave keys wakes) (out_of w t l steady shape there lt own (once_move at) same_row
-      (once_hears at) (Once l at) brief g.0 keys wakes g.1 g.2 (wakes_one w t l steady there own
+      go_on (act.Leave keys wakes) (out_of w t l inductive shape there lt own (once_move at) same_row
+      (once_hears at) (Once l at) brief g.0 keys wakes g.1 g.2 (wakes_one w t l inductive there own
       (rules_in w l) refl (once_move at) same_row asleep g.2.any g.2.carries))
   by_act act.Sleep e h g can = absurd cc
   by_act (act.Closure state) e h g can = absurd cc
@@ -430,13 +432,13 @@ module _ (w : State) (t l : ℕ) (at : OncePlace) (steady : IsInductive w) (shap
   pub once_goes_late : (m : Line) → (once_profile at).late_line ≡ Some m → section_is_free w (key_of l m)
       ≡ true
       → Goes w (state_after_late_under w t (key_of l m)) l (acts t (once_deeds at Late))
-  once_goes_late m e free = goes_in w t l steady there own (rules_in w l) refl (once_move at) same_row
+  once_goes_late m e free = goes_in w t l inductive there own (rules_in w l) refl (once_move at) same_row
       (once_hears at) m Late (next_place (place_at w t) Late) (section_there w l shape lt m)
       (none_is (section_at w (key_of l m)) free) (once_late_move at m e) (λ h. followed Late h)
 
 -- ---------------------------------------------------------------- a call begins
 
-module _ (w : State) (t l : ℕ) (c : OnceCall) (steady : IsInductive w) (there : t < length w.places)
+module _ (w : State) (t l : ℕ) (c : OnceCall) (inductive : IsInductive w) (there : t < length w.places)
     (idle_now : place_at w t ≡ Idle)
     (sort : (rules_in w l).sort ≡ locks.Once) where
   abbrev pub first : Place
@@ -444,7 +446,7 @@ module _ (w : State) (t l : ℕ) (c : OnceCall) (steady : IsInductive w) (there 
 
   -- it claims nothing
   pub once_begins : Goes w (put w t first) l (acts t [])
-  once_begins = place_goes w t l steady (rw idle_now tt) there (rules_in w l) refl first refl sort []
+  once_begins = place_goes w t l inductive (rw idle_now tt) there (rules_in w l) refl first refl sort []
       (λ h. tt)
       (steps_by (rules_in w l) l (parts_at w l) (parts_at w l) (place_at w) t first [] tt tt
       (ap (λ q. taken_at q l) idle_now ∙ sym (free_of first l tt refl))

@@ -57,7 +57,7 @@ use Rattle.lot_laws.specs.Refinement.{lock_state}
 use Rattle.lot_laws.specs.SitesOf.{AreUnmarked, FitsItsLock, IsInductive, is_mutex, rules_in, site_of}
 use Rattle.lot_laws.proofs.calls.Closings.{closing}
 use Rattle.lot_laws.proofs.calls.Closures.{closes_one}
-use Rattle.lot_laws.proofs.calls.Looking.{closing_steady, looking_steady}
+use Rattle.lot_laws.proofs.calls.Looking.{closing_inductive, looking_inductive}
 
 -- ---------------------------------------------------------------- a word and its phase
 
@@ -73,9 +73,9 @@ once_kind (kinds.Semaphore permits) e = absurd cc
 once_sort : (k : Kind) → k ≡ kinds.Once → (rules_of k).sort ≡ locks.Once
 once_sort k e = ap (λ x. (rules_of x).sort) e
 
-module _ (w : State) (steady : IsInductive w) (l : ℕ) (sort : (rules_in w l).sort ≡ locks.Once) where
+module _ (w : State) (inductive : IsInductive w) (l : ℕ) (sort : (rules_in w l).sort ≡ locks.Once) where
   word_is : word_at w l ≡ word (site_of w l).parked (lock_state w l).phase
-  word_is = steady.sites.word l ∙ coded (rules_in w l) (site_of w l) sort
+  word_is = inductive.sites.word l ∙ coded (rules_in w l) (site_of w l) sort
 
   -- a done one that is marked has this word
   pub marked_done : (lock_state w l).phase ≡ Done → (site_of w l).parked ≡ true → word_at w l ≡ 9
@@ -211,7 +211,7 @@ elsewhere w l a own other = tt
 no_mutex : (k : Kind) → is_mutex k ≡ true → k ≡ kinds.Once → ⊥
 no_mutex k h e = let f : false ≡ true = sym (ap is_mutex e) ∙ h in cc
 
-module _ (w : State) (steady : IsInductive w) (fine : AreUnmarked w) where
+module _ (w : State) (inductive : IsInductive w) (fine : AreUnmarked w) where
   once_leaves : (l : ℕ) (p : OncePlace) → (rules_in w l).sort ≡ locks.Once → Leaves w (once_act l p)
   once_leaves l p sort = by_act (once_act l p) refl
     where
@@ -219,9 +219,10 @@ module _ (w : State) (steady : IsInductive w) (fine : AreUnmarked w) where
       here = word_at w l
 
       at_once : (f : _) (j : ℕ) → once_act l p ≡ act.Word j f → apply f here ≢ 9
-      at_once f j is = subst (λ v. apply f v ≢ 9) (sym (word_is w steady l sort))
+      at_once f j is = subst (λ v. apply f v ≢ 9) (sym (word_is w inductive l sort))
           (place_fine (site_of w l).parked (lock_state w l).phase
-          (subst (λ v. v ≢ 9) (word_is w steady l sort) (fine l (once_kind (kind_at w l) sort))) l p j f is)
+          (subst (λ v. v ≢ 9) (word_is w inductive l sort) (fine l (once_kind (kind_at w l) sort))) l p j f
+          is)
 
       own_word : (p : OncePlace) (j : ℕ) (f : _) → once_act l p ≡ act.Word j f → l ≡ j
       own_word (Look c retries (look.Decide seen)) j f is = by_course (course_of c seen) is
@@ -321,13 +322,13 @@ module _ (w : State) (steady : IsInductive w) (fine : AreUnmarked w) where
 
   pub gone_unmarked : (t : ℕ) → AreUnmarked (state_after_go w t)
   gone_unmarked t l = performed w t (place_at w t) (act_of (place_at w t)) fine
-      (place_leaves (place_at w t) (steady.stands.calls t)) l
+      (place_leaves (place_at w t) (inductive.stands.calls t)) l
 
-module _ (w : State) (t : ℕ) (steady : IsInductive w) (there : t < length w.places) (fine : AreUnmarked w)
+module _ (w : State) (t : ℕ) (inductive : IsInductive w) (there : t < length w.places) (fine : AreUnmarked w)
   where
     looked : (o : Option Place) → looking (place_at w t) ≡ o → AreUnmarked (state_after_look w t o)
     looked None e = fine
-    looked (Some q) e = gone_unmarked (put w t q) (looking_steady w t there q e steady) fine t
+    looked (Some q) e = gone_unmarked (put w t q) (looking_inductive w t there q e inductive) fine t
 
     late : (o : Option ℕ) → AreUnmarked (state_after_late_on w t o)
     late None = fine
@@ -337,13 +338,13 @@ module _ (w : State) (t : ℕ) (steady : IsInductive w) (there : t < length w.pl
         else turn.TheVariants.Err)
         ≡ true → AreUnmarked (state_after_close w t succeeded)
     closed true can = let one = closes_one w t true can in gone_unmarked (closing w t there true one)
-        (closing_steady w t there true one steady) fine t
+        (closing_inductive w t there true one inductive) fine t
     closed false can = let one = closes_one w t false can in gone_unmarked (closing w t there false one)
-        (closing_steady w t there false one steady) fine t
+        (closing_inductive w t there false one inductive) fine t
 
     turned : (x : Turn) → can_turn w t x ≡ true → AreUnmarked (state_after_turn w t x)
     turned (turn.TheVariants.Begin c) can = fine
-    turned turn.TheVariants.Go can = gone_unmarked w steady fine t
+    turned turn.TheVariants.Go can = gone_unmarked w inductive fine t
     turned turn.TheVariants.Spin can = looked (looking (place_at w t)) refl
     turned turn.TheVariants.Late can = late (late_key (place_at w t))
     turned turn.TheVariants.Ok can = closed true can
@@ -351,12 +352,12 @@ module _ (w : State) (t : ℕ) (steady : IsInductive w) (there : t < length w.pl
 
 pub unmarked_after : (w : State) (s : Step) → IsWellFormed w → IsInductive w → AreUnmarked w
     → AreUnmarked (after w s)
-unmarked_after w s shape steady fine = either (is_possible w s) refl
+unmarked_after w s shape inductive fine = either (is_possible w s) refl
   where
     either : (b : Bool) → is_possible w s ≡ b → AreUnmarked (if b then state_after_turn w s.thread s.turn
         else w)
     either true can = let parts = both (nat_lt s.thread (length w.places)) (can_turn w s.thread s.turn) can in
-        turned w s.thread steady (ltb-true s.thread (length w.places) parts.0) fine s.turn parts.1
+        turned w s.thread inductive (ltb-true s.thread (length w.places) parts.0) fine s.turn parts.1
     either false can = fine
 
 -- ---------------------------------------------------------------- the opening state

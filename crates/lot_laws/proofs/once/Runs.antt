@@ -13,7 +13,7 @@ use Rattle.steps_base.specs.declared.acts.Next.{Next}
 use Rattle.steps_base.specs.declared.acts.Next.TheVariants as next
 use Rattle.steps_base.specs.declared.acts.Reply.{Reply}
 use Rattle.steps_base.specs.declared.acts.Reply.TheVariants.{TakenBy, MovedTo, HandedBy, Woken}
-use Rattle.spec_locks.specs.Locks.{LockCase, LockState, OfOnce, Rules, left_behind, after_case, once_after}
+use Rattle.spec_locks.specs.Locks.{LockCase, LockState, OfOnce, Rules, left_after, after_case, once_after}
 use Rattle.spec_locks.specs.Locks.{rights_of}
 use Rattle.spec_locks.proofs.OnceLaws.{phase_by}
 use Rattle.spec_locks.specs.Onces.{Phase, OnceCase, New, InProgress, Start, Finish, Fail, Rest, TakeAll}
@@ -57,9 +57,9 @@ use Rattle.lot_laws.proofs.calls.LockSteps.{IsTurn, after_step}
 use Rattle.lot_laws.proofs.promises.Promises.{opening_state}
 use Rattle.lot_laws.proofs.promises.RowPromises.{Befalls}
 
--- ---------------------------------------------------------------- how far it has come, behind an event
+-- ---------------------------------------------------------------- how far it has come, after an event
 
--- a run that is on behind a case was on before, or this begins it
+-- a run that is on after a case was on before, or this begins it
 begun : (c : OnceCase) (s : LockState) (u t : ℕ) → (once_after c s u).phase ≡ InProgress t
     → (s.phase ≡ InProgress t) ⊎ ((forced : Bool) × (c ≡ Start forced) × (t ≡ u))
 begun (Start forced) s u t e = inr (forced, refl, cc)
@@ -93,7 +93,7 @@ moves_phase w u c m all owned number l = either (l == m) (l == c) refl refl
     either : (at_mutex at_condvar : Bool) → (l == m) ≡ at_mutex → (l == c) ≡ at_condvar
         → ◌≡◌ {A = Phase}
         (if at_mutex then joined_by owned u (moved_of all (w.locks c).queue) (w.locks m) else if at_condvar
-        then left_behind all (w.locks c) else w.locks l).phase
+        then left_after all (w.locks c) else w.locks l).phase
         (w.locks l).phase
     either true there e f = ap (λ k. (w.locks k).phase) (sym (eqb-true l m e))
     either false true e f = ap (λ k. (w.locks k).phase) (sym (eqb-true l c f))
@@ -397,8 +397,8 @@ module _ (w : State) (s : Step) (o : Outcome) (step : IsTurn (locks_of w) s o (l
 pub running_after : (w : State) (s : Step) → IsWellFormed w → IsInductive w → AreCounted w → AreCondvars w
     → RunsInClosures w
     → RunsInClosures (after w s)
-running_after w s shape steady counted condvars running =
-    runs_on w s (step_outcome w s) (after_step w s shape steady counted condvars) running
+running_after w s shape inductive counted condvars running =
+    runs_on w s (step_outcome w s) (after_step w s shape inductive counted condvars) running
 
 -- a thread that stands elsewhere in its call, and in no closure, has no run on
 pub put_running : (w : State) (t : ℕ) (q : Place) → runs_closure (act_of (place_at w t)) ≡ false

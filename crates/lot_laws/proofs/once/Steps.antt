@@ -51,7 +51,7 @@ use Rattle.lot_machine.specs.Machine.{State, can_do, place_at, reply_to, state_a
 use Rattle.lot_machine.specs.Fits.{IsWellFormed}
 use Rattle.lot_machine.proofs.Shape.{performed_counts}
 use Rattle.lot_laws.specs.Refinement.{locks_of}
-use Rattle.lot_laws.specs.MutexDeeds.{acts}
+use Rattle.lot_laws.specs.ThreadDeeds.{acts}
 use Rattle.lot_laws.specs.SitesOf.{Goes, IsInductive, carried_at}
 use Rattle.lot_laws.specs.Locations.{location}
 use Rattle.lot_laws.proofs.machine.AtPlaces.{in_no_hand}
@@ -126,17 +126,17 @@ module _ (w : LocksState) (l v : ℕ) where
 
 -- ---------------------------------------------------------------- its step
 
-module _ (w : State) (t l : ℕ) (at : OncePlace) (steady : IsInductive w) (shape : IsWellFormed w)
+module _ (w : State) (t l : ℕ) (at : OncePlace) (inductive : IsInductive w) (shape : IsWellFormed w)
     (there : t < length w.places)
     (lt : l < length w.locks) (is : place_at w t ≡ Once l at) (can : can_do w (once_act l at) ≡ true) where
   abbrev told : Reply
   told = reply_to w t (once_act l at)
 
-  abbrev behind : State
-  behind = go_by w t (Once l at) (once_act l at)
+  abbrev afterwards : State
+  afterwards = go_by w t (Once l at) (once_act l at)
 
-  kept : GoesFrom w t l at steady shape there lt is (Once l at) (once_act l at)
-  kept = goes_once w t l at steady shape there lt is can
+  kept : GoesFrom w t l at inductive shape there lt is (Once l at) (once_act l at)
+  kept = goes_once w t l at inductive shape there lt is can
 
   of : called_lock (place_at w t) ≡ Some l
   of = ap called_lock is
@@ -148,26 +148,28 @@ module _ (w : State) (t l : ℕ) (at : OncePlace) (steady : IsInductive w) (shap
   abbrev case : Option LockCase
   case = case_of (once_profile at).carries (once_deeds at told)
 
-  happened : Happens w behind t (event_by l case)
-  happened = happens w behind t l (once_profile at).carries (once_deeds at told) [] steady
-      (subst (Goes w behind l) (sym (append-nil (acts t (once_deeds at told)))) kept.goes) tt kept.tells.one
-      (λ none. in_no_hand w steady t l (λ h. none (sym carries ∙ h)))
+  happened : Happens w afterwards t (event_by l case)
+  happened = happens w afterwards t l (once_profile at).carries (once_deeds at told) [] inductive
+      (subst (Goes w afterwards l) (sym (append-nil (acts t (once_deeds at told)))) kept.goes) tt
+      kept.tells.one
+      (λ none. in_no_hand w inductive t l (λ h. none (sym carries ∙ h)))
 
-  others : OthersFollow w behind t (event_by l case)
-  others = others_follow w behind t l case happened (hands_nothing w behind t l case happened
+  others : OthersFollow w afterwards t (event_by l case)
+  others = others_follow w afterwards t l case happened (hands_nothing w afterwards t l case happened
       (once_profile at).carries (once_act l at) case kept.others)
-      (wakes_own w t l steady (rw is refl) (next_place (Once l at) told) (λ e. let both : locks.Condvar
-      ≡ locks.Once = sym e ∙ sort_is w t l at steady shape there lt is in cc) (Once l at) (once_act l at)
+      (wakes_own w t l inductive (rw is refl) (next_place (Once l at) told) (λ e. let both : locks.Condvar
+      ≡ locks.Once = sym e ∙ sort_is w t l at inductive shape there lt is in cc) (Once l at) (once_act l at)
       (takes_here l (location (Once l at)) (once_act l at) (once_facts l at).line) case
       (subst (λ h. WakesOwn h (once_act l at) case) (sym carries) kept.others))
 
   -- where it is then
-  waits : (q : OncePlace) → place_at behind t ≡ Once l q → IsWaiting (once_profile q)
-      → 1 ≤ standing t (lock_state behind l)
-  waits q e h = waiting_stands behind t happened.after l (ap called_lock e)
+  waits : (q : OncePlace) → place_at afterwards t ≡ Once l q → IsWaiting (once_profile q)
+      → 1 ≤ standing t (lock_state afterwards l)
+  waits q e h = waiting_stands afterwards t happened.after l (ap called_lock e)
       (subst (λ (x : Profile). IsWaiting x) (sym (ap profile e)) h)
 
-  rests : (q : OncePlace) → place_at behind t ≡ Once l q → GoesAs behind t l (outcome_of (once_act l q))
+  rests : (q : OncePlace) → place_at afterwards t ≡ Once l q
+      → GoesAs afterwards t l (outcome_of (once_act l q))
   rests (Look c again look.Asleep) e = inr (inl (refl, waits (Look c again look.Asleep) e (inl (λ n. cc))))
   rests (Look c again (look.Taken by)) e =
       inr (inl (refl, waits (Look c again (look.Taken by)) e (inr (λ n. cc))))
@@ -191,13 +193,13 @@ module _ (w : State) (t l : ℕ) (at : OncePlace) (steady : IsInductive w) (shap
   rests (GiveUp again give_up.Clear) e = inl refl
   rests (GiveUp again give_up.Leave) e = inl refl
 
-  leads : LeadsTo behind t l (next_row (once_next at told)) (outcome_of (once_does l (once_next at told)))
+  leads : LeadsTo afterwards t l (next_row (once_next at told)) (outcome_of (once_does l (once_next at told)))
   leads = by_next (once_next at told)
       (get_or-set_same (state_after_act w t (Once l at) (once_act l at)).places t _ Idle
       (rw (performed_counts w t (Once l at) (once_act l at)).0 there))
     where
-      by_next : (n : Next OncePlace) → place_at behind t ≡ once_goes l n
-          → LeadsTo behind t l (next_row n) (outcome_of (once_does l n))
+      by_next : (n : Next OncePlace) → place_at afterwards t ≡ once_goes l n
+          → LeadsTo afterwards t l (next_row n) (outcome_of (once_does l n))
       by_next (next.At q) e = (ap called_lock e, ap profile e, rests q e, subst IsSingle (sym e) tt)
       by_next (next.End answer) e = (e, refl)
 
@@ -208,8 +210,8 @@ module _ (w : State) (t l : ℕ) (at : OncePlace) (steady : IsInductive w) (shap
       found_so : (c : OnceCall) → course_of c (word_at w l) ≡ Runs
           → state_before (is_poisoned (word_at w l)) ≡ state_told (lock_state w l).phase
       found_so c = subst (λ v. course_of c v ≡ Runs → state_before (is_poisoned v) ≡ state_told
-          (lock_state w l).phase) (sym (steady.sites.word l)) (told_so (rules_in w l) (site_of w l) c
-          (sort_is w t l at steady shape there lt is))
+          (lock_state w l).phase) (sym (inductive.sites.word l)) (told_so (rules_in w l) (site_of w l) c
+          (sort_is w t l at inductive shape there lt is))
 
       by_course : (c : OnceCall) (again : Bool) (seen : ℕ) (k : Course)
           → Begins (locks_of w)
@@ -261,13 +263,13 @@ module _ (w : State) (t l : ℕ) (at : OncePlace) (steady : IsInductive w) (shap
       by_place (GiveUp again give_up.Clear) h = tt
       by_place (GiveUp again give_up.Leave) h = tt
 
-  pub once_step : GoesOn (locks_of w) t (outcome_of (next_act (Once l at) told)) (locks_of behind)
-  once_step = goes_by w behind t l case happened (Once l at) is refl tt kept.tells.may
+  pub once_step : GoesOn (locks_of w) t (outcome_of (next_act (Once l at) told)) (locks_of afterwards)
+  once_step = goes_by w afterwards t l case happened (Once l at) is refl tt kept.tells.may
       (next_row (once_next at told)) _ kept.tells.comes leads others begins
 
   pub step_event : once_step.event ≡ event_by l case
   unfolding once_step
-  step_event = goes_event w behind t l case happened (Once l at) is refl tt kept.tells.may
+  step_event = goes_event w afterwards t l case happened (Once l at) is refl tt kept.tells.may
       (next_row (once_next at told)) _ kept.tells.comes leads others begins
 
 -- a run that ends is told of as such

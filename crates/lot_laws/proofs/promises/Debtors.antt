@@ -197,25 +197,25 @@ enters_waiting k (Notify all n at) key e r = absurd (notifies at e)
 
 -- ---------------------------------------------------------------- in a state
 
-module _ (w : State) (t : ℕ) (steady : IsInductive w) where
+module _ (w : State) (t : ℕ) (inductive : IsInductive w) where
   -- a thread in a call of two locks owes what it is inside, and on the mutex whose section it enters next
   module _ (k : ℕ) (at : CondvarPlace) (is : place_at w t ≡ Condvar k at) where
     fits : FitsCondvar w k at
-    fits = subst (FitsItsLock w) is (steady.stands.calls t)
+    fits = subst (FitsItsLock w) is (inductive.stands.calls t)
 
     pub two_owe : (l : ℕ) (m : Line) → Owes w t l m ↔ (IsInside w t l m ⊎ EntersAt at l m)
     two_owe l m = (
       (λ h. owing (subst (λ p. line_owed p l ≡ Some m) is h)),
       λ h. subst (λ p. line_owed p l ≡ Some m) (sym is) (elim h [
         | inl i ↦ inside_owes (subst (λ p. (location_at p l).inside ≡ Some m) is
-            ((steady.stands.sections t l m).1 i))
+            ((inductive.stands.sections t l m).1 i))
         | inr enters ↦ entering_owes k at (condvar_apart w k at fits) fits.reached l m enters
       ]),
     )
       where
         owing : line_owed (Condvar k at) l ≡ Some m → IsInside w t l m ⊎ EntersAt at l m
         owing owed = elim (owes_where k at (condvar_apart w k at fits) fits.reached l) [
-          | inl within ↦ inl ((steady.stands.sections t l m).0 (ap (λ p. (location_at p l).inside) is
+          | inl within ↦ inl ((inductive.stands.sections t l m).0 (ap (λ p. (location_at p l).inside) is
               ∙ sym within ∙ owed))
           | inr enters ↦ inr (
             enters.0,
@@ -235,7 +235,7 @@ module _ (w : State) (t : ℕ) (steady : IsInductive w) where
   -- a thread that owes is inside, or on its way
   pub owing_so : (l : ℕ) (m : Line) → Owes w t l m → IsInside w t l m ⊎ GoesToWake w t l m
   owing_so l m h = elim (single_or_two (place_at w t)) [
-    | inl single ↦ (owing_is w t steady single l m).0 h
+    | inl single ↦ (owing_is w t inductive single l m).0 h
     | inr two ↦ elim ((two_owe two.lock two.at two.is l m).0 h) [
       | inl i ↦ inl i
       | inr enters ↦ inr (
@@ -251,14 +251,14 @@ module _ (w : State) (t : ℕ) (steady : IsInductive w) where
   -- each thread that is inside owes
   pub inside_owes_so : (l : ℕ) (m : Line) → IsInside w t l m → Owes w t l m
   inside_owes_so l m i = elim (single_or_two (place_at w t)) [
-    | inl single ↦ (owing_is w t steady single l m).1 (inl i)
+    | inl single ↦ (owing_is w t inductive single l m).1 (inl i)
     | inr two ↦ (two_owe two.lock two.at two.is l m).1 (inl i)
   ]
 
   -- Each thread that is on its way to wake owes, but for a wait.
   pub going_owes_so : (l : ℕ) (m : Line) → GoesToWake w t l m → Owes w t l m ⊎ IsWait (call_at w t).purpose
   going_owes_so l m g = elim (single_or_two (place_at w t)) [
-    | inl single ↦ inl ((owing_is w t steady single l m).1 (inr g))
+    | inl single ↦ inl ((owing_is w t inductive single l m).1 (inr g))
     | inr two ↦ inr (subst (λ p. IsWait (call_state p (rights w t)).purpose) (sym two.is)
         (enters_waiting two.lock two.at (key_of l m) (subst (λ p. act_of p ≡ Enter (One (key_of l m))) two.is
         g.0) (rights w t)))

@@ -1,4 +1,4 @@
--- The exclusive owner of a mutex behind a step on its word.
+-- The exclusive owner of a mutex after a step on its word.
 use Rattle.std.proofs.Common.{ℕ, Bool, true, false, Option, Some, None, if◌then◌else◌, ◌==◌, ◌&&◌, not, ◌≡◌}
 use Rattle.std.proofs.Common.{inl, inr, refl}
 use Rattle.steps_base.specs.declared.owners.Owners.{Owners}

@@ -42,12 +42,12 @@ use Rattle.lot_machine.specs.Machine.{put, state_after_late_on, state_after_turn
 use Rattle.lot_machine.specs.Machine.{after, step_outcome, can_do, reply_to}
 use Rattle.lot_machine.specs.Fits.{IsWellFormed, PlaceFits}
 use Rattle.lot_laws.specs.MutexPromises.{IsMutexWord}
-use Rattle.lot_laws.specs.MutexDeeds.{mutex_location}
+use Rattle.lot_laws.specs.ThreadDeeds.{mutex_location}
 use Rattle.lot_laws.specs.SitesOf.{AreCondvars, AreCounted, IsInductive, FitsItsLock, is_mutex, rules_in}
 use Rattle.spec_locks.specs.Sites.{Main}
 use Rattle.lot_laws.proofs.machine.Parts.{own_role}
-use Rattle.lot_machine.proofs.Shape.{both, looking_shaped}
-use Rattle.lot_laws.proofs.calls.Looking.{looking_steady, locks_same, looks_now, calls_same}
+use Rattle.lot_machine.proofs.Shape.{both, looking_well_formed}
+use Rattle.lot_laws.proofs.calls.Looking.{looking_inductive, locks_same, looks_now, calls_same}
 use Rattle.std.specs.Prelude.{nat_lt}
 use Rattle.spec_locks.specs.Onces.{OnceCase, Start, Finish, Fail, Rest, TakeAll}
 use Rattle.spec_locks.specs.Locks.{LockState, Rules, Taken, LockCase, Enter, Pend, Settle, Leave, Convert}
@@ -72,7 +72,7 @@ use Rattle.lot_laws.proofs.machine.Parts.{IsSingle, own_stance, aparts, single_o
 use Rattle.lot_laws.proofs.hands.Handed.{successor_one, of_carries}
 use Rattle.lot_laws.proofs.mutex.Waiters.{held_there}
 use Rattle.lot_laws.proofs.machine.AtPlaces.{coded as words_coded, in_no_hand}
-use Rattle.lot_laws.proofs.sites.TurnsKept.{after_steady}
+use Rattle.lot_laws.proofs.sites.TurnsKept.{after_inductive}
 use Rattle.lot_laws.proofs.machine.Parts.{mutex}
 use Rattle.lot_laws.proofs.sites.StandsMoved.{mutex_rules}
 use Rattle.lot_laws.proofs.machine.KindsStay.{after_kinds}
@@ -209,7 +209,8 @@ ComesFrom s word t l v = (owner_at v l ≡ Some t)
 abbrev ComesTo : State → ℕ → ℕ → State → Type 0
 ComesTo w t l v = ComesFrom (lock_state w l) (word_at w l) t l v
 
-module _ (w : State) (t l : ℕ) (shape : IsWellFormed w) (steady : IsInductive w) (own : owner_at w l ≡ Some t)
+module _ (w : State) (t l : ℕ) (shape : IsWellFormed w) (inductive : IsInductive w) (own : owner_at w l
+    ≡ Some t)
     (of_mutex : is_mutex (kind_at w l) ≡ true) where
   operated_owner : (at : MutexPlace) (f : Op) → l < length w.locks
       → owner_at (state_after_operation w t (Mutex l at) l f) l ≡ mutex_owner_after at t (word_at w l)
@@ -266,7 +267,7 @@ module _ (w : State) (t l : ℕ) (shape : IsWellFormed w) (steady : IsInductive 
     carries_nobody : (at : MutexPlace) → place_at w t ≡ Mutex l at → ((mutex_location at).carries ≡ Some false
         → ⊥)
         → HasTakenNobody (lock_state w l) t
-    carries_nobody at is none = in_no_hand w steady t l
+    carries_nobody at is none = in_no_hand w inductive t l
         (λ h. none (sym (ap (λ x. x.carries) (own_stance l (place_at w t) at is)) ∙ h))
 
     unlock_fair_gives : place_at w t ≡ Mutex l UnlockFair
@@ -297,19 +298,21 @@ module _ (w : State) (t l : ℕ) (shape : IsWellFormed w) (steady : IsInductive 
     hand_off_gives bumps (hand_off.Store false none_left) is = inr (inr (
       operated_owner (HandOff bumps (hand_off.Store false none_left)) (op.TheVariants.Store 0) lt,
       carries_nobody (HandOff bumps (hand_off.Store false none_left)) is (λ g. absurd cc),
-      inr ((steady.sites.site l).emptied t Main (ap (λ d. d.empty) (own_role l (place_at w t) _ is))).1,
+      inr ((inductive.sites.site l).emptied t Main (ap (λ d. d.empty) (own_role l (place_at w t) _ is))).1,
     ))
-    hand_off_gives bumps (hand_off.Store true none_left) is = let one = steady.stands.hands.carried t l false
+    hand_off_gives bumps (hand_off.Store true none_left) is = let one = inductive.stands.hands.carried t l
+        false
         (ap (λ x. x.carries) (own_stance l (place_at w t) _ is)) in inr (inl (
           one.0,
           (held_there (place_at w one.0) t l (mutexes_at w t l (HandOff bumps (hand_off.Store true none_left))
-              steady is one.0) one.1).was,
+              inductive is one.0) one.1).was,
           ap (λ x. x.owners.exclusive) (get_or-set_same w.locks l _ (unlocked kind.TheVariants.Mutex) lt)
-              ∙ ap (λ (o : Owners). o.exclusive) (successor_one w t l one.0 false (aparts w steady)
-              steady.stands.hands (single_at w t l (HandOff bumps (hand_off.Store true none_left)) steady is)
+              ∙ ap (λ (o : Owners). o.exclusive) (successor_one w t l one.0 false (aparts w inductive)
+              inductive.stands.hands (single_at w t l (HandOff bumps (hand_off.Store true none_left))
+              inductive is)
               (of_carries l (place_at w t) (rw is refl)) one.1
-              (alone_at w t l (HandOff bumps (hand_off.Store true none_left)) steady is)
-              (unshared_at w t l (HandOff bumps (hand_off.Store true none_left)) steady is)
+              (alone_at w t l (HandOff bumps (hand_off.Store true none_left)) inductive is)
+              (unshared_at w t l (HandOff bumps (hand_off.Store true none_left)) inductive is)
               (with_exclusive (owners_at w l) None)),
         ))
     hand_off_gives bumps (hand_off.Leave false) is = inl own
@@ -335,7 +338,7 @@ module _ (w : State) (t l : ℕ) (shape : IsWellFormed w) (steady : IsInductive 
   go_gives (Condvar k (condvar_place.Notify all m at)) is fits h = absurd h
   go_gives (Condvar k (condvar_place.Look all)) is fits h = absurd h
   go_gives (RwLock k a c) is fits h = absurd (
-      let admitted : FitsItsLock w (RwLock k a c) = subst (FitsItsLock w) is (steady.stands.calls t) in
+      let admitted : FitsItsLock w (RwLock k a c) = subst (FitsItsLock w) is (inductive.stands.calls t) in
       let here : k ≡ l = sym (call_promises (rules_in w k) a k c admitted.0 admitted.1).own
       ∙ released_lock ((call_profile a c).purpose k) l h in
       let shared : has_readers (rules_in w l).sort ≡ true =
@@ -361,27 +364,29 @@ module _ (w : State) (t l : ℕ) (shape : IsWellFormed w) (steady : IsInductive 
   late_gives None = inl own
   late_gives (Some key) = inl own
 
-module _ (w : State) (t l : ℕ) (shape : IsWellFormed w) (steady : IsInductive w) (own : owner_at w l ≡ Some t)
+module _ (w : State) (t l : ℕ) (shape : IsWellFormed w) (inductive : IsInductive w) (own : owner_at w l
+    ≡ Some t)
     (of_mutex : is_mutex (kind_at w l) ≡ true) where
   -- it looks at the word once more, and goes on from there
   spin_gives : t < length w.places → IsFairRelease (call_state (place_at w t) (rights w t)).purpose l
       → (o : Option Place)
       → looking (place_at w t) ≡ o → ComesTo w t l (state_after_look w t o)
   spin_gives there h None is = inl own
-  spin_gives there h (Some q) is = let shaped = looking_shaped w t q shape is in
+  spin_gives there h (Some q) is = let well_formed = looking_well_formed w t q shape is in
       subst (λ s. ComesFrom s (word_at w l) t l (state_after_go (put w t q) t)) (locks_same w t there q is l)
-      (go_gives (put w t q) t l shaped (looking_steady w t there q is steady) own of_mutex
-      (place_at (put w t q) t) refl (shaped.places t)
+      (go_gives (put w t q) t l well_formed (looking_inductive w t there q is inductive) own of_mutex
+      (place_at (put w t q) t) refl (well_formed.places t)
       (subst (λ (c : CallState). IsFairRelease c.purpose l) (sym (calls_same w t there q is t)) h))
 
   turned_gives : t < length w.places → IsFairRelease (call_state (place_at w t) (rights w t)).purpose l
       → (x : Turn)
       → can_turn w t x ≡ true → ComesTo w t l (state_after_turn w t x)
   turned_gives there h (turn.TheVariants.Begin c) can = inl own
-  turned_gives there h turn.TheVariants.Go can = go_gives w t l shape steady own of_mutex (place_at w t) refl
+  turned_gives there h turn.TheVariants.Go can = go_gives w t l shape inductive own of_mutex (place_at w t)
+      refl
       (shape.places t) h
   turned_gives there h turn.TheVariants.Spin can = spin_gives there h (looking (place_at w t)) refl
-  turned_gives there h turn.TheVariants.Late can = late_gives w t l shape steady own of_mutex
+  turned_gives there h turn.TheVariants.Late can = late_gives w t l shape inductive own of_mutex
       (late_key (place_at w t))
   turned_gives there h turn.TheVariants.Ok can =
       absurd (subst (λ p. IsFairRelease (call_state p (rights w t)).purpose l) (closes_one w t true can).is h)
@@ -413,7 +418,7 @@ rights_keep r s t u Shared is more own ne c n = absurd (more refl)
 rights_keep r s t u Wait is more own ne c n = absurd own
 rights_keep r s t u CallOnce is more own ne c n = absurd own
 
-module _ (w : State) (t l : ℕ) (shape : IsWellFormed w) (steady : IsInductive w) (counted : AreCounted w)
+module _ (w : State) (t l : ℕ) (shape : IsWellFormed w) (inductive : IsInductive w) (counted : AreCounted w)
     (x : Want) (more : x ≢ Shared)
     (readers : has_readers (rules_in w l).sort ≡ true) where
   abbrev Gives : State → Type 0
@@ -452,15 +457,15 @@ module _ (w : State) (t l : ℕ) (shape : IsWellFormed w) (steady : IsInductive 
           gives.1.1 in cc)
       by_place (Condvar k at) is fits can gives = absurd (two_give k at gives)
       by_place (Mutex k at) is fits can gives = absurd (
-          let fits_k : is_mutex (kind_at w k) ≡ true = subst (FitsItsLock w) is (steady.stands.calls t) in
+          let fits_k : is_mutex (kind_at w k) ≡ true = subst (FitsItsLock w) is (inductive.stands.calls t) in
           let here : k ≡ l = sym (subst (λ p. lock_for ((profile p).purpose k) ≡ k) is
-          (row_promises w t steady k (subst IsSingle (sym is) tt) (ap called_lock is)).own) ∙ gives.0 in
+          (row_promises w t inductive k (subst IsSingle (sym is) tt) (ap called_lock is)).own) ∙ gives.0 in
           let none : has_readers (rules_in w l).sort ≡ false = ap (λ (r : Rules). has_readers r.sort)
           (subst (λ j. rules_of (kind_at w j) ≡ mutex) here (mutex_rules (kind_at w k) fits_k)) in
           let f : false ≡ true = sym none ∙ readers in cc)
       by_place (RwLock k a c) is fits can gives =
           let here : k ≡ l = sym (subst (λ p. lock_for ((profile p).purpose k) ≡ k) is
-          (row_promises w t steady k (subst IsSingle (sym is) tt) (ap called_lock is)).own) ∙ gives.0 in
+          (row_promises w t inductive k (subst IsSingle (sym is) tt) (ap called_lock is)).own) ∙ gives.0 in
           at_lock k here a c is fits can gives.1
         where
           at_lock : (k : ℕ) → k ≡ l → (a : Admission) (c : RwLockCallPlace) → place_at w t ≡ RwLock k a c
@@ -474,7 +479,7 @@ module _ (w : State) (t l : ℕ) (shape : IsWellFormed w) (steady : IsInductive 
               subst (λ j. GivesFrom (rules_in w j) (lock_state w j)
               (lock_state (put (state_after_act w t (RwLock k a c) (call_act k a c)) t
               (next_place (RwLock k a c) (reply_to w t (call_act k a c)))) j) (word_at w j) t x) here
-              (goes_giving w t k a c shape steady counted there fits is x more gives
+              (goes_giving w t k a c shape inductive counted there fits is x more gives
               (subst (λ j. Owns (lock_state w j) t x) (sym here) own) can)
 
 -- ---------------------------------------------------------------- steps
@@ -484,7 +489,7 @@ locked_by v o u c e = by_code (λ v o. o ≡ Some u → is_locked v ≡ true) (�
     (λ x g. refl) (λ x g. refl) v o c e
 
 -- for every turn that it takes
-module _ (w : State) (t l : ℕ) (shape : IsWellFormed w) (steady : IsInductive w) (counted : AreCounted w)
+module _ (w : State) (t l : ℕ) (shape : IsWellFormed w) (inductive : IsInductive w) (counted : AreCounted w)
     (x : Want)
     (h : GivesUpFairly w t l x) where
   abbrev Comes : State → Type 0
@@ -496,7 +501,8 @@ module _ (w : State) (t l : ℕ) (shape : IsWellFormed w) (steady : IsInductive 
   spin_gives_shared there (Some q) is =
       subst (λ s. GivesFrom (rules_in w l) s (lock_state (state_after_go (put w t q) t) l) (word_at w l) t x)
       (locks_same w t there q is l)
-      (go_gives_shared (put w t q) t l (looking_shaped w t q shape is) (looking_steady w t there q is steady)
+      (go_gives_shared (put w t q) t l (looking_well_formed w t q shape is)
+      (looking_inductive w t there q is inductive)
       (looking_counted w t there q is counted) x h.1 h.3
       (rw (length-set w.places t q) there) (looks_now w t there q is)
       (subst (λ (c : CallState). IsToGiveAt c l x) (sym (calls_same w t there q is t)) h.0)
@@ -510,7 +516,7 @@ module _ (w : State) (t l : ℕ) (shape : IsWellFormed w) (steady : IsInductive 
       → Comes (state_after_turn w t y)
   turned_gives_shared there (turn.TheVariants.Begin c) can =
       inl (owner_stays w (state_after_turn w t (turn.TheVariants.Begin c)) l t x refl h.1 h.2)
-  turned_gives_shared there turn.TheVariants.Go can = go_gives_shared w t l shape steady counted x h.1 h.3
+  turned_gives_shared there turn.TheVariants.Go can = go_gives_shared w t l shape inductive counted x h.1 h.3
       there can h.0 h.2
   turned_gives_shared there turn.TheVariants.Spin can = spin_gives_shared there (looking (place_at w t)) refl
   turned_gives_shared there turn.TheVariants.Late can = late_gives_shared (late_key (place_at w t))
@@ -532,9 +538,9 @@ module _ (w : State) (t l : ℕ) (shape : IsWellFormed w) (steady : IsInductive 
 
 pub is_fair : (w : State) (s : Step) → IsWellFormed w → IsInductive w → AreCounted w → AreCondvars w
     → IsFair w (after w s)
-is_fair w s shape steady counted condvars = record {
+is_fair w s shape inductive counted condvars = record {
   gives = λ t l h. elim (cases_eq s.thread t) [
-    | inl e ↦ told t l h (after_gives w t l shape steady h.1 h.2 h.0 s e)
+    | inl e ↦ told t l h (after_gives w t l shape inductive h.1 h.2 h.0 s e)
     | inr ne ↦ inl (owned t l h (turned_so (λ x y. x.exclusive ≡ Some t → y.exclusive ≡ Some t) (locks_of w)
         (locks_of (after w s)) s.thread l (λ c m every owned number may e. moves_no_owner (locks_of w)
         s.thread c m every owned number l ∙ e) (λ e. e)
@@ -549,7 +555,7 @@ is_fair w s shape steady counted condvars = record {
       rules (all l)) c (subst (λ r. Needs r c (lock_state w l) s.thread) rules n))) s.turn
       (step_outcome w s) step.1;
   shared = λ t l x h. elim (cases_eq s.thread t) [
-    | inl e ↦ after_gives_shared w t l shape steady counted x h s e
+    | inl e ↦ after_gives_shared w t l shape inductive counted x h s e
     | inr ne ↦ inl (turned_so (λ y z. Owns y t x → Owns z t x) (locks_of w) (locks_of (after w s)) s.thread l
         (λ c m every owned number may. moves_no_readers (locks_of w) s.thread c m every owned number l h.3 may
         (λ z. Owns (lock_state w l) t x → Owns z t x) (λ e. e)) (λ e. e)
@@ -559,10 +565,10 @@ is_fair w s shape steady counted condvars = record {
 }
   where
     all : AreLockStates (locks_of w)
-    all l = (steady.sites.site l).state
+    all l = (inductive.sites.site l).state
 
     step : IsTurn (locks_of w) s (step_outcome w s) (locks_of (after w s))
-    step = after_step w s shape steady counted condvars
+    step = after_step w s shape inductive counted condvars
 
     -- a thread that a notification takes is in its own hand
     takes_no_other : (t l u : ℕ) → IsFairRelease (call_at w t).purpose l → (c m : ℕ) (every owned : Bool)
@@ -580,7 +586,7 @@ is_fair w s shape steady counted condvars = record {
 
     coded : (t l : ℕ) → OwnerReleasesFairly w t l → IsMutexWord (word_at (after w s) l)
         (owner_at (after w s) l)
-    coded t l h = words_coded (after w s) (after_steady w s shape steady counted condvars) l
+    coded t l h = words_coded (after w s) (after_inductive w s shape inductive counted condvars) l
         (ap rules_of (after_kinds w s l) ∙ mutex_rules (kind_at w l) h.2)
 
     owned : (t l : ℕ) → OwnerReleasesFairly w t l → owner_at (after w s) l ≡ Some t → OwnsOn (after w s) t l

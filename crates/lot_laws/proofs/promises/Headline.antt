@@ -192,7 +192,7 @@ safe_now w h = let k = world_kept w h in record {
   shown = k.shows;
   waiting = k.waiting;
   let_go = k.let_go;
-  keeps = sleepers_own w h.steady;
+  keeps = sleepers_own w h.inductive;
   runs = λ t l. (
     (λ e. runs_once w k t l ((k.runs t l).0 e)),
     (λ runs. (k.runs t l).1 (runs_there w k t l runs)),

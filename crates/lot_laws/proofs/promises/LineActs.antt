@@ -87,17 +87,17 @@ pub key_there : (w : State) (l : ℕ) (m : Line) → IsWellFormed w → l < leng
 key_there w l Main shape lt = let n : length w.sections ≡ 2 * length w.locks = shape.sections in omega arith
 key_there w l Second shape lt = let n : length w.sections ≡ 2 * length w.locks = shape.sections in omega arith
 
-module _ (w : State) (t l : ℕ) (steady : IsInductive w) (is_of : IsOf l (place_at w t)) where
+module _ (w : State) (t l : ℕ) (inductive : IsInductive w) (is_of : IsOf l (place_at w t)) where
   -- it holds the section of the line
   pub holds_line : (key : ℕ) → IsWithinLine l (location (place_at w t)) key → section_at w key ≡ Some t
-  holds_line key h = ap (section_at w) h.2 ∙ (steady.stands.sections t l h.0).0
+  holds_line key h = ap (section_at w) h.2 ∙ (inductive.stands.sections t l h.0).0
       (ap (λ (x : Location). x.inside) (location_here l (place_at w t) is_of) ∙ h.1)
 
   -- in no queue but that of its section it stands
   stood_out : (k : ℕ) (m n : Line) → (location (place_at w t)).inside ≡ Some m
       → StandsThere (location (place_at w t))
       → key_of k n ≢ key_of l m → times t (queue_at w (key_of k n)) ≡ 0
-  stood_out k m n within stands ne = steady.stands.lines t k n ∙ elim (cases_eq k l) [
+  stood_out k m n within stands ne = inductive.stands.lines t k n ∙ elim (cases_eq k l) [
     | inl e ↦ ap (λ (x : Location). stood_in x.stands n) (ap (location_at (place_at w t)) e
         ∙ location_here l (place_at w t) is_of) ∙ here stands (λ f. ne (λ i. key_of (e i) (f i)))
     | inr nk ↦ ap (λ (x : Location). stood_in x.stands n) (location_elsewhere l k (place_at w t) is_of nk)

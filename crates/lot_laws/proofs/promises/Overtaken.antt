@@ -75,7 +75,7 @@ module _ (w : State) (h : IsWorld w) (l : ℕ) (sort : (rules_in w l).sort ≡ l
       by_hands (Some x) (Some y) e f =
           let both : Some x.by ≡ Some y.by = sym (inside_main i x e) ∙ inside_main j y f in
           let same : y.by ≡ x.by = cc in
-          sym (h.steady.stands.hands.alone x.by l i j false false sort (taken_held
+          sym (h.inductive.stands.hands.alone x.by l i j false false sort (taken_held
           (place_at w i) x.by l x.want e)
           (taken_held (place_at w j) x.by l y.want (f ∙ (λ n. Some (record { by = same n; want = y.want })))))
 

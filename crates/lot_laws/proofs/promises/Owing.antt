@@ -4,7 +4,7 @@ use Rattle.std.proofs.Common.{ℕ, Bool, true, false, Option, Some, None, if◌t
 use Rattle.std.proofs.Common.{◌↔◌, inl, inr, length, refl, sym, ◌∙◌, ap, subst, get_or-set_same, nat_lt}
 use Rattle.std.proofs.Common.{is_some, length-set}
 use Rattle.lot_machine.specs.Machine.{closed_place}
-use Rattle.lot_laws.proofs.calls.Looking.{alike_calls, closing_steady, like}
+use Rattle.lot_laws.proofs.calls.Looking.{alike_calls, closing_inductive, like}
 use Rattle.lot_laws.proofs.calls.Closings.{closing, closing_there}
 use Rattle.lot_laws.proofs.calls.OwnPlace.{gone_place, gone_told}
 use Rattle.lot_machine.specs.Machine.{close_outcome, state_after_close}
@@ -41,12 +41,12 @@ use Rattle.lot_laws.specs.Refinement.{call_at, call_state}
 use Rattle.spec_locks.specs.Sites.{Line}
 use Rattle.lot_laws.specs.SitesOf.{AreCondvars, AreCounted, IsInductive, key_of}
 use Rattle.lot_machine.proofs.Shape.{both}
-use Rattle.lot_laws.proofs.sites.TurnsKept.{idle_is, after_steady}
+use Rattle.lot_laws.proofs.sites.TurnsKept.{idle_is, after_inductive}
 use Rattle.lot_laws.proofs.calls.SingleCalls.{call_none}
 use Rattle.lot_laws.proofs.condvar.Owes.{SeesBy, calm_owing, first_calm, two_goes_late, went_owing}
 use Rattle.lot_laws.proofs.machine.Parts.{IsLock, IsSingle, next_of, next_single, calls_none, of_lock_of}
 use Rattle.lot_laws.proofs.machine.Parts.{of_own, single_or_two}
-use Rattle.lot_laws.proofs.calls.Looking.{looking_steady, calls_same}
+use Rattle.lot_laws.proofs.calls.Looking.{looking_inductive, calls_same}
 use Rattle.lot_laws.proofs.calls.Events.{rights as rights_at}
 use Rattle.steps_base.specs.Profiles.{Profile}
 use Rattle.steps_base.specs.Calls.{call_by}
@@ -83,7 +83,7 @@ idle_shut w t l none h = by_call (subst (LetsBy w t l) (call_none (place_at w t)
 -- a thread that lets others in calls that lock
 lets_own : (w : State) (t l : ℕ) → IsInductive w → IsSingle (place_at w t) → LetsOthersIn w t l
     → called_lock (place_at w t) ≡ Some l
-lets_own w t l steady single lets = by_lock (called_lock (place_at w t)) refl
+lets_own w t l inductive single lets = by_lock (called_lock (place_at w t)) refl
   where
     by_row : (k : ℕ) (row : Profile) (r : ℕ → Rights) → lock_for (row.purpose k) ≡ k
         → CallsOneLock (Some (row.purpose k))
@@ -102,8 +102,8 @@ lets_own w t l steady single lets = by_lock (called_lock (place_at w t)) refl
     by_lock : (o : Option ℕ) → called_lock (place_at w t) ≡ o → o ≡ Some l
     by_lock None e = absurd (idle_shut w t l e lets)
     by_lock (Some k) e = ap Some (by_row k (profile (place_at w t)) (rights_at w t)
-        (row_promises w t steady k single e).own (row_calls_one w t steady k single e)
-        (subst (LetsBy w t l) (call_own w t steady k single e) lets))
+        (row_promises w t inductive k single e).own (row_calls_one w t inductive k single e)
+        (subst (LetsBy w t l) (call_own w t inductive k single e) lets))
 
 -- a call of one lock waits on no condition variable
 waits_not : (q : Option Purpose) → CallsOneLock q → IsWait q → ⊥
@@ -111,7 +111,7 @@ waits_not None one waits = waits
 waits_not (Some (Waits k n timed)) one waits = one
 waits_not (Some q) one waits = waits
 
-module _ (w v : State) (t : ℕ) (steady : IsInductive w) (behind : IsInductive v)
+module _ (w v : State) (t : ℕ) (inductive : IsInductive w) (afterwards : IsInductive v)
     (single : IsSingle (place_at w t))
     (single_then : IsSingle (place_at v t)) where
   -- tells what it sees, by its row
@@ -119,34 +119,34 @@ module _ (w v : State) (t : ℕ) (steady : IsInductive w) (behind : IsInductive 
       → SeesWaiters w t l m o v
       → RowFinds (sort_at w l) l (word_at w l) (profile (place_at w t)) m
   sees_row l m o own s = (
-    lets_in w t steady l single own s.0,
-    ap (λ (c : CallState). line_let_in (sort_at w l) c.purpose) (sym (call_own w t steady l single own))
+    lets_in w t inductive l single own s.0,
+    ap (λ (c : CallState). line_let_in (sort_at w l) c.purpose) (sym (call_own w t inductive l single own))
         ∙ s.1,
     ap (λ (c : CallState). tells_by (sort_at w l) c.purpose m (word_at w l))
-        (sym (call_own w t steady l single own)) ∙ s.2,
+        (sym (call_own w t inductive l single own)) ∙ s.2,
   )
 
   row_sees : (l : ℕ) (m : Line) (o : Outcome) (own : called_lock (place_at w t) ≡ Some l)
       → RowFinds (sort_at w l) l (word_at w l) (profile (place_at w t)) m → o ≡ outcome.TheVariants.Step
       → act_of (place_at v t) ≡ Enter (One (key_of l m)) → SeesWaiters w t l m o v
   row_sees l m o own s step enters = (
-    lets_out w t steady l single own s.0,
-    ap (λ (c : CallState). line_let_in (sort_at w l) c.purpose) (call_own w t steady l single own) ∙ s.1,
+    lets_out w t inductive l single own s.0,
+    ap (λ (c : CallState). line_let_in (sort_at w l) c.purpose) (call_own w t inductive l single own) ∙ s.1,
     ap (λ (c : CallState). tells_by (sort_at w l) c.purpose m (word_at w l))
-        (call_own w t steady l single own) ∙ s.2,
+        (call_own w t inductive l single own) ∙ s.2,
     step,
     (λ looks. enters),
-    λ waits. absurd (waits_not (call_at w t).purpose (calls_one_lock w t steady single) waits),
+    λ waits. absurd (waits_not (call_at w t).purpose (calls_one_lock w t inductive single) waits),
   )
 
   -- where it goes on to a place of its lock, or ends
   module _ (q : Place) (at_q : place_at v t ≡ q) (l : ℕ) (m : Line) (o : Outcome) where
     inside_then : IsInside v t l m → Owes v t l m
-    inside_then i = (owing_is v t behind single_then l m).1 (inl i)
+    inside_then i = (owing_is v t afterwards single_then l m).1 (inl i)
 
     within_then : Owes v t l m → (profile q).role.inside ≡ Some m → IsInside v t l m
     within_then h i = let own = owes_own (place_at v t) l m single_then h
-        in (inside_own v t behind l single_then own m).0 (ap (λ p. (profile p).role.inside) at_q ∙ i)
+        in (inside_own v t afterwards l single_then own m).0 (ap (λ p. (profile p).role.inside) at_q ∙ i)
 
     row_then : Owes v t l m → (profile q).owes ≡ Some m
     row_then h = ap (λ p. (profile p).owes) (sym at_q)
@@ -177,9 +177,9 @@ module _ (w v : State) (t : ℕ) (steady : IsInductive w) (behind : IsInductive 
       since h =
           let own = own_before (ap called_lock (sym at_q) ∙ owes_own (place_at v t) l m single_then h)
           (called_lock (place_at w t)) refl in
-          elim ((owing_is v t behind single_then l m).0 h) [
+          elim ((owing_is v t afterwards single_then l m).0 h) [
             | inl i ↦ inl i
-            | inr g ↦ elim ((owes_next w t l steady single own).since m (row_then q at_q l m o h)) [
+            | inr g ↦ elim ((owes_next w t l inductive single own).since m (row_then q at_q l m o h)) [
               | inl i ↦ inl (within_then q at_q l m o h i)
               | inr s ↦ inr (row_sees l m o own s.0 s.1 g.0)
             ]
@@ -187,8 +187,8 @@ module _ (w v : State) (t : ℕ) (steady : IsInductive w) (behind : IsInductive 
 
       saw : SeesWaiters w t l m o v → Owes v t l m
       saw s =
-          let own = lets_own w t l steady single s.0 in
-          let owes = (owes_next w t l steady single own).sees m (sees_row l m o own s) s.3
+          let own = lets_own w t l inductive single s.0 in
+          let owes = (owes_next w t l inductive single own).sees m (sees_row l m o own s) s.3
           (λ looks. ap act_of (sym at_q) ∙ s.4 (looks_then own (called_lock q) refl looks)) in
           owed_own (place_at v t) l (ap called_lock at_q ∙ still (called_lock q) refl owes own) single_then
           ∙ ap (λ p. (profile p).owes) at_q ∙ owes
@@ -210,7 +210,7 @@ module _ (w v : State) (t : ℕ) (steady : IsInductive w) (behind : IsInductive 
               let own_then : called_lock (place_at v t) ≡ Some l = ap called_lock at_q ∙ e
               ∙ ap Some (same_lock j e own) in
               subst (λ (c : CallState). LooksFirst c.purpose l × (c.released ≡ false))
-              (sym (call_own v t behind l single_then own_then)) (subst (λ p. RowLooks l (profile p))
+              (sym (call_own v t afterwards l single_then own_then)) (subst (λ p. RowLooks l (profile p))
               (sym at_q) looks)
 
   -- it owes nothing but what it is inside, and lets nobody in
@@ -224,33 +224,35 @@ module _ (w v : State) (t : ℕ) (steady : IsInductive w) (behind : IsInductive 
   )
 
 -- a thread goes on, in a call of one lock or of two
-gone_owes : (w : State) (t : ℕ) (steady : IsInductive w) (there : t < length w.places)
+gone_owes : (w : State) (t : ℕ) (inductive : IsInductive w) (there : t < length w.places)
     → IsInductive (state_after_go w t)
     → (l : ℕ) (m : Line)
     → Owes (state_after_go w t) t l m
     ↔ (IsInside (state_after_go w t) t l m ⊎ SeesWaiters w t l m (go_outcome w t) (state_after_go w t))
-gone_owes w t steady there behind l m = elim (single_or_two (place_at w t)) [
+gone_owes w t inductive there afterwards l m = elim (single_or_two (place_at w t)) [
   | inl single ↦ (
       let v = state_after_go w t in
       let at_q : place_at v t ≡ next_place (place_at w t) (go_reply w t) = gone_place w t single there in
       subst (λ o. Owes v t l m ↔ (IsInside v t l m ⊎ SeesWaiters w t l m o v)) (sym (gone_told w t single))
-      (go_owes w v t steady behind single
+      (go_owes w v t inductive afterwards single
       (subst IsSingle (sym at_q) (next_single (place_at w t) (go_reply w t) single)) at_q l m)
       )
   | inr two ↦ subst (λ p. Owes (state_after_going w t p) t l m ↔ (IsInside (state_after_going w t p) t l m
       ⊎ SeesWaiters w t l m (going_outcome w t p) (state_after_going w t p))) (sym two.is)
-      (went_owing w t two.lock two.at steady two.is there (subst (λ p. IsInductive (state_after_going w t p))
-      two.is behind) l m)
+      (went_owing w t two.lock two.at inductive two.is there
+      (subst (λ p. IsInductive (state_after_going w t p))
+      two.is afterwards) l m)
 ]
 
-module _ (w : State) (t : ℕ) (shape : IsWellFormed w) (steady : IsInductive w) (there : t < length w.places)
+module _ (w : State) (t : ℕ) (shape : IsWellFormed w) (inductive : IsInductive w) (there : t
+    < length w.places)
   where
     -- a call begins, of one lock or of two
     begun_owing : (c : Call) → can_begin w t c ≡ true → IsInductive (state_after_begin w t c)
         → (l : ℕ) (m : Line) (o : Outcome)
         → Owes (state_after_begin w t c) t l m
         ↔ (IsInside (state_after_begin w t c) t l m ⊎ SeesWaiters w t l m o (state_after_begin w t c))
-    begun_owing c can behind = by_call c here behind
+    begun_owing c can afterwards = by_call c here afterwards
       where
         at_rest : place_at w t ≡ Idle
         at_rest = idle_is (place_at w t) (both (is_idle (place_at w t)) (is_open_to w t c) can).0
@@ -268,7 +270,7 @@ module _ (w : State) (t : ℕ) (shape : IsWellFormed w) (steady : IsInductive w)
         by_call (call.TheVariants.Condvar k d) is after =
             calm_owing w (state_after_begin w t (call.TheVariants.Condvar k d)) t k (condvar_first d) after is
             (first_calm d) shut
-        by_call d is after = quiet_owes w (state_after_begin w t d) t steady after
+        by_call d is after = quiet_owes w (state_after_begin w t d) t inductive after
             (subst IsSingle (sym at_rest) tt) (subst IsSingle (sym is) tt)
             (first_place (kind_at w (lock_in d))
             d) is
@@ -281,23 +283,23 @@ module _ (w : State) (t : ℕ) (shape : IsWellFormed w) (steady : IsInductive w)
         → (l : ℕ) (m : Line) (told : Outcome)
         → Owes (state_after_late_on w t o) t l m
         ↔ (IsInside (state_after_late_on w t o) t l m ⊎ SeesWaiters w t l m told (state_after_late_on w t o))
-    late_owing None e can behind = absurd cc
-    late_owing (Some key) e can behind = elim (single_or_two (place_at w t)) [
+    late_owing None e can afterwards = absurd cc
+    late_owing (Some key) e can afterwards = elim (single_or_two (place_at w t)) [
       | inl single ↦ (
           let of = late_line (place_at w t) key single e in
           let n : Line = of.2.0 in
           let after = late_next (place_at w t) n single of.2.1 in
-          quiet_owes w (state_after_late_on w t (Some key)) t steady behind single
+          quiet_owes w (state_after_late_on w t (Some key)) t inductive afterwards single
           (subst IsSingle (sym here) (next_single (place_at w t) Late single))
           (next_place (place_at w t) Late) here
           (λ m h. after.inside ∙ sym after.owes ∙ h)
-          (λ l lets. let own = lets_own w t l steady single lets
-          in ((row_promises w t steady l single own).late n of.2.1).shut
-          (lets_in w t steady l single own lets))
+          (λ l lets. let own = lets_own w t l inductive single lets
+          in ((row_promises w t inductive l single own).late n of.2.1).shut
+          (lets_in w t inductive l single own lets))
           )
       | inr two ↦ (
           let late = two_goes_late two.lock two.at key (ap late_key (sym two.is) ∙ e) in
-          calm_owing w (state_after_late_on w t (Some key)) t two.lock late.next behind (here
+          calm_owing w (state_after_late_on w t (Some key)) t two.lock late.next afterwards (here
           ∙ ap (λ p. next_place p Late) two.is ∙ ap (condvar_goes two.lock) late.goes) late.calm
           (λ l lets. late.shut w t l (rights_at w t) (subst (λ p. LetsBy w t l (call_state p (rights_at w t)))
           two.is lets))
@@ -314,13 +316,14 @@ module _ (w : State) (t : ℕ) (shape : IsWellFormed w) (steady : IsInductive w)
         → Owes (state_after_look w t o) t l m
         ↔ (IsInside (state_after_look w t o) t l m ⊎ SeesWaiters w t l m (look_outcome w t o)
         (state_after_look w t o))
-    spun_owing None is can behind l m = absurd cc
-    spun_owing (Some q) is can behind l m =
+    spun_owing None is can afterwards l m = absurd cc
+    spun_owing (Some q) is can afterwards l m =
         subst (λ (c : CallState). Owes (state_after_go (put w t q) t) t l m
         ↔ (IsInside (state_after_go (put w t q) t) t l m ⊎ SeesBy w t l m (go_outcome (put w t q) t)
         (state_after_go (put w t q) t) c)) (calls_same w t there q is t)
-        (gone_owes (put w t q) t (looking_steady w t there q is steady) (rw (length-set w.places t q) there)
-        behind l m)
+        (gone_owes (put w t q) t (looking_inductive w t there q is inductive)
+        (rw (length-set w.places t q) there)
+        afterwards l m)
 
     -- its closure has answered, and it is in its call as before
     closed_owing : (succeeded : Bool) (one : RunsOne (place_at w t))
@@ -330,12 +333,13 @@ module _ (w : State) (t : ℕ) (shape : IsWellFormed w) (steady : IsInductive w)
         ↔ (IsInside (state_after_close w t succeeded) t l m
         ⊎ SeesWaiters w t l m (close_outcome w t succeeded)
         (state_after_close w t succeeded))
-    closed_owing succeeded one behind l m =
+    closed_owing succeeded one afterwards l m =
         subst (λ (c : CallState). Owes (state_after_go v t) t l m ↔ (IsInside (state_after_go v t) t l m
         ⊎ SeesBy w t l m (go_outcome v t) (state_after_go v t) c))
         (alike_calls w t there (closed_place w t succeeded) (like w t there succeeded one) t)
-        (gone_owes v t (closing_steady w t there succeeded one steady) (closing_there w t there succeeded one)
-        behind l m)
+        (gone_owes v t (closing_inductive w t there succeeded one inductive)
+        (closing_there w t there succeeded one)
+        afterwards l m)
       where
         v : State
         v = closing w t there succeeded one
@@ -345,24 +349,29 @@ module _ (w : State) (t : ℕ) (shape : IsWellFormed w) (steady : IsInductive w)
         → Owes (state_after_turn w t x) t l m
         ↔ (IsInside (state_after_turn w t x) t l m ⊎ SeesWaiters w t l m (turn_outcome w t x)
         (state_after_turn w t x))
-    turned_owing (turn.TheVariants.Begin c) can behind l m =
-        begun_owing c can behind l m outcome.TheVariants.Step
-    turned_owing turn.TheVariants.Go can behind l m = gone_owes w t steady there behind l m
-    turned_owing turn.TheVariants.Spin can behind l m = spun_owing (looking (place_at w t)) refl can behind l
+    turned_owing (turn.TheVariants.Begin c) can afterwards l m =
+        begun_owing c can afterwards l m outcome.TheVariants.Step
+    turned_owing turn.TheVariants.Go can afterwards l m = gone_owes w t inductive there afterwards l m
+    turned_owing turn.TheVariants.Spin can afterwards l m = spun_owing (looking (place_at w t)) refl can
+        afterwards l
         m
-    turned_owing turn.TheVariants.Late can behind l m = late_owing (late_key (place_at w t)) refl can behind l
+    turned_owing turn.TheVariants.Late can afterwards l m = late_owing (late_key (place_at w t)) refl can
+        afterwards l
         m
         outcome.TheVariants.Step
-    turned_owing turn.TheVariants.Ok can behind l m = closed_owing true (closes_one w t true can) behind l m
-    turned_owing turn.TheVariants.Err can behind l m = closed_owing false (closes_one w t false can) behind l
+    turned_owing turn.TheVariants.Ok can afterwards l m = closed_owing true (closes_one w t true can)
+        afterwards l m
+    turned_owing turn.TheVariants.Err can afterwards l m = closed_owing false (closes_one w t false can)
+        afterwards l
         m
 
 pub owes_since : (w : State) (s : Step) → IsWellFormed w → IsInductive w → AreCounted w → AreCondvars w
     → OwesSince w s.thread (step_outcome w s) (after w s)
-owes_since w s shape steady counted condvars = record {
-  own = own (is_possible w s) refl (after_steady w s shape steady counted condvars);
-  goes_on = λ l possible gives. goes_on_waking w s steady l possible gives;
-  takes = λ l lets out inside. takes_next w s steady (after_steady w s shape steady counted condvars) l lets
+owes_since w s shape inductive counted condvars = record {
+  own = own (is_possible w s) refl (after_inductive w s shape inductive counted condvars);
+  goes_on = λ l possible gives. goes_on_waking w s inductive l possible gives;
+  takes = λ l lets out inside. takes_next w s inductive (after_inductive w s shape inductive counted condvars)
+      l lets
       out inside;
   others = λ u l ne. others_owe w s u l ne;
 }
@@ -375,7 +384,8 @@ owes_since w s shape steady counted condvars = record {
         ↔ (IsInside (if b then state_after_turn w s.thread s.turn else w) s.thread l m
         ⊎ SeesWaiters w s.thread l m (if b then turn_outcome w s.thread s.turn
         else outcome.TheVariants.NotNow) (if b then state_after_turn w s.thread s.turn else w))
-    own true can behind l m ne = let h = both (nat_lt s.thread (length w.places)) (can_turn w s.thread s.turn)
-        can in turned_owing w s.thread shape steady (ltb-true s.thread (length w.places) h.0) s.turn h.1
-        behind l m
-    own false cannot behind l m ne = absurd (ne refl)
+    own true can afterwards l m ne = let h = both (nat_lt s.thread (length w.places))
+        (can_turn w s.thread s.turn)
+        can in turned_owing w s.thread shape inductive (ltb-true s.thread (length w.places) h.0) s.turn h.1
+        afterwards l m
+    own false cannot afterwards l m ne = absurd (ne refl)

@@ -133,7 +133,7 @@ not_released (Some q) one released l m h = h
 
 -- ---------------------------------------------------------------- each place
 
-module _ (w : State) (t : ℕ) (steady : IsInductive w) where
+module _ (w : State) (t : ℕ) (inductive : IsInductive w) where
   -- in a call of one lock
   pub row_promises : (l : ℕ) → IsSingle (place_at w t) → called_lock (place_at w t) ≡ Some l
       → RowPromises (sort_at w l) l (profile (place_at w t)) (act_of (place_at w t))
@@ -145,7 +145,8 @@ module _ (w : State) (t : ℕ) (steady : IsInductive w) where
       by_place (Condvar k at) is own = absurd (subst IsSingle is single)
       by_place (Once k at) is own =
           let here : k ≡ l = cc in
-          let admitted : (rules_in w k).sort ≡ locks.Once = subst (FitsItsLock w) is (steady.stands.calls t)
+          let admitted : (rules_in w k).sort ≡ locks.Once =
+          subst (FitsItsLock w) is (inductive.stands.calls t)
           in
           subst (λ j. RowPromises (sort_at w j) j (profile (Once k at)) (act_of (Once k at))) here
           (subst (λ s. RowPromises s k (profile (Once k at)) (act_of (Once k at))) (sym admitted)
@@ -153,13 +154,13 @@ module _ (w : State) (t : ℕ) (steady : IsInductive w) where
       by_place (Semaphore k at) is own =
           let here : k ≡ l = cc in
           let admitted : (rules_in w k).sort ≡ locks.Semaphore =
-          (subst (FitsItsLock w) is (steady.stands.calls t)).0 in
+          (subst (FitsItsLock w) is (inductive.stands.calls t)).0 in
           subst (λ j. RowPromises (sort_at w j) j (profile (Semaphore k at)) (act_of (Semaphore k at))) here
           (subst (λ s. RowPromises s k (profile (Semaphore k at)) (act_of (Semaphore k at))) (sym admitted)
           (semaphore_promises k at))
       by_place (Mutex k at) is own =
           let here : k ≡ l = cc in
-          let admitted : FitsItsLock w (Mutex k at) = rw is at (steady.stands.calls t) in
+          let admitted : FitsItsLock w (Mutex k at) = rw is at (inductive.stands.calls t) in
           let sort : locks.Mutex ≡ sort_at w k = sym (ap (λ r. r.sort) (mutex_rules (kind_at w k) admitted))
           in
           subst (λ j. RowPromises (sort_at w j) j (profile (Mutex k at)) (act_of (Mutex k at))) here
@@ -167,7 +168,7 @@ module _ (w : State) (t : ℕ) (steady : IsInductive w) where
           (mutex_promises k at))
       by_place (RwLock k a c) is own =
           let here : k ≡ l = cc in
-          let admitted : FitsItsLock w (RwLock k a c) = rw is at (steady.stands.calls t) in
+          let admitted : FitsItsLock w (RwLock k a c) = rw is at (inductive.stands.calls t) in
           subst (λ j. RowPromises (sort_at w j) j (call_profile a c) (call_act k a c)) here
           (call_promises (rules_in w k) a k c admitted.0 admitted.1)
 
@@ -180,20 +181,21 @@ module _ (w : State) (t : ℕ) (steady : IsInductive w) where
       by_place (Condvar k at) is own = subst IsSingle is single
       by_place (Once k at) is own =
           let here : k ≡ l = cc in
-          let sort : sort_at w k ≡ locks.Once = subst (FitsItsLock w) is (steady.stands.calls t) in
+          let sort : sort_at w k ≡ locks.Once = subst (FitsItsLock w) is (inductive.stands.calls t) in
           let other : sort_at w k ≡ locks.Condvar = ap (sort_at w) here ∙ is_condvar in cc
       by_place (Semaphore k at) is own =
           let here : k ≡ l = cc in
-          let sort : sort_at w k ≡ locks.Semaphore = (subst (FitsItsLock w) is (steady.stands.calls t)).0 in
+          let sort : sort_at w k ≡ locks.Semaphore = (subst (FitsItsLock w) is (inductive.stands.calls t)).0
+          in
           let other : sort_at w k ≡ locks.Condvar = ap (sort_at w) here ∙ is_condvar in cc
       by_place (Mutex k at) is own =
           let here : k ≡ l = cc in
-          let admitted : FitsItsLock w (Mutex k at) = rw is at (steady.stands.calls t) in
+          let admitted : FitsItsLock w (Mutex k at) = rw is at (inductive.stands.calls t) in
           let sort : sort_at w k ≡ locks.Mutex = ap (λ r. r.sort) (mutex_rules (kind_at w k) admitted) in
           let other : sort_at w k ≡ locks.Condvar = ap (sort_at w) here ∙ is_condvar in cc
       by_place (RwLock k a c) is own =
           let here : k ≡ l = cc in
-          let admitted : FitsItsLock w (RwLock k a c) = rw is at (steady.stands.calls t) in
+          let admitted : FitsItsLock w (RwLock k a c) = rw is at (inductive.stands.calls t) in
           let other : false ≡ true = sym (ap has_readers (ap (sort_at w) here ∙ is_condvar)) ∙ admitted.0.0
           in cc
 
@@ -235,20 +237,20 @@ module _ (w : State) (t : ℕ) (steady : IsInductive w) where
             let c = (row_promises l single own).aside
             (sym (ap (λ (x : Location). x.stands) (location_own (place_at w t) l own)) ∙ stands) in (
               c.0,
-              (steady.sites.site l).held t (Pends c.0)
+              (inductive.sites.site l).held t (Pends c.0)
                   (ap (λ (d : Role). d.claims) (role_own (place_at w t) l own) ∙ c.1),
             )
 
         by_first : (o : Option ℕ) → first_of (queue_at w (2 * l + 1)) ≡ o → o ≡ Some t
         by_first None none = absurd (
-            let one : Lines.times t (queue_at w (2 * l + 1)) ≡ 1 = steady.stands.lines t l Second
+            let one : Lines.times t (queue_at w (2 * l + 1)) ≡ 1 = inductive.stands.lines t l Second
             ∙ ap (λ x. stood_in x Second) stands in
             let zero_times : Lines.times t (queue_at w (2 * l + 1)) ≡ 0 = ap (Lines.times t)
             (none_first (queue_at w (2 * l + 1)) none) in
             omega arith
             )
         by_first (Some u) some =
-            let of = (steady.sites.site l).state.aside_pending u some in
+            let of = (inductive.sites.site l).state.aside_pending u some in
             ap Some (sym (subst (λ o. IsSomePending o u) pending.1 of))
 
     -- how often it stands anywhere about a lock
@@ -260,8 +262,8 @@ module _ (w : State) (t : ℕ) (steady : IsInductive w) where
 
         by_line : (o : Option Line) → (location_at (place_at w t) l).stands ≡ o
             → one_if_thread t (lock_state w l).aside ≡ stood_in o Second
-        by_line None e = absent (steady.stands.lines t l Second ∙ ap (λ x. stood_in x Second) e)
-        by_line (Some Main) e = absent (steady.stands.lines t l Second ∙ ap (λ x. stood_in x Second) e)
+        by_line None e = absent (inductive.stands.lines t l Second ∙ ap (λ x. stood_in x Second) e)
+        by_line (Some Main) e = absent (inductive.stands.lines t l Second ∙ ap (λ x. stood_in x Second) e)
         by_line (Some Second) e = ap (one_if_thread t) (in_second e) ∙ ap (λ b. if b then 1 else 0) (same t)
 
     pub standing_by : standing t (lock_state w l)
@@ -270,7 +272,7 @@ module _ (w : State) (t : ℕ) (steady : IsInductive w) where
         (taken_at (place_at w t) l)
     standing_by =
         let a : locks.times t (lock_state w l).queue ≡ stood_in (location_at (place_at w t) l).stands Main =
-        queued_times t (queue_at w (2 * l)) ∙ steady.stands.lines t l Main in
+        queued_times t (queue_at w (2 * l)) ∙ inductive.stands.lines t l Main in
         let b = aside_by in
         omega arith
 
@@ -367,10 +369,10 @@ module _ (w : State) (t : ℕ) (steady : IsInductive w) where
 
     pub inside_own : (m : Line) → (profile (place_at w t)).role.inside ≡ Some m ↔ IsInside w t l m
     inside_own m = (
-      (λ h. (steady.stands.sections t l m).0 (ap (λ (x : Location). x.inside)
+      (λ h. (inductive.stands.sections t l m).0 (ap (λ (x : Location). x.inside)
           (location_own (place_at w t) l own) ∙ h)),
       λ h. sym (ap (λ (x : Location). x.inside) (location_own (place_at w t) l own))
-          ∙ (steady.stands.sections t l m).1 h,
+          ∙ (inductive.stands.sections t l m).1 h,
     )
 
     outside_own : ((m : Line) → IsInside w t l m → ⊥) → (profile (place_at w t)).role.inside ≡ None
@@ -461,7 +463,7 @@ module _ (w : State) (t : ℕ) (steady : IsInductive w) where
           → called_lock (place_at w t) ≡ Some l
       inside_calls o e i = role_calls (place_at w t) l single
           (λ idles. let f : (location_at (place_at w t) l).inside ≡ Some m =
-          (steady.stands.sections t l m).1 i in
+          (inductive.stands.sections t l m).1 i in
           let g : ◌≡◌ {A = Option Line} None (Some m) = sym (ap (λ (d : Role). d.inside) idles)
           ∙ inside_is (place_at w t) l ∙ f in cc)
 

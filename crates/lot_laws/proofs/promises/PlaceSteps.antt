@@ -100,15 +100,15 @@ call_owes w t k a c admits stands alone = leads (call_next a c (reply_to w t (ca
 pub owes_next : (w : State) (t l : ℕ) → IsInductive w → IsSingle (place_at w t) → called_lock (place_at w t)
     ≡ Some l
     → OwesAt w t (sort_at w l) l (place_at w t)
-owes_next w t l steady single own = by_place (place_at w t) refl own
+owes_next w t l inductive single own = by_place (place_at w t) refl own
   where
     -- an exclusive owner knows the word but for those that wait
     alone : (k : ℕ) (a : Admission) (c : RwLockCallPlace) → place_at w t ≡ RwLock k a c
         → has_readers (rules_in w k).sort ≡ true
         → (b : Bool) (seen : ℕ) → c ≡ HandOver access.Exclusive b (handing.Free seen) → IsOwners (word_at w k)
-    alone k a c is readers b seen e = subst IsOwners (sym (steady.sites.word k))
-        (owners_word (rules_in w k) (site_of w k) t readers (steady.sites.site k)
-        ((steady.sites.site k).held t (Has Exclusive) claims))
+    alone k a c is readers b seen e = subst IsOwners (sym (inductive.sites.word k))
+        (owners_word (rules_in w k) (site_of w k) t readers (inductive.sites.site k)
+        ((inductive.sites.site k).held t (Has Exclusive) claims))
       where
         claims : (role_on (place_at w t) k).claims ≡ Some (Has Exclusive)
         claims = ap (λ p. (role_on p k).claims) (is ∙ ap (RwLock k a) e)
@@ -119,26 +119,27 @@ owes_next w t l steady single own = by_place (place_at w t) refl own
     by_place Idle is own = absurd cc
     by_place (Once k at) is own =
         let here : k ≡ l = cc in
-        let admitted : (rules_in w k).sort ≡ locks.Once = subst (FitsItsLock w) is (steady.stands.calls t) in
+        let admitted : (rules_in w k).sort ≡ locks.Once = subst (FitsItsLock w) is (inductive.stands.calls t)
+        in
         subst (λ j. OwesAt w t (sort_at w j) j (Once k at)) here (subst (λ s. OwesAt w t s k (Once k at))
         (sym admitted) (once_owes_next w t k at))
     by_place (Semaphore k at) is own =
         let here : k ≡ l = cc in
-        let admitted : FitsItsLock w (Semaphore k at) = subst (FitsItsLock w) is (steady.stands.calls t) in
+        let admitted : FitsItsLock w (Semaphore k at) = subst (FitsItsLock w) is (inductive.stands.calls t) in
         subst (λ j. OwesAt w t (sort_at w j) j (Semaphore k at)) here
         (subst (λ s. OwesAt w t s k (Semaphore k at)) (sym admitted.0) (semaphore_owes_next w t k at))
     by_place (Condvar k at) is own = absurd (subst IsSingle is single)
     by_place (Mutex k at) is own =
         let here : k ≡ l = cc in
-        let admitted : FitsItsLock w (Mutex k at) = rw is at (steady.stands.calls t) in
+        let admitted : FitsItsLock w (Mutex k at) = rw is at (inductive.stands.calls t) in
         let sort : locks.Mutex ≡ sort_at w k = sym (ap (λ r. r.sort) (mutex_rules (kind_at w k) admitted)) in
         subst (λ j. OwesAt w t (sort_at w j) j (Mutex k at)) here
         (subst (λ s. OwesAt w t s k (Mutex k at)) sort
         (owes_then (λ m. mutex_tells (Some ((profile (Mutex k at)).purpose k)) m (word_at w k))
-        (mutex_owes_next w t steady k at is)))
+        (mutex_owes_next w t inductive k at is)))
     by_place (RwLock k a c) is own =
         let here : k ≡ l = cc in
-        let admitted : FitsItsLock w (RwLock k a c) = rw is at (steady.stands.calls t) in
+        let admitted : FitsItsLock w (RwLock k a c) = rw is at (inductive.stands.calls t) in
         subst (λ j. OwesAt w t (sort_at w j) j (RwLock k a c)) here (call_owes w t k a c admitted.0 admitted.1
         (alone k a c is admitted.0.0))
 

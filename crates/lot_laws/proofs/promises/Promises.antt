@@ -127,7 +127,7 @@ within r s shared h = by_sort r.sort refl shared
         by_count (inr few) = inl few
     by_sort sort e f = absurd (grind arith)
 
-module _ (w : State) (steady : IsInductive w) where
+module _ (w : State) (inductive : IsInductive w) where
   -- in a call of one lock, or of two
   by_call : (t : ℕ) (T : Place → Type 0) → (IsSingle (place_at w t) → T (place_at w t))
       → ((k : ℕ) (at : CondvarPlace) → place_at w t ≡ Condvar k at → FitsItsLock w (Condvar k at)
@@ -136,7 +136,7 @@ module _ (w : State) (steady : IsInductive w) where
   by_call t T one both = elim (single_or_two (place_at w t)) [
     | inl single ↦ one single
     | inr two ↦ subst T (sym two.is) (both two.lock two.at two.is (subst (FitsItsLock w) two.is
-        (steady.stands.calls t)))
+        (inductive.stands.calls t)))
   ]
 
   abbrev rights_now : ℕ → ℕ → Rights
@@ -144,11 +144,11 @@ module _ (w : State) (steady : IsInductive w) where
 
   waits : (t l : ℕ) → 1 ≤ standing t (lock_state w l) → MayWait (call_at w t).purpose l
   waits t l h = by_call t (λ p. MayWait (call_state p (rights_now t)).purpose l)
-      (λ single. let at_lock = stands_waiting w t steady l single h in
-      subst (λ (c : CallState). MayWait c.purpose l) (sym (call_own w t steady l single at_lock.0))
-      ((row_promises w t steady l single at_lock.0).waits at_lock.1))
+      (λ single. let at_lock = stands_waiting w t inductive l single h in
+      subst (λ (c : CallState). MayWait c.purpose l) (sym (call_own w t inductive l single at_lock.0))
+      ((row_promises w t inductive l single at_lock.0).waits at_lock.1))
       (λ k at is fits. subst (λ q. MayWait q l) (sym (two_purpose k at (rights_now t)))
-      (two_wait k at l (subst (λ p. StandsAt p l) is (stands_there w t steady l h))))
+      (two_wait k at l (subst (λ p. StandsAt p l) is (stands_there w t inductive l h))))
 
   known : (t : ℕ) → KnowsRights (sort_at w) (call_at w t).purpose
   known t = by_call t (λ p. KnowsRights (sort_at w) (call_state p (rights_now t)).purpose)
@@ -161,7 +161,8 @@ module _ (w : State) (steady : IsInductive w) where
       by_lock single None e = subst (λ (c : CallState). KnowsRights (sort_at w) c.purpose)
           (sym (call_none (place_at w t) e (λ k. rights_of (lock_state w k) t))) tt
       by_lock single (Some l) e = subst (λ (c : CallState). KnowsRights (sort_at w) c.purpose)
-          (sym (call_own w t steady l single e)) ((row_promises w t steady l single e).known (sort_at w) refl)
+          (sym (call_own w t inductive l single e)) ((row_promises w t inductive l single e).known (sort_at w)
+          refl)
 
   retrying : (t l : ℕ) → (retries_on (place_at w t) l ≡ true) ↔ ((call_at w t).retries ≡ Some l)
   retrying t l = by_call t (λ p. (retries_on p l ≡ true) ↔ ((call_state p (rights_now t)).retries ≡ Some l))
@@ -176,18 +177,18 @@ module _ (w : State) (steady : IsInductive w) where
   second_line : (t l : ℕ) → Owes w t l Second → has_readers (sort_at w l) ≡ true
   second_line t l = by_call t (λ p. line_owed p l ≡ Some Second → has_readers (sort_at w l) ≡ true)
       (λ single h. let own = owes_own (place_at w t) l Second single h in
-      (row_promises w t steady l single own).owing.second (sym (owed_own (place_at w t) l own single) ∙ h))
+      (row_promises w t inductive l single own).owing.second (sym (owed_own (place_at w t) l own single) ∙ h))
       (λ k at is fits h. absurd (two_owe_main k at l h))
 
   one_place : (t l k : ℕ) → 1 ≤ standing t (lock_state w l) → 1 ≤ standing t (lock_state w k) → l ≡ k
   one_place t l k h g = by_call t (λ p. StandsAt p l → StandsAt p k → l ≡ k)
-      (λ single s z. one_purpose (call_at w t).purpose l k (calls_one_lock w t steady single) (waits t l h)
+      (λ single s z. one_purpose (call_at w t).purpose l k (calls_one_lock w t inductive single) (waits t l h)
       (waits t k g))
       (λ j at is fits. two_one w j at fits l k)
-      (stands_there w t steady l h) (stands_there w t steady k g)
+      (stands_there w t inductive l h) (stands_there w t inductive k g)
 
   limited : (l : ℕ) → has_readers (sort_at w l) ≡ true → IsWithinLimit (rules_in w l) (lock_state w l)
-  limited l shared = within (rules_in w l) (lock_state w l) shared (steady.sites.limits l shared).1
+  limited l shared = within (rules_in w l) (lock_state w l) shared (inductive.sites.limits l shared).1
 
   -- ---------------------------------------------------------------- nobody is forgotten
 
@@ -200,29 +201,29 @@ module _ (w : State) (steady : IsInductive w) where
         (subst (λ d. IsDebtorIn (sort_at w l) d m) idles debtor))
 
     row : RowLooksAfter (sort_at w l) l (profile (place_at w t)) (act_of (place_at w t)) m
-    row = (row_promises w t steady l single own).debtor m (subst (λ d. IsDebtorIn (sort_at w l) d m)
+    row = (row_promises w t inductive l single own).debtor m (subst (λ d. IsDebtorIn (sort_at w l) d m)
         (role_own (place_at w t) l own) debtor)
-        (λ claims. unowned ((steady.sites.site l).held t (Has Exclusive) (ap (λ (d : Role). d.claims)
+        (λ claims. unowned ((inductive.sites.site l).held t (Has Exclusive) (ap (λ (d : Role). d.claims)
         (role_own (place_at w t) l own) ∙ claims)))
 
     debt_of : (n : Line) → HasDebt (sort_at w l) l (profile (place_at w t)) n → IsDebtorOf w t l n
     debt_of Main (inl wakes) = inl (
       owed_own (place_at w t) l own single ∙ wakes.0,
       subst (λ (c : CallState). WakesWaiters (sort_at w l) c.purpose c.gave_up c.recalls l)
-          (sym (call_own w t steady l single own)) wakes.1,
+          (sym (call_own w t inductive l single own)) wakes.1,
     )
     debt_of Main (inr again) = inr (
-      ap (λ (c : CallState). c.retries) (call_own w t steady l single own)
+      ap (λ (c : CallState). c.retries) (call_own w t inductive l single own)
           ∙ ap (λ b. if b then Some l else None) again.0,
       ap (λ (c : CallState). counts_some (sort_at w l) (want_of c.purpose))
-          (call_own w t steady l single own) ∙ again.1,
+          (call_own w t inductive l single own) ∙ again.1,
     )
     debt_of Second owes = owed_own (place_at w t) l own single ∙ owes
 
     stands_nowhere : (k : ℕ) → standing t (lock_state w k) ≡ 0
     stands_nowhere k = elim (cases_lt (standing t (lock_state w k)) 1) [
       | inl none ↦ omega arith
-      | inr some ↦ absurd (elim (stands_waiting w t steady k single some).1 [
+      | inr some ↦ absurd (elim (stands_waiting w t inductive k single some).1 [
         | inl in_line ↦ in_line row.stands
         | inr taken ↦ taken row.taken
       ])
@@ -246,7 +247,7 @@ module _ (w : State) (steady : IsInductive w) where
 
     mutex_sort : mutex_beside two.at ≡ Some l → sort_at w l ≡ sorts.Mutex
     mutex_sort names = ap (λ (r : Rules). r.sort) (plain_rules (kind_at w l)
-        ((fits_two w t steady two).mutex l names))
+        ((fits_two w t inductive two).mutex l names))
 
     purpose_two : (call_at w t).purpose ≡ Some (condvar_place_purpose two.at two.lock)
     purpose_two = ap (λ p. (call_state p (rights_now t)).purpose) two.is ∙ two_purpose two.lock two.at
@@ -287,7 +288,7 @@ module _ (w : State) (steady : IsInductive w) where
       nowhere_two k = elim looks.stands [
         | inl none ↦ inl (elim (cases_lt (standing t (lock_state w k)) 1) [
           | inl few ↦ omega arith
-          | inr some ↦ absurd (none k (subst (λ p. StandsAt p k) two.is (stands_there w t steady k some)))
+          | inr some ↦ absurd (none k (subst (λ p. StandsAt p k) two.is (stands_there w t inductive k some)))
         ])
         | inr released ↦ inr (
           subst (λ q. WaitHasReleased q (call_at w t).released l Main) (sym purpose_two)
@@ -309,10 +310,11 @@ module _ (w : State) (steady : IsInductive w) where
         ≢ Some t
         → IsLookedAfterIn w l Main
     looked_main debtor unowned = let there = named_there Main debtor in
-        looks_two there.0 (looks_beside two.lock two.at l (fits_two w t steady two).reached there.0
+        looks_two there.0 (looks_beside two.lock two.at l (fits_two w t inductive two).reached there.0
         (subst (λ s. IsDebtorIn s (condvar_row two.at).role Main) (mutex_sort there.0)
         (subst (λ d. IsDebtorIn (sort_at w l) d Main) there.1 debtor))
-        (λ claims. unowned ((steady.sites.site l).held t (Has Exclusive) (ap (λ (d : Role). d.claims) there.1
+        (λ claims. unowned ((inductive.sites.site l).held t (Has Exclusive)
+        (ap (λ (d : Role). d.claims) there.1
         ∙ claims))))
 
     looked_two : (m : Line) → IsDebtorIn (sort_at w l) (role_on (place_at w t) l) m
@@ -320,7 +322,7 @@ module _ (w : State) (steady : IsInductive w) where
         → IsLookedAfterIn w l m
     looked_two Main debtor unowned = looked_main debtor unowned
     looked_two Second debtor unowned = let there = named_there Second debtor
-        in absurd (no_second two.at (fits_two w t steady two).reached
+        in absurd (no_second two.at (fits_two w t inductive two).reached
         (subst (λ d. IsDebtorIn (sort_at w l) d Second) there.1 debtor))
 
   looked_after : (t l : ℕ) (m : Line) → IsDebtorIn (sort_at w l) (role_on (place_at w t) l) m
@@ -350,15 +352,15 @@ module _ (w : State) (steady : IsInductive w) where
     where
       by_sort : (b : Bool) → has_readers (sort_at w l) ≡ b → filled_at w l ≡ false
       by_sort true e = full e
-      by_sort false e = steady.sites.unfilled l e
+      by_sort false e = inductive.sites.unfilled l e
 
   -- each thread that waits in a line whose way is open
   in_line : (l : ℕ) → (lock_state w l).queue ≢ [] → IsOpen (sort_at w l) (lock_state w l) → filled_at w l
       ≡ false
       → IsLookedAfterIn w l Main
   in_line l some now empty =
-      let free = open_unowned (sort_at w l) (lock_state w l) (steady.sites.site l).state.unwritten now in
-      let d = (steady.sites.site l).main (inl some) now empty in
+      let free = open_unowned (sort_at w l) (lock_state w l) (inductive.sites.site l).state.unwritten now in
+      let d = (inductive.sites.site l).main (inl some) now empty in
       looked_after d.0 l Main d.1 (λ own. let e : ◌≡◌ {A = Option ℕ} None (Some d.0) = sym free ∙ own in cc)
 
   -- A waiter for a permit is looked after where one is free.
@@ -367,7 +369,8 @@ module _ (w : State) (steady : IsInductive w) where
       → IsLookedAfterIn w l Main
   beside_permit l sort some fewer =
       let d = nobody_forgotten (rules_in w l).limit (site_of w l) tended some fewer in
-      let free = (steady.sites.site l).state.unwritten (λ k. subst (λ x. sorts.Knows x Exclusive) sort k) in
+      let free = (inductive.sites.site l).state.unwritten (λ k. subst (λ x. sorts.Knows x Exclusive) sort k)
+      in
       looked_after d.0 l Main (subst (λ x. IsDebtorRole x ((site_of w l).role d.0)) (sym sort) d.1)
       (λ own. let e : ◌≡◌ {A = Option ℕ} None (Some d.0) = sym free ∙ own in cc)
     where
@@ -376,20 +379,20 @@ module _ (w : State) (steady : IsInductive w) where
 
       tended : IsTended (rules_in w l).limit (site_of w l)
       tended = record {
-        site = subst (λ r. IsSite r (site_of w l)) same_rules (steady.sites.site l);
-        looked_after = subst (λ r. HasPermits r (site_of w l)) same_rules (steady.sites.permits l sort).0;
-        few = (steady.sites.site l).state.within sort;
+        site = subst (λ r. IsSite r (site_of w l)) same_rules (inductive.sites.site l);
+        looked_after = subst (λ r. HasPermits r (site_of w l)) same_rules (inductive.sites.permits l sort).0;
+        few = (inductive.sites.site l).state.within sort;
       }
 
   -- A waiter is looked after at a `Once` that is done.
   beside_done : AreUnmarked w → (l : ℕ) → sort_at w l ≡ sorts.Once → (lock_state w l).queue ≢ []
       → (lock_state w l).phase ≡ Done
       → IsLookedAfterIn w l Main
-  beside_done unmarked l sort some done = elim ((steady.sites.site l).parked some) [
-    | inl set ↦ absurd (unmarked l (once_kind (kind_at w l) sort) (marked_done w steady l sort done set))
+  beside_done unmarked l sort some done = elim ((inductive.sites.site l).parked some) [
+    | inl set ↦ absurd (unmarked l (once_kind (kind_at w l) sort) (marked_done w inductive l sort done set))
     | inr sets ↦ looked_after sets.0 l Main (debtor (role_on (place_at w sets.0) l)
-        ((steady.sites.site l).setting sets.0 sets.1))
-        (λ own. let free = (steady.sites.site l).state.unwritten (λ k. subst (λ x. sorts.Knows x Exclusive)
+        ((inductive.sites.site l).setting sets.0 sets.1))
+        (λ own. let free = (inductive.sites.site l).state.unwritten (λ k. subst (λ x. sorts.Knows x Exclusive)
         sort k) in let e : ◌≡◌ {A = Option ℕ} None (Some sets.0) = sym free ∙ own in cc)
   ]
     where
@@ -402,13 +405,14 @@ module _ (w : State) (steady : IsInductive w) where
       → AreLookedAfterIn w l ((rules_in w l).limit - readers (lock_state w l))
   many_permits t l waiting sort =
       let some = not_empty t (lock_state w l).queue waiting in
-      let free = (steady.sites.site l).state.unwritten (λ k. subst (λ x. sorts.Knows x Exclusive) sort k) in
+      let free = (inductive.sites.site l).state.unwritten (λ k. subst (λ x. sorts.Knows x Exclusive) sort k)
+      in
       let found : Distinct (length (lock_state w l).shared) (λ u. debt (role_on (place_at w u) l))
       ((rules_in w l).limit - readers (lock_state w l)) =
       distinct (length (lock_state w l).shared) (λ u. debt (role_on (place_at w u) l)) _
-      (λ u. few_debts w steady l sort u)
+      (λ u. few_debts w inductive l sort u)
       (let enough : (rules_in w l).limit ≤ readers (lock_state w l) + debts (site_of w l) =
-      (steady.sites.permits l sort).0.enough some in omega arith) in record {
+      (inductive.sites.permits l sort).0.enough some in omega arith) in record {
         debtor = found.thread;
         apart = found.apart;
         each = λ i lt. looked_by (found.thread i) l
@@ -447,7 +451,7 @@ module _ (w : State) (steady : IsInductive w) where
 
       after : IsLookedAfterIn w l Main
       after = in_line l (called_some (lock_state w l).queue called) (subst (λ s. IsOpen s (lock_state w l))
-          (sym once) (called, rests)) (steady.sites.unfilled l (ap has_readers once))
+          (sym once) (called, rests)) (inductive.sites.unfilled l (ap has_readers once))
 
       -- it is in no wait, whose mutex is none
       rests_nowhere : (k : ℕ) → standing after.debtor (lock_state w k) ≡ 0
@@ -470,12 +474,12 @@ module _ (w : State) (steady : IsInductive w) where
   closures : (t l : ℕ) → RunsClosure w t l → (lock_state w l).phase ≡ InProgress t
   closures t l h =
       let one = runs_one (place_at w t) h.1 in
-      (steady.sites.site l).held t Runs (ap (λ (d : Role). d.claims) (role_own (place_at w t) l h.0)
+      (inductive.sites.site l).held t Runs (ap (λ (d : Role). d.claims) (role_own (place_at w t) l h.0)
       ∙ ap (λ p. (profile p).role.claims) one.is)
 
   second : (l : ℕ) → (lock_state w l).aside ≢ None → readers (lock_state w l) ≡ 0 → IsLookedAfterIn w l Second
   second l aside none =
-      let d = (steady.sites.site l).second aside none in
+      let d = (inductive.sites.site l).second aside none in
       looked_after d.0 l Second d.1 (λ own. pending_alone d.0 own (lock_state w l).aside refl aside)
     where
       -- beside an owner that has the lock alone nobody is pending
@@ -483,8 +487,8 @@ module _ (w : State) (steady : IsInductive w) where
           ≡ o → o ≢ None → ⊥
       pending_alone t alone None e some = some refl
       pending_alone t alone (Some u) e some =
-          let pending = (steady.sites.site l).state.aside_pending u e in
-          let nobody = (steady.sites.site l).state.exclusive_alone t alone in
+          let pending = (inductive.sites.site l).state.aside_pending u e in
+          let nobody = (inductive.sites.site l).state.exclusive_alone t alone in
           subst (λ o. IsSomePending o u) nobody.0 pending
 
   -- ---------------------------------------------------------------- a thread that was handed a lock
@@ -495,12 +499,12 @@ module _ (w : State) (steady : IsInductive w) where
         → HasClaimed (sort_at w l) (profile (place_at w t)).role.claims x → HasOrPends (sort_at w l)
         (lock_state w l) t x
     claimed_at l own x h = elim h [
-      | inl has ↦ inl ((steady.sites.site l).held t (Has x) (claims ∙ has))
+      | inl has ↦ inl ((inductive.sites.site l).held t (Has x) (claims ∙ has))
       | inr pends ↦ inr (
         pends.0,
         pends.1,
         subst (λ o. IsSomePending o t)
-            (sym ((steady.sites.site l).held t (Pends pends.2.0) (claims ∙ pends.2.1))) refl,
+            (sym ((inductive.sites.site l).held t (Pends pends.2.0) (claims ∙ pends.2.1))) refl,
       )
     ]
       where
@@ -514,16 +518,16 @@ module _ (w : State) (steady : IsInductive w) where
     tells_inside by l carries = elim (single_or_two (place_at w by)) [
       | inl single ↦ (let own = location_calls (place_at w by) l single (λ out. let e : ◌≡◌ {A = Option Bool}
           None (Some true) = sym (ap (λ (x : Location). x.carries) out) ∙ carries in cc) in
-          let told = (row_promises w by steady l single own).tells
+          let told = (row_promises w by inductive l single own).tells
           (sym (ap (λ (x : Location). x.carries) (location_own (place_at w by) l own)) ∙ carries) in
-          ((inside_own w by steady l single own Main).0 told.1, told.0))
-      | inr two ↦ absurd (two_hand_none two.lock two.at (fits_two w by steady two).reached l
+          ((inside_own w by inductive l single own Main).0 told.1, told.0))
+      | inr two ↦ absurd (two_hand_none two.lock two.at (fits_two w by inductive two).reached l
           (sym (ap (λ p. (location_at p l).carries) two.is) ∙ carries))
     ]
 
     handed_beside : (two : IsOfTwo (place_at w t)) → WasHandedBeside two.lock two.at → IsHandedOverIn w t
     handed_beside two handed =
-        let apart = condvar_apart w two.lock two.at (fits_two w t steady two) handed.mutex handed.beside in
+        let apart = condvar_apart w two.lock two.at (fits_two w t inductive two) handed.mutex handed.beside in
         let in_hand : (location_at (place_at w t) handed.mutex).hand ≡ hand handed.by true =
         ap (λ p. (location_at p handed.mutex).hand) two.is ∙ ap (λ (x : Location). x.hand)
         (location_beside two.lock handed.mutex apart two.at handed.beside) ∙ handed.in_hand in
@@ -531,7 +535,7 @@ module _ (w : State) (steady : IsInductive w) where
         ap (λ p. (role_on p handed.mutex).claims) two.is
         ∙ ap (λ (d : Role). d.claims) (role_beside two.lock handed.mutex apart two.at handed.beside)
         ∙ handed.claims in
-        let told = tells_inside handed.by handed.mutex (steady.stands.hands.taken handed.by t handed.mutex
+        let told = tells_inside handed.by handed.mutex (inductive.stands.hands.taken handed.by t handed.mutex
         true in_hand) in
         record {
           lock = handed.mutex;
@@ -541,7 +545,7 @@ module _ (w : State) (steady : IsInductive w) where
               × (want_of (call_state p (rights_now t)).purpose ≡ Some Exclusive)) (sym two.is)
               (subst (λ q. MayWait q handed.mutex × (want_of q ≡ Some Exclusive))
               (sym (two_purpose two.lock two.at (rights_now t))) handed.waited);
-          owner = inl ((steady.sites.site handed.mutex).held t (Has Exclusive) claims);
+          owner = inl ((inductive.sites.site handed.mutex).held t (Has Exclusive) claims);
           inside = told.0;
           in_hand = ap taker two.is ∙ ap (λ h. hand_owner (or_else h (condvar_profile two.at).hand))
               handed.in_hand;
@@ -553,14 +557,14 @@ module _ (w : State) (steady : IsInductive w) where
     handed_at l single own handed =
         let in_hand : (location_at (place_at w t) l).hand ≡ hand handed.by true =
         ap (λ (x : Location). x.hand) (location_own (place_at w t) l own) ∙ handed.in_hand in
-        let carries = steady.stands.hands.taken handed.by t l true in_hand in
+        let carries = inductive.stands.hands.taken handed.by t l true in_hand in
         let told = tells_inside handed.by l carries in
         record {
           lock = l;
           by = handed.by;
           want = handed.want;
           waited = subst (λ (c : CallState). MayWait c.purpose l × (want_of c.purpose ≡ Some handed.want))
-              (sym (call_own w t steady l single own)) (handed.waited, handed.wants);
+              (sym (call_own w t inductive l single own)) (handed.waited, handed.wants);
           owner = claimed_at l own handed.want handed.has;
           inside = told.0;
           in_hand = single_taker (place_at w t) single ∙ ap hand_owner handed.in_hand;
@@ -575,12 +579,12 @@ module _ (w : State) (steady : IsInductive w) where
     ]
       where
         by_two : IsOfTwo (place_at w t) → ((l : ℕ) × (1 ≤ standing t (lock_state w l))) ⊎ IsHandedOverIn w t
-        by_two two = let fits = fits_two w t steady two
+        by_two two = let fits = fits_two w t inductive two
             in elim (two_asleep two.lock two.at (condvar_apart w two.lock two.at fits) fits.reached
             (sym (ap act_of two.is) ∙ asleep)) [
               | inl some ↦ inl (
                 some.0,
-                there_stands w t steady some.0 (subst (λ p. StandsAt p some.0)
+                there_stands w t inductive some.0 (subst (λ p. StandsAt p some.0)
                     (sym two.is) some.1),
               )
               | inr handed ↦ inr (handed_beside two handed)
@@ -590,8 +594,8 @@ module _ (w : State) (steady : IsInductive w) where
             → ((l : ℕ) × (1 ≤ standing t (lock_state w l))) ⊎ IsHandedOverIn w t
         by_lock single None e = absurd (let f : Rest ≡ Sleep = sym (ap act_of (calls_none (place_at w t) e))
             ∙ asleep in cc)
-        by_lock single (Some l) e = elim ((row_promises w t steady l single e).asleep asleep) [
-          | inl waiting ↦ inl (l, waiting_stands w t steady l e waiting)
+        by_lock single (Some l) e = elim ((row_promises w t inductive l single e).asleep asleep) [
+          | inl waiting ↦ inl (l, waiting_stands w t inductive l e waiting)
           | inr handed ↦ inr (handed_at l single e handed)
         ]
 
@@ -606,36 +610,37 @@ module _ (w : State) (steady : IsInductive w) where
 
   pub kept : AreCondvars w → IsSettled w → IsKept w
   kept condvars settled = record {
-    state = λ l. (steady.sites.site l).state;
+    state = λ l. (inductive.sites.site l).state;
     one_place = one_place;
-    in_hand = hands_inside w steady;
-    held = held w steady;
+    in_hand = hands_inside w inductive;
+    held = held w inductive;
     waiting = waits;
     known = known;
-    coded = λ l. steady.sites.word l;
+    coded = λ l. inductive.sites.word l;
     limited = limited;
     nobody_forgotten = record { main = main settled.unmarked; permits = many_permits; second = second };
     callers = callers;
     runs = λ t l. (settled.runs t l, closures t l);
-    owing = λ t. owing_so w t steady;
-    inside_owes = λ t. inside_owes_so w t steady;
-    going_owes = λ t. going_owes_so w t steady;
+    owing = λ t. owing_so w t inductive;
+    inside_owes = λ t. inside_owes_so w t inductive;
+    going_owes = λ t. going_owes_so w t inductive;
     second_line = second_line;
     retrying = retrying;
-    looks = looks w steady;
-    spins = spins w steady;
-    inside_goes = inside_goes w steady;
-    tries = tries_go w steady;
+    looks = looks w inductive;
+    spins = spins w inductive;
+    inside_goes = inside_goes w inductive;
+    tries = tries_go w inductive;
     handing = λ t h. handed_over t h.0 h.1;
     sleeping = sleeping;
-    parked = λ t l waiting. elim ((steady.sites.site l).parked (not_empty t (lock_state w l).queue waiting)) [
-      | inl set ↦ inl set
-      | inr sets ↦ inr (sets.0, is_to_mark w steady sets.0 l sets.1)
-    ];
-    aside_parked = λ l. (steady.sites.site l).aside_parked;
+    parked = λ t l waiting. elim ((inductive.sites.site l).parked (not_empty t (lock_state w l).queue
+        waiting)) [
+          | inl set ↦ inl set
+          | inr sets ↦ inr (sets.0, is_to_mark w inductive sets.0 l sets.1)
+        ];
+    aside_parked = λ l. (inductive.sites.site l).aside_parked;
     shown = λ l sort free. shows_waiters w l (condvars l sort) free;
     shows = λ l sort. shows_always w l (condvars l sort);
-    let_go = lets_go w steady;
+    let_go = lets_go w inductive;
   }
 
 -- ---------------------------------------------------------------- the opening state, of the abstract locks

@@ -7,19 +7,20 @@ use Rattle.spec_locks.specs.Sites.{Line, Main}
 use Rattle.lot_laws.specs.Promises.{IsLookedAfterIn}
 use Rattle.lot_laws.specs.Laws.{FairUnlockHandsOver, NoWaiterIsForgotten, NobodyIsPassedOver, three, row}
 use Rattle.lot_laws.specs.Laws.{row_told, forgotten}
-use Rattle.lot_machine.proofs.Shape.{opening_shaped}
+use Rattle.lot_machine.proofs.Shape.{opening_well_formed}
 use Rattle.std.proofs.lemmas.List.Elements.{All-cons, All-nil}
 use Rattle.spec_locks.specs.Kinds.{fits}
 use Rattle.lot_laws.specs.SitesOf.{IsWorld}
-use Rattle.lot_laws.proofs.sites.Opening.{opening_condvars, opening_steady}
+use Rattle.lot_laws.proofs.sites.Opening.{opening_condvars, opening_inductive}
 use Rattle.lot_laws.proofs.hands.CountsPut.{opening_counted}
 use Rattle.lot_laws.proofs.mutex.FairMutexes.{opening_settled}
 use Rattle.lot_laws.proofs.alone.WorldRuns.{world_run, run_refines}
 
 three_hold : IsWorld three
 three_hold = record {
-  shaped = opening_shaped (kind.Mutex ∷ []) 3 (omega arith);
-  steady = opening_steady (kind.Mutex ∷ []) 3 (omega arith) (All-cons (λ k. fits k 3 ≡ true) kind.Mutex []
+  well_formed = opening_well_formed (kind.Mutex ∷ []) 3 (omega arith);
+  inductive = opening_inductive (kind.Mutex ∷ []) 3 (omega arith) (All-cons (λ k. fits k 3 ≡ true) kind.Mutex
+      []
       refl (All-nil (λ k. fits k 3 ≡ true)));
   counted = opening_counted (kind.Mutex ∷ []) 3;
   condvars = opening_condvars (kind.Mutex ∷ []) 3;

@@ -188,45 +188,46 @@ own_reply w t act.Accept = tt
 own_reply w t (act.Closure state) = tt
 own_reply w t (act.End answer) = tt
 
-module _ (w : State) (t l : ℕ) (a : Admission) (c : RwLockCallPlace) (steady : IsInductive w)
+module _ (w : State) (t l : ℕ) (a : Admission) (c : RwLockCallPlace) (inductive : IsInductive w)
     (shape : IsWellFormed w)
     (there : t < length w.places) (lt : l < length w.locks) (is : place_at w t ≡ RwLock l a c)
     (counted : AreCounted w)
     (can : can_do w (call_act l a c) ≡ true) where
   kept : GoesOnBy w t l a c (call_act l a c)
-  kept = rwlock_goes_on w t l a c steady shape there lt is counted can
+  kept = rwlock_goes_on w t l a c inductive shape there lt is counted can
 
   abbrev told : Reply
   told = reply_to w t (call_act l a c)
 
-  abbrev behind : State
-  behind = go_by w t (RwLock l a c) (call_act l a c)
+  abbrev afterwards : State
+  afterwards = go_by w t (RwLock l a c) (call_act l a c)
 
   abbrev happened : Option LockCase
   happened = case_by w t l a c kept.whom (call_act l a c)
 
   -- a thread that sleeps in a call stands about its lock
-  rests : (q : RwLockCallPlace) → place_at behind t ≡ RwLock l a q → CallAwake (call_profile a q)
+  rests : (q : RwLockCallPlace) → place_at afterwards t ≡ RwLock l a q → CallAwake (call_profile a q)
       (call_act l a q)
       → (outcome_of (call_act l a q) ≡ outcome.Step)
-      ⊎ ((outcome_of (call_act l a q) ≡ outcome.Sleep) × (1 ≤ standing t (lock_state behind l)))
+      ⊎ ((outcome_of (call_act l a q) ≡ outcome.Sleep) × (1 ≤ standing t (lock_state afterwards l)))
   rests q e awake = by_act (call_act l a q) (fair_acts_move l a q fits.1) promises.acts promises.asleep awake
     where
-      fits : FitsItsLock behind (RwLock l a q)
-      fits = subst (FitsItsLock behind) e (kept.happened.after.stands.calls t)
+      fits : FitsItsLock afterwards (RwLock l a q)
+      fits = subst (FitsItsLock afterwards) e (kept.happened.after.stands.calls t)
 
-      promises : RowPromises (rules_in behind l).sort l (call_profile a q) (call_act l a q)
-      promises = call_promises (rules_in behind l) a l q fits.0 fits.1
+      promises : RowPromises (rules_in afterwards l).sort l (call_profile a q) (call_act l a q)
+      promises = call_promises (rules_in afterwards l) a l q fits.0 fits.1
 
       by_act : (y : Act) → CallMoves l a.recursive (call_move a q) (call_hears a q) y → is_acting y ≡ true
-          → (y ≡ act.Sleep → IsWaiting (call_profile a q) ⊎ WasHanded (rules_in behind l).sort l
+          → (y ≡ act.Sleep → IsWaiting (call_profile a q) ⊎ WasHanded (rules_in afterwards l).sort l
           (call_profile a q))
           → CallAwake (call_profile a q) y
           → (outcome_of y ≡ outcome.Step) ⊎ ((outcome_of y ≡ outcome.Sleep)
-          × (1 ≤ standing t (lock_state behind l)))
+          × (1 ≤ standing t (lock_state afterwards l)))
       by_act act.Sleep moves acting asleep awake = inr (
         refl,
-        waiting_stands behind t kept.happened.after l (ap called_lock e) (subst (λ (x : Profile). IsWaiting x)
+        waiting_stands afterwards t kept.happened.after l (ap called_lock e)
+            (subst (λ (x : Profile). IsWaiting x)
             (sym (ap profile e)) (elim (asleep refl) [
               | inl h ↦ h
               | inr h ↦ absurd (awake h.by h.in_hand)
@@ -237,7 +238,7 @@ module _ (w : State) (t l : ℕ) (a : Admission) (c : RwLockCallPlace) (steady :
       by_act (act.Closure state) moves acting asleep awake = absurd moves
       by_act y moves acting asleep awake = inl refl
 
-  leads : LeadsTo behind t l (next_rows a (call_next a c told))
+  leads : LeadsTo afterwards t l (next_rows a (call_next a c told))
       (outcome_of (rwlock_does l a (call_next a c told)))
   leads = by_next (call_next a c told)
       (get_or-set_same (state_after_act w t (RwLock l a c) (call_act l a c)).places t _ Idle
@@ -245,8 +246,8 @@ module _ (w : State) (t l : ℕ) (a : Admission) (c : RwLockCallPlace) (steady :
       (own_next l a c told (own_reply w t (call_act l a c)) (λ asleep. let f : true ≡ false = sym can
       ∙ ap (can_do w) asleep in cc))
     where
-      by_next : (n : Next RwLockCallPlace) → place_at behind t ≡ rwlock_goes l a n → NextAwake a l n
-          → LeadsTo behind t l (next_rows a n) (outcome_of (rwlock_does l a n))
+      by_next : (n : Next RwLockCallPlace) → place_at afterwards t ≡ rwlock_goes l a n → NextAwake a l n
+          → LeadsTo afterwards t l (next_rows a n) (outcome_of (rwlock_does l a n))
       by_next (next.At q) e awake = (
         ap called_lock e,
         ap profile e,
@@ -258,21 +259,21 @@ module _ (w : State) (t l : ℕ) (a : Admission) (c : RwLockCallPlace) (steady :
       )
       by_next (next.End answer) e awake = (e, refl)
 
-  pub rwlock_step : GoesOn (locks_of w) t (outcome_of (next_act (RwLock l a c) told)) (locks_of behind)
-  rwlock_step = goes_by w behind t l happened kept.happened (RwLock l a c) is refl tt kept.tells.may
+  pub rwlock_step : GoesOn (locks_of w) t (outcome_of (next_act (RwLock l a c) told)) (locks_of afterwards)
+  rwlock_step = goes_by w afterwards t l happened kept.happened (RwLock l a c) is refl tt kept.tells.may
       (next_rows a (call_next a c told)) _ kept.tells.comes leads kept.others
       (begins_nothing (locks_of w) l (call_profile a c) happened _ runs kept.tells.may
       (tells_none (call_next a c told)))
     where
       promises : RowPromises (rules_in w l).sort l (call_profile a c) (call_act l a c)
-      promises = call_promises (rules_in w l) a l c (admits w t l a c steady shape there lt is)
-          (stands w t l a c steady shape there lt is)
+      promises = call_promises (rules_in w l) a l c (admits w t l a c inductive shape there lt is)
+          (stands w t l a c inductive shape there lt is)
 
       runs : RunsNothing ((call_profile a c).purpose l)
       runs = runs_nothing (λ k. (rules_in w k).sort) l ((call_profile a c).purpose l) promises.own
           (promises.known (λ k. (rules_in w k).sort) refl)
           (λ once. let both : false ≡ true = sym (ap has_readers once)
-          ∙ (admits w t l a c steady shape there lt is).0 in cc)
+          ∙ (admits w t l a c inductive shape there lt is).0 in cc)
 
       tells_none : (n : Next RwLockCallPlace) → is_closure (outcome_of (rwlock_does l a n)) ≡ false
       tells_none (next.At q) = closure_told (call_act l a q) ∙ call_runs_none l a q

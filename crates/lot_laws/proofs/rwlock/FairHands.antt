@@ -136,7 +136,7 @@ module _ (l : ℕ) (a : Admission) (whom : Option ℕ) (v : ℕ) where
 -- ---------------------------------------------------------------- a thread goes on
 
 module _ (w : State) (t l : ℕ) (a : Admission) (c : RwLockCallPlace) (shape : IsWellFormed w)
-    (steady : IsInductive w)
+    (inductive : IsInductive w)
     (counted : AreCounted w) (there : t < length w.places) (lt : l < length w.locks) (is : place_at w t
     ≡ RwLock l a c)
     (x : Want) (more : x ≢ Shared) (gives : IsToGive ((call_profile a c).purpose l)
@@ -151,7 +151,7 @@ module _ (w : State) (t l : ℕ) (a : Admission) (c : RwLockCallPlace) (shape : 
   Comes v = FairReleaseComesTo r (lock_state w l) (lock_state v l) (word_at w l) t x
 
   may : CallStands a c
-  may = stands w t l a c steady shape there lt is
+  may = stands w t l a c inductive shape there lt is
 
   -- a thread that gives a right up is in nobody's hand, and says which threads it has in its own
   bare : (c : RwLockCallPlace) → CallStands a c → IsToGive ((call_profile a c).purpose l)
@@ -181,8 +181,8 @@ module _ (w : State) (t l : ℕ) (a : Admission) (c : RwLockCallPlace) (shape : 
   heir = thread_of (successor_from t 0 w.places)
 
   in_hand_now : (k : Counted) → in_hand_of c ≡ Some k → HasInHand here.lock t k heir
-  in_hand_now k e = has_in_hand w t l steady (own w t l a c steady shape there lt is) (any_taken k)
-      (carries w t l a c steady shape there lt is ∙ carried c k e) k (counted t l a c k is e)
+  in_hand_now k e = has_in_hand w t l inductive (own w t l a c inductive shape there lt is) (any_taken k)
+      (carries w t l a c inductive shape there lt is ∙ carried c k e) k (counted t l a c k is e)
 
   free : here.lock.taken t ≡ None
   free = free_of (place_at w t) l (subst IsSingle (sym is) tt) (ap (λ p. (profile p).hand) is
@@ -193,7 +193,8 @@ module _ (w : State) (t l : ℕ) (a : Admission) (c : RwLockCallPlace) (shape : 
       → lock_state (then_by w t l a c y) l ≡ (after_all r (deeds_by w t l a c g.whom y) here t).lock
   led y g = led_here w (then_by w t l a c y) t l (case_by w t l a c g.whom y) g.happened
       ∙ sym (deeds_lead r t l (call_profile a c).carries (deeds_by w t l a c g.whom y) here
-      (λ none. in_no_hand w steady t l (λ h. none (sym (carries w t l a c steady shape there lt is) ∙ h)))
+      (λ none. in_no_hand w inductive t l (λ h. none (sym (carries w t l a c inductive shape there lt is)
+      ∙ h)))
       g.tells.one)
 
   -- an operation of its own on the word
@@ -207,8 +208,8 @@ module _ (w : State) (t l : ℕ) (a : Admission) (c : RwLockCallPlace) (shape : 
       (sym (led y g ∙ ap (λ reply. (after_all r (call_deeds a c g.whom reply) here t).lock) told
       ∙ ap (λ ds. (after_all r ds here t).lock) same))
       (subst (λ v. FairReleaseComesTo r (lock_state w l) (after_all r (call_deeds a c heir (Value v)) here
-      t).lock v t x) (sym (steady.sites.word l))
-      (fair_releases_give r a here t l c op heir x (at_now w t l a c steady shape there lt is) free
+      t).lock v t x) (sym (inductive.sites.word l))
+      (fair_releases_give r a here t l c op heir x (at_now w t l a c inductive shape there lt is) free
       in_hand_now gives more acts))
 
   off_word : (y : Act) → IsOffWord y → Comes (then_by w t l a c y)
@@ -216,7 +217,7 @@ module _ (w : State) (t l : ℕ) (a : Admission) (c : RwLockCallPlace) (shape : 
       owns)
 
   pub goes_giving : can_do w (call_act l a c) ≡ true → Comes (then_by w t l a c (call_act l a c))
-  goes_giving can = by_act (call_act l a c) refl (rwlock_goes_on w t l a c steady shape there lt is counted
+  goes_giving can = by_act (call_act l a c) refl (rwlock_goes_on w t l a c inductive shape there lt is counted
       can)
     where
       moves : CallMoves l a.recursive (call_move a c) (call_hears a c) (call_act l a c)
@@ -233,11 +234,11 @@ module _ (w : State) (t l : ℕ) (a : Admission) (c : RwLockCallPlace) (shape : 
           let here : k ≡ l = (subst (CallMoves l a.recursive (call_move a c) (call_hears a c)) e moves).0 in
           let at : call_act l a c ≡ act.HandOver l op = e ∙ ap (λ j. act.HandOver j op) here in
           let n = gives_counted l l a c op may at in
-          let h = by_effect w t l a c steady shape there lt is n.0 n.1 counted op at
+          let h = by_effect w t l a c inductive shape there lt is n.0 n.1 counted op at
           (takes_effect op (word_at w l)) refl in
           subst (λ j. Comes (then_by w t l a c (act.HandOver j op))) (sym here)
           (by_word (act.HandOver l op) op (inr at) refl h
-          (ap (λ u. call_deeds a c u (Value (word_at w l))) (effect_whom w t l a c steady shape there lt
+          (ap (λ u. call_deeds a c u (Value (word_at w l))) (effect_whom w t l a c inductive shape there lt
           is n.0 n.1 counted op at (takes_effect op (word_at w l)) refl)))
       by_act (act.Enter keys) e g = off_word (act.Enter keys) tt
       by_act (act.Park k key check want) e g = off_word (act.Park k key check want) tt

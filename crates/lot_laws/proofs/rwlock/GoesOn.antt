@@ -356,7 +356,7 @@ call_quiet k a (fair.Handed x how b to) stands r l lets = refl
 
 -- ---------------------------------------------------------------- each turn
 
-module _ (w : State) (t : ℕ) (steady : IsInductive w) (l : ℕ) (gives : GivesWayWhileSomeWait w t l) where
+module _ (w : State) (t : ℕ) (inductive : IsInductive w) (l : ℕ) (gives : GivesWayWhileSomeWait w t l) where
   abbrev rights : ℕ → Rights
   rights k = rights_of (lock_state w k) t
 
@@ -364,7 +364,8 @@ module _ (w : State) (t : ℕ) (steady : IsInductive w) (l : ℕ) (gives : Gives
   lets_now = elim gives.lets_in [ inl down ↦ inl down | inr late ↦ inr late.0 ]
 
   there : IsOfShared (place_at w t)
-  there = of_shared w rights l gives.shared gives.works.0 (place_at w t) (steady.stands.calls t) gives.works.1
+  there = of_shared w rights l gives.shared gives.works.0 (place_at w t) (inductive.stands.calls t)
+      gives.works.1
       lets_now
 
   lets_there : LetsBy there.call rights there.lock there.admission l
@@ -403,12 +404,12 @@ module _ (w : State) (t : ℕ) (steady : IsInductive w) (l : ℕ) (gives : Gives
 
 pub goes_on_waking : (w : State) (s : Step) → IsInductive w → (l : ℕ) → step_outcome w s ≢ told.NotNow
     → GivesWayWhileSomeWait w s.thread l → step_outcome w s ≡ told.Step
-goes_on_waking w s steady l possible gives = either (is_possible w s) refl possible
+goes_on_waking w s inductive l possible gives = either (is_possible w s) refl possible
   where
     either : (b : Bool) → is_possible w s ≡ b → (if b then turn_outcome w s.thread s.turn else told.NotNow)
         ≢ told.NotNow
         → (if b then turn_outcome w s.thread s.turn else told.NotNow) ≡ told.Step
-    either true can n = by_turn w s.thread steady l gives s.turn (both (nat_lt s.thread (length w.places))
+    either true can n = by_turn w s.thread inductive l gives s.turn (both (nat_lt s.thread (length w.places))
         (can_turn w s.thread s.turn) can).1
     either false can n = absurd (n refl)
 
@@ -675,7 +676,7 @@ module _ (w : State) (r : ℕ → Rights) (l : ℕ) (shared : has_readers (sort_
     stands = fits.1;
   }
 
-module _ (w : State) (t : ℕ) (steady : IsInductive w) (l : ℕ) (lets : LetsMoreIn w t l)
+module _ (w : State) (t : ℕ) (inductive : IsInductive w) (l : ℕ) (lets : LetsMoreIn w t l)
     (main : IsInside w t l Main → ⊥) where
   abbrev own_rights : ℕ → Rights
   own_rights k = rights_of (lock_state w k) t
@@ -684,7 +685,7 @@ module _ (w : State) (t : ℕ) (steady : IsInductive w) (l : ℕ) (lets : LetsMo
   lets_so = elim lets.1 [ inl down ↦ inl down | inr late ↦ inr late.0 ]
 
   here : IsOfSharedAt (place_at w t) l
-  here = shared_place w own_rights l lets.0 (place_at w t) (steady.stands.calls t) lets_so
+  here = shared_place w own_rights l lets.0 (place_at w t) (inductive.stands.calls t) lets_so
 
   abbrev p : Place
   p = RwLock l here.admission here.call
@@ -694,7 +695,7 @@ module _ (w : State) (t : ℕ) (steady : IsInductive w) (l : ℕ) (lets : LetsMo
 
   -- by its place it is inside a section where it is
   inside_so : (m : Line) → (location p).inside ≡ Some m → IsInside w t l m
-  inside_so m e = (steady.stands.sections t l m).0 (ap (λ x. (location_at x l).inside) here.is
+  inside_so m e = (inductive.stands.sections t l m).0 (ap (λ x. (location_at x l).inside) here.is
       ∙ ap (λ (x : Location). x.inside) (location_here l p refl) ∙ e)
 
   outside : (call_state p own_rights).gave_up ≡ Some l → (m : Line) → (location p).inside ≡ Some m → ⊥
@@ -778,7 +779,7 @@ module _ (w : State) (t : ℕ) (steady : IsInductive w) (l : ℕ) (lets : LetsMo
 pub takes_next : (w : State) (s : Step) → IsInductive w → IsInductive (after w s) → (l : ℕ)
     → LetsMoreIn w s.thread l → (IsInside w s.thread l Main → ⊥) → IsInside (after w s) s.thread l Main
     → TakesNext (after w s) s.thread l (kept_by (call_at w s.thread).purpose)
-takes_next w s steady after_is l lets main inside = either (is_possible w s) refl after_is inside
+takes_next w s inductive after_is l lets main inside = either (is_possible w s) refl after_is inside
   where
     either : (b : Bool) → is_possible w s ≡ b → IsInductive (if b then state_after_turn w s.thread s.turn
         else w) → IsInside (if b then state_after_turn w s.thread s.turn else w) s.thread l Main
@@ -786,6 +787,7 @@ takes_next w s steady after_is l lets main inside = either (is_possible w s) ref
         (kept_by (call_at w s.thread).purpose)
     either true can after_so within = let parts = both (nat_lt s.thread (length w.places))
         (can_turn w s.thread s.turn) can in
-        turn_takes w s.thread steady l lets main s.turn (ltb-true s.thread (length w.places) parts.0) parts.1
+        turn_takes w s.thread inductive l lets main s.turn (ltb-true s.thread (length w.places) parts.0)
+        parts.1
         after_so within
     either false can after_so within = absurd (main within)

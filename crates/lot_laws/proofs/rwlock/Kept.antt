@@ -75,7 +75,7 @@ use Rattle.lot_machine.specs.Machine.{queue_at, section_at, can_do, section_is_f
 use Rattle.lot_machine.specs.Machine.{state_after_late_under, reply_to}
 use Rattle.lot_machine.specs.Fits.{IsWellFormed}
 use Rattle.lot_laws.specs.Refinement.{taken_at}
-use Rattle.lot_laws.specs.MutexDeeds.{acts}
+use Rattle.lot_laws.specs.ThreadDeeds.{acts}
 use Rattle.lot_laws.specs.Locations.{location, role_on}
 use Rattle.lot_laws.specs.SitesOf.{IsInductive, Goes, FitsItsLock, TakesOne, LimitHasRoom, carried_at}
 use Rattle.lot_laws.specs.SitesOf.{hand_at, is_mutex, rules_in, key_of}
@@ -247,11 +247,11 @@ aside_calm (Some u) = tt
 
 -- ---------------------------------------------------------------- one thread
 
-module _ (w : State) (t l : ℕ) (a : Admission) (c : RwLockCallPlace) (steady : IsInductive w)
+module _ (w : State) (t l : ℕ) (a : Admission) (c : RwLockCallPlace) (inductive : IsInductive w)
     (shape : IsWellFormed w)
     (there : t < length w.places) (lt : l < length w.locks) (is : place_at w t ≡ RwLock l a c) where
   pub fits_now : FitsItsLock w (RwLock l a c)
-  fits_now = subst (FitsItsLock w) is (steady.stands.calls t)
+  fits_now = subst (FitsItsLock w) is (inductive.stands.calls t)
 
   pub admits : Admits (rules_in w l) a
   admits = fits_now.0
@@ -269,7 +269,7 @@ module _ (w : State) (t l : ℕ) (a : Admission) (c : RwLockCallPlace) (steady :
   here = lock_by w l (rules_in w l)
 
   pub site : IsSite (rules_in w l) here
-  site = steady.sites.site l
+  site = inductive.sites.site l
 
   pub role_now : here.role t ≡ call_role c
   role_now = role_here l (place_at w t) own ∙ ap (λ (y : Profile). y.role) same_row ∙ role_row a c
@@ -280,7 +280,7 @@ module _ (w : State) (t l : ℕ) (a : Admission) (c : RwLockCallPlace) (steady :
     site = site;
     role = role_now;
     stands = stands;
-    there = subst (λ n. t < n) (sym (steady.numbers.threads l)) there;
+    there = subst (λ n. t < n) (sym (inductive.numbers.threads l)) there;
   }
 
   pub fits_next : (k : ℕ) (b : Admission) (n : Next RwLockCallPlace) → Admits (rules_in w k) b
@@ -291,7 +291,7 @@ module _ (w : State) (t l : ℕ) (a : Admission) (c : RwLockCallPlace) (steady :
 
   -- tells what its laws conclude
   abbrev Followed : Option ℕ → Reply → Type 0
-  Followed whom told = IsFollowed w t l steady there own (rules_in w l) refl (call_move a c) same_row whom
+  Followed whom told = IsFollowed w t l inductive there own (rules_in w l) refl (call_move a c) same_row whom
       told (next_place (place_at w t) told)
 
   pub followed_by : (whom : Option ℕ) (told : Reply) → laws.AllNeeded (rules_in w l)
@@ -318,7 +318,7 @@ module _ (w : State) (t l : ℕ) (a : Admission) (c : RwLockCallPlace) (steady :
 
   pub of_no_mutex : (u k : ℕ) (m : MutexPlace) → place_at w u ≡ Mutex k m → k ≡ l → ⊥
   of_no_mutex u k m e same_lock =
-      let of_mutex : is_mutex (kind_at w k) ≡ true = subst (FitsItsLock w) e (steady.stands.calls u) in
+      let of_mutex : is_mutex (kind_at w k) ≡ true = subst (FitsItsLock w) e (inductive.stands.calls u) in
       let none : has_readers (rules_in w k).sort ≡ false = ap (λ (r : Rules). has_readers r.sort)
       (mutex_rules (kind_at w k) of_mutex) in
       let some : has_readers (rules_in w l).sort ≡ true = admits.0 in
@@ -327,21 +327,22 @@ module _ (w : State) (t l : ℕ) (a : Admission) (c : RwLockCallPlace) (steady :
 
   pub of_no_once : (u k : ℕ) (p : OncePlace) → place_at w u ≡ Once k p → k ≡ l → ⊥
   of_no_once u k p e same_lock =
-      let of_once : (rules_in w k).sort ≡ locks.Once = subst (FitsItsLock w) e (steady.stands.calls u) in
+      let of_once : (rules_in w k).sort ≡ locks.Once = subst (FitsItsLock w) e (inductive.stands.calls u) in
       let some : has_readers (rules_in w l).sort ≡ true = admits.0 in
       let both : true ≡ false = sym some ∙ ap (λ j. has_readers (rules_in w j).sort) (sym same_lock)
       ∙ ap has_readers of_once in cc
 
   pub of_no_semaphore : (u k : ℕ) (at : SemaphorePlace) → place_at w u ≡ OfSemaphore k at → k ≡ l → ⊥
   of_no_semaphore u k at e same_lock =
-      let of_semaphore : FitsItsLock w (OfSemaphore k at) = subst (FitsItsLock w) e (steady.stands.calls u) in
+      let of_semaphore : FitsItsLock w (OfSemaphore k at) = subst (FitsItsLock w) e (inductive.stands.calls u)
+      in
       let some : has_readers (rules_in w l).sort ≡ true = admits.0 in
       let both : true ≡ false = sym some ∙ ap (λ j. has_readers (rules_in w j).sort) (sym same_lock)
       ∙ ap has_readers of_semaphore.0 in cc
 
   pub of_no_condvar : (u k : ℕ) (at : CondvarPlace) → place_at w u ≡ Condvar k at → k ≡ l → ⊥
   of_no_condvar u k at e same_lock =
-      let of_condvar : FitsItsLock w (Condvar k at) = subst (FitsItsLock w) e (steady.stands.calls u) in
+      let of_condvar : FitsItsLock w (Condvar k at) = subst (FitsItsLock w) e (inductive.stands.calls u) in
       let some : has_readers (rules_in w l).sort ≡ true = admits.0 in
       let both : true ≡ false = sym some ∙ ap (λ j. has_readers (rules_in w j).sort) (sym same_lock)
       ∙ ap has_readers of_condvar.sort in cc
@@ -353,17 +354,17 @@ module _ (w : State) (t l : ℕ) (a : Admission) (c : RwLockCallPlace) (steady :
   -- No condition variable is beside the call.
   pub beside_no_call : (u k : ℕ) (at : CondvarPlace) → place_at w u ≡ Condvar k at
       → is_lock l (mutex_beside at) ≡ false
-  beside_no_call u k at e = not_beside w (Condvar k at) l (subst (FitsItsLock w) e (steady.stands.calls u))
+  beside_no_call u k at e = not_beside w (Condvar k at) l (subst (FitsItsLock w) e (inductive.stands.calls u))
       many
 
-  asleep : (u : ℕ) → SleepsIfCalls w t l steady there own (rules_in w l) refl (call_move a c) same_row u
+  asleep : (u : ℕ) → SleepsIfCalls w t l inductive there own (rules_in w l) refl (call_move a c) same_row u
   asleep u = record {
-    apart = not_beside w (place_at w u) l (steady.stands.calls u) many;
+    apart = not_beside w (place_at w u) l (inductive.stands.calls u) many;
     sleeper = λ h. by_place (place_at w u) refl h;
   }
     where
       by_place : (q : Place) → place_at w u ≡ q → calls q l ≡ true
-          → IsSleeper w t l steady there own (rules_in w l) refl (call_move a c) same_row u
+          → IsSleeper w t l inductive there own (rules_in w l) refl (call_move a c) same_row u
       by_place Idle e g = absurd cc
       by_place (Condvar k at) e g = absurd (of_no_condvar u k at e (eqb-true k l g))
       by_place (Once k at) e g = absurd (of_no_once u k at e (eqb-true k l g))
@@ -386,7 +387,7 @@ module _ (w : State) (t l : ℕ) (a : Admission) (c : RwLockCallPlace) (steady :
       }
         where
           fits_u : FitsItsLock w (RwLock k b q)
-          fits_u = subst (FitsItsLock w) e (steady.stands.calls u)
+          fits_u = subst (FitsItsLock w) e (inductive.stands.calls u)
 
   -- ---------------------------------------------------------------- each act
 
@@ -410,14 +411,15 @@ module _ (w : State) (t l : ℕ) (a : Admission) (c : RwLockCallPlace) (steady :
       (calm_case ((call_profile a c).carries) ds h)
 
   pub word_is : word_at w l ≡ code (rules_in w l) here
-  word_is = steady.sites.word l
+  word_is = inductive.sites.word l
 
   -- one operation on the word
   on_word : (op : Op) → call_act l a c ≡ act.Word l op → StaysPut (call_move a c)
       → GoesFrom (place_at w t) (act.Word l op)
   on_word op e g = record {
     whom = None;
-    goes = stays w t l steady there own (rules_in w l) refl (call_move a c) same_row admits.0 (RwLock l a c)
+    goes = stays w t l inductive there own (rules_in w l) refl (call_move a c) same_row admits.0
+        (RwLock l a c)
         (next_place (place_at w t) (Value (word_at w l))) op lt g on.0 on.1 on.2;
     tells = subst (λ v. CallTells (rules_in w l) a here t l c None (Value v)) (sym word_is)
         (fair_steps_tell (rules_in w l) a here t l c op at_now nowhere e);
@@ -426,10 +428,11 @@ module _ (w : State) (t l : ℕ) (a : Admission) (c : RwLockCallPlace) (steady :
   }
     where
       nowhere : standing t here.lock ≡ 0
-      nowhere = nowhere_here w t l steady there own (rules_in w l) refl (call_move a c) same_row g.out g.free
+      nowhere = nowhere_here w t l inductive there own (rules_in w l) refl (call_move a c) same_row g.out
+          g.free
 
       limits : LimitHasRoom (length w.places) (rules_in w l) × HasLimit (rules_in w l) here.lock
-      limits = steady.sites.limits l admits.0
+      limits = inductive.sites.limits l admits.0
 
       room : a.limit < 2 ^ 60 - 1
       room = subst (λ n. n < 2 ^ 60 - 1) admits.2 limits.0.1
@@ -464,7 +467,7 @@ module _ (w : State) (t l : ℕ) (a : Admission) (c : RwLockCallPlace) (steady :
   brief Done now h = followed None Done h (call_told_done a (rules_in w l) here t c None h)
   brief told now h = followed None told h (call_told_other a c told tt)
 
-  go_on : (y : Act) → GoesBy w t l steady shape there lt own (call_move a c) same_row (call_hears a c)
+  go_on : (y : Act) → GoesBy w t l inductive shape there lt own (call_move a c) same_row (call_hears a c)
       (RwLock l a c) brief None y → GoesFrom (place_at w t) y
   go_on y b = record {
     whom = None;
@@ -506,7 +509,7 @@ module _ (w : State) (t l : ℕ) (a : Admission) (c : RwLockCallPlace) (steady :
       by_place (RwLock k b q) e h = either (k == l) refl h
         where
           fits_u : FitsItsLock w (RwLock k b q)
-          fits_u = subst (FitsItsLock w) e (steady.stands.calls u)
+          fits_u = subst (FitsItsLock w) e (inductive.stands.calls u)
 
           then_u : Place
           then_u = next_place (RwLock k b q) (Woken HandOff)
@@ -542,7 +545,7 @@ module _ (w : State) (t l : ℕ) (a : Admission) (c : RwLockCallPlace) (steady :
   told_so : {wakes : Wakes} → TellsHanded (call_move a c) (call_hears a c) wakes → (u : ℕ) (b : Bool)
       → hand_at (place_at w u) l ≡ hand t b → IsWokenAt w t l HandOff (place_at w u)
   told_so g u b held = by_handed b held (sym (carried_now ∙ ap (λ (y : Location). y.carries) g.was)
-      ∙ steady.stands.hands.taken t u l b held) g.any
+      ∙ inductive.stands.hands.taken t u l b held) g.any
     where
       carried_now : carried_at (place_at w t) l ≡ (call_profile a c).carries
       carried_now = ap (λ (y : Location). y.carries) (location_here l (place_at w t) own)
@@ -566,11 +569,11 @@ module _ (w : State) (t l : ℕ) (a : Admission) (c : RwLockCallPlace) (steady :
       (subst (λ c. GoesFrom (place_at w t) (act.Take (key_of l Main) (whom.TheVariants.Picked start c)))
       (admits.1 ∙ sym same_rule) (record {
         whom = None;
-        goes = takes_chosen w t l steady there own (rules_in w l) refl (call_move a c) same_row asleep
+        goes = takes_chosen w t l inductive there own (rules_in w l) refl (call_move a c) same_row asleep
             (call_hears a c) many (line_there w l shape lt Main) start g follows;
-        tells = tells_by None _ tt (picked_hears w t l steady there own (rules_in w l) refl (call_move a c)
+        tells = tells_by None _ tt (picked_hears w t l inductive there own (rules_in w l) refl (call_move a c)
             same_row asleep (call_hears a c) many (line_there w l shape lt Main) start g follows);
-        others = calm_by (Case (locks.TakePicked start) ∷ []) (picked_deeds w t l steady there own
+        others = calm_by (Case (locks.TakePicked start) ∷ []) (picked_deeds w t l inductive there own
             (rules_in w l)
             refl (call_move a c) same_row asleep (call_hears a c) many (line_there w l shape lt Main) start g
             follows) tt;
@@ -586,7 +589,7 @@ module _ (w : State) (t l : ℕ) (a : Admission) (c : RwLockCallPlace) (steady :
       → GoesFrom (place_at w t) (act.Take key whom.TheVariants.First)
   took key e g = subst (λ j. GoesFrom (place_at w t) (act.Take j whom.TheVariants.First)) (sym e) (record {
     whom = here.lock.aside;
-    goes = takes_whom_aside w t l steady there own (rules_in w l) refl (call_move a c) same_row asleep
+    goes = takes_whom_aside w t l inductive there own (rules_in w l) refl (call_move a c) same_row asleep
         (call_hears a c) many (line_there w l shape lt Second) g (λ any none_left h. followed here.lock.aside
         (Took any none_left) h (call_told_other a c (Took any none_left) tt));
     tells = tells_by here.lock.aside (reply_to w t (act.Take (key_of l Second) whom.TheVariants.First)) tt
@@ -602,26 +605,31 @@ module _ (w : State) (t l : ℕ) (a : Admission) (c : RwLockCallPlace) (steady :
   by_act plain (act.Word k op) e g can = subst (λ j. GoesFrom (place_at w t) (act.Word j op)) (sym g.0)
       (on_word op (e ∙ ap (λ j. act.Word j op) g.0) g.1)
   by_act plain (act.Enter keys) e g can =
-      go_on (act.Enter keys) (into w t l steady shape there lt own (call_move a c) same_row (call_hears a c)
+      go_on (act.Enter keys) (into w t l inductive shape there lt own (call_move a c) same_row
+      (call_hears a c)
       (RwLock l a c) brief g.0 keys g.1 can g.2)
   by_act plain (act.Park k key check want) e g can = go_on (act.Park k key check want)
-      (parked w t l steady shape there lt own (call_move a c) same_row (call_hears a c) (RwLock l a c) brief
+      (parked w t l inductive shape there lt own (call_move a c) same_row (call_hears a c) (RwLock l a c)
+      brief
       g.0 k key check want g.1 g.2 g.3)
   by_act plain (act.Take key (whom.TheVariants.Picked start b)) e g can = picked key start b g.0 g.1 g.2
   by_act plain (act.Take key whom.TheVariants.First) e g can = took key g.0 g.1
   by_act plain (act.Take key whom.TheVariants.All) e g can = absurd g
   by_act plain (act.Remove key) e g can =
-      go_on (act.Remove key) (left w t l steady shape there lt own (call_move a c) same_row (call_hears a c)
+      go_on (act.Remove key) (left w t l inductive shape there lt own (call_move a c) same_row
+      (call_hears a c)
       (RwLock l a c) brief asleep g.0 key g.1 g.2)
   by_act plain (act.Leave keys wakes) e g can = elim g [
-    | inl h ↦ go_on (act.Leave keys wakes) (out_of w t l steady shape there lt own (call_move a c) same_row
-        (call_hears a c) (RwLock l a c) brief h.0 keys wakes h.1 h.2 (wakes_one w t l steady there own
+    | inl h ↦ go_on (act.Leave keys wakes) (out_of w t l inductive shape there lt own (call_move a c) same_row
+        (call_hears a c) (RwLock l a c) brief h.0 keys wakes h.1 h.2 (wakes_one w t l inductive there own
         (rules_in w l) refl (call_move a c) same_row asleep h.2.any h.2.carries))
-    | inr h ↦ go_on (act.Leave keys wakes) (tells_all w t l steady shape there lt own (call_move a c) same_row
+    | inr h ↦ go_on (act.Leave keys wakes) (tells_all w t l inductive shape there lt own (call_move a c)
+        same_row
         (call_hears a c) (RwLock l a c) brief keys wakes h.0 h.1 (told_so h.1))
   ]
   by_act plain (act.HandOver k op) e g can = absurd (plain k op e)
-  by_act plain act.Accept e g can = go_on act.Accept (accepted w t l steady shape there lt own (call_move a c)
+  by_act plain act.Accept e g can = go_on act.Accept (accepted w t l inductive shape there lt own
+      (call_move a c)
       same_row (call_hears a c) (RwLock l a c) brief g)
   by_act plain act.Sleep e g can = absurd cc
   by_act plain (act.End answer) e g can = absurd cc
@@ -638,7 +646,7 @@ module _ (w : State) (t l : ℕ) (a : Admission) (c : RwLockCallPlace) (steady :
 
   pub rwlock_goes_late : (m : Line) → call_late_line c ≡ Some m → section_is_free w (key_of l m) ≡ true
       → Goes w (state_after_late_under w t (key_of l m)) l (acts t (call_deeds a c None Late))
-  rwlock_goes_late m e free = goes_in w t l steady there own (rules_in w l) refl (call_move a c) same_row
+  rwlock_goes_late m e free = goes_in w t l inductive there own (rules_in w l) refl (call_move a c) same_row
       (call_hears a c) m Late (next_place (place_at w t) Late) (section_there w l shape lt m)
       (none_is (section_at w (key_of l m)) free) (fair_late_moves a c m e)
       (λ h. followed None Late h (call_told_late a c m e))
@@ -656,7 +664,7 @@ first_fits : (w : State) (l : ℕ) (a : Admission) (c : RwLockCall) → Admits (
     → FitsItsLock w (RwLock l a (call_first c))
 first_fits w l a c admits = (admits, (calls_open a c).stands)
 
-module _ (w : State) (t l : ℕ) (c : RwLockCall) (steady : IsInductive w) (there : t < length w.places)
+module _ (w : State) (t l : ℕ) (c : RwLockCall) (inductive : IsInductive w) (there : t < length w.places)
     (idle_now : place_at w t ≡ Idle) (readers : has_readers (rules_in w l).sort ≡ true)
     (right : call_right c t (owners_at w l) (share_at w l t) ≡ true) where
   abbrev pub first : Place
@@ -670,7 +678,7 @@ module _ (w : State) (t l : ℕ) (c : RwLockCall) (steady : IsInductive w) (ther
 
   -- with what it claims
   pub rwlock_begins : Goes w (put w t first) l (acts t (Begin opens.opening.claims ∷ []))
-  rwlock_begins = place_goes w t l steady (rw idle_now tt) there (rules_in w l) refl first refl
+  rwlock_begins = place_goes w t l inductive (rw idle_now tt) there (rules_in w l) refl first refl
       (first_fits w l (admission_of_kind (kind_at w l)) c (admits_by (kind_at w l) readers))
       (Begin opens.opening.claims ∷ []) (λ h. tt)
       (steps_by (rules_in w l) l (parts_at w l) (parts_at w l) (place_at w) t first

@@ -37,7 +37,7 @@ use Rattle.spec_locks.specs.Sites.{Deed}
 use Rattle.lot_machine.specs.Machine.{State, can_do, place_at, put, reply_to, state_after_hand_over_by}
 use Rattle.lot_machine.specs.Machine.{word_at}
 use Rattle.lot_machine.specs.Fits.{IsWellFormed}
-use Rattle.lot_laws.specs.MutexDeeds.{acts}
+use Rattle.lot_laws.specs.ThreadDeeds.{acts}
 use Rattle.lot_laws.specs.SitesOf.{AreCounted, Goes, IsInductive, carried_at, rules_in}
 use Rattle.lot_laws.specs.Locations.{location}
 use Rattle.lot_laws.proofs.sites.ActsKept.{lock_by}
@@ -100,7 +100,7 @@ module _ (w : State) (t l : ℕ) (a : Admission) (c : RwLockCallPlace) where
     pub happened : Happens w (then_by y) t (event_by l (case_by whom y))
     pub others : OthersFollow w (then_by y) t (event_by l (case_by whom y))
 
-module _ (w : State) (t l : ℕ) (a : Admission) (c : RwLockCallPlace) (steady : IsInductive w)
+module _ (w : State) (t l : ℕ) (a : Admission) (c : RwLockCallPlace) (inductive : IsInductive w)
     (shape : IsWellFormed w)
     (there : t < length w.places) (lt : l < length w.locks) (is : place_at w t ≡ RwLock l a c) where
   of : called_lock (place_at w t) ≡ Some l
@@ -121,12 +121,13 @@ module _ (w : State) (t l : ℕ) (a : Admission) (c : RwLockCallPlace) (steady :
   happens_by : (y : Act) (whom : Option ℕ) → goes whom y → tells whom y
       → Happens w (then_by w t l a c y) t (event_by l (case_by w t l a c whom y))
   happens_by y whom went told = happens w (then_by w t l a c y) t l (call_profile a c).carries
-      (deeds_by w t l a c whom y) [] steady (subst (Goes w (then_by w t l a c y) l)
+      (deeds_by w t l a c whom y) [] inductive (subst (Goes w (then_by w t l a c y) l)
       (sym (append-nil (acts t (deeds_by w t l a c whom y)))) went) tt told.one
-      (λ none. in_no_hand w steady t l (λ h. none (sym carries ∙ h)))
+      (λ none. in_no_hand w inductive t l (λ h. none (sym carries ∙ h)))
 
   -- for itself alone
-  module _ (y : Act) (here : TakesHere l y) (from : GoesFrom w t l a c steady shape there lt is (RwLock l a c)
+  module _ (y : Act) (here : TakesHere l y) (from : GoesFrom w t l a c inductive shape there lt is
+      (RwLock l a c)
       y) where
     abbrev own_case : Option LockCase
     own_case = case_by w t l a c from.whom y
@@ -139,9 +140,9 @@ module _ (w : State) (t l : ℕ) (a : Admission) (c : RwLockCallPlace) (steady :
     own_others = others_follow w (then_by w t l a c y) t l own_case own_happened
         (hands_nothing w (then_by w t l a c y) t l own_case own_happened (call_profile a c).carries y own_case
         from.others)
-        (wakes_own w t l steady (rw is refl) (next_place (RwLock l a c) (reply_to w t y))
+        (wakes_own w t l inductive (rw is refl) (next_place (RwLock l a c) (reply_to w t y))
         (λ e. let some : has_readers (rules_in w l).sort ≡ true =
-        (admits w t l a c steady shape there lt is).0 in let none : has_readers (rules_in w l).sort
+        (admits w t l a c inductive shape there lt is).0 in let none : has_readers (rules_in w l).sort
         ≡ false = ap has_readers e in cc) (RwLock l a c) y here own_case
         (subst (λ h. WakesOwn h y own_case) (sym carries) from.others))
 
@@ -152,50 +153,52 @@ module _ (w : State) (t l : ℕ) (a : Admission) (c : RwLockCallPlace) (steady :
   module _ (k : Counted) (is_k : in_hand_of c ≡ Some k) (counted : AreCounted w) (op : Op)
       (e : call_act l a c ≡ act.HandOver l op) where
     abbrev heir : Option ℕ
-    heir = whom w t l a c steady shape there lt is k is_k (counted t l a c k is is_k) op e
+    heir = whom w t l a c inductive shape there lt is k is_k (counted t l a c k is is_k) op e
 
     told_so : tells heir (act.HandOver l op)
-    told_so = hands_tell w t l a c steady shape there lt is k is_k (counted t l a c k is is_k) op e
+    told_so = hands_tell w t l a c inductive shape there lt is k is_k (counted t l a c k is is_k) op e
 
     hands : takes_effect op (word_at w l) ≡ true → GoesOnBy w t l a c (act.HandOver l op)
     hands takes = record {
       whom = heir;
       tells = told_so;
-      happened = hands_happen w t l a c steady shape there lt is k is_k (counted t l a c k is is_k) op e
+      happened = hands_happen w t l a c inductive shape there lt is k is_k (counted t l a c k is is_k) op e
           takes;
-      others = hands_others w t l a c steady shape there lt is k is_k (counted t l a c k is is_k) op e takes;
+      others = hands_others w t l a c inductive shape there lt is k is_k (counted t l a c k is is_k) op e
+          takes;
     }
 
     -- A failed exchange looks again.
     module _ (fails : takes_effect op (word_at w l) ≡ false) where
-      abbrev behind : State
-      behind = then_by w t l a c (act.HandOver l op)
+      abbrev afterwards : State
+      afterwards = then_by w t l a c (act.HandOver l op)
 
       abbrev case : Option LockCase
       case = case_by w t l a c heir (act.HandOver l op)
 
-      happened : Happens w behind t (event_by l case)
+      happened : Happens w afterwards t (event_by l case)
       happened = happens_by (act.HandOver l op) heir
           (subst (λ q. Goes w (put (state_after_hand_over_by (takes_effect op (word_at w l)) w t
           (RwLock l a c) l op) t (next_place q (Value (word_at w l)))) l
           (acts t (deeds_by w t l a c heir (act.HandOver l op)))) is
-          (hands_fails w t l a c steady shape there lt is k is_k (counted t l a c k is is_k) op e fails))
+          (hands_fails w t l a c inductive shape there lt is k is_k (counted t l a c k is is_k) op e fails))
           told_so
 
       calmly : IsCalm case
       calmly = subst (λ ds. IsCalm (case_of (call_profile a c).carries ds))
-          (sym ((g w t l a c steady shape there lt is k is_k (counted t l a c k is is_k) op e).fails heir
+          (sym ((g w t l a c inductive shape there lt is k is_k (counted t l a c k is is_k) op e).fails heir
           (word_at w l) fails)) tt
 
-      stay : Stay w t (next_place (RwLock l a c) (Value (word_at w l))) behind
+      stay : Stay w t (next_place (RwLock l a c) (Value (word_at w l))) afterwards
       stay = subst (λ b. Stay w t (next_place (RwLock l a c) (Value (word_at w l)))
           (put (state_after_hand_over_by b w t (RwLock l a c) l op) t (next_place (RwLock l a c)
           (Value (word_at w l))))) (sym fails)
           (lonely w t (next_place (RwLock l a c) (Value (word_at w l))) (RwLock l a c) (act.Word l op) tt)
 
-      others : OthersFollow w behind t (event_by l case)
-      others = others_follow w behind t l case happened (no_hand_off w behind t l case happened case calmly)
-          (calm w t (next_place (RwLock l a c) (Value (word_at w l))) behind l case calmly stay)
+      others : OthersFollow w afterwards t (event_by l case)
+      others = others_follow w afterwards t l case happened (no_hand_off w afterwards t l case happened case
+          calmly)
+          (calm w t (next_place (RwLock l a c) (Value (word_at w l))) afterwards l case calmly stay)
 
       looks : GoesOnBy w t l a c (act.HandOver l op)
       looks = record { whom = heir; tells = told_so; happened = happened; others = others }
@@ -214,11 +217,11 @@ module _ (w : State) (t l : ℕ) (a : Admission) (c : RwLockCallPlace) (steady :
   rwlock_goes_on counted can = by_act (call_act l a c) refl
     where
       may : CallStands a c
-      may = stands w t l a c steady shape there lt is
+      may = stands w t l a c inductive shape there lt is
 
       alone : ((k : ℕ) (op : Op) → call_act l a c ≢ act.HandOver k op) → GoesOnBy w t l a c (call_act l a c)
       alone plain = by_own (call_act l a c) (takes_here l (location (RwLock l a c)) (call_act l a c)
-          (call_facts l a c).line) (goes_unhanded w t l a c steady shape there lt is plain can)
+          (call_facts l a c).line) (goes_unhanded w t l a c inductive shape there lt is plain can)
 
       by_act : (y : Act) → call_act l a c ≡ y → GoesOnBy w t l a c (call_act l a c)
       by_act (act.HandOver k op) e =

@@ -187,4 +187,4 @@ module _ (w : State) (l : ℕ) (sort : (rules_in w l).sort ≡ locks.Semaphore) 
 -- a thread owes 1 at most
 pub few_debts : (w : State) → IsInductive w → (l : ℕ) → (rules_in w l).sort ≡ locks.Semaphore → (u : ℕ)
     → debt (role_on (place_at w u) l) ≤ 1
-few_debts w steady l sort u = place_few w l sort (place_at w u) (steady.stands.calls u)
+few_debts w inductive l sort u = place_few w l sort (place_at w u) (inductive.stands.calls u)

@@ -60,7 +60,7 @@ use Rattle.lot_machine.specs.Machine.{kind_at, owners_at, place_at, put, queue_a
 use Rattle.lot_machine.specs.Machine.{share_at, shares_at, state_after_act, word_at}
 use Rattle.lot_machine.specs.Fits.{IsWellFormed}
 use Rattle.lot_laws.specs.Refinement.{taken_at}
-use Rattle.lot_laws.specs.MutexDeeds.{acts}
+use Rattle.lot_laws.specs.ThreadDeeds.{acts}
 use Rattle.lot_laws.specs.Locations.{role_on, location}
 use Rattle.lot_laws.specs.SitesOf.{FitsItsLock, LateIsTimed, Goes, IsInductive, TakesOne, is_mutex, key_of}
 use Rattle.lot_laws.specs.SitesOf.{rules_in}
@@ -159,11 +159,11 @@ late_tells_timed timed told ne e = absurd (ne e)
 
 -- ---------------------------------------------------------------- one thread
 
-module _ (w : State) (t l : ℕ) (at : SemaphorePlace) (steady : IsInductive w) (shape : IsWellFormed w)
+module _ (w : State) (t l : ℕ) (at : SemaphorePlace) (inductive : IsInductive w) (shape : IsWellFormed w)
     (there : t < length w.places)
     (lt : l < length w.locks) (is : place_at w t ≡ Semaphore l at) where
   pub fits_now : FitsItsLock w (Semaphore l at)
-  fits_now = subst (FitsItsLock w) is (steady.stands.calls t)
+  fits_now = subst (FitsItsLock w) is (inductive.stands.calls t)
 
   pub sort_is : (rules_in w l).sort ≡ locks.Semaphore
   sort_is = fits_now.0
@@ -183,10 +183,10 @@ module _ (w : State) (t l : ℕ) (at : SemaphorePlace) (steady : IsInductive w) 
   pub at_now : IsAt (rules_in w l) here t at
   at_now = record {
     sort = sort_is;
-    small = (steady.sites.permits l sort_is).1;
-    site = steady.sites.site l;
-    few = (steady.sites.site l).state.within sort_is;
-    here = subst (λ n. t < n) (sym (steady.numbers.threads l)) there;
+    small = (inductive.sites.permits l sort_is).1;
+    site = inductive.sites.site l;
+    few = (inductive.sites.site l).state.within sort_is;
+    here = subst (λ n. t < n) (sym (inductive.numbers.threads l)) there;
     role = role_now;
   }
 
@@ -200,7 +200,8 @@ module _ (w : State) (t l : ℕ) (at : SemaphorePlace) (steady : IsInductive w) 
 
   -- tells what its laws conclude
   abbrev Followed : Option ℕ → Reply → Type 0
-  Followed who told = IsFollowed w t l steady there own (rules_in w l) refl (semaphore_move at) same_row who
+  Followed who told = IsFollowed w t l inductive there own (rules_in w l) refl (semaphore_move at) same_row
+      who
       told (next_place (place_at w t) told)
 
   followed_by : (who : Option ℕ) (told : Reply) → (told ≡ Late → (semaphore_profile at).timed ≡ true)
@@ -224,27 +225,28 @@ module _ (w : State) (t l : ℕ) (at : SemaphorePlace) (steady : IsInductive w) 
   many : TakesOne w l → ⊥
   many one = let both : locks.Mutex ≡ locks.Semaphore = sym one ∙ sort_is in cc
 
-  asleep : (u : ℕ) → SleepsIfCalls w t l steady there own (rules_in w l) refl (semaphore_move at) same_row u
+  asleep : (u : ℕ) → SleepsIfCalls w t l inductive there own (rules_in w l) refl (semaphore_move at) same_row
+      u
   asleep u = record {
-    apart = not_beside w (place_at w u) l (steady.stands.calls u) many;
+    apart = not_beside w (place_at w u) l (inductive.stands.calls u) many;
     sleeper = λ h. by_place (place_at w u) refl h;
   }
     where
       of_condvar : (k : ℕ) (c : CondvarPlace) → place_at w u ≡ Condvar k c → k ≡ l → ⊥
       of_condvar k c e same_lock =
-          let fits : FitsItsLock w (Condvar k c) = subst (FitsItsLock w) e (steady.stands.calls u) in
+          let fits : FitsItsLock w (Condvar k c) = subst (FitsItsLock w) e (inductive.stands.calls u) in
           let both : locks.Condvar ≡ locks.Semaphore = sym fits.sort ∙ ap (λ j. (rules_in w j).sort) same_lock
           ∙ sort_is in cc
 
       of_once : (k : ℕ) (c : OncePlace) → place_at w u ≡ Once k c → k ≡ l → ⊥
       of_once k c e same_lock =
-          let fits : (rules_in w k).sort ≡ locks.Once = subst (FitsItsLock w) e (steady.stands.calls u) in
+          let fits : (rules_in w k).sort ≡ locks.Once = subst (FitsItsLock w) e (inductive.stands.calls u) in
           let both : locks.Once ≡ locks.Semaphore = sym fits ∙ ap (λ j. (rules_in w j).sort) same_lock
           ∙ sort_is in cc
 
       of_mutex : (k : ℕ) (m : MutexPlace) → place_at w u ≡ Mutex k m → k ≡ l → ⊥
       of_mutex k m e same_lock =
-          let fits : is_mutex (kind_at w k) ≡ true = subst (FitsItsLock w) e (steady.stands.calls u) in
+          let fits : is_mutex (kind_at w k) ≡ true = subst (FitsItsLock w) e (inductive.stands.calls u) in
           let one : (rules_in w k).sort ≡ locks.Mutex = ap (λ (r : Rules). r.sort)
           (mutex_rules (kind_at w k) fits) in
           let both : locks.Mutex ≡ locks.Semaphore = sym one ∙ ap (λ j. (rules_in w j).sort) same_lock
@@ -252,12 +254,12 @@ module _ (w : State) (t l : ℕ) (at : SemaphorePlace) (steady : IsInductive w) 
 
       of_rwlock : (k : ℕ) (a : Admission) (c : RwLockCallPlace) → place_at w u ≡ RwLock k a c → k ≡ l → ⊥
       of_rwlock k a c e same_lock =
-          let fits : FitsItsLock w (RwLock k a c) = subst (FitsItsLock w) e (steady.stands.calls u) in
+          let fits : FitsItsLock w (RwLock k a c) = subst (FitsItsLock w) e (inductive.stands.calls u) in
           let both : true ≡ false = sym fits.0.0 ∙ ap (λ j. has_readers (rules_in w j).sort) same_lock
           ∙ unshared in cc
 
       by_place : (q : Place) → place_at w u ≡ q → calls q l ≡ true
-          → IsSleeper w t l steady there own (rules_in w l) refl (semaphore_move at) same_row u
+          → IsSleeper w t l inductive there own (rules_in w l) refl (semaphore_move at) same_row u
       by_place Idle e g = absurd cc
       by_place (Condvar k c) e g = absurd (of_condvar k c e (eqb-true k l g))
       by_place (Once k c) e g = absurd (of_once k c e (eqb-true k l g))
@@ -283,7 +285,7 @@ module _ (w : State) (t l : ℕ) (at : SemaphorePlace) (steady : IsInductive w) 
           z = semaphore_sleepers_move p
 
           fits_u : FitsItsLock w (Semaphore k p)
-          fits_u = subst (FitsItsLock w) e (steady.stands.calls u)
+          fits_u = subst (FitsItsLock w) e (inductive.stands.calls u)
 
   -- ---------------------------------------------------------------- each act
 
@@ -305,7 +307,8 @@ module _ (w : State) (t l : ℕ) (at : SemaphorePlace) (steady : IsInductive w) 
   brief : (told : Reply) → IsBrief told → MayHear (rules_in w l) here t at None told → Followed None told
   brief told now hears = followed None told (on_time told now) hears
 
-  go_on : (y : Act) → GoesBy w t l steady shape there lt own (semaphore_move at) same_row (semaphore_hears at)
+  go_on : (y : Act) → GoesBy w t l inductive shape there lt own (semaphore_move at) same_row
+      (semaphore_hears at)
       (Semaphore l at) brief (whom_by w y) y → GoesFrom (place_at w t) y
   go_on y b = record {
     goes = b.goes;
@@ -314,13 +317,13 @@ module _ (w : State) (t l : ℕ) (at : SemaphorePlace) (steady : IsInductive w) 
   }
 
   word_is : word_at w l ≡ code (rules_in w l) here
-  word_is = steady.sites.word l
+  word_is = inductive.sites.word l
 
   -- one operation on the word
   on_word : (op : Op) → semaphore_act l at ≡ act.Word l op → StaysPut (semaphore_move at)
       → GoesFrom (place_at w t) (act.Word l op)
   on_word op e g = record {
-    goes = stays_unshared w t l steady there own (rules_in w l) refl (semaphore_move at) same_row unshared
+    goes = stays_unshared w t l inductive there own (rules_in w l) refl (semaphore_move at) same_row unshared
         (Semaphore l at) (next_place (place_at w t) (Value (word_at w l))) op g on.0 lt on.1 on.2 parked
         aside;
     tells = subst (λ v. CallFollows (rules_in w l) here.lock t l (semaphore_profile at)
@@ -357,14 +360,15 @@ module _ (w : State) (t l : ℕ) (at : SemaphorePlace) (steady : IsInductive w) 
         only.aside,
       )
 
-      behind : Site
-      behind = laws.after_all (rules_in w l) (semaphore_deeds at None (Value (word_at w l))) here t
+      afterwards : Site
+      afterwards = laws.after_all (rules_in w l) (semaphore_deeds at None (Value (word_at w l))) here t
 
-      parked : parked_in (rules_in w l).sort (apply op (word_at w l)) ≡ behind.parked
+      parked : parked_in (rules_in w l).sort (apply op (word_at w l)) ≡ afterwards.parked
       parked = ap (λ x. parked_in x (apply op (word_at w l))) sort_is
-          ∙ ap has_parked (on.2 ∙ words.coded (rules_in w l) behind sort_is) ∙ words.parked_is _ behind.parked
+          ∙ ap has_parked (on.2 ∙ words.coded (rules_in w l) afterwards sort_is)
+          ∙ words.parked_is _ afterwards.parked
 
-      aside : aside_in (rules_in w l).sort (apply op (word_at w l)) ≡ behind.aside_parked
+      aside : aside_in (rules_in w l).sort (apply op (word_at w l)) ≡ afterwards.aside_parked
       aside = ap (λ x. aside_in x (apply op (word_at w l))) sort_is
           ∙ sym (ap (λ x. aside_in x (word_at w l)) sort_is) ∙ sym on.3
 
@@ -374,16 +378,16 @@ module _ (w : State) (t l : ℕ) (at : SemaphorePlace) (steady : IsInductive w) 
       → GoesFrom (place_at w t) y
   by_act (act.Word k op) e g can = subst (λ j. GoesFrom (place_at w t) (act.Word j op)) (sym g.0)
       (on_word op (e ∙ ap (λ j. act.Word j op) g.0) g.1)
-  by_act (act.Enter keys) e g can = go_on (act.Enter keys) (into w t l steady shape there lt own
+  by_act (act.Enter keys) e g can = go_on (act.Enter keys) (into w t l inductive shape there lt own
       (semaphore_move at) same_row (semaphore_hears at) (Semaphore l at) brief g.0 keys g.1 can g.2)
   by_act (act.Park k key check want) e g can = go_on (act.Park k key check want)
-      (parked w t l steady shape there lt own (semaphore_move at) same_row (semaphore_hears at)
+      (parked w t l inductive shape there lt own (semaphore_move at) same_row (semaphore_hears at)
       (Semaphore l at) brief g.0 k key check want g.1 g.2 g.3)
   by_act (act.Take key whom.First) e g can = go_on (act.Take key whom.First)
-      (took_first w t l steady shape there lt own (semaphore_move at) same_row (semaphore_hears at)
+      (took_first w t l inductive shape there lt own (semaphore_move at) same_row (semaphore_hears at)
       (Semaphore l at) brief take_deeds g.1 refl takes_calm (λ who any none_left h. followed who
       (Took any none_left) (λ x. cc) h)
-      (takes_one w t l steady there own (rules_in w l) refl (semaphore_move at) same_row asleep
+      (takes_one w t l inductive there own (rules_in w l) refl (semaphore_move at) same_row asleep
       (semaphore_hears at) many (line_there w l shape lt Main) sort_is g.1) key g.0)
   by_act (act.Take key (whom.Picked start recursive)) e g can = absurd (no_pick at e)
     where
@@ -407,11 +411,11 @@ module _ (w : State) (t l : ℕ) (at : SemaphorePlace) (steady : IsInductive w) 
       no_pick (Release release.Add) h = cc
       no_pick (Release release.Take) h = cc
       no_pick (Release to) h = cc
-  by_act (act.Remove key) e g can = go_on (act.Remove key) (left w t l steady shape there lt own
+  by_act (act.Remove key) e g can = go_on (act.Remove key) (left w t l inductive shape there lt own
       (semaphore_move at) same_row (semaphore_hears at) (Semaphore l at) brief asleep g.0 key g.1 g.2)
   by_act (act.Leave keys wakes) e g can =
-      go_on (act.Leave keys wakes) (out_of w t l steady shape there lt own (semaphore_move at) same_row
-      (semaphore_hears at) (Semaphore l at) brief g.0 keys wakes g.1 g.2 (wakes_one w t l steady there own
+      go_on (act.Leave keys wakes) (out_of w t l inductive shape there lt own (semaphore_move at) same_row
+      (semaphore_hears at) (Semaphore l at) brief g.0 keys wakes g.1 g.2 (wakes_one w t l inductive there own
       (rules_in w l) refl (semaphore_move at) same_row asleep g.2.any g.2.carries))
   by_act act.Sleep e g can = absurd cc
   by_act (act.End answer) e g can = absurd cc
@@ -426,7 +430,7 @@ module _ (w : State) (t l : ℕ) (at : SemaphorePlace) (steady : IsInductive w) 
   pub semaphore_goes_late : (m : Line) → (semaphore_profile at).late_line ≡ Some m → is_free_in w (key_of l m)
       ≡ true
       → Goes w (state_after_late_under w t (key_of l m)) l (acts t (semaphore_deeds at None Late))
-  semaphore_goes_late m e free = goes_in w t l steady there own (rules_in w l) refl (semaphore_move at)
+  semaphore_goes_late m e free = goes_in w t l inductive there own (rules_in w l) refl (semaphore_move at)
       same_row (semaphore_hears at) m Late (next_place (place_at w t) Late) (section_there w l shape lt m)
       (none_is (section_at w (key_of l m)) free) (semaphore_late_move at m e)
       (λ h. followed_by None Late (λ x. late_timed at m e) (semaphore_steps_follow (rules_in w l) here t
@@ -465,7 +469,7 @@ opens semaphore_call.Release = record { location = refl; role = refl; timed = λ
 some_held : (n : ℕ) → not (n == 0) ≡ true → 1 ≤ n
 some_held n h = grind (arith, nat_tests)
 
-module _ (w : State) (t l : ℕ) (c : SemaphoreCall) (steady : IsInductive w) (there : t < length w.places)
+module _ (w : State) (t l : ℕ) (c : SemaphoreCall) (inductive : IsInductive w) (there : t < length w.places)
     (idle_now : place_at w t ≡ Idle)
     (sort : (rules_in w l).sort ≡ locks.Semaphore) (right : semaphore_right c (share_at w l t) ≡ true) where
   abbrev pub first : Place
@@ -477,7 +481,7 @@ module _ (w : State) (t l : ℕ) (c : SemaphoreCall) (steady : IsInductive w) (t
   has_claim semaphore_call.Release h = (some_held (share_at w l t) h, tt)
 
   pub semaphore_begins : Goes w (put w t first) l (acts t (Begin (claims_first c) ∷ []))
-  semaphore_begins = place_goes w t l steady (rw idle_now tt) there (rules_in w l) refl first refl (
+  semaphore_begins = place_goes w t l inductive (rw idle_now tt) there (rules_in w l) refl first refl (
     sort,
     (opens c).timed,
   ) (Begin (claims_first c) ∷ []) (λ h. tt)

@@ -22,7 +22,7 @@ use Rattle.lot_machine.specs.Machine.{State, place_at, places_told, put, queue_a
 use Rattle.lot_machine.specs.Machine.{state_after_reply}
 use Rattle.lot_machine.proofs.QueueLemmas.{told_count}
 use Rattle.lot_laws.specs.Refinement.{taken_at}
-use Rattle.lot_laws.specs.MutexDeeds.{acts}
+use Rattle.lot_laws.specs.ThreadDeeds.{acts}
 use Rattle.lot_laws.specs.Locations.{role_on, location, location_at}
 use Rattle.lot_laws.specs.SitesOf.{ActsNeeded, AreWaiting, FitsItsLock, Goes, IsInductive, TakesOne}
 use Rattle.lot_laws.specs.SitesOf.{after_acts, rules_in, locations_of, stood_in}
@@ -41,7 +41,7 @@ pub shared_wanted : (x : Want) → Knows Semaphore x → x ≡ Shared
 shared_wanted Shared k = refl
 shared_wanted x k = absurd k
 
-module _ (w : State) (t l : ℕ) (steady : IsInductive w) (own : IsOf l (place_at w t)) (there : t
+module _ (w : State) (t l : ℕ) (inductive : IsInductive w) (own : IsOf l (place_at w t)) (there : t
     < length w.places) (p2 : Place)
     (of : IsOf l p2) (fits : FitsItsLock w p2) (many : TakesOne w l → ⊥)
     (out : (location (place_at w t)).stands ≡ None) (free : (location (place_at w t)).hand ≡ None)
@@ -58,7 +58,7 @@ module _ (w : State) (t l : ℕ) (steady : IsInductive w) (own : IsOf l (place_a
       → Goes w (put (state_after_reply (record w { queues = queues_without_first w.queues (2 * l) }) x.thread
       (TakenBy t)) t p2) l
       (acts t (Case (TakeFirst (queued x.thread)) ∷ []))
-  first_goes sleeps carries needed own_is = take_goes w t l steady own there p2 of fits many Main (x ∷ [])
+  first_goes sleeps carries needed own_is = take_goes w t l inductive own there p2 of fits many Main (x ∷ [])
       rest
       (record {
         counts = λ u. let a : times u (queue_at w (2 * l)) ≡ times u (x ∷ rest) = ap (times u) first
@@ -86,14 +86,14 @@ module _ (w : State) (t l : ℕ) (steady : IsInductive w) (own : IsOf l (place_a
           want = shares i;
         } ∷ []) (λ u. taken_at (place_at w u) l);
       })
-      refl refl (noted r (lock_by w l r) (site_by w t l steady own there r rules p2 of fits)) own_is
+      refl refl (noted r (lock_by w l r) (site_by w t l inductive own there r rules p2 of fits)) own_is
     where
       v : State
       v = put (state_after_reply (record w { queues = queues_without_first w.queues (2 * l) }) x.thread
           (TakenBy t)) t p2
 
       waits : AreWaiting (locations_of (place_at w)) l Main (x ∷ rest)
-      waits = subst (AreWaiting (locations_of (place_at w)) l Main) first (steady.stands.waits l Main)
+      waits = subst (AreWaiting (locations_of (place_at w)) l Main) first (inductive.stands.waits l Main)
 
       same_one : member x.thread (x ∷ []) ≡ true
       same_one = rw (same x.thread) refl
@@ -110,34 +110,35 @@ module _ (w : State) (t l : ℕ) (steady : IsInductive w) (own : IsOf l (place_a
           ∙ ap (λ (f : ℕ → Place). putting f t p2) (told_places (TakenBy t) (x ∷ []) w.places)
 
 -- the first of the line, if there is one
-module _ (w : State) (t l : ℕ) (steady : IsInductive w) (there : t < length w.places)
+module _ (w : State) (t l : ℕ) (inductive : IsInductive w) (there : t < length w.places)
     (own : IsOf l (place_at w t)) (r : Rules)
     (rules : rules_in w l ≡ r) (x : Move) (same_row : profile (place_at w t) ≡ x.row) (asleep : (u : ℕ)
-    → SleepsIfCalls w t l steady there own r rules x same_row u)
+    → SleepsIfCalls w t l inductive there own r rules x same_row u)
     (hears : Hears) (many : TakesOne w l → ⊥) (line : 2 * l < length w.queues) (sort : r.sort ≡ Semaphore)
     (g : TakesFirst take_deeds x hears) where
   is_now : location (place_at w t) ≡ inside_of Main
-  is_now = first.is_now w t l steady there own r rules x same_row hears take_deeds line g
+  is_now = first.is_now w t l inductive there own r rules x same_row hears take_deeds line g
 
   pub takes_one : (y : Waiter) (rest : List Waiter) → queue_at w (2 * l) ≡ y ∷ rest
-      → first.Followed w t l steady there own r rules x same_row hears take_deeds line g (Some y.thread)
+      → first.Followed w t l inductive there own r rules x same_row hears take_deeds line g (Some y.thread)
       (Took true (length rest == 0))
-      → first.KeptBy w t l steady there own r rules x same_row hears take_deeds line g (y ∷ rest)
+      → first.KeptBy w t l inductive there own r rules x same_row hears take_deeds line g (y ∷ rest)
   takes_one y rest e f = subst (λ ds. Goes w
       (put (state_after_reply (record w { queues = queues_without_first w.queues (2 * l) }) y.thread
       (TakenBy t)) t p2) l (acts t ds)) (sym does)
-      (first_goes w t l steady own there p2 f.of f.fits many (ap (λ (z : Location). z.stands) is_now)
+      (first_goes w t l inductive own there p2 f.of f.fits many (ap (λ (z : Location). z.stands) is_now)
       (ap (λ (z : Location). z.hand) is_now) (ap (λ (z : Location). z.carries) is_now) r rules
-      (first.hand_now w t l steady there own r rules x same_row hears take_deeds line g)
-      (first.hand_then w t l steady there own r rules x same_row hears take_deeds line g (Some y.thread)
+      (first.hand_now w t l inductive there own r rules x same_row hears take_deeds line g)
+      (first.hand_then w t l inductive there own r rules x same_row hears take_deeds line g (Some y.thread)
       true (length rest == 0) f)
       (ap (λ (z : Location). z.inside) at_then ∙ sym (ap (λ (z : Location). z.inside) is_now))
       (ap (λ (z : Location). z.stands) at_then) (ap (λ (z : Location). z.hand) at_then)
-      y rest e wants line (sleeps_in w t l steady there own r rules x same_row asleep Main y.thread g.was
+      y rest e wants line (sleeps_in w t l inductive there own r rules x same_row asleep Main y.thread g.was
       stands_there) (ap (λ (z : Location). z.carries) at_then)
-      (needed_by w t l steady there own r rules x same_row (Some y.thread) (Took true (length rest == 0)) p2 f
+      (needed_by w t l inductive there own r rules x same_row (Some y.thread) (Took true (length rest == 0))
+      p2 f
       (take_deeds (Some y.thread)) does)
-      (own_by w t l steady there own r rules x same_row (Some y.thread) (Took true (length rest == 0)) p2 f
+      (own_by w t l inductive there own r rules x same_row (Some y.thread) (Took true (length rest == 0)) p2 f
       (take_deeds (Some y.thread)) does))
     where
       p2 : Place
@@ -147,12 +148,12 @@ module _ (w : State) (t l : ℕ) (steady : IsInductive w) (there : t < length w.
       does = g.deeds (Some y.thread) true (length rest == 0)
 
       at_then : location p2 ≡ record (inside_of Main) { carries = Some false }
-      at_then = first.is_then w t l steady there own r rules x same_row hears take_deeds line g
+      at_then = first.is_then w t l inductive there own r rules x same_row hears take_deeds line g
           (Some y.thread) true (length rest == 0) f
 
       known : KnowsAll Semaphore (map queued_of (y ∷ rest))
       known = subst (λ (q : List Waiter). KnowsAll Semaphore (map queued_of q)) e
-          (subst (λ s. KnowsAll s (lock_by w l r).lock.queue) sort (site w t l steady there own r rules x
+          (subst (λ s. KnowsAll s (lock_by w l r).lock.queue) sort (site w t l inductive there own r rules x
           same_row).state.known_queue)
 
       wants : y.want ≡ Shared
@@ -161,7 +162,7 @@ module _ (w : State) (t l : ℕ) (steady : IsInductive w) (there : t < length w.
       stands_there : (location_at (place_at w y.thread) l).stands ≡ Some Main
       stands_there = in_main (location_at (place_at w y.thread) l).stands (let a : times y.thread
           (queue_at w (2 * l)) ≡ stood_in (location_at (place_at w y.thread) l).stands Main =
-          steady.stands.lines y.thread l Main in
+          inductive.stands.lines y.thread l Main in
           let b : times y.thread (queue_at w (2 * l)) ≡ times y.thread (y ∷ rest) = ap (times y.thread) e in
           let c : ◌≡◌ {A = ℕ} (if y.thread == y.thread then 1 else 0) 1 =
           ap (λ (b : Bool). if b then 1 else 0) (same y.thread) in omega arith)

@@ -5,8 +5,8 @@ use Rattle.spec_locks.specs.Permits.{HasPermits}
 use Rattle.spec_locks.specs.Sites.{Deed, Site, IsSite, after_deed}
 use Rattle.steps_semaphore.specs.Tended.{IsTended, semaphore}
 use Rattle.steps_semaphore.proofs.TendedKept.{one_keeps, same_sharers}
-use Rattle.lot_laws.specs.MutexDeeds.{acts}
-use Rattle.lot_laws.specs.MutexDeeds as deeds
+use Rattle.lot_laws.specs.ThreadDeeds.{acts}
+use Rattle.lot_laws.specs.ThreadDeeds as deeds
 use Rattle.lot_laws.specs.SitesOf.{ActsNeeded, AllBy, after_acts}
 
 -- a thread's own deeds are its own

@@ -35,7 +35,7 @@ use Rattle.lot_machine.specs.Fits.{IsWellFormed}
 use Rattle.lot_machine.proofs.Closures.{semaphore_runs_none}
 use Rattle.lot_machine.proofs.Shape.{performed_counts}
 use Rattle.lot_laws.specs.Refinement.{lock_state, locks_of}
-use Rattle.lot_laws.specs.MutexDeeds.{acts}
+use Rattle.lot_laws.specs.ThreadDeeds.{acts}
 use Rattle.lot_laws.specs.SitesOf.{Goes, IsInductive, carried_at, rules_in}
 use Rattle.lot_laws.specs.Locations.{location}
 use Rattle.lot_laws.proofs.machine.AtPlaces.{in_no_hand}
@@ -66,7 +66,7 @@ tries_step l s false = refl
 
 -- ---------------------------------------------------------------- its step
 
-module _ (w : State) (t l : ℕ) (at : SemaphorePlace) (steady : IsInductive w) (shape : IsWellFormed w)
+module _ (w : State) (t l : ℕ) (at : SemaphorePlace) (inductive : IsInductive w) (shape : IsWellFormed w)
     (there : t < length w.places)
     (lt : l < length w.locks) (is : place_at w t ≡ Semaphore l at) (can : can_do w (semaphore_act l at)
     ≡ true) where
@@ -77,14 +77,14 @@ module _ (w : State) (t l : ℕ) (at : SemaphorePlace) (steady : IsInductive w) 
   abbrev whom : Option ℕ
   whom = whom_by w (semaphore_act l at)
 
-  abbrev behind : State
-  behind = go_by w t (Semaphore l at) (semaphore_act l at)
+  abbrev afterwards : State
+  afterwards = go_by w t (Semaphore l at) (semaphore_act l at)
 
-  kept : GoesFrom w t l at steady shape there lt is (Semaphore l at) (semaphore_act l at)
-  kept = goes_semaphore w t l at steady shape there lt is can
+  kept : GoesFrom w t l at inductive shape there lt is (Semaphore l at) (semaphore_act l at)
+  kept = goes_semaphore w t l at inductive shape there lt is can
 
   sort : (rules_in w l).sort ≡ locks.Semaphore
-  sort = sort_is w t l at steady shape there lt is
+  sort = sort_is w t l at inductive shape there lt is
 
   of : called_lock (place_at w t) ≡ Some l
   of = ap called_lock is
@@ -96,28 +96,30 @@ module _ (w : State) (t l : ℕ) (at : SemaphorePlace) (steady : IsInductive w) 
   abbrev case : Option LockCase
   case = case_of (semaphore_profile at).carries (semaphore_deeds at whom told)
 
-  happened : Happens w behind t (event_by l case)
-  happened = happens w behind t l (semaphore_profile at).carries (semaphore_deeds at whom told) [] steady
-      (subst (Goes w behind l) (sym (append-nil (acts t (semaphore_deeds at whom told)))) kept.goes) tt
+  happened : Happens w afterwards t (event_by l case)
+  happened = happens w afterwards t l (semaphore_profile at).carries (semaphore_deeds at whom told) []
+      inductive
+      (subst (Goes w afterwards l) (sym (append-nil (acts t (semaphore_deeds at whom told)))) kept.goes) tt
       kept.tells.one
-      (λ none. in_no_hand w steady t l (λ h. none (sym carries ∙ h)))
+      (λ none. in_no_hand w inductive t l (λ h. none (sym carries ∙ h)))
 
-  others : OthersFollow w behind t (event_by l case)
-  others = others_follow w behind t l case happened (hands_nothing w behind t l case happened
+  others : OthersFollow w afterwards t (event_by l case)
+  others = others_follow w afterwards t l case happened (hands_nothing w afterwards t l case happened
       (semaphore_profile at).carries (semaphore_act l at) case kept.others)
-      (wakes_own w t l steady (rw is refl) (next_place (Semaphore l at) told) (λ e. let both : locks.Condvar
+      (wakes_own w t l inductive (rw is refl) (next_place (Semaphore l at) told)
+      (λ e. let both : locks.Condvar
       ≡ locks.Semaphore = sym e ∙ sort in cc) (Semaphore l at) (semaphore_act l at)
       (takes_here l (location (Semaphore l at)) (semaphore_act l at) (semaphore_facts l at).line) case
       (subst (λ h. WakesOwn h (semaphore_act l at) case) (sym carries) kept.others))
 
   -- where it is then
-  waits : (q : SemaphorePlace) → place_at behind t ≡ Semaphore l q → IsWaiting (semaphore_profile q)
-      → 1 ≤ standing t (lock_state behind l)
-  waits q e h = waiting_stands behind t happened.after l (ap called_lock e)
+  waits : (q : SemaphorePlace) → place_at afterwards t ≡ Semaphore l q → IsWaiting (semaphore_profile q)
+      → 1 ≤ standing t (lock_state afterwards l)
+  waits q e h = waiting_stands afterwards t happened.after l (ap called_lock e)
       (subst (λ (x : Profile). IsWaiting x) (sym (ap profile e)) h)
 
-  rests : (q : SemaphorePlace) → place_at behind t ≡ Semaphore l q
-      → GoesAs behind t l (outcome_of (semaphore_act l q))
+  rests : (q : SemaphorePlace) → place_at afterwards t ≡ Semaphore l q
+      → GoesAs afterwards t l (outcome_of (semaphore_act l q))
   rests (Acquire timed again acquire.Asleep) e =
       inr (inl (refl, waits (Acquire timed again acquire.Asleep) e (inl (λ n. cc))))
   rests (Acquire timed again (acquire.Taken by)) e =
@@ -129,14 +131,14 @@ module _ (w : State) (t l : ℕ) (at : SemaphorePlace) (steady : IsInductive w) 
   rests (Release release.Add) e = inl refl
   rests (Release to) e = inl refl
 
-  leads : LeadsTo behind t l (next_row (semaphore_next at told))
+  leads : LeadsTo afterwards t l (next_row (semaphore_next at told))
       (outcome_of (semaphore_does l (semaphore_next at told)))
   leads = by_next (semaphore_next at told)
       (get_or-set_same (state_after_act w t (Semaphore l at) (semaphore_act l at)).places t _ Idle
       (rw (performed_counts w t (Semaphore l at) (semaphore_act l at)).0 there))
     where
-      by_next : (n : Next SemaphorePlace) → place_at behind t ≡ semaphore_goes l n
-          → LeadsTo behind t l (next_row n) (outcome_of (semaphore_does l n))
+      by_next : (n : Next SemaphorePlace) → place_at afterwards t ≡ semaphore_goes l n
+          → LeadsTo afterwards t l (next_row n) (outcome_of (semaphore_does l n))
       by_next (next.At q) e = (ap called_lock e, ap profile e, rests q e, subst IsSingle (sym e) tt)
       by_next (next.End answer) e = (e, refl)
 
@@ -152,8 +154,9 @@ module _ (w : State) (t l : ℕ) (at : SemaphorePlace) (steady : IsInductive w) 
   tells_none (next.At p) = closure_told (semaphore_act l p) ∙ semaphore_runs_none l p
   tells_none (next.End answer) = refl
 
-  pub semaphore_step : GoesOn (locks_of w) t (outcome_of (next_act (Semaphore l at) told)) (locks_of behind)
-  semaphore_step = goes_by w behind t l case happened (Semaphore l at) is refl tt kept.tells.may
+  pub semaphore_step : GoesOn (locks_of w) t (outcome_of (next_act (Semaphore l at) told))
+      (locks_of afterwards)
+  semaphore_step = goes_by w afterwards t l case happened (Semaphore l at) is refl tt kept.tells.may
       (next_row (semaphore_next at told)) _ kept.tells.comes leads others
       (begins_nothing (locks_of w) l (semaphore_profile at) case _ runs kept.tells.may
       (tells_none (semaphore_next at told)))

@@ -29,7 +29,7 @@ use Rattle.lot_machine.specs.Machine.{kind_at, queue_at, section_at, put, state_
 use Rattle.lot_machine.specs.Machine.{state_with_sections, queues_with_last, queues_without}
 use Rattle.lot_machine.specs.Machine.{queues_without_first}
 use Rattle.lot_laws.specs.Refinement.{taken_at}
-use Rattle.lot_laws.specs.MutexDeeds.{acts}
+use Rattle.lot_laws.specs.ThreadDeeds.{acts}
 use Rattle.lot_laws.specs.Locations.{Location, location_at, nowhere, role_on}
 use Rattle.lot_laws.specs.SitesOf.{locations_of, TakesOne, ActsNeeded, IsInductive, SiteFollows, Goes}
 use Rattle.lot_laws.specs.SitesOf.{FitsItsLock, AllAreWaiting, AreWaiting, rules_in, key_of, stood_in}
@@ -40,7 +40,7 @@ use Rattle.lot_laws.proofs.machine.Parts.{inside_is}
 use Rattle.lot_laws.proofs.machine.KindsStay.{operated_kinds}
 use Rattle.lot_laws.proofs.sites.OneStep.{Steps, steps_by, same_word}
 use Rattle.lot_laws.proofs.sites.StandsKept.{other_key, other_line, same_line, AlikeBeside, part_else}
-use Rattle.lot_laws.proofs.sites.StandsKept.{waiting_same, waiting_behind, waiting_without}
+use Rattle.lot_laws.proofs.sites.StandsKept.{waiting_same, waiting_after, waiting_without}
 use Rattle.lot_laws.proofs.sites.StandsMoved.{AreThere, there_in, others_stay, location_put, stands_put}
 use Rattle.lot_laws.proofs.sites.StandsMoved.{still, goes_in, goes_out, line_changes}
 use Rattle.lot_laws.proofs.sites.Following.{Moves, NoHandOff, alike_put, follows_by, limited, lock_by}
@@ -50,7 +50,7 @@ use Rattle.lot_laws.proofs.sites.Following.{with_line}
 
 -- ---------------------------------------------------------------- one thread goes elsewhere
 
-module _ (w : State) (t l : ℕ) (steady : IsInductive w) (there : t < length w.places) (r : Rules)
+module _ (w : State) (t l : ℕ) (inductive : IsInductive w) (there : t < length w.places) (r : Rules)
     (rules : rules_in w l ≡ r)
     (p2 : Place) (alike : AlikeBeside l (place_at w t) p2) (fits : FitsItsLock w p2) where
   -- how it stands at the lock
@@ -64,7 +64,7 @@ module _ (w : State) (t l : ℕ) (steady : IsInductive w) (there : t < length w.
   locations_now = locations_of (putting (place_at w) t p2)
 
   before : AreThere (TakesOne w) (locations_of (place_at w)) (section_at w) (queue_at w)
-  before = there_in w steady.stands
+  before = there_in w inductive.stands
 
   others_still : (u k : ℕ) → (u ≡ t → k ≡ l → ⊥) → locations_now u k ≡ locations_of (place_at w) u k
   others_still = others_stay (place_at w) t l p2 alike
@@ -76,7 +76,7 @@ module _ (w : State) (t l : ℕ) (steady : IsInductive w) (there : t < length w.
   past h = absurd (omega arith)
 
   pub site_by : IsSite r (lock_by w l r)
-  site_by = subst (λ x. IsSite x (lock_by w l x)) rules (steady.sites.site l)
+  site_by = subst (λ x. IsSite x (lock_by w l x)) rules (inductive.sites.site l)
 
   -- the word is the lock's, whatever waiters its lines have and wherever its callers are
   pub word_by_lines : (m s : List Waiter) (q : ℕ → Place)
@@ -84,7 +84,7 @@ module _ (w : State) (t l : ℕ) (steady : IsInductive w) (there : t < length w.
         main = m;
         second = s;
       }) q)
-  word_by_lines m s q = steady.sites.word l ∙ (λ i. code (rules i) (lock_by w l (rules i)))
+  word_by_lines m s q = inductive.sites.word l ∙ (λ i. code (rules i) (lock_by w l (rules i)))
       ∙ same_word r.sort r.limit _ _ _ _ refl refl refl refl refl refl
 
   base_stays : (v : State) → v.locks ≡ w.locks → v.shares ≡ w.shares → v.places ≡ set w.places t p2 → (k : ℕ)
@@ -139,9 +139,9 @@ module _ (w : State) (t l : ℕ) (steady : IsInductive w) (there : t < length w.
       → Goes w (put (state_after_operation w t p l f) t p2) l (acts t ds)
   word_goes p lt shared f ds plain steps coded e = record {
     follows = follows_by w v l (operated w t p l f) (putting (place_at w) t p2) moves r rules (acts t ds)
-        (λ e. all_by (length w.places) t ds there) (limited w l steady r rules (acts t ds)
+        (λ e. all_by (length w.places) t ds there) (limited w l inductive r rules (acts t ds)
         (λ h. ordinary_by (length w.places) t ds there (plain h)) steps.needed) steps.site steps.needed coded;
-    stands = stands_put w v steady.stands (operated_kinds w t p l f) t p2 fits (places_put v refl)
+    stands = stands_put w v inductive.stands (operated_kinds w t p l f) t p2 fits (places_put v refl)
         (still (locations_of (place_at w)) locations_now (section_at w) (queue_at w) before t l others_still
         (put_now ∙ e));
   }
@@ -202,7 +202,8 @@ module _ (w : State) (t l : ℕ) (steady : IsInductive w) (there : t < length w.
       (ap (λ (qs : List (List Waiter)). get_or qs (2 * l) []) eq)
       (ap (λ (qs : List (List Waiter)). get_or qs (2 * l + 1) []) eq)
       (λ k ne n. ap (λ (qs : List (List Waiter)). get_or qs (key_of k n) []) eq))
-      r rules (acts t ds) (λ e. all_by (length w.places) t ds there) (limited w l steady r rules (acts t ds)
+      r rules (acts t ds) (λ e. all_by (length w.places) t ds there) (limited w l inductive r rules
+      (acts t ds)
       (λ h. ordinary_by (length w.places) t ds there (plain h)) steps.needed) steps.site steps.needed
       (word_by_lines (queue_at w (2 * l)) (queue_at w (2 * l + 1)) (putting (place_at w) t p2))
 
@@ -212,7 +213,7 @@ module _ (w : State) (t l : ℕ) (steady : IsInductive w) (there : t < length w.
       → Goes w (put w t p2) l (acts t ds)
   place_goes ds plain steps e = record {
     follows = place_follows (put w t p2) ds plain refl refl refl refl steps;
-    stands = stands_put w (put w t p2) steady.stands (λ k. refl) t p2 fits (places_put (put w t p2) refl)
+    stands = stands_put w (put w t p2) inductive.stands (λ k. refl) t p2 fits (places_put (put w t p2) refl)
         (still (locations_of (place_at w)) locations_now (section_at w) (queue_at w) before t l others_still
         (put_now ∙ e));
   }
@@ -220,7 +221,7 @@ module _ (w : State) (t l : ℕ) (steady : IsInductive w) (there : t < length w.
   -- nobody is inside a section that is free
   pub nobody_inside : (m : Line) → section_at w (key_of l m) ≡ None → (u : ℕ)
       → (role_on (place_at w u) l).inside ≢ Some m
-  nobody_inside m free u h = let a : section_at w (key_of l m) ≡ Some u = (steady.stands.sections u l m).0
+  nobody_inside m free u h = let a : section_at w (key_of l m) ≡ Some u = (inductive.stands.sections u l m).0
       (sym (inside_is (place_at w u) l) ∙ h) in let b : ◌≡◌ {A = Option ℕ} None (Some u) = sym free ∙ a in cc
 
   -- it does one deed that leaves the lock and its bits as they are
@@ -248,7 +249,7 @@ module _ (w : State) (t l : ℕ) (steady : IsInductive w) (there : t < length w.
         → Goes w (put (state_with_sections w (One (key_of l m)) (Some t)) t p2) l (acts t (In m ∷ []))
     enter_goes free out steps e = record {
       follows = place_follows v (In m ∷ []) (λ h. tt) refl refl refl refl steps;
-      stands = stands_put w v steady.stands (λ k. refl) t p2 fits (places_put v refl)
+      stands = stands_put w v inductive.stands (λ k. refl) t p2 fits (places_put v refl)
           (goes_in (locations_of (place_at w)) locations_now (section_at w) (queue_at w) before t l
           others_still m (section_at v) (section_then (Some t)) free (get_or-set_same w.sections (key_of l m)
           (Some t) None line) out (put_now ∙ e));
@@ -263,7 +264,7 @@ module _ (w : State) (t l : ℕ) (steady : IsInductive w) (there : t < length w.
         → Goes w (put (state_with_sections w (One (key_of l m)) None) t p2) l (acts t ds)
     leave_goes within ds plain steps e = record {
       follows = place_follows v ds plain refl refl refl refl steps;
-      stands = stands_put w v steady.stands (λ k. refl) t p2 fits (places_put v refl)
+      stands = stands_put w v inductive.stands (λ k. refl) t p2 fits (places_put v refl)
           (goes_out (locations_of (place_at w)) locations_now (section_at w) (queue_at w) before t l
           others_still m (section_at v) (section_then None) (get_or-set_same w.sections (key_of l m) None None
           line) within (put_now ∙ e));
@@ -272,7 +273,7 @@ module _ (w : State) (t l : ℕ) (steady : IsInductive w) (there : t < length w.
         v : State
         v = put (state_with_sections w (One (key_of l m)) None) t p2
 
-  -- a line of the lock, before and behind
+  -- a line of the lock, before and after
   module _ (m : Line) (v : State) (q : List Waiter) (el : v.locks ≡ w.locks) (eh : v.shares ≡ w.shares)
       (es : v.sections ≡ w.sections) (ep : v.places ≡ set w.places t p2) (here : queue_at v (key_of l m) ≡ q)
       (elsewhere : (key : ℕ) → key ≢ key_of l m → queue_at v key ≡ queue_at w key) where
@@ -287,7 +288,7 @@ module _ (w : State) (t l : ℕ) (steady : IsInductive w) (there : t < length w.
             here) (elsewhere (2 * l + 1) (subst (λ n. 2 * l + 1 ≢ key_of l n) (sym e) (λ h. omega arith)))
             (λ k ne n. elsewhere (key_of k n) (other_key l k m n ne)))
             r rules (acts t ds) (λ e. all_by (length w.places) t ds there)
-            (limited w l steady r rules (acts t ds) (λ h. ordinary_by (length w.places) t ds there
+            (limited w l inductive r rules (acts t ds) (λ h. ordinary_by (length w.places) t ds there
             (plain h)) (subst (λ n. Steps r l (parts_at w l) (with_line (parts_at w l) n q) (place_at w) t
             p2 ds) e steps).needed) (subst (λ n. Steps r l (parts_at w l) (with_line (parts_at w l) n q)
             (place_at w) t p2 ds) e steps).site
@@ -300,7 +301,7 @@ module _ (w : State) (t l : ℕ) (steady : IsInductive w) (there : t < length w.
             (subst (λ n. queue_at v (key_of l n) ≡ q) e here) (λ k ne n. elsewhere (key_of k n)
             (other_key l k m n ne)))
             r rules (acts t ds) (λ e. all_by (length w.places) t ds there)
-            (limited w l steady r rules (acts t ds) (λ h. ordinary_by (length w.places) t ds there
+            (limited w l inductive r rules (acts t ds) (λ h. ordinary_by (length w.places) t ds there
             (plain h)) (subst (λ n. Steps r l (parts_at w l) (with_line (parts_at w l) n q) (place_at w) t
             p2 ds) e steps).needed) (subst (λ n. Steps r l (parts_at w l) (with_line (parts_at w l) n q)
             (place_at w) t p2 ds) e steps).site
@@ -316,7 +317,8 @@ module _ (w : State) (t l : ℕ) (steady : IsInductive w) (there : t < length w.
         → ((n : Line) → n ≢ m → stood_in to n ≡ 0) → AreWaiting locations_now l m q → Goes w v l (acts t ds)
     line_goes ds plain steps counts own_count to wanted e to_here lined = record {
       follows = line_follows ds plain steps;
-      stands = stands_put w v steady.stands (λ k i. (get_or (el i) k (unlocked kind.TheVariants.Mutex)).kind)
+      stands = stands_put w v inductive.stands
+          (λ k i. (get_or (el i) k (unlocked kind.TheVariants.Mutex)).kind)
           t p2 fits (places_put v ep)
           (subst (λ (f : ℕ → Option ℕ). AreThere (TakesOne w) locations_now f (queue_at v))
           (λ i key. get_or (sym es i) key None)
@@ -333,7 +335,7 @@ module _ (w : State) (t l : ℕ) (steady : IsInductive w) (there : t < length w.
             | inl g ↦ rw (g, here) lined
             | inr ng ↦ waiting_same (locations_of (place_at w)) locations_now l n (queue_at v (key_of l n))
                 (subst (AreWaiting (locations_of (place_at w)) l n)
-                (sym (elsewhere (key_of l n) (other_line l m n ng))) (steady.stands.waits l n))
+                (sym (elsewhere (key_of l n) (other_line l m n ng))) (inductive.stands.waits l n))
                 (λ u g. part_else (λ y. y.waits) l (place_at w) t p2 alike u l
                 (λ h i. let a : times t (queue_at v (key_of l n)) ≡ 0 = own_count n
                 ∙ ap (λ (y : Location). stood_in y.stands n) e ∙ to_here n ng in let b : 1
@@ -342,14 +344,14 @@ module _ (w : State) (t l : ℕ) (steady : IsInductive w) (there : t < length w.
           ])
           | inr ne ↦ waiting_same (locations_of (place_at w)) locations_now k n (queue_at v (key_of k n))
               (subst (AreWaiting (locations_of (place_at w)) k n)
-              (sym (elsewhere (key_of k n) (other_key l k m n ne))) (steady.stands.waits k n))
+              (sym (elsewhere (key_of k n) (other_key l k m n ne))) (inductive.stands.waits k n))
               (λ u g. part_else (λ y. y.waits) l (place_at w) t p2 alike u k (λ h i. ne i))
         ]
 
   -- how often it stands in a line
   stood : (k : ℕ) (n : Line) → times t (queue_at w (key_of k n)) ≡ stood_in
       (location_at (place_at w t) k).stands n
-  stood = steady.stands.lines t
+  stood = inductive.stands.lines t
 
   pub stood_here : (n : Line) → times t (queue_at w (key_of l n)) ≡ stood_in was.stands n
   stood_here n = stood l n
@@ -380,10 +382,10 @@ module _ (w : State) (t l : ℕ) (steady : IsInductive w) (there : t < length w.
   others_wait : (m : Line) → (1 ≤ times t (queue_at w (key_of l m)) → ⊥) → AreWaiting locations_now l m
       (queue_at w (key_of l m))
   others_wait m out = waiting_same (locations_of (place_at w)) locations_now l m (queue_at w (key_of l m))
-      (steady.stands.waits l m) (λ u g. part_else (λ y. y.waits) l (place_at w) t p2 alike u l
+      (inductive.stands.waits l m) (λ u g. part_else (λ y. y.waits) l (place_at w) t p2 alike u l
       (λ h i. out (subst (λ j. 1 ≤ times j (queue_at w (key_of l m))) h g)))
 
-  -- it stands behind the last of a line
+  -- it stands after the last of a line
   pub park_goes : IsOut → (m : Line) (x : Want) (ds : List Deed) → (has_readers r.sort ≡ true → NoHandOff ds)
       → key_of l m < length w.queues → was.stands ≡ None
       → Steps r l (parts_at w l) (with_line (parts_at w l) m (queue_at w (key_of l m) ++ waiter (key_of l m) t
@@ -391,25 +393,26 @@ module _ (w : State) (t l : ℕ) (steady : IsInductive w) (there : t < length w.
       (place_at w) t p2 ds
       → is ≡ record was { stands = Some m; waits = Some x }
       → Goes w (put (record w { queues = queues_with_last w.queues (key_of l m) t x }) t p2) l (acts t ds)
-  park_goes out m x ds plain line nowhere steps e = line_goes m v behind refl refl refl refl line_now others
+  park_goes out m x ds plain line nowhere steps e = line_goes m v afterwards refl refl refl refl line_now
+      others
       ds plain steps
       (λ u ne. let a : ◌≡◌ {A = ℕ} (if t == u then 1 else 0) 0 = ap (λ (b : Bool). if b then 1 else 0)
-      (differ t u (λ h. ne (sym h))) in let b : times u behind ≡ times u (queue_at w (key_of l m))
+      (differ t u (λ h. ne (sym h))) in let b : times u afterwards ≡ times u (queue_at w (key_of l m))
       + (if t == u then 1 else 0) = times_append u (key_of l m) t x (queue_at w (key_of l m))
       in omega arith)
       (λ n. own_count n (same_line n m) ∙ ap (λ (y : Location). stood_in y.stands n) (sym e)) (Some m)
       (Some x) e (stood_other m)
-      (waiting_behind locations_now l m (queue_at w (key_of l m)) (waiter (key_of l m) t x)
+      (waiting_after locations_now l m (queue_at w (key_of l m)) (waiter (key_of l m) t x)
       (others_wait m (λ g. let a : times t (queue_at w (key_of l m)) ≡ 0 = absent out nowhere l m
       in omega arith)) (refl, ap (λ (y : Location). y.waits) (put_now ∙ e)))
     where
       v : State
       v = put (record w { queues = queues_with_last w.queues (key_of l m) t x }) t p2
 
-      behind : List Waiter
-      behind = queue_at w (key_of l m) ++ waiter (key_of l m) t x ∷ []
+      afterwards : List Waiter
+      afterwards = queue_at w (key_of l m) ++ waiter (key_of l m) t x ∷ []
 
-      line_now : queue_at v (key_of l m) ≡ behind
+      line_now : queue_at v (key_of l m) ≡ afterwards
       line_now = get_or-set_same (map (without t) w.queues) (key_of l m) _ []
           (rw (length-map w.queues (without t)) line) ∙ ap (λ q. q ++ waiter (key_of l m) t x ∷ [])
           (same_without (key_of l m) (absent out nowhere l m))
@@ -423,8 +426,8 @@ module _ (w : State) (t l : ℕ) (steady : IsInductive w) (there : t < length w.
       own_count n (inl f) = ap (λ y. times t (queue_at v (key_of l y))) f ∙ ap (times t) line_now ∙ one
           ∙ sym (ap (stood_in (Some m)) f ∙ stood_one m)
         where
-          one : times t behind ≡ 1
-          one = let a : times t behind ≡ times t (queue_at w (key_of l m)) + (if t == t then 1 else 0) =
+          one : times t afterwards ≡ 1
+          one = let a : times t afterwards ≡ times t (queue_at w (key_of l m)) + (if t == t then 1 else 0) =
               times_append t (key_of l m) t x (queue_at w (key_of l m))
               in let b : times t (queue_at w (key_of l m)) ≡ 0 = absent out nowhere l m
               in let c : ◌≡◌ {A = ℕ} (if t == t then 1 else 0) 1 = ap (λ (y : Bool). if y then 1 else 0)
@@ -447,7 +450,7 @@ module _ (w : State) (t l : ℕ) (steady : IsInductive w) (there : t < length w.
       lined : AreWaiting locations_now l m (without t (queue_at w (key_of l m)))
       lined = waiting_same (locations_of (place_at w)) locations_now l m (without t (queue_at w (key_of l m)))
           (waiting_without (locations_of (place_at w)) l m t (queue_at w (key_of l m))
-          (steady.stands.waits l m))
+          (inductive.stands.waits l m))
           (λ u g. part_else (λ y. y.waits) l (place_at w) t p2 alike u l (λ h i. let a : times t
           (without t (queue_at w (key_of l m))) ≡ 0 = times_gone t (queue_at w (key_of l m))
           in let b : 1 ≤ times t (without t (queue_at w (key_of l m))) =
@@ -483,10 +486,11 @@ module _ (w : State) (t l : ℕ) (steady : IsInductive w) (there : t < length w.
     follows = follows_by w v l (parts_at w l) (putting (place_at w) t p2)
         (lines_move v (queue_at w (2 * l)) (queue_at w (2 * l + 1)) refl refl refl (same_queue (2 * l))
         (same_queue (2 * l + 1)) (λ k ne n. same_queue (key_of k n)))
-        r rules (acts t ds) (λ e. all_by (length w.places) t ds there) (limited w l steady r rules (acts t ds)
+        r rules (acts t ds) (λ e. all_by (length w.places) t ds there) (limited w l inductive r rules
+        (acts t ds)
         (λ h. ordinary_by (length w.places) t ds there (plain h)) steps.needed) steps.site steps.needed
         (word_by_lines (queue_at w (2 * l)) (queue_at w (2 * l + 1)) (putting (place_at w) t p2));
-    stands = stands_put w v steady.stands (λ k. refl) t p2 fits (places_put v refl)
+    stands = stands_put w v inductive.stands (λ k. refl) t p2 fits (places_put v refl)
         (subst (λ (f : ℕ → List Waiter). AreThere (TakesOne w) locations_now (section_at w) f)
         (λ i key. sym (same_queue key) i)
         (still (locations_of (place_at w)) locations_now (section_at w) (queue_at w) before t l others_still

@@ -13,19 +13,19 @@ use Rattle.lot_machine.specs.Machine.{State, place_at, word_at, queue_at, sectio
 use Rattle.lot_machine.specs.Machine.{state_after_operation, state_with_sections, queues_with_last}
 use Rattle.lot_machine.specs.Machine.{queues_without, queues_without_first}
 use Rattle.lot_laws.specs.Refinement.{taken_at}
-use Rattle.lot_laws.specs.MutexDeeds.{acts}
+use Rattle.lot_laws.specs.ThreadDeeds.{acts}
 use Rattle.lot_laws.specs.Locations.{Location, location, location_at, nowhere, role_on}
 use Rattle.lot_laws.specs.SitesOf.{ActsNeeded, IsInductive, Goes, FitsItsLock, rules_in, key_of}
 use Rattle.lot_laws.proofs.machine.Parts.{parts_at, seen_in, IsOf, location_here, location_elsewhere}
 use Rattle.lot_laws.proofs.sites.OneStep.{Steps}
 use Rattle.lot_laws.proofs.sites.StandsKept.{AlikeBeside, own_alike}
 pub use Rattle.lot_laws.proofs.sites.Following.{AlikeAt, Moves, NoHandOff, asides, follows_by}
-pub use Rattle.lot_laws.proofs.sites.Following.{goes_all_steady, goes_steady, lates, limited, lock_by}
+pub use Rattle.lot_laws.proofs.sites.Following.{goes_all_inductive, goes_inductive, lates, limited, lock_by}
 pub use Rattle.lot_laws.proofs.sites.Following.{operated, ordinary_by, parks, stood_one, stood_other}
 pub use Rattle.lot_laws.proofs.sites.Following.{with_line}
 use Rattle.lot_laws.proofs.sites.ActsAt as at
 
-module _ (w : State) (t l : ℕ) (steady : IsInductive w) (own : IsOf l (place_at w t)) (there : t
+module _ (w : State) (t l : ℕ) (inductive : IsInductive w) (own : IsOf l (place_at w t)) (there : t
     < length w.places) (r : Rules)
     (rules : rules_in w l ≡ r) (p2 : Place) (of : IsOf l p2) (fits : FitsItsLock w p2) where
   alike : AlikeBeside l (place_at w t) p2
@@ -45,7 +45,7 @@ module _ (w : State) (t l : ℕ) (steady : IsInductive w) (own : IsOf l (place_a
   out k ne = ap (λ (x : Location). x.stands) (location_elsewhere l k (place_at w t) own ne)
 
   pub site_by : IsSite r (lock_by w l r)
-  site_by = at.site_by w t l steady there r rules p2 alike fits
+  site_by = at.site_by w t l inductive there r rules p2 alike fits
 
   pub word_goes : (p : Place) → l < length w.locks → l < length w.shares → (f : Op) (ds : List Deed)
       → (has_readers r.sort ≡ true → NoHandOff ds) → Steps r l (parts_at w l) (operated w t p l f)
@@ -53,31 +53,32 @@ module _ (w : State) (t l : ℕ) (steady : IsInductive w) (own : IsOf l (place_a
       → apply f (word_at w l) ≡ code r (seen_in r l (operated w t p l f) (putting (place_at w) t p2))
       → location p2 ≡ location (place_at w t) → Goes w (put (state_after_operation w t p l f) t p2) l
       (acts t ds)
-  word_goes p lt shared f ds plain steps coded e = at.word_goes w t l steady there r rules p2 alike fits p lt
+  word_goes p lt shared f ds plain steps coded e = at.word_goes w t l inductive there r rules p2 alike fits p
+      lt
       shared f ds plain steps coded (same_here e)
 
   pub place_goes : (ds : List Deed) → (has_readers r.sort ≡ true → NoHandOff ds)
       → Steps r l (parts_at w l) (parts_at w l) (place_at w) t p2 ds → location p2 ≡ location (place_at w t)
       → Goes w (put w t p2) l (acts t ds)
-  place_goes ds plain steps e = at.place_goes w t l steady there r rules p2 alike fits ds plain steps
+  place_goes ds plain steps e = at.place_goes w t l inductive there r rules p2 alike fits ds plain steps
       (same_here e)
 
   pub nobody_inside : (m : Line) → section_at w (key_of l m) ≡ None → (u : ℕ)
       → (role_on (place_at w u) l).inside ≢ Some m
-  nobody_inside = at.nobody_inside w t l steady there r rules p2 alike fits
+  nobody_inside = at.nobody_inside w t l inductive there r rules p2 alike fits
 
   module _ (hand : taken_at (place_at w t) l ≡ taken_at p2 l) where
     pub finds_none : (m : Line) (d : Role) → ActsNeeded r (acts t (FindNobody m ∷ [])) (lock_by w l r)
         → role_on p2 l ≡ (after_deed r (FindNobody m) (lock_by w l r) t).role t
         → Steps r l (parts_at w l) (parts_at w l) (place_at w) t p2 (FindNobody m ∷ [])
-    finds_none = at.finds_none w t l steady there r rules p2 alike fits hand
+    finds_none = at.finds_none w t l inductive there r rules p2 alike fits hand
 
   module _ (m : Line) (line : key_of l m < length w.sections) where
     pub enter_goes : section_at w (key_of l m) ≡ None → (location (place_at w t)).inside ≡ None
         → Steps r l (parts_at w l) (parts_at w l) (place_at w) t p2 (In m ∷ []) → location p2
         ≡ record (location (place_at w t)) { inside = Some m }
         → Goes w (put (state_with_sections w (One (key_of l m)) (Some t)) t p2) l (acts t (In m ∷ []))
-    enter_goes free outside steps e = at.enter_goes w t l steady there r rules p2 alike fits m line free
+    enter_goes free outside steps e = at.enter_goes w t l inductive there r rules p2 alike fits m line free
         (ap (λ (x : Location). x.inside) was_here ∙ outside) steps
         (is_here ∙ e ∙ sym (ap (λ (x : Location). record x { inside = Some m }) was_here))
 
@@ -85,7 +86,7 @@ module _ (w : State) (t l : ℕ) (steady : IsInductive w) (own : IsOf l (place_a
         → (has_readers r.sort ≡ true → NoHandOff ds) → Steps r l (parts_at w l) (parts_at w l) (place_at w) t
         p2 ds → location p2 ≡ record (location (place_at w t)) { inside = None }
         → Goes w (put (state_with_sections w (One (key_of l m)) None) t p2) l (acts t ds)
-    leave_goes within ds plain steps e = at.leave_goes w t l steady there r rules p2 alike fits m line
+    leave_goes within ds plain steps e = at.leave_goes w t l inductive there r rules p2 alike fits m line
         (ap (λ (x : Location). x.inside) was_here ∙ within) ds plain steps
         (is_here ∙ e ∙ sym (ap (λ (x : Location). record x { inside = None }) was_here))
 
@@ -96,7 +97,8 @@ module _ (w : State) (t l : ℕ) (steady : IsInductive w) (own : IsOf l (place_a
       (place_at w) t p2 ds
       → location p2 ≡ record (location (place_at w t)) { stands = Some m; waits = Some x }
       → Goes w (put (record w { queues = queues_with_last w.queues (key_of l m) t x }) t p2) l (acts t ds)
-  park_goes m x ds plain line nowhere steps e = at.park_goes w t l steady there r rules p2 alike fits out m x
+  park_goes m x ds plain line nowhere steps e = at.park_goes w t l inductive there r rules p2 alike fits out m
+      x
       ds plain line (ap (λ (y : Location). y.stands) was_here ∙ nowhere) steps
       (is_here ∙ e ∙ sym (ap (λ (y : Location). record y { stands = Some m; waits = Some x }) was_here))
 
@@ -106,7 +108,7 @@ module _ (w : State) (t l : ℕ) (steady : IsInductive w) (own : IsOf l (place_a
       (place_at w) t p2 ds
       → location p2 ≡ record (location (place_at w t)) { stands = None; waits = None }
       → Goes w (put (record w { queues = queues_without w.queues t }) t p2) l (acts t ds)
-  remove_goes m ds plain stands steps e = at.remove_goes w t l steady there r rules p2 alike fits out m ds
+  remove_goes m ds plain stands steps e = at.remove_goes w t l inductive there r rules p2 alike fits out m ds
       plain (ap (λ (y : Location). y.stands) was_here ∙ stands) steps
       (is_here ∙ e ∙ sym (ap (λ (y : Location). record y { stands = None; waits = None }) was_here))
 
@@ -115,5 +117,5 @@ module _ (w : State) (t l : ℕ) (steady : IsInductive w) (own : IsOf l (place_a
       → queue_at w (key_of l m) ≡ [] → Steps r l (parts_at w l) (parts_at w l) (place_at w) t p2 ds
       → location p2 ≡ location (place_at w t)
       → Goes w (put (record w { queues = queues_without_first w.queues (key_of l m) }) t p2) l (acts t ds)
-  nobody_goes m ds plain line empty steps e = at.nobody_goes w t l steady there r rules p2 alike fits m ds
+  nobody_goes m ds plain line empty steps e = at.nobody_goes w t l inductive there r rules p2 alike fits m ds
       plain line empty steps (same_here e)

@@ -33,7 +33,7 @@ use Rattle.lot_machine.specs.Machine.{State, are_free, place_at, put, queue_at, 
 use Rattle.lot_machine.specs.Machine.{state_after_act, word_at}
 use Rattle.lot_machine.specs.Fits.{IsWellFormed}
 use Rattle.lot_machine.proofs.Shape.{main_key_there}
-use Rattle.lot_laws.specs.MutexDeeds.{acts}
+use Rattle.lot_laws.specs.ThreadDeeds.{acts}
 use Rattle.lot_laws.specs.Locations.{hand}
 use Rattle.lot_laws.specs.SitesOf.{Goes, IsInductive, hand_at, key_of, rules_in}
 use Rattle.lot_laws.proofs.calls.OtherCalls.{IsCalm, WakesOwn}
@@ -125,12 +125,13 @@ module _ (w : State) (l : ℕ) (shape : IsWellFormed w) (lt : l < length w.locks
   line_there m = let e : length w.queues ≡ length w.sections = shape.queues in let h : key_of l m
       < length w.sections = section_there m in omega arith
 
-module _ (w : State) (t l : ℕ) (steady : IsInductive w) (shape : IsWellFormed w) (there : t < length w.places)
+module _ (w : State) (t l : ℕ) (inductive : IsInductive w) (shape : IsWellFormed w) (there : t
+    < length w.places)
     (lt : l < length w.locks)
     (own : IsOf l (place_at w t)) (x : Move) (same_row : profile (place_at w t) ≡ x.row) (hears : Hears)
     (p : Place)
     (followed : (told : Reply) → IsBrief told → hears (rules_in w l) (lock_by w l (rules_in w l)) t None told
-    → IsFollowed w t l steady there own (rules_in w l) refl x same_row None told
+    → IsFollowed w t l inductive there own (rules_in w l) refl x same_row None told
     (next_place (place_at w t) told)) where
   abbrev r : Rules
   r = rules_in w l
@@ -154,9 +155,9 @@ module _ (w : State) (t l : ℕ) (steady : IsInductive w) (shape : IsWellFormed 
   pub into : (m : Line) (keys : Keys) → keys ≡ One (key_of l m) → are_free w keys ≡ true
       → GoesIn x hears m Done → GoesBy None (act.Enter keys)
   into m keys e free g = subst (λ k. GoesBy None (act.Enter k)) (sym e) (record {
-    goes = goes_in w t l steady there own r refl x same_row hears m Done (next_place (place_at w t) Done)
+    goes = goes_in w t l inductive there own r refl x same_row hears m Done (next_place (place_at w t) Done)
         (section_there w l shape lt m) is_free g (λ h. followed Done tt h);
-    told = entered_hears w t l steady there own r refl x same_row hears m Done is_free g;
+    told = entered_hears w t l inductive there own r refl x same_row hears m Done is_free g;
     brief = tt;
     others = calm_by (In m ∷ []) g.deeds tt;
     free = ap (λ (y : Location). y.hand) g.goes ∙ g.free;
@@ -171,9 +172,9 @@ module _ (w : State) (t l : ℕ) (steady : IsInductive w) (shape : IsWellFormed 
       → ((u : ℕ) (b : Bool) → hand_at (place_at w u) l ≡ hand t b → IsWokenAt w t l Normal (place_at w u))
       → GoesBy None (act.Leave keys wakes)
   out_of m keys wakes e g woken = subst (λ k. GoesBy None (act.Leave k wakes)) (sym e) (record {
-    goes = goes_out w t l steady there own r refl x same_row hears m wakes (next_place (place_at w t) Done)
+    goes = goes_out w t l inductive there own r refl x same_row hears m wakes (next_place (place_at w t) Done)
         (section_there w l shape lt m) g (λ h. followed Done tt h) woken;
-    told = left_hears w t l steady there own r refl x same_row hears m wakes g;
+    told = left_hears w t l inductive there own r refl x same_row hears m wakes g;
     brief = tt;
     others = subst (λ y. WakesOwn x.row.carries (act.Leave (One (key_of l m)) y)
         (case_of x.row.carries (x.deeds None Done))) (sym g.notes) (either g.any g.carries);
@@ -199,7 +200,7 @@ module _ (w : State) (t l : ℕ) (steady : IsInductive w) (shape : IsWellFormed 
       → ((u : ℕ) (b : Bool) → hand_at (place_at w u) l ≡ hand t b → IsWokenAt w t l HandOff (place_at w u))
       → GoesBy None (act.Leave keys wakes)
   tells_all keys wakes e g woken = subst (λ k. GoesBy None (act.Leave k wakes)) (sym e) (record {
-    goes = tells_handed w t l steady there own r refl x same_row hears wakes g
+    goes = tells_handed w t l inductive there own r refl x same_row hears wakes g
         (next_place (place_at w t) Done) (section_there w l shape lt Main) (followed Done tt done) woken;
     told = done;
     brief = tt;
@@ -210,7 +211,7 @@ module _ (w : State) (t l : ℕ) (steady : IsInductive w) (shape : IsWellFormed 
   })
     where
       done : hears r here t None Done
-      done = told_hears w t l steady there own r refl x same_row hears wakes g
+      done = told_hears w t l inductive there own r refl x same_row hears wakes g
 
       either : (any : Bool) → x.row.carries ≡ in_hand any true
           → WakesOwn x.row.carries (act.Leave (One (key_of l Main)) (wakes_taken any HandOff))
@@ -228,7 +229,7 @@ module _ (w : State) (t l : ℕ) (steady : IsInductive w) (shape : IsWellFormed 
 
   pub accepted : Accepts x hears → GoesBy None act.Accept
   accepted g = record {
-    goes = accepts w t l steady there own r refl x same_row hears g (next_place (place_at w t) Done)
+    goes = accepts w t l inductive there own r refl x same_row hears g (next_place (place_at w t) Done)
         (λ h. followed Done tt h);
     told = g.may r here t;
     brief = tt;
@@ -240,9 +241,9 @@ module _ (w : State) (t l : ℕ) (steady : IsInductive w) (shape : IsWellFormed 
       → Parks x hears m check want → GoesBy None (act.Park k key check want)
   parked m k key check want ke e g = subst (λ j. GoesBy None (act.Park j key check want)) (sym ke)
       (subst (λ j. GoesBy None (act.Park l j check want)) (sym e) (record {
-        goes = parks_or_turns w t l steady there own r refl x same_row hears m check want
+        goes = parks_or_turns w t l inductive there own r refl x same_row hears m check want
             (line_there w l shape lt m) g (λ b h. followed (Parked b) tt h);
-        told = parked_hears w t l steady there own r refl x same_row hears m check want g
+        told = parked_hears w t l inductive there own r refl x same_row hears m check want g
             (holds check (word_at w l)) refl;
         brief = tt;
         others = calmly (holds check (word_at w l));
@@ -260,20 +261,20 @@ module _ (w : State) (t l : ℕ) (steady : IsInductive w) (shape : IsWellFormed 
   -- out of the main line, whatever other threads wait there
   pub left_main : (key : ℕ) → key ≡ key_of l Main → LeavesLine x hears Main → GoesBy None (act.Remove key)
   left_main key e g = subst (λ j. GoesBy None (act.Remove j)) (sym e) (record {
-    goes = leaves_main w t l steady there own r refl x same_row hears g (λ b h. followed (Removed b) tt h);
-    told = removed_main w t l steady there own r refl x same_row hears g;
+    goes = leaves_main w t l inductive there own r refl x same_row hears g (λ b h. followed (Removed b) tt h);
+    told = removed_main w t l inductive there own r refl x same_row hears g;
     brief = tt;
     others = calm_by (Case locks.Late ∷ []) (g.deeds _) tt;
     free = ap (λ (y : Location). y.hand) (g.goes _);
   })
 
   -- A thread that is late leaves any line.
-  pub left : ((u : ℕ) → SleepsIfCalls w t l steady there own r refl x same_row u) → (m : Line) (key : ℕ)
+  pub left : ((u : ℕ) → SleepsIfCalls w t l inductive there own r refl x same_row u) → (m : Line) (key : ℕ)
       → key ≡ key_of l m → LeavesLine x hears m → GoesBy None (act.Remove key)
   left asleep m key e g = subst (λ j. GoesBy None (act.Remove j)) (sym e) (record {
-    goes = leaves_line w t l steady there own r refl x same_row asleep hears m g
+    goes = leaves_line w t l inductive there own r refl x same_row asleep hears m g
         (λ b h. followed (Removed b) tt h);
-    told = removed_hears w t l steady there own r refl x same_row asleep hears m g;
+    told = removed_hears w t l inductive there own r refl x same_row asleep hears m g;
     brief = tt;
     others = calm_by (Case locks.Late ∷ []) (g.deeds _) tt;
     free = ap (λ (y : Location). y.hand) (g.goes _);
@@ -283,22 +284,24 @@ module _ (w : State) (t l : ℕ) (steady : IsInductive w) (shape : IsWellFormed 
   module _ (takes : Option ℕ → List Deed) (g : TakesFirst takes x hears) (none : takes None ≡ FindNobody Main
       ∷ []) (calm : (who : Option ℕ) → AreCalm (takes who))
       (taking : (who : Option ℕ) (any none_left : Bool) → hears r here t who (Took any none_left)
-      → first.Followed w t l steady there own r refl x same_row hears takes (line_there w l shape lt Main)
+      → first.Followed w t l inductive there own r refl x same_row hears takes (line_there w l shape lt Main)
       g who (Took any none_left)) where
     abbrev Takes : Type 0
     Takes = (y : Waiter) (rest : List Waiter) → queue_at w (2 * l) ≡ y ∷ rest
-        → first.Followed w t l steady there own r refl x same_row hears takes (line_there w l shape lt Main) g
+        → first.Followed w t l inductive there own r refl x same_row hears takes
+        (line_there w l shape lt Main) g
         (Some y.thread) (Took true (length rest == 0))
-        → first.KeptBy w t l steady there own r refl x same_row hears takes (line_there w l shape lt Main) g
+        → first.KeptBy w t l inductive there own r refl x same_row hears takes (line_there w l shape lt Main)
+        g
         (y ∷ rest)
 
     pub took_first : Takes → (key : ℕ) → key ≡ key_of l Main → GoesBy (first_of (queue_at w key))
         (act.Take key whom.First)
     took_first one key e = subst (λ j. GoesBy (first_of (queue_at w j)) (act.Take j whom.First)) (sym e)
         (record {
-          goes = first.takes_first w t l steady there own r refl x same_row hears takes
+          goes = first.takes_first w t l inductive there own r refl x same_row hears takes
               (line_there w l shape lt Main) g none taking one;
-          told = first.hears_of w t l steady there own r refl x same_row hears takes
+          told = first.hears_of w t l inductive there own r refl x same_row hears takes
               (line_there w l shape lt Main) g (queue_at w (2 * l)) refl;
           brief = tt;
           others = calm_by (takes (first_of (queue_at w (2 * l)))) (g.deeds (first_of (queue_at w (2 * l))) _

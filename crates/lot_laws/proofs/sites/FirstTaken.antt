@@ -17,7 +17,7 @@ use Rattle.lot_steps.specs.Steps.{next_place, profile}
 use Rattle.lot_machine.specs.Machine.{State, is_there, place_at, put, queue_at, queues_without_first}
 use Rattle.lot_machine.specs.Machine.{state_after_taking}
 use Rattle.lot_laws.specs.Refinement.{lock_state, taken_at}
-use Rattle.lot_laws.specs.MutexDeeds.{acts}
+use Rattle.lot_laws.specs.ThreadDeeds.{acts}
 use Rattle.lot_laws.specs.Locations.{location}
 use Rattle.lot_laws.specs.SitesOf.{Goes, IsInductive, carried_at, rules_in}
 use Rattle.lot_laws.proofs.machine.AtPlaces.{in_no_hand}
@@ -37,27 +37,28 @@ pub record TakesFirst (takes : Option ℕ → List Deed) (x : Move) (hears : Hea
       → any ≡ not (is_none whom) → none_left ≡ is_empty (drop 1 s.lock.queue) → HasTakenNobody s.lock t
       → hears r s t whom (Took any none_left)
 
-module _ (w : State) (t l : ℕ) (steady : IsInductive w) (there : t < length w.places)
+module _ (w : State) (t l : ℕ) (inductive : IsInductive w) (there : t < length w.places)
     (own : IsOf l (place_at w t)) (r : Rules)
     (rules : rules_in w l ≡ r) (x : Move) (same_row : profile (place_at w t) ≡ x.row) (hears : Hears)
     (takes : Option ℕ → List Deed)
     (line : 2 * l < length w.queues) (g : TakesFirst takes x hears) where
   abbrev pub Followed : Option ℕ → Reply → Type 0
-  Followed who told = IsFollowed w t l steady there own r rules x same_row who told
+  Followed who told = IsFollowed w t l inductive there own r rules x same_row who told
       (next_place (place_at w t) told)
 
   abbrev now : Site
   now = lock_by w l r
 
   pub is_now : location (place_at w t) ≡ inside_of Main
-  is_now = location_is w t l steady there own r rules x same_row ∙ g.was
+  is_now = location_is w t l inductive there own r rules x same_row ∙ g.was
 
   pub bare : carried_at (place_at w t) l ≡ None
   bare = nothing_at (place_at w t) l (of_single l (place_at w t) own) (λ y. y.carries) refl
       (ap (λ (y : Location). y.carries) is_now)
 
   nobody : HasTakenNobody (lock_state w l) t
-  nobody = in_no_hand w steady t l (λ h. let e : ◌≡◌ {A = Option Bool} None (Some false) = sym bare ∙ h in cc)
+  nobody = in_no_hand w inductive t l (λ h. let e : ◌≡◌ {A = Option Bool} None (Some false) = sym bare ∙ h
+      in cc)
 
   pub hand_now : taken_at (place_at w t) l ≡ None
   hand_now = free_of (place_at w t) l (of_single l (place_at w t) own) (ap (λ (y : Location). y.hand) is_now)
@@ -66,7 +67,7 @@ module _ (w : State) (t l : ℕ) (steady : IsInductive w) (there : t < length w.
   module _ (who : Option ℕ) (any none_left : Bool) (f : Followed who (Took any none_left)) where
     pub is_then : location (next_place (place_at w t) (Took any none_left)) ≡ record (inside_of Main)
         { carries = in_hand any false }
-    is_then = there_is w t l steady there own r rules x same_row who (Took any none_left)
+    is_then = there_is w t l inductive there own r rules x same_row who (Took any none_left)
         (next_place (place_at w t) (Took any none_left)) f ∙ g.goes any none_left
 
     pub hand_then : taken_at (next_place (place_at w t) (Took any none_left)) l ≡ None
@@ -95,12 +96,13 @@ module _ (w : State) (t l : ℕ) (steady : IsInductive w) (there : t < length w.
     finds_nobody : queue_at w (2 * l) ≡ [] → KeptBy []
     finds_nobody empty = subst (λ ds. Goes w
         (put (record w { queues = queues_without_first w.queues (2 * l) }) t p2) l (acts t ds)) (sym does)
-        (nobody_goes w t l steady own there r rules p2 f.of f.fits Main (FindNobody Main ∷ []) (λ h. tt) line
+        (nobody_goes w t l inductive own there r rules p2 f.of f.fits Main (FindNobody Main ∷ []) (λ h. tt)
+        line
         empty
-        (finds_none w t l steady own there r rules p2 f.of f.fits (hand_now
-        ∙ sym (hand_then None false true f)) Main idle (needed_by w t l steady there own r rules x
+        (finds_none w t l inductive own there r rules p2 f.of f.fits (hand_now
+        ∙ sym (hand_then None false true f)) Main idle (needed_by w t l inductive there own r rules x
         same_row None (Took false true) p2 f (FindNobody Main ∷ []) does)
-        (own_by w t l steady there own r rules x same_row None (Took false true) p2 f (FindNobody Main
+        (own_by w t l inductive there own r rules x same_row None (Took false true) p2 f (FindNobody Main
         ∷ []) does))
         (is_then None false true f ∙ sym is_now))
       where

@@ -22,15 +22,15 @@ use Rattle.spec_locks.specs.Purposes.{rules_of}
 use Rattle.lot_machine.specs.Machine.{State, place_at, word_at, owners_at, shares_at, share_at, shares_with}
 use Rattle.lot_machine.specs.Machine.{filled_at, kind_at, queue_at}
 use Rattle.lot_laws.specs.Refinement.{lock_state, taken_at}
-use Rattle.lot_laws.specs.MutexDeeds.{acts}
-use Rattle.lot_laws.specs.MutexDeeds as deeds
+use Rattle.lot_laws.specs.ThreadDeeds.{acts}
+use Rattle.lot_laws.specs.ThreadDeeds as deeds
 use Rattle.lot_laws.specs.Locations.{role_on}
 use Rattle.lot_laws.specs.SitesOf.{ActsNeeded, AllBy, LimitHasRoom, SameNumbers, IsInductive, SiteFollows}
 use Rattle.lot_laws.specs.SitesOf.{Goes, after_acts, site_of, rules_in, stood_in, Stands, FollowAll, GoesAll}
 use Rattle.lot_laws.proofs.machine.Parts.{Parts, parts_at, lock_in, seen_in, same, put_here, put_other}
 use Rattle.lot_laws.proofs.semaphore.Permits.{permits_by}
 use Rattle.lot_laws.proofs.sites.OneStep.{AreOrdinary, Steps, steps_by, noted, acts_keep, acts_limited}
-use Rattle.lot_laws.proofs.sites.OneStep.{same_filled, queued_behind}
+use Rattle.lot_laws.proofs.sites.OneStep.{same_filled, queued_after}
 use Rattle.lot_laws.proofs.sites.StandsKept.{AlikeBeside}
 
 -- tells what another lock sees of each place
@@ -105,50 +105,51 @@ module _ (w v : State) (l : ℕ) (b : Parts) (q : ℕ → Place) (moves : Moves 
   }
 
 -- a step that hands nothing over stays within the limit
-pub limited : (w : State) (l : ℕ) (steady : IsInductive w) (r : Rules) (rules : rules_in w l ≡ r)
+pub limited : (w : State) (l : ℕ) (inductive : IsInductive w) (r : Rules) (rules : rules_in w l ≡ r)
     (ds : List deeds.Act)
     → (has_readers r.sort ≡ true → AreOrdinary (length w.places) ds) → ActsNeeded r ds (lock_by w l r)
     → has_readers r.sort ≡ true
     → HasLimit r (after_acts r ds (lock_by w l r)).lock
-limited w l steady r rules ds ordinary needed readers = by_rules r rules (ordinary readers) needed readers
+limited w l inductive r rules ds ordinary needed readers = by_rules r rules (ordinary readers) needed readers
   where
     by_rules : (x : Rules) → rules_in w l ≡ x → AreOrdinary (length w.places) ds
         → ActsNeeded x ds (lock_by w l x)
         → has_readers x.sort ≡ true → HasLimit x (after_acts x ds (lock_by w l x)).lock
-    by_rules x e plain n h = let before = steady.sites.limits l (ap (λ y. has_readers y.sort) e ∙ h) in
+    by_rules x e plain n h = let before = inductive.sites.limits l (ap (λ y. has_readers y.sort) e ∙ h) in
         acts_limited x ds (lock_by w l x) (length w.places) h (subst (λ (y : Rules). 1 ≤ y.limit) e
-        before.0.0) (steady.numbers.threads l) plain (subst (λ y. IsSite y (lock_by w l y)) e
-        (steady.sites.site l)) n (subst (λ y. HasLimit y (lock_by w l y).lock) e before.1)
+        before.0.0) (inductive.numbers.threads l) plain (subst (λ y. IsSite y (lock_by w l y)) e
+        (inductive.sites.site l)) n (subst (λ y. HasLimit y (lock_by w l y).lock) e before.1)
 
 -- a step of any number of locks keeps all
-pub goes_all_steady : (w v : State) (ds : ℕ → List deeds.Act) → IsInductive w → FollowAll w v ds → Stands v
+pub goes_all_inductive : (w v : State) (ds : ℕ → List deeds.Act) → IsInductive w → FollowAll w v ds → Stands v
     → IsInductive v
-goes_all_steady w v ds steady f stands = record {
+goes_all_inductive w v ds inductive f stands = record {
   sites = record {
     site = λ k. subst (λ x. IsSite (rules_of x) (site_of v k)) (sym (f.kinds k))
         (subst (λ s. IsSite (rules_in w k) s) (sym (f.site k)) (acts_keep (rules_in w k) (ds k) (site_of w k)
-        (steady.sites.site k) (f.needed k)));
+        (inductive.sites.site k) (f.needed k)));
     word = λ k. f.word k ∙ (λ i. code (rules_of (sym (f.kinds k) i)) (site_of v k));
     unfilled = λ k h. let of_w = was_sort k false h in
         ap (λ (s : Site). s.filled) (f.site k) ∙ same_filled (rules_in w k) (ds k) (site_of w k) of_w
-        ∙ steady.sites.unfilled k of_w;
+        ∙ inductive.sites.unfilled k of_w;
     limits = λ k h. subst (λ x. LimitHasRoom (length v.places) (rules_of x)
         × HasLimit (rules_of x) (lock_state v k)) (sym (f.kinds k))
         (let of_w = was_sort k true h in (room_then k of_w, f.limit k of_w));
     permits = λ k sort. subst (λ x. HasPermits (rules_of x) (site_of v k) × ((rules_of x).limit ≤ 2 ^ 62))
         (sym (f.kinds k))
         (let of_w : (rules_in w k).sort ≡ locks.Semaphore = sym (ap (λ x. (rules_of x).sort) (f.kinds k))
-        ∙ sort in let held = steady.sites.permits k of_w in (
+        ∙ sort in let held = inductive.sites.permits k of_w in (
           subst (HasPermits (rules_in w k)) (sym (f.site k)) (permits_by (rules_in w k) (length w.places)
-              (ds k) (site_of w k) of_w (steady.sites.site k) held.0 (steady.numbers.threads k) (f.by k of_w)
+              (ds k) (site_of w k) of_w (inductive.sites.site k) held.0 (inductive.numbers.threads k)
+              (f.by k of_w)
               (f.needed k)),
           held.1,
         ));
   };
   stands = stands;
   numbers = record {
-    locks = f.numbers.shares ∙ steady.numbers.locks ∙ sym f.numbers.locks;
-    threads = λ k. f.sharers k ∙ steady.numbers.threads k ∙ sym f.numbers.threads;
+    locks = f.numbers.shares ∙ inductive.numbers.locks ∙ sym f.numbers.locks;
+    threads = λ k. f.sharers k ∙ inductive.numbers.threads k ∙ sym f.numbers.threads;
   };
 }
   where
@@ -158,7 +159,7 @@ goes_all_steady w v ds steady f stands = record {
     room_then : (k : ℕ) → has_readers (rules_in w k).sort ≡ true → LimitHasRoom (length v.places)
         (rules_in w k)
     room_then k h = subst (λ n. LimitHasRoom n (rules_in w k)) (sym f.numbers.threads)
-        (steady.sites.limits k h).0
+        (inductive.sites.limits k h).0
 
 -- a step of one lock leaves the others as they were
 abbrev pub only_at : ℕ → List deeds.Act → ℕ → List deeds.Act
@@ -166,7 +167,7 @@ only_at l ds k = if k == l then ds else []
 
 follows_all : (w v : State) (l : ℕ) (ds : List deeds.Act) → IsInductive w → SiteFollows w v l ds
     → FollowAll w v (only_at l ds)
-follows_all w v l ds steady f = record {
+follows_all w v l ds inductive f = record {
   site = λ k. (either k (k == l) refl).0;
   needed = λ k. (either k (k == l) refl).1;
   word = λ k. (either k (k == l) refl).2;
@@ -197,19 +198,25 @@ follows_all w v l ds steady f = record {
         ∙ e in cc) in (
           there.0,
           tt,
-          there.1 ∙ steady.sites.word k ∙ (λ i. code (rules_in w k) (sym there.0 i)),
-          λ h. subst (λ (s : Site). HasLimit (rules_in w k) s.lock) (sym there.0) (steady.sites.limits k h).1,
+          there.1 ∙ inductive.sites.word k ∙ (λ i. code (rules_in w k) (sym there.0 i)),
+          λ h. subst (λ (s : Site). HasLimit (rules_in w k) s.lock) (sym there.0)
+              (inductive.sites.limits k h).1,
           λ h. tt,
         )
 
 -- as a step of all of them
 pub goes_all : (w v : State) (l : ℕ) (ds : List deeds.Act) → IsInductive w → Goes w v l ds
     → GoesAll w v (only_at l ds)
-goes_all w v l ds steady g = record { follows = follows_all w v l ds steady g.follows; stands = g.stands }
+goes_all w v l ds inductive g = record {
+  follows = follows_all w v l ds inductive g.follows;
+  stands = g.stands;
+}
 
 -- A step that goes by its acts keeps what is inductive.
-pub goes_steady : (w v : State) (l : ℕ) (ds : List deeds.Act) → IsInductive w → Goes w v l ds → IsInductive v
-goes_steady w v l ds steady g = goes_all_steady w v (only_at l ds) steady (follows_all w v l ds steady
+pub goes_inductive : (w v : State) (l : ℕ) (ds : List deeds.Act) → IsInductive w → Goes w v l ds
+    → IsInductive v
+goes_inductive w v l ds inductive g = goes_all_inductive w v (only_at l ds) inductive
+    (follows_all w v l ds inductive
     g.follows) g.stands
 
 -- ---------------------------------------------------------------- an operation's effect on the lock
@@ -267,13 +274,13 @@ with_line a Second q = record a { second = q }
 module _ (r : Rules) (l : ℕ) (a : Parts) (p : ℕ → Place) (t : ℕ) (p2 : Place)
     (site : IsSite r (seen_in r l a p))
     (hand : taken_at (p t) l ≡ taken_at p2 l) where
-  -- it stands behind the last of the main line
+  -- it stands after the last of the main line
   pub parks : (key : ℕ) (x : Want) → ActsNeeded r (acts t (Case (locks.Park x) ∷ [])) (seen_in r l a p)
       → role_on p2 l ≡ record (role_on (p t) l) { retries = None; empty = None }
       → Steps r l a (with_line a Main (a.main ++ waiter key t x ∷ [])) p t p2 (Case (locks.Park x) ∷ [])
   parks key x needed own = steps_by r l a (with_line a Main (a.main ++ waiter key t x ∷ [])) p t p2
       (Case (locks.Park x) ∷ []) needed (tt, tt) hand
-      (λ i. record (lock_in a (λ u. taken_at (p u) l)) { queue = queued_behind key t x a.main i }) refl refl
+      (λ i. record (lock_in a (λ u. taken_at (p u) l)) { queue = queued_after key t x a.main i }) refl refl
       (noted r (seen_in r l a p) site) (own ∙ sym (put_here (λ u. role_on (p u) l) t _))
 
   -- it stands aside, alone

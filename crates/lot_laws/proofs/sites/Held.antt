@@ -84,7 +84,7 @@ owner_is : (t : ℕ) (o : Option ℕ) → is_thread t o ≡ true → o ≡ Some 
 owner_is t None h = absurd cc
 owner_is t (Some u) h = ap Some (eqb-true u t h)
 
-module _ (w : State) (steady : IsInductive w) where
+module _ (w : State) (inductive : IsInductive w) where
   pub held : (t l : ℕ) → 1 ≤ standing t (lock_state w l) → taker (place_at w t)
       ≡ holder ((lock_state w l).taken t)
   held t l stands = by_taken (taken_at (place_at w t) l) refl
@@ -93,7 +93,7 @@ module _ (w : State) (steady : IsInductive w) where
           (taken_at (place_at w t) l)
       by_taken (Some h) e = owner_is h.by (taker (place_at w t)) (held_tells (place_at w t) h.by l false
           (taken_held (place_at w t) h.by l h.want e)) ∙ sym (ap holder e)
-      by_taken None e = elim (stands_there w t steady l stands) [
+      by_taken None e = elim (stands_there w t inductive l stands) [
         | inl in_line ↦ by_line (location_at (place_at w t) l).stands refl in_line
         | inr taken ↦ absurd (taken e)
       ]

@@ -1,6 +1,6 @@
 -- A step on the word of a lock that is shared, by what the laws of its sort conclude of it: that its deeds
 -- may be done, what its thread does then, the owners
--- and the word behind it.
+-- and the word after it.
 use Rattle.std.proofs.Common.{ℕ, true, ◌||◌, ◌≡◌, ◌<◌, List, [], ◌∷◌, length, refl, sym, ◌∙◌, ap}
 use Rattle.core_base.specs.declared.ops.Op.{Op}
 use Rattle.core_base.specs.Words.{apply}
@@ -12,7 +12,7 @@ use Rattle.spec_locks.specs.Deeds as laws
 use Rattle.spec_locks.proofs.CodeLaws.{words_tell_true}
 use Rattle.lot_machine.specs.Machine.{State, place_at, word_at, filled_at, put, state_after_operation}
 use Rattle.lot_laws.specs.Refinement.{taken_at}
-use Rattle.lot_laws.specs.MutexDeeds.{acts}
+use Rattle.lot_laws.specs.ThreadDeeds.{acts}
 use Rattle.lot_laws.specs.Locations.{location, role_on}
 use Rattle.lot_laws.specs.SitesOf.{ActsNeeded, IsInductive, Goes, FitsItsLock, after_acts, rules_in}
 use Rattle.lot_laws.proofs.machine.Parts.{parts_at, lock_in, IsOf}
@@ -47,14 +47,14 @@ aside_read Semaphore v h = absurd cc
 aside_read Once v h = absurd cc
 aside_read Condvar v h = absurd cc
 
-module _ (w : State) (t l : ℕ) (steady : IsInductive w) (own : IsOf l (place_at w t)) (there : t
+module _ (w : State) (t l : ℕ) (inductive : IsInductive w) (own : IsOf l (place_at w t)) (there : t
     < length w.places) (r : Rules)
     (rules : rules_in w l ≡ r) (p2 : Place) (of : IsOf l p2) (fits : FitsItsLock w p2)
     (readers : has_readers r.sort ≡ true)
     (p : Place) (f : Op) (ds : List Deed) where
-  -- the site behind the deeds
-  abbrev behind : Site
-  behind = after_acts r (acts t ds) (lock_by w l r)
+  -- the site after the deeds
+  abbrev afterwards : Site
+  afterwards = after_acts r (acts t ds) (lock_by w l r)
 
   -- tells what the laws conclude
   pub record IsLawful : Type 0 where
@@ -68,20 +68,21 @@ module _ (w : State) (t l : ℕ) (steady : IsInductive w) (own : IsOf l (place_a
     needed : ActsNeeded r (acts t ds) (lock_by w l r)
     needed = needed_same r ds (lock_by w l r) t law.needed
 
-    site_behind : IsSite r behind
-    site_behind = acts_keep r (acts t ds) (lock_by w l r) (site_by w t l steady own there r rules p2 of fits)
+    site_after : IsSite r afterwards
+    site_after = acts_keep r (acts t ds) (lock_by w l r) (site_by w t l inductive own there r rules p2 of
+        fits)
         needed
 
-    coded : apply f (word_at w l) ≡ code r behind
+    coded : apply f (word_at w l) ≡ code r afterwards
     coded = law.word ∙ sym (ap (code r) (after_same r ds (lock_by w l r) t))
 
-    told : TellsTrue r behind
-    told = words_tell_true r behind readers site_behind
+    told : TellsTrue r afterwards
+    told = words_tell_true r afterwards readers site_after
 
-    full : (operated w t p l f).base.filled ≡ behind.filled
+    full : (operated w t p l f).base.filled ≡ afterwards.filled
     full = ap (λ (x : Rules). filled_at w l || fills x (apply f (word_at w l))) rules
-        ∙ ap (λ b. filled_at w l || b) (fills_by r behind (apply f (word_at w l)) site_behind coded)
-        ∙ sym (full_then r ds (lock_by w l r) t one (site_by w t l steady own there r rules p2 of fits))
+        ∙ ap (λ b. filled_at w l || b) (fills_by r afterwards (apply f (word_at w l)) site_after coded)
+        ∙ sym (full_then r ds (lock_by w l r) t one (site_by w t l inductive own there r rules p2 of fits))
 
     steps : taken_at (place_at w t) l ≡ taken_at p2 l → Steps r l (parts_at w l) (operated w t p l f)
         (place_at w) t p2 ds
@@ -96,6 +97,6 @@ module _ (w : State) (t l : ℕ) (steady : IsInductive w) (own : IsOf l (place_a
     pub lawful_goes : l < length w.locks → NoHandOff ds → taken_at (place_at w t) l ≡ taken_at p2 l
         → location p2 ≡ location (place_at w t) → Goes w (put (state_after_operation w t p l f) t p2) l
         (acts t ds)
-    lawful_goes lt plain hand e = word_goes w t l steady own there r rules p2 of fits p lt
-        (rw steady.numbers.locks lt) f ds (λ h. plain) (steps hand)
+    lawful_goes lt plain hand e = word_goes w t l inductive own there r rules p2 of fits p lt
+        (rw inductive.numbers.locks lt) f ds (λ h. plain) (steps hand)
         (coded ∙ sym (ap (code r) (steps hand).site)) e

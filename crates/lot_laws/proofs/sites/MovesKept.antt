@@ -47,7 +47,7 @@ use Rattle.lot_machine.specs.Machine.{queues_without_first, is_there, state_afte
 use Rattle.lot_machine.specs.Machine.{state_after_take_first, state_after_take, reply_to_take}
 use Rattle.lot_machine.specs.Machine.{sharers_in_hand, successor_from, want_of_successor}
 use Rattle.lot_laws.specs.Refinement.{taken_at}
-use Rattle.lot_laws.specs.MutexDeeds.{acts}
+use Rattle.lot_laws.specs.ThreadDeeds.{acts}
 use Rattle.lot_laws.specs.Locations.{location, location_at, role_on}
 use Rattle.lot_laws.specs.SitesOf.{locations_of, ActsNeeded, AreWaiting, IsInductive, Goes, FitsItsLock}
 use Rattle.lot_laws.specs.SitesOf.{TakesOne, after_acts, rules_in, key_of, stood_in, carried_at, hand_at}
@@ -123,7 +123,7 @@ pending_one : (p : Option Pending) (t u : ℕ) → IsSomePending p t → IsSomeP
 pending_one None t u h g = absurd h
 pending_one (Some p) t u h g = sym h ∙ g
 
-module _ (w : State) (t l : ℕ) (steady : IsInductive w) (there : t < length w.places)
+module _ (w : State) (t l : ℕ) (inductive : IsInductive w) (there : t < length w.places)
     (own : IsOf l (place_at w t)) (r : Rules)
     (rules : rules_in w l ≡ r) (x : Move) (same_row : profile (place_at w t) ≡ x.row) where
   abbrev pub here : Site
@@ -141,10 +141,10 @@ module _ (w : State) (t l : ℕ) (steady : IsInductive w) (there : t < length w.
   location_is = ap location_by same_row
 
   pub site : IsSite r here
-  site = site_by w t l steady own there r rules (place_at w t) own (steady.stands.calls t)
+  site = site_by w t l inductive own there r rules (place_at w t) own (inductive.stands.calls t)
 
   pub word_is : word_at w l ≡ code r here
-  word_is = steady.sites.word l ∙ (λ i. code (rules i) (lock_by w l (rules i)))
+  word_is = inductive.sites.word l ∙ (λ i. code (rules i) (lock_by w l (rules i)))
 
   module _ (whom : Option ℕ) (told : Reply) (p2 : Place) (f : IsFollowed whom told p2) where
     pub there_is : location p2 ≡ location_then x told
@@ -171,7 +171,8 @@ module _ (w : State) (t l : ℕ) (steady : IsInductive w) (there : t < length w.
       ≡ (laws.after_all r (x.deeds None (Value (word_at w l))) here t).lock
       → apply op (word_at w l) ≡ code r (laws.after_all r (x.deeds None (Value (word_at w l))) here t)
       → Goes w (put (state_after_operation w t p l op) t p2) l (acts t (x.deeds None (Value (word_at w l))))
-  stays readers p p2 op lt g f owners word = lawful_goes w t l steady own there r rules p2 f.of f.fits readers
+  stays readers p p2 op lt g f owners word = lawful_goes w t l inductive own there r rules p2 f.of f.fits
+      readers
       p op (x.deeds None (Value (word_at w l)))
       (record {
         needed = f.needed;
@@ -191,7 +192,8 @@ module _ (w : State) (t l : ℕ) (steady : IsInductive w) (there : t < length w.
 
   module _ (hears : Hears) (m : Line) where
     pub free_line : section_at w (key_of l m) ≡ None → (u : ℕ) → (here.role u).inside ≢ Some m
-    free_line = nobody_inside w t l steady own there r rules (place_at w t) own (steady.stands.calls t) m
+    free_line = nobody_inside w t l inductive own there r rules (place_at w t) own (inductive.stands.calls t)
+        m
 
     goes_in_by : (told : Reply) (p2 : Place) → key_of l m < length w.sections → section_at w (key_of l m)
         ≡ None
@@ -200,7 +202,7 @@ module _ (w : State) (t l : ℕ) (steady : IsInductive w) (there : t < length w.
     goes_in_by told p2 line free g f =
         subst (λ ds. Goes w (put (state_with_sections w (One (key_of l m)) (Some t)) t p2) l (acts t ds))
         (sym g.deeds)
-        (enter_goes w t l steady own there r rules p2 f.of f.fits m line free
+        (enter_goes w t l inductive own there r rules p2 f.of f.fits m line free
         (ap (λ (y : Location). y.inside) location_is ∙ g.out)
         (steps_by r l (parts_at w l) (parts_at w l) (place_at w) t p2 (In m ∷ [])
         (needed_by None told p2 f (In m ∷ []) g.deeds) (tt, tt)
@@ -232,7 +234,8 @@ module _ (w : State) (t l : ℕ) (steady : IsInductive w) (there : t < length w.
           carries = None;
         } → IsFollowed None Done p2
         → Goes w (put (state_with_sections w (One (key_of l m)) None) t p2) l (acts t (x.deeds None Done))
-    goes_out_alone p2 line leaving within bare free out f = leave_goes w t l steady own there r rules p2 f.of
+    goes_out_alone p2 line leaving within bare free out f = leave_goes w t l inductive own there r rules p2
+        f.of
         f.fits m line (ap (λ (y : Location). y.inside) location_is ∙ within) (x.deeds None Done)
         (λ h. leaving_plain (x.deeds None Done) leaving)
         (record {
@@ -241,7 +244,7 @@ module _ (w : State) (t l : ℕ) (steady : IsInductive w) (there : t < length w.
               location_is ∙ free))
               (ap (λ y. taken_at y l) (put_here (place_at w) t p2) ∙ free_of p2 l (of_single l p2 f.of)
               (ap (λ (y : Location). y.hand) (there_is None Done p2 f ∙ out) ∙ free))
-              (lets_nobody (place_at w) steady.stands.hands t l p2 (ap (λ (y : Location). y.carries)
+              (lets_nobody (place_at w) inductive.stands.hands t l p2 (ap (λ (y : Location). y.carries)
               (location_here l (place_at w t) own ∙ location_is) ∙ bare))
               (x.deeds None Done) leaving (ap (λ y. role_on y l) (put_here (place_at w) t p2)
               ∙ own_by None Done p2 f (x.deeds None Done) refl);
@@ -263,7 +266,8 @@ module _ (w : State) (t l : ℕ) (steady : IsInductive w) (there : t < length w.
         → Goes w (put (state_after_telling (state_with_sections w (One (key_of l m)) None) t (Woken Normal)) t
         p2) l
         (acts t (x.deeds None Done))
-    goes_out_waking p2 line leaving within free out f woken = wake_goes w t l steady own there p2 f.of f.fits
+    goes_out_waking p2 line leaving within free out f woken = wake_goes w t l inductive own there p2 f.of
+        f.fits
         Normal woken (ap (λ (y : Location). y.hand) location_is ∙ free)
         (ap (λ (y : Location). y.carries) (there_is None Done p2 f ∙ out))
         (ap (λ (y : Location). y.hand) (there_is None Done p2 f ∙ out) ∙ free)
@@ -315,11 +319,11 @@ module _ (w : State) (t l : ℕ) (steady : IsInductive w) (there : t < length w.
       omega arith
     where
       none : (n : Line) → times t (queue_at w (key_of l n)) ≡ 0
-      none n = steady.stands.lines t l n ∙ ap (λ (y : Location). stood_in y.stands n)
+      none n = inductive.stands.lines t l n ∙ ap (λ (y : Location). stood_in y.stands n)
           (location_here l (place_at w t) own ∙ location_is) ∙ ap (λ o. stood_in o n) out
 
   module _ (hears : Hears) (m : Line) where
-    -- it stands behind the last of a line, which nobody else stands aside in
+    -- it stands after the last of a line, which nobody else stands aside in
     parks_by : (n : Line) → m ≡ n → (want : Want) (p2 : Place) → key_of l n < length w.queues
         → location_of x ≡ inside_of n → x.deeds None (Parked true) ≡ parks_in n want ∷ []
         → location_then x (Parked true) ≡ record (inside_of n) {
@@ -331,7 +335,7 @@ module _ (w : State) (t l : ℕ) (steady : IsInductive w) (there : t < length w.
     parks_by Main e want p2 line was does parked f =
         subst (λ ds. Goes w (put (record w { queues = queues_with_last w.queues (2 * l) t want }) t p2) l
         (acts t ds)) (sym does)
-        (park_goes w t l steady own there r rules p2 f.of f.fits Main want (Case (Park want) ∷ [])
+        (park_goes w t l inductive own there r rules p2 f.of f.fits Main want (Case (Park want) ∷ [])
         (λ h. ((λ k. k), tt)) line (ap (λ (y : Location). y.stands) (location_is ∙ was))
         (parks r l (parts_at w l) (place_at w) t p2 site (hands p2 was parked f) (2 * l) want
         (needed_by None (Parked true) p2 f (Case (Park want) ∷ []) does)
@@ -354,7 +358,7 @@ module _ (w : State) (t l : ℕ) (steady : IsInductive w) (there : t < length w.
     parks_by Second e want p2 line was does parked f =
         subst (λ ds. Goes w (put (record w { queues = queues_with_last w.queues (2 * l + 1) t want }) t p2) l
         (acts t ds)) (sym does)
-        (park_goes w t l steady own there r rules p2 f.of f.fits Second want (Case Aside ∷ [])
+        (park_goes w t l inductive own there r rules p2 f.of f.fits Second want (Case Aside ∷ [])
         (λ h. ((λ k. k), tt)) line (ap (λ (y : Location). y.stands) (location_is ∙ was))
         (asides r l (parts_at w l) (place_at w) t p2 site
         (free_of (place_at w t) l (of_single l (place_at w t) own) (ap (λ (y : Location). y.hand)
@@ -411,7 +415,7 @@ module _ (w : State) (t l : ℕ) (steady : IsInductive w) (there : t < length w.
             g.parked (f true e)
         either false e = subst (λ ds. Goes w (put w t (next_place (place_at w t) (Parked false))) l
             (acts t ds)) (sym g.turns)
-            (place_goes w t l steady own there r rules (next_place (place_at w t) (Parked false))
+            (place_goes w t l inductive own there r rules (next_place (place_at w t) (Parked false))
             (f false e).of (f false e).fits [] (λ h. tt)
             (steps_by r l (parts_at w l) (parts_at w l) (place_at w) t (next_place (place_at w t)
             (Parked false)) [] tt tt
@@ -429,7 +433,7 @@ module _ (w : State) (t l : ℕ) (steady : IsInductive w) (there : t < length w.
 
   stood_once : (m n : Line) → (location_of x).stands ≡ Some m → times t (queue_at w (key_of l n))
       ≡ stood_in (Some m) n
-  stood_once m n h = steady.stands.lines t l n ∙ ap (λ (y : Location). stood_in y.stands n)
+  stood_once m n h = inductive.stands.lines t l n ∙ ap (λ (y : Location). stood_in y.stands n)
       (location_here l (place_at w t) own ∙ location_is) ∙ ap (λ o. stood_in o n) h
 
   module _ (hears : Hears) where
@@ -445,7 +449,7 @@ module _ (w : State) (t l : ℕ) (steady : IsInductive w) (there : t < length w.
     leaves_by m b p2 g mains seconds f =
         subst (λ ds. Goes w (put (record w { queues = queues_without w.queues t }) t p2) l (acts t ds))
         (sym (g.deeds b))
-        (remove_goes w t l steady own there r rules p2 f.of f.fits m (Case locks.Late ∷ [])
+        (remove_goes w t l inductive own there r rules p2 f.of f.fits m (Case locks.Late ∷ [])
         (λ h. ((λ k. k), tt)) (ap (λ (y : Location). y.stands) (location_is ∙ g.was))
         (lates r l (parts_at w l) (place_at w) t p2 site
         (free_of (place_at w t) l (of_single l (place_at w t) own) (ap (λ (y : Location). y.hand)
@@ -541,7 +545,8 @@ module _ (w : State) (t l : ℕ) (steady : IsInductive w) (there : t < length w.
         )
           where
             fresh : b ≡ false
-            fresh = by_any any (sym carries ∙ sym location_carries ∙ steady.stands.hands.taken t u l b held)
+            fresh = by_any any (sym carries ∙ sym location_carries ∙ inductive.stands.hands.taken t u l b
+                held)
               where
                 location_carries : carried_at (place_at w t) l ≡ (location_of x).carries
                 location_carries = ap (λ (y : Location). y.carries) (location_here l (place_at w t) own
@@ -648,7 +653,7 @@ module _ (w : State) (t l : ℕ) (steady : IsInductive w) (there : t < length w.
         ≡ Some Second
     stands_aside u h = in_second (location_at (place_at w u) l).stands
         (let all : times u (queue_at w (2 * l + 1)) ≡ stood_in (location_at (place_at w u) l).stands Second =
-        steady.stands.lines u l Second in omega arith)
+        inductive.stands.lines u l Second in omega arith)
       where
         in_second : (o : Option Line) → 1 ≤ stood_in o Second → o ≡ Some Second
         in_second (Some Second) h = refl
@@ -692,7 +697,7 @@ module _ (w : State) (t l : ℕ) (steady : IsInductive w) (there : t < length w.
         let once : times y.thread (queue_at w (2 * l + 1)) ≤ 1 =
         let all : times y.thread (queue_at w (2 * l + 1))
         ≡ stood_in (location_at (place_at w y.thread) l).stands Second =
-        steady.stands.lines y.thread l Second in at_most (location_at (place_at w y.thread) l).stands all
+        inductive.stands.lines y.thread l Second in at_most (location_at (place_at w y.thread) l).stands all
         in
         let both : times y.thread (y ∷ z ∷ rest) ≤ 1 = subst (λ q. times y.thread q ≤ 1) e once in
         omega arith
@@ -713,7 +718,7 @@ module _ (w : State) (t l : ℕ) (steady : IsInductive w) (there : t < length w.
       where
         waits_there : (location_at (place_at w y.thread) l).waits ≡ Some y.want
         waits_there = (subst (AreWaiting (locations_of (place_at w)) l Second) e
-            (steady.stands.waits l Second)).0.1
+            (inductive.stands.waits l Second)).0.1
 
         by_sleeper : calls (place_at w y.thread) l ≡ true → (location (place_at w y.thread)).stands
             ≡ Some Second
@@ -826,9 +831,9 @@ module _ (w : State) (t l : ℕ) (steady : IsInductive w) (there : t < length w.
         finds_nobody empty = subst (λ ds. Goes w
             (put (record w { queues = queues_without_first w.queues (2 * l + 1) }) t
             (next_place (place_at w t) (Took false true))) l (acts t ds)) (sym (g.deeds None false true))
-            (nobody_goes w t l steady own there r rules (next_place (place_at w t) (Took false true)) f.of
+            (nobody_goes w t l inductive own there r rules (next_place (place_at w t) (Took false true)) f.of
             f.fits Second (FindNobody Second ∷ []) (λ h. tt) line empty
-            (finds_none w t l steady own there r rules (next_place (place_at w t) (Took false true)) f.of
+            (finds_none w t l inductive own there r rules (next_place (place_at w t) (Took false true)) f.of
             f.fits (hand_now ∙ sym (hand_then None false true (ap first_of empty))) Second idle
             (needed_by None (Took false true) (next_place (place_at w t) (Took false true)) f
             (FindNobody Second ∷ []) (g.deeds None false true)) (own_by None (Took false true)
@@ -849,7 +854,8 @@ module _ (w : State) (t l : ℕ) (steady : IsInductive w) (there : t < length w.
             (put (state_after_reply (record w { queues = queues_without_first w.queues (2 * l + 1) }) y.thread
             (TakenBy t)) t (next_place (place_at w t) (Took true true))) l (acts t ds))
             (sym (g.deeds (Some y.thread) true true))
-            (aside_goes w t l steady own there (next_place (place_at w t) (Took true true)) f.of f.fits many
+            (aside_goes w t l inductive own there (next_place (place_at w t) (Took true true)) f.of f.fits
+            many
             (ap (λ (y : Location). y.stands) (location_is ∙ g.was)) (ap (λ (y : Location). y.hand)
             (location_is ∙ g.was)) (ap (λ (y : Location). y.carries) (location_is ∙ g.was)) r rules
             hand_now (hand_then (Some y.thread) true true (ap first_of first))
@@ -923,7 +929,8 @@ module _ (w : State) (t l : ℕ) (steady : IsInductive w) (there : t < length w.
         then_at = next_place (place_at w t) told_picked
 
         under : AllUnder (2 * l) (queue_at w (2 * l))
-        under = under_of (locations_of (place_at w)) l Main (queue_at w (2 * l)) (steady.stands.waits l Main)
+        under = under_of (locations_of (place_at w)) l Main (queue_at w (2 * l))
+            (inductive.stands.waits l Main)
 
         counted : (u : ℕ) → times u chosen + times u others ≡ times u (queue_at w (2 * l))
         counted u = picked_counts u (2 * l) (lock_picker start (is_recursive r.sort)) (queue_at w (2 * l))
@@ -933,7 +940,7 @@ module _ (w : State) (t l : ℕ) (steady : IsInductive w) (there : t < length w.
         chosen_stands u h = in_main (location_at (place_at w u) l).stands (let a : 1 ≤ times u chosen =
             member_times u chosen h in let b : times u chosen + times u others
             ≡ times u (queue_at w (2 * l)) = counted u in let c : times u (queue_at w (2 * l))
-            ≡ stood_in (location_at (place_at w u) l).stands Main = steady.stands.lines u l Main
+            ≡ stood_in (location_at (place_at w u) l).stands Main = inductive.stands.lines u l Main
             in omega arith)
 
         sleeps_chosen : (u : ℕ) → member u chosen ≡ true → IsTakenFrom w t l Main (place_at w u)
@@ -942,7 +949,8 @@ module _ (w : State) (t l : ℕ) (steady : IsInductive w) (there : t < length w.
         once : (u : ℕ) → times u chosen ≤ 1
         once u = let b : times u chosen + times u others ≡ times u (queue_at w (2 * l)) = counted u
             in let c : times u (queue_at w (2 * l)) ≡ stood_in (location_at (place_at w u) l).stands Main =
-            steady.stands.lines u l Main in let d : stood_in (location_at (place_at w u) l).stands Main ≤ 1 =
+            inductive.stands.lines u l Main in let d : stood_in (location_at (place_at w u) l).stands Main
+            ≤ 1 =
             at_most_one (location_at (place_at w u) l).stands Main in omega arith
 
         place_then : (u : ℕ)
@@ -954,8 +962,8 @@ module _ (w : State) (t l : ℕ) (steady : IsInductive w) (there : t < length w.
         -- t had nobody in hand
         had_nobody : (u : ℕ) → is_thread t (taker (place_at w u)) ≡ true → ⊥
         had_nobody u h = let k : IsInHandOf (place_at w u) t = in_hand_where (place_at w u) t
-            (aparts w steady u) h in
-            let a : carried_at (place_at w t) k.lock ≡ Some k.handed = steady.stands.hands.taken t u k.lock
+            (aparts w inductive u) h in
+            let a : carried_at (place_at w t) k.lock ≡ Some k.handed = inductive.stands.hands.taken t u k.lock
             k.handed k.hand in
             let b : carried_at (place_at w t) k.lock ≡ None = nothing_at (place_at w t) k.lock
             (of_single l (place_at w t) own) (λ y. y.carries) refl (ap (λ (y : Location). y.carries)
@@ -1026,7 +1034,7 @@ module _ (w : State) (t l : ℕ) (steady : IsInductive w) (there : t < length w.
 
         pub takes_chosen : Goes w (put taken_state t then_at) l (acts t (x.deeds None told_picked))
         takes_chosen = subst (λ ds. Goes w (put taken_state t then_at) l (acts t ds)) (sym picked_deeds)
-            (picked_goes w t l steady own there then_at picks_follow.of picks_follow.fits many
+            (picked_goes w t l inductive own there then_at picks_follow.of picks_follow.fits many
             (ap (λ (y : Location). y.stands) (location_is ∙ g.was)) (ap (λ (y : Location). y.hand)
             (location_is ∙ g.was)) (ap (λ (y : Location). y.carries) (location_is ∙ g.was)) r rules
             (free_of (place_at w t) l (of_single l (place_at w t) own) (ap (λ (y : Location). y.hand)

@@ -26,8 +26,8 @@ use Rattle.spec_locks.proofs.CodeLaws.{words_tell_true}
 use Rattle.spec_locks.proofs.Limits.{limit_kept}
 use Rattle.spec_locks.proofs.SiteKeeps.{deed_keeps}
 use Rattle.lot_laws.specs.Refinement.{taken_at}
-use Rattle.lot_laws.specs.MutexDeeds.{acts}
-use Rattle.lot_laws.specs.MutexDeeds as deeds
+use Rattle.lot_laws.specs.ThreadDeeds.{acts}
+use Rattle.lot_laws.specs.ThreadDeeds as deeds
 use Rattle.lot_laws.specs.Locations.{role_on}
 use Rattle.lot_laws.specs.SitesOf.{ActsNeeded, after_acts}
 use Rattle.lot_laws.proofs.machine.Parts.{Parts, differ, lock_in, seen_in, put_here, put_other, put_of}
@@ -340,10 +340,10 @@ steps_by r l a b p t p2 ds needed single hand lock parked aside full own = recor
 
 -- ---------------------------------------------------------------- queues, seen without their keys
 
-pub queued_behind : (key t : ℕ) (x : Want) (q : List Waiter) → map queued_of (q ++ waiter key t x ∷ [])
+pub queued_after : (key t : ℕ) (x : Want) (q : List Waiter) → map queued_of (q ++ waiter key t x ∷ [])
     ≡ map queued_of q ++ (record { thread = t; want = x }) ∷ []
-queued_behind key t x [] = refl
-queued_behind key t x (y ∷ q) = ap (λ ys. queued_of y ∷ ys) (queued_behind key t x q)
+queued_after key t x [] = refl
+queued_after key t x (y ∷ q) = ap (λ ys. queued_of y ∷ ys) (queued_after key t x q)
 
 pub queued_without : (t : ℕ) (q : List Waiter) → map queued_of (without t q) ≡ locks.without t
     (map queued_of q)

@@ -165,8 +165,8 @@ module _ (kinds : List Kind) (threads : ℕ) where
         waits_with = λ t. (profile_at (idle_at threads t i) l).names;
       }
 
-  pub opening_steady : 1 ≤ threads → All (λ k. fits k threads ≡ true) kinds → IsInductive first
-  opening_steady some fit = record {
+  pub opening_inductive : 1 ≤ threads → All (λ k. fits k threads ≡ true) kinds → IsInductive first
+  opening_inductive some fit = record {
     sites = record {
       site = λ l. rw (opening_seen l)
           (rw size (opening_is_site (kind_at first l) threads (room (kind_at first l) threads some

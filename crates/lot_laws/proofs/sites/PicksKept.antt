@@ -28,7 +28,7 @@ use Rattle.lot_machine.specs.Machine.{State, place_at, queue_at, put, state_afte
 use Rattle.lot_machine.specs.Machine.{queues_without_first, places_told}
 use Rattle.lot_machine.proofs.QueueLemmas.{told_count}
 use Rattle.lot_laws.specs.Refinement.{taken_at}
-use Rattle.lot_laws.specs.MutexDeeds.{acts}
+use Rattle.lot_laws.specs.ThreadDeeds.{acts}
 use Rattle.lot_laws.specs.Locations.{Location, location, role_on}
 use Rattle.lot_laws.specs.SitesOf.{locations_of, ActsNeeded, AreWaiting, TakesOne, IsInductive, Goes}
 use Rattle.lot_laws.specs.SitesOf.{FitsItsLock, after_acts, rules_in, key_of}
@@ -143,7 +143,7 @@ module _ (sort : Sort) (start : Option Want) (key : ℕ) (q : List Waiter) (unde
       ∙ (pickers_pick sort start key q).left ∙ ap (λ y. locks.unpicked sort start (map queued_of y))
       (line_all key q under)
 
-module _ (w : State) (t l : ℕ) (steady : IsInductive w) (own : IsOf l (place_at w t)) (there : t
+module _ (w : State) (t l : ℕ) (inductive : IsInductive w) (own : IsOf l (place_at w t)) (there : t
     < length w.places) (p2 : Place)
     (of : IsOf l p2) (fits : FitsItsLock w p2) (many : TakesOne w l → ⊥)
     (out : (location (place_at w t)).stands ≡ None) (free : (location (place_at w t)).hand ≡ None)
@@ -163,7 +163,7 @@ module _ (w : State) (t l : ℕ) (steady : IsInductive w) (own : IsOf l (place_a
     rest = without_lock_picked start (is_recursive r.sort) (2 * l) (queue_at w (2 * l))
 
     under : AllUnder (2 * l) (queue_at w (2 * l))
-    under = under_of (locations_of (place_at w)) l Main (queue_at w (2 * l)) (steady.stands.waits l Main)
+    under = under_of (locations_of (place_at w)) l Main (queue_at w (2 * l)) (inductive.stands.waits l Main)
 
     pub picked_goes : ((u : ℕ) → member u picks ≡ true → IsTakenFrom w t l Main (place_at w u))
         → ((b : Bool) → (location p2).carries ≡ Some b → (b ≡ false) × ((u : ℕ) × (member u picks ≡ true)))
@@ -173,16 +173,17 @@ module _ (w : State) (t l : ℕ) (steady : IsInductive w) (own : IsOf l (place_a
         → Goes w (put (state_after_take w t (2 * l) (whom.TheVariants.Picked start (is_recursive r.sort))) t
         p2) l
         (acts t (Case (TakePicked start) ∷ []))
-    picked_goes sleeps some full needed own_is = take_goes w t l steady own there p2 of fits many Main picks
+    picked_goes sleeps some full needed own_is = take_goes w t l inductive own there p2 of fits many Main
+        picks
         rest
         (record {
           counts = λ u. picked_counts u (2 * l) (lock_picker start (is_recursive r.sort)) (queue_at w (2 * l))
               under;
           sleeps = sleeps;
           lefts = waiting_left (locations_of (place_at w)) l Main (lock_picker start (is_recursive r.sort))
-              (queue_at w (2 * l)) (steady.stands.waits l Main);
+              (queue_at w (2 * l)) (inductive.stands.waits l Main);
           wants = wants_held w t l Main picks (waiting_picked (locations_of (place_at w)) l Main
-              (lock_picker start (is_recursive r.sort)) (queue_at w (2 * l)) (steady.stands.waits l Main))
+              (lock_picker start (is_recursive r.sort)) (queue_at w (2 * l)) (inductive.stands.waits l Main))
               sleeps;
         }) out free bare r rules none none2 v refl refl refl threads places
         (get_or-set_same w.queues (2 * l) rest [] some_line) (λ key ne. get_or-set_other w.queues (2 * l) key
@@ -194,7 +195,7 @@ module _ (w : State) (t l : ℕ) (steady : IsInductive w) (own : IsOf l (place_a
           taken = locks.taking t (picks_tied r.sort start (2 * l) (queue_at w (2 * l)) under i)
               (λ u. taken_at (place_at w u) l);
         })
-        refl refl (noted r (lock_by w l r) (site_by w t l steady own there r rules p2 of fits)) own_is
+        refl refl (noted r (lock_by w l r) (site_by w t l inductive own there r rules p2 of fits)) own_is
       where
         v : State
         v = put (state_after_take w t (2 * l) (whom.TheVariants.Picked start (is_recursive r.sort))) t p2
@@ -220,18 +221,18 @@ module _ (w : State) (t l : ℕ) (steady : IsInductive w) (own : IsOf l (place_a
         → role_on p2 l ≡ (after_acts r (acts t (Case (OfOnce TakeAll) ∷ [])) (lock_by w l r)).role t
         → Goes w (put (state_after_take w t (2 * l) whom.TheVariants.All) t p2) l
         (acts t (Case (OfOnce TakeAll) ∷ []))
-    all_goes sleeps some full needed own_is = take_goes w t l steady own there p2 of fits many Main
+    all_goes sleeps some full needed own_is = take_goes w t l inductive own there p2 of fits many Main
         (queue_at w (2 * l)) []
         (record {
           counts = λ u. omega arith;
           sleeps = sleeps;
           lefts = tt;
-          wants = wants_held w t l Main (queue_at w (2 * l)) (steady.stands.waits l Main) sleeps;
+          wants = wants_held w t l Main (queue_at w (2 * l)) (inductive.stands.waits l Main) sleeps;
         }) out free bare r rules none none2 v refl refl refl threads places
         (get_or-set_same w.queues (2 * l) [] [] some_line) (λ key ne. get_or-set_other w.queues (2 * l) key []
         [] ne) inside stands unheld some full
         (Case (OfOnce TakeAll)) (tt, tt) ((λ h. h), tt) needed
-        refl refl refl (noted r (lock_by w l r) (site_by w t l steady own there r rules p2 of fits)) own_is
+        refl refl refl (noted r (lock_by w l r) (site_by w t l inductive own there r rules p2 of fits)) own_is
       where
         v : State
         v = put (state_after_take w t (2 * l) whom.TheVariants.All) t p2
@@ -256,7 +257,8 @@ module _ (w : State) (t l : ℕ) (steady : IsInductive w) (own : IsOf l (place_a
         (put (state_after_reply (record w { queues = queues_without_first w.queues (2 * l + 1) }) x.thread
         (TakenBy t)) t p2) l
         (acts t (Case (TakeAside x.thread) ∷ []))
-    aside_goes sleeps carries needed own_is = take_goes w t l steady own there p2 of fits many Second (x ∷ [])
+    aside_goes sleeps carries needed own_is = take_goes w t l inductive own there p2 of fits many Second
+        (x ∷ [])
         []
         (record {
           counts = λ u. let a : times u (queue_at w (2 * l + 1)) ≡ times u (x ∷ []) = ap (times u) first
@@ -264,7 +266,7 @@ module _ (w : State) (t l : ℕ) (steady : IsInductive w) (own : IsOf l (place_a
           sleeps = λ u h. one_sleeps u (x.thread == u) refl h;
           lefts = tt;
           wants = wants_held w t l Second (x ∷ []) (subst (AreWaiting (locations_of (place_at w)) l Second)
-              first (steady.stands.waits l Second)) (λ u h. one_sleeps u (x.thread == u) refl h);
+              first (inductive.stands.waits l Second)) (λ u h. one_sleeps u (x.thread == u) refl h);
         }) out free bare r rules none none2 v refl refl refl threads places
         (get_or-set_same w.queues (2 * l + 1) (drop 1 (queue_at w (2 * l + 1))) [] some_line
         ∙ ap (drop 1) first) (λ key ne. get_or-set_other w.queues (2 * l + 1) key
@@ -277,7 +279,7 @@ module _ (w : State) (t l : ℕ) (steady : IsInductive w) (own : IsOf l (place_a
           taken = putting (λ u. taken_at (place_at w u) l)
               x.thread (Some (record { by = t; want = writes i }));
         })
-        refl refl (noted r (lock_by w l r) (site_by w t l steady own there r rules p2 of fits)) own_is
+        refl refl (noted r (lock_by w l r) (site_by w t l inductive own there r rules p2 of fits)) own_is
       where
         v : State
         v = put (state_after_reply (record w { queues = queues_without_first w.queues (2 * l + 1) }) x.thread

@@ -31,9 +31,9 @@ use Rattle.lot_machine.specs.Machine.{place_at, word_at, owners_at, shares_at, k
 use Rattle.lot_machine.specs.Machine.{section_at, state_after_reply, state_after_telling}
 use Rattle.lot_machine.specs.Machine.{state_after_hand_over, state_after_act, reply_to}
 use Rattle.lot_laws.specs.Refinement.{lock_state}
-use Rattle.lot_laws.specs.MutexDeeds.{mutex_role, mutex_deeds, mutex_location, acts, queued}
+use Rattle.lot_laws.specs.ThreadDeeds.{mutex_role, mutex_deeds, mutex_location, acts, queued}
 use Rattle.lot_laws.specs.Locations.{Location, hand, location_at, role_on}
-use Rattle.lot_laws.specs.MutexDeeds as deeds
+use Rattle.lot_laws.specs.ThreadDeeds as deeds
 use Rattle.lot_laws.specs.SitesOf.{SameNumbers, TakesOne, rules_in, ActsNeeded, IsInductive, SiteFollows}
 use Rattle.lot_laws.specs.SitesOf.{Goes, FitsItsLock, carried_at, hand_at, after_acts}
 use Rattle.lot_laws.proofs.machine.Parts.{base_at, seen, goes_from, put_places, put_other, IsOf, own_stance}
@@ -119,32 +119,35 @@ module _ (w v : State) (l : ℕ) (rules : rules_in w l ≡ mutex) (q : ℕ → P
 
 -- nobody shares a mutex
 pub mutex_unshared : (w : State) (l : ℕ) → IsInductive w → rules_in w l ≡ mutex → sum (shares_at w l) ≡ 0
-mutex_unshared w l steady rules =
-    (subst (λ r. IsSite r (lock_by w l r)) rules (steady.sites.site l)).state.unshared (λ h. h)
+mutex_unshared w l inductive rules =
+    (subst (λ r. IsSite r (lock_by w l r)) rules (inductive.sites.site l)).state.unshared (λ h. h)
 
 -- a lock that a thread calls is taken from so
 pub unshared_at : (w : State) (t l : ℕ) (at : MutexPlace) → IsInductive w → place_at w t ≡ Mutex l at
     → sum (shares_at w l) ≡ 0
-unshared_at w t l at steady is = mutex_unshared w l steady
-    (mutex_rules (kind_at w l) (let c : FitsItsLock w (Mutex l at) = rw is at (steady.stands.calls t) in c))
+unshared_at w t l at inductive is = mutex_unshared w l inductive
+    (mutex_rules (kind_at w l) (let c : FitsItsLock w (Mutex l at) = rw is at (inductive.stands.calls t)
+    in c))
 
 -- A mutex is taken from one by one.
 pub single_at : (w : State) (t l : ℕ) (at : MutexPlace) → IsInductive w → place_at w t ≡ Mutex l at
     → TakesOne w l
-single_at w t l at steady is = takes_one w l (mutex_rules (kind_at w l) (let c : FitsItsLock w (Mutex l at) =
-    rw is at (steady.stands.calls t) in c))
+single_at w t l at inductive is =
+    takes_one w l (mutex_rules (kind_at w l) (let c : FitsItsLock w (Mutex l at) =
+    rw is at (inductive.stands.calls t) in c))
 
 -- a thread that calls it calls a mutex
 pub mutexes_at : (w : State) (t l : ℕ) (at : MutexPlace) → IsInductive w → place_at w t ≡ Mutex l at → (u : ℕ)
     → CallsMutex l (place_at w u)
-mutexes_at w t l at steady is u = calls_mutex_at w l (place_at w u) (steady.stands.calls u)
-    (mutex_rules (kind_at w l) (let c : FitsItsLock w (Mutex l at) = rw is at (steady.stands.calls t) in c))
+mutexes_at w t l at inductive is u = calls_mutex_at w l (place_at w u) (inductive.stands.calls u)
+    (mutex_rules (kind_at w l) (let c : FitsItsLock w (Mutex l at) = rw is at (inductive.stands.calls t)
+    in c))
 
 -- the thread that it has in hand wants to own alone
 pub alone_at : (w : State) (t l : ℕ) (at : MutexPlace) → IsInductive w → place_at w t ≡ Mutex l at → (u : ℕ)
     → WantsAlone t (place_at w u)
-alone_at w t l at steady is = held_alone (place_at w) (aparts w steady) steady.stands.hands t l
-    (of_carries l (place_at w t) (rw is refl)) (mutexes_at w t l at steady is)
+alone_at w t l at inductive is = held_alone (place_at w) (aparts w inductive) inductive.stands.hands t l
+    (of_carries l (place_at w t) (rw is refl)) (mutexes_at w t l at inductive is)
 
 -- ---------------------------------------------------------------- the effects of the acts
 
@@ -152,10 +155,10 @@ alone_at w t l at steady is = held_alone (place_at w) (aparts w steady) steady.s
 abbrev pub go_by : State → ℕ → Place → Act → State
 go_by w t p a = put (state_after_act w t p a) t (next_place p (reply_to w t a))
 
-module _ (w : State) (t l : ℕ) (at : MutexPlace) (steady : IsInductive w) (is : place_at w t ≡ Mutex l at)
+module _ (w : State) (t l : ℕ) (at : MutexPlace) (inductive : IsInductive w) (is : place_at w t ≡ Mutex l at)
     (there : t < length w.places) where
   pub of_mutex : is_mutex (kind_at w l) ≡ true
-  of_mutex = let c : FitsItsLock w (Mutex l at) = rw is at (steady.stands.calls t) in c
+  of_mutex = let c : FitsItsLock w (Mutex l at) = rw is at (inductive.stands.calls t) in c
 
   pub rules : rules_in w l ≡ mutex
   rules = mutex_rules (kind_at w l) of_mutex
@@ -166,7 +169,7 @@ module _ (w : State) (t l : ℕ) (at : MutexPlace) (steady : IsInductive w) (is 
   pub site_l : IsSite mutex
       (seen l (base_at w l) (word_at w l) (owners_at w l) (queue_at w (2 * l)) (queue_at w (2 * l + 1))
       (place_at w))
-  site_l = subst (λ r. IsSite r (lock_by w l r)) rules (steady.sites.site l)
+  site_l = subst (λ r. IsSite r (lock_by w l r)) rules (inductive.sites.site l)
 
   pub own : IsOf l (place_at w t)
   own = rw is refl
@@ -178,12 +181,12 @@ module _ (w : State) (t l : ℕ) (at : MutexPlace) (steady : IsInductive w) (is 
       subst (λ j. hand_at (place_at w j) l ≡ hand t b) e held in let none : hand_at (place_at w t) l ≡ None =
       ap (λ (y : Location). y.hand) (own_stance l (place_at w t) at is) ∙ free in cc
 
-module _ (w : State) (t l : ℕ) (steady : IsInductive w) (there : t < length w.places) where
+module _ (w : State) (t l : ℕ) (inductive : IsInductive w) (there : t < length w.places) where
   -- a thread that it has in hand
   module _ (at : MutexPlace) (is : place_at w t ≡ Mutex l at) (b : Bool)
       (carries : (mutex_location at).carries ≡ Some b) where
     pub one_held : (u : ℕ) × (hand_at (place_at w u) l ≡ hand t b)
-    one_held = steady.stands.hands.carried t l b (ap (λ (x : Location). x.carries)
+    one_held = inductive.stands.hands.carried t l b (ap (λ (x : Location). x.carries)
         (own_stance l (place_at w t) at is) ∙ carries)
 
   module _ (lt : l < length w.locks) (bumps none_left : Bool) (u : ℕ)
@@ -202,23 +205,23 @@ module _ (w : State) (t l : ℕ) (steady : IsInductive w) (there : t < length w.
     before = state_after_hand_over w t (Mutex l at) l (op.Store (hand_off_word true none_left))
 
     there_u : IsHeldThere l t (place_at w u)
-    there_u = held_there (place_at w u) t l (mutexes_at w t l at steady is u) held
+    there_u = held_there (place_at w u) t l (mutexes_at w t l at inductive is u) held
 
     own_t : IsOf l (place_at w t)
     own_t = rw is refl
 
     apart : u ≢ t
-    apart = not_own w t l at steady is there refl u false held
+    apart = not_own w t l at inductive is there refl u false held
 
     -- how they stand then
     beside : SameHands l (place_at w t) p2
     beside = same_hands l (place_at w t) p2 (own_alike l (place_at w t) p2 own_t refl)
 
     fits_2 : FitsItsLock w p2
-    fits_2 = of_mutex w t l at steady is there
+    fits_2 = of_mutex w t l at inductive is there
 
     holds : HoldsHere w t l
-    holds = holds_here w t l steady (of_carries l (place_at w t) own_t)
+    holds = holds_here w t l inductive (of_carries l (place_at w t) own_t)
 
     before_t : location_at (place_at w t) l ≡ mutex_location at
     before_t = own_stance l (place_at w t) at is
@@ -227,7 +230,7 @@ module _ (w : State) (t l : ℕ) (steady : IsInductive w) (there : t < length w.
     now_t = own_stance l p2 (HandOff bumps (hand_off.Leave true)) refl
 
     fresh : (x : ℕ) (b : Bool) → hand_at (place_at w x) l ≡ hand t b → b ≡ false
-    fresh x b h = let a : carried_at (place_at w t) l ≡ Some b = steady.stands.hands.taken t x l b h
+    fresh x b h = let a : carried_at (place_at w t) l ≡ Some b = inductive.stands.hands.taken t x l b h
         in let c : carried_at (place_at w t) l ≡ Some false = ap (λ (y : Location). y.carries) before_t
         in let e : Some b ≡ Some false = sym a ∙ c in cc
 
@@ -238,7 +241,7 @@ module _ (w : State) (t l : ℕ) (steady : IsInductive w) (there : t < length w.
         → (role_on (place_at w x) l).claims ≡ None
     unclaimed x ne (inl none) = none
     unclaimed x ne (inr claims) = absurd (
-        let site = site_l w t l at steady is there in
+        let site = site_l w t l at inductive is there in
         let its : (owners_at w l).exclusive ≡ Some x = site.held x (Has Exclusive) claims in
         let own : (owners_at w l).exclusive ≡ Some t = site.held t (Has Exclusive)
         (ap (λ (d : Role). d.claims) (own_role l (place_at w t) at is)) in
@@ -248,20 +251,21 @@ module _ (w : State) (t l : ℕ) (steady : IsInductive w) (there : t < length w.
         → IsToldAt w t l b (hand t true) (hand_over_told w t l) (place_at w x)
     all_told x b h =
         let k : IsHeldThere l t (place_at w x) = held_there (place_at w x) t l
-        (mutexes_at w t l at steady is x) (h ∙ ap (hand t) (fresh x b h)) in
+        (mutexes_at w t l at inductive is x) (h ∙ ap (hand t) (fresh x b h)) in
         let z = k.handed (unshared_then w t l) in record {
           goes = z.location;
           alike = z.others;
-          fits = z.fits (unclaimed x (not_own w t l at steady is there refl x b h) k.claims) w
-              (steady.stands.calls x);
+          fits = z.fits (unclaimed x (not_own w t l at inductive is there refl x b h) k.claims) w
+              (inductive.stands.calls x);
         }
 
-    abbrev behind : ℕ → Place
-    behind = told_at.places_then w t l steady p2 beside fits_2 holds (hand_over_told w t l) (hand t true)
+    abbrev afterwards : ℕ → Place
+    afterwards = told_at.places_then w t l inductive p2 beside fits_2 holds (hand_over_told w t l)
+        (hand t true)
         all_told
 
     abbrev is_told : ℕ → Bool
-    is_told = told_at.has w t l steady p2 beside fits_2 holds (hand_over_told w t l) (hand t true) all_told
+    is_told = told_at.has w t l inductive p2 beside fits_2 holds (hand_over_told w t l) (hand t true) all_told
 
     abbrev then_state : State
     then_state = put (state_after_telling before t (hand_over_told w t l)) t p2
@@ -274,32 +278,34 @@ module _ (w : State) (t l : ℕ) (steady : IsInductive w) (there : t < length w.
       where
         by_test : (b : Bool) → is_told t ≡ b → b ≡ false
         by_test false h = refl
-        by_test true h = absurd (let k : HeldHere w t l steady p2 beside fits_2 holds (hand_over_told w t l)
-            (hand t true) all_told t = told_at.held_here w t l steady p2 beside fits_2 holds
-            (hand_over_told w t l) (hand t true) all_told t h in not_own w t l at steady is there refl t
+        by_test true h = absurd (let k : HeldHere w t l inductive p2 beside fits_2 holds
+            (hand_over_told w t l)
+            (hand t true) all_told t = told_at.held_here w t l inductive p2 beside fits_2 holds
+            (hand_over_told w t l) (hand t true) all_told t h in not_own w t l at inductive is there refl t
             k.handed k.hand refl)
 
     parts_kept : {A : Type 0} (g : Location → A) → ((x : Location) (h : Option Hand)
         → g (record x { hand = h }) ≡ g x) → g (mutex_location (HandOff bumps (hand_off.Leave true)))
-        ≡ g (mutex_location at) → (x k : ℕ) → g (location_at (behind x) k) ≡ g (location_at (place_at w x) k)
-    parts_kept g part e = told_at.all_parts w t l steady p2 beside fits_2 holds (hand_over_told w t l)
+        ≡ g (mutex_location at) → (x k : ℕ) → g (location_at (afterwards x) k)
+        ≡ g (location_at (place_at w x) k)
+    parts_kept g part e = told_at.all_parts w t l inductive p2 beside fits_2 holds (hand_over_told w t l)
         (hand t true) all_told g part (λ k. elim (cases_eq k l) [
           | inl f ↦ rw f (ap g now_t ∙ e ∙ sym (ap g before_t))
           | inr ne ↦ ap g (own_alike l (place_at w t) p2 own_t refl k ne).location
         ])
 
-    hands_then : Hands (TakesOne w) behind
-    hands_then = hands_given (TakesOne w) (locations_of (place_at w)) (locations_of behind)
-        steady.stands.hands t l is_told (Some true)
-        (told_at.in_hand w t l steady p2 beside fits_2 holds (hand_over_told w t l) (hand t true) all_told
+    hands_then : Hands (TakesOne w) afterwards
+    hands_then = hands_given (TakesOne w) (locations_of (place_at w)) (locations_of afterwards)
+        inductive.stands.hands t l is_told (Some true)
+        (told_at.in_hand w t l inductive p2 beside fits_2 holds (hand_over_told w t l) (hand t true) all_told
         (ap (λ (y : Location). y.hand) now_t
         ∙ sym (ap (λ c. if c then hand t true else (location_at (place_at w t) l).hand) not_told
         ∙ ap (λ (y : Location). y.hand) before_t)))
-        (λ i k. told_at.carries w t l steady p2 beside fits_2 holds (hand_over_told w t l) (hand t true)
+        (λ i k. told_at.carries w t l inductive p2 beside fits_2 holds (hand_over_told w t l) (hand t true)
         all_told i k ∙ ap (λ c. if (i == t) && (k == l) then c else carried_at (place_at w i) k)
         (ap (λ (y : Location). y.carries) now_t))
-        (λ x h. let k : HeldHere w t l steady p2 beside fits_2 holds (hand_over_told w t l) (hand t true)
-        all_told x = told_at.held_here w t l steady p2 beside fits_2 holds (hand_over_told w t l)
+        (λ x h. let k : HeldHere w t l inductive p2 beside fits_2 holds (hand_over_told w t l) (hand t true)
+        all_told x = told_at.held_here w t l inductive p2 beside fits_2 holds (hand_over_told w t l)
         (hand t true) all_told x h in (k.handed, k.hand))
         (λ x b h. holds.taker x b h) (λ b e. (let g : true ≡ b = cc in sym g, (u, holds.taker u false held)))
         (λ x h. refl)
@@ -309,15 +315,15 @@ module _ (w : State) (t l : ℕ) (steady : IsInductive w) (there : t < length w.
 
     told : state_after_telling before t (hand_over_told w t l) ≡ state_after_reply before u
         (hand_over_told w t l)
-    told = told_one before t l u false (hand_over_told w t l) (aparts w steady) steady.stands.hands
-        (single w t l at steady is there) (of_carries l (place_at w t) own_t) held
+    told = told_one before t l u false (hand_over_told w t l) (aparts w inductive) inductive.stands.hands
+        (single w t l at inductive is there) (of_carries l (place_at w t) own_t) held
 
     owners_given : Changed (owners_at w) (owners_at after) l (with_exclusive (owners_at w l) (Some u))
     owners_given = record {
       here = ap (λ x. x.owners) (get_or-set_same w.locks l _ (unlocked kind.TheVariants.Mutex) lt)
-          ∙ successor_one w t l u false (aparts w steady) steady.stands.hands
-          (single w t l at steady is there) (of_carries l (place_at w t) own_t) held
-          (alone_at w t l at steady is) (unshared_at w t l at steady is) (with_exclusive (owners_at w l)
+          ∙ successor_one w t l u false (aparts w inductive) inductive.stands.hands
+          (single w t l at inductive is there) (of_carries l (place_at w t) own_t) held
+          (alone_at w t l at inductive is) (unshared_at w t l at inductive is) (with_exclusive (owners_at w l)
           None);
       other = λ k ne. ap (λ x. x.owners) (get_or-set_other w.locks l k _ (unlocked kind.TheVariants.Mutex)
           ne);
@@ -330,7 +336,7 @@ module _ (w : State) (t l : ℕ) (steady : IsInductive w) (there : t < length w.
         ∙ ap (λ (f : ℕ → Place). putting f t p2) (goes_from w u (hand_over_told w t l))
 
     state : IsLockState mutex (lock_state w l)
-    state = (site_l w t l at steady is there).state
+    state = (site_l w t l at inductive is there).state
 
     coded : (b : Bool) → IsCode (if b then 1 else 3) (Some u)
     coded true = refl
@@ -349,7 +355,7 @@ module _ (w : State) (t l : ℕ) (steady : IsInductive w) (there : t < length w.
     hands_over needed = record {
       follows = subst (λ (z : State). SiteFollows w (put z t p2) l
           (acts t (deeds.handing_deeds (Some u) none_left) ++ deeds.claims_of (Some u))) (sym told)
-          (follow w after l (rules w t l at steady is there) (putting (putting (place_at w) u pu) t p2)
+          (follow w after l (rules w t l at inductive is there) (putting (putting (place_at w) u pu) t p2)
           (if none_left then 1 else 3) (with_exclusive (owners_at w l) (Some u)) (queue_at w (2 * l)) places
           (record {
             threads = length-set (set w.places u pu) t p2 ∙ length-set w.places u pu;
@@ -359,36 +365,38 @@ module _ (w : State) (t l : ℕ) (steady : IsInductive w) (there : t < length w.
           (λ k i. record {
             shared = ((λ j. get_or (set w.shares l (shares_handed_over w t l)) k
                 (replicate ((length-set (set w.places u pu) t p2 ∙ length-set w.places u pu) j) 0))
-                ∙ given_shares w t l (none_given t w.places (shares_at w l) (alone_at w t l at steady is)) k)
+                ∙ given_shares w t l (none_given t w.places (shares_at w l) (alone_at w t l at inductive is))
+                k)
                 i;
             filled = given_filled w t (Mutex l at) l (op.Store (hand_off_word true none_left))
-                (rules w t l at steady is there) k i;
+                (rules w t l at inductive is there) k i;
           })
           (changed_set (λ x. x.word) w.locks l _ (unlocked kind.TheVariants.Mutex) lt) owners_given
           (unchanged (λ k. queue_at w (2 * k)) l) (λ k. refl) same_kinds
           (λ k ne x. alike_both l k (place_at w) u pu t p2 (there_u.handed (unshared_then w t l)).others
           (own_alike l (place_at w t) p2 own_t refl) apart ne x)
           (hands_acts mutex l (base_at w l) (word_at w l) (owners_at w l) (queue_at w (2 * l))
-          (queue_at w (2 * l + 1)) (place_at w) (TakesOne w) steady.stands.hands
-          (single w t l at steady is there) (mutexes_at w t l at steady is) t u (unshared_then w t l)
+          (queue_at w (2 * l + 1)) (place_at w) (TakesOne w) inductive.stands.hands
+          (single w t l at inductive is there) (mutexes_at w t l at inductive is) t u (unshared_then w t l)
           bumps none_left refl state is held none_left)
           (handing mutex l (base_at w l) (word_at w l) (owners_at w l) (queue_at w (2 * l))
-          (queue_at w (2 * l + 1)) (place_at w) (TakesOne w) steady.stands.hands
-          (single w t l at steady is there) (mutexes_at w t l at steady is) t u (unshared_then w t l)
+          (queue_at w (2 * l + 1)) (place_at w) (TakesOne w) inductive.stands.hands
+          (single w t l at inductive is there) (mutexes_at w t l at inductive is) t u (unshared_then w t l)
           bumps none_left refl state is held none_left refl)
           needed
           (coded none_left));
-      stands = stands_by w then_state behind (told_at.places_are w t l steady p2 beside fits_2 holds
+      stands = stands_by w then_state afterwards (told_at.places_are w t l inductive p2 beside fits_2 holds
           (hand_over_told w t l) (hand t true) all_told before refl there) same_kinds_then
           (record {
-            sections = sections_same (locations_of (place_at w)) (locations_of behind) (section_at w)
-                steady.stands.sections (parts_kept (λ y. y.inside) (λ y h. refl) refl);
-            lines = lines_same (locations_of (place_at w)) (locations_of behind) (queue_at w) (queue_at w)
-                steady.stands.lines (parts_kept (λ y. y.stands) (λ y h. refl) refl) (λ key. refl);
-            waits = waits_same (locations_of (place_at w)) (locations_of behind) (queue_at w) (queue_at w)
-                steady.stands.waits (parts_kept (λ y. y.waits) (λ y h. refl) refl) (λ key. refl);
+            sections = sections_same (locations_of (place_at w)) (locations_of afterwards) (section_at w)
+                inductive.stands.sections (parts_kept (λ y. y.inside) (λ y h. refl) refl);
+            lines = lines_same (locations_of (place_at w)) (locations_of afterwards) (queue_at w) (queue_at w)
+                inductive.stands.lines (parts_kept (λ y. y.stands) (λ y h. refl) refl) (λ key. refl);
+            waits = waits_same (locations_of (place_at w)) (locations_of afterwards) (queue_at w) (queue_at w)
+                inductive.stands.waits (parts_kept (λ y. y.waits) (λ y h. refl) refl) (λ key. refl);
             hands = hands_then;
           })
-          (λ x. calls_in w then_state (behind x) same_kinds_then (told_at.calls_then w t l steady p2 beside
+          (λ x. calls_in w then_state (afterwards x) same_kinds_then (told_at.calls_then w t l inductive p2
+          beside
           fits_2 holds (hand_over_told w t l) (hand t true) all_told x));
     }

@@ -94,7 +94,7 @@ module _ (p q : ℕ → ℕ → Location) (section after : ℕ → Option ℕ) (
     λ h. others u k ne ∙ (s u k n).1 (sym (elsewhere (key_of k n) nk) ∙ h),
   )
 
-  -- each thread that is inside the section of the line behind it
+  -- each thread that is inside the section of the line after it
   by_line : ((n : Line) → (q t l).inside ≡ Some n ↔ after (key_of l n) ≡ Some t)
       → ((u : ℕ) → u ≢ t → (p u l).inside ≢ Some m)
       → ((u : ℕ) → after (key_of l m) ≡ Some u → u ≡ t) → Sections q after
@@ -207,11 +207,11 @@ waiting_same p q l m (x ∷ xs) h e = (
     more : (u : ℕ) → 1 ≤ times u xs → 1 ≤ times u (x ∷ xs)
     more u g = omega arith
 
-pub waiting_behind : (q : ℕ → ℕ → Location) (l : ℕ) (m : Line) (xs : List Waiter) (x : Waiter)
+pub waiting_after : (q : ℕ → ℕ → Location) (l : ℕ) (m : Line) (xs : List Waiter) (x : Waiter)
     → AreWaiting q l m xs
     → (x.key ≡ key_of l m) × ((q x.thread l).waits ≡ Some x.want) → AreWaiting q l m (xs ++ x ∷ [])
-waiting_behind q l m [] x h k = (k, tt)
-waiting_behind q l m (y ∷ xs) x h k = (h.0, waiting_behind q l m xs x h.1 k)
+waiting_after q l m [] x h k = (k, tt)
+waiting_after q l m (y ∷ xs) x h k = (h.0, waiting_after q l m xs x h.1 k)
 
 pub waiting_without : (q : ℕ → ℕ → Location) (l : ℕ) (m : Line) (t : ℕ) (xs : List Waiter)
     → AreWaiting q l m xs
@@ -342,7 +342,7 @@ module _ (one : ℕ → Type 0) (p q : ℕ → ℕ → Location) (hands : HandsB
       (carries : (i k : ℕ) → (q i k).carries ≡ (if taking i k then None else (p i k).carries))
       (mine : (u : ℕ) → has u ≡ true → (b : Bool) × ((p u l).hand ≡ hand t b)) (all : (u : ℕ) (b : Bool)
       → (p u l).hand ≡ hand t b → has u ≡ true) where
-    -- a thread that is in a hand behind it was so before
+    -- a thread that is in a hand after it was so before
     was_held : (i u k : ℕ) (b : Bool) → (q u k).hand ≡ hand i b → (p u k).hand ≡ hand i b
     was_held i u k b h = either (meant u k) (sym (in_hand u k) ∙ h)
       where
@@ -398,7 +398,7 @@ module _ (one : ℕ → Type 0) (p q : ℕ → ℕ → Location) (hands : HandsB
       (mine : (u : ℕ) → has u ≡ true → (b : Bool) × ((p u l).hand ≡ hand t b)) (all : (u : ℕ) (b : Bool)
       → (p u l).hand ≡ hand t b → has u ≡ true) (some : (b : Bool) → c ≡ Some b → (b ≡ true)
       × ((u : ℕ) × (has u ≡ true))) (full : (u : ℕ) → has u ≡ true → c ≡ Some true) where
-    -- a thread that is in a hand behind it was so before
+    -- a thread that is in a hand after it was so before
     held_before : (i u k : ℕ) (b : Bool) → (q u k).hand ≡ hand i b → (d : Bool) × ((p u k).hand ≡ hand i d)
     held_before i u k b h = by_meant (meant u k) refl (sym (in_hand u k) ∙ h)
       where

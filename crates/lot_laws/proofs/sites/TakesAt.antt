@@ -23,7 +23,7 @@ use Rattle.spec_locks.specs.declared.kinds.Kind as kind
 use Rattle.lot_machine.specs.Machine.{State, unlocked, shares_at, place_at, section_at, queue_at, kind_at}
 use Rattle.lot_machine.specs.Machine.{places_told}
 use Rattle.lot_laws.specs.Refinement.{taken_at}
-use Rattle.lot_laws.specs.MutexDeeds.{acts}
+use Rattle.lot_laws.specs.ThreadDeeds.{acts}
 use Rattle.lot_laws.specs.Locations.{Location, hand, location_at, role_on}
 use Rattle.lot_laws.specs.SitesOf.{ActsNeeded, TakesOne, Hands, IsInductive, Goes, FitsItsLock, Lines}
 use Rattle.lot_laws.specs.SitesOf.{AllAreWaiting, AreWaiting, Sections, after_acts, rules_in, key_of}
@@ -117,15 +117,15 @@ taking_is t (x ∷ xs) was v u h = taking_is t xs now v u h.1 ∙ either (member
 -- ---------------------------------------------------------------- some are taken
 
 -- a thread that is taken of its line is in the hand of t, and stands there no more
-abbrev pub behind_take : ℕ → Bool → Location → Location
-behind_take t true x = record x { stands = None; waits = None; hand = hand t false }
-behind_take t false x = x
+abbrev pub after_take : ℕ → Bool → Location → Location
+after_take t true x = record x { stands = None; waits = None; hand = hand t false }
+after_take t false x = x
 
 -- where a thread goes that sleeps in a line of the lock and is taken by t
 pub record IsTakenAt (w : State) (t l : ℕ) (m : Line) (p : Place) : Type 0 where
   pub stands : (location_at p l).stands ≡ Some m
   pub unheld : (location_at p l).hand ≡ None
-  pub goes : location_at (next_place p (TakenBy t)) l ≡ behind_take t true (location_at p l)
+  pub goes : location_at (next_place p (TakenBy t)) l ≡ after_take t true (location_at p l)
   pub alike : AlikeBeside l p (next_place p (TakenBy t))
   pub role : role_on (next_place p (TakenBy t)) l ≡ role_on p l
   pub fits : FitsItsLock w (next_place p (TakenBy t))
@@ -144,30 +144,30 @@ at_most_one (Some Main) Second = omega arith
 at_most_one (Some Second) Main = omega arith
 at_most_one (Some Second) Second = omega arith
 
-inside_of_take : (t : ℕ) (b : Bool) (x : Location) → (behind_take t b x).inside ≡ x.inside
+inside_of_take : (t : ℕ) (b : Bool) (x : Location) → (after_take t b x).inside ≡ x.inside
 inside_of_take t true x = refl
 inside_of_take t false x = refl
 
-stands_of_take : (t : ℕ) (b : Bool) (x : Location) → (behind_take t b x).stands
+stands_of_take : (t : ℕ) (b : Bool) (x : Location) → (after_take t b x).stands
     ≡ (if b then None else x.stands)
 stands_of_take t true x = refl
 stands_of_take t false x = refl
 
-waits_of_take : (t : ℕ) (x : Location) → (b : Bool) → b ≡ false → (behind_take t b x).waits ≡ x.waits
+waits_of_take : (t : ℕ) (x : Location) → (b : Bool) → b ≡ false → (after_take t b x).waits ≡ x.waits
 waits_of_take t x true e = absurd cc
 waits_of_take t x false e = refl
 
-hand_of_take : (t : ℕ) (b : Bool) (x : Location) → (behind_take t b x).hand
+hand_of_take : (t : ℕ) (b : Bool) (x : Location) → (after_take t b x).hand
     ≡ (if b then hand t false else x.hand)
 hand_of_take t true x = refl
 hand_of_take t false x = refl
 
-module _ (w : State) (t l : ℕ) (steady : IsInductive w) (there : t < length w.places) (p2 : Place)
+module _ (w : State) (t l : ℕ) (inductive : IsInductive w) (there : t < length w.places) (p2 : Place)
     (beside : AlikeBeside l (place_at w t) p2) (fits : FitsItsLock w p2)
     (m : Line) (taken left : List Waiter) (splits : SplitsAt w t l m taken left) (single : TakesOne w l
     → (u v : ℕ) → member u taken ≡ true → member v taken ≡ true → u ≡ v)
     (bare : (location_at (place_at w t) l).carries ≡ None) (c : Option Bool) (now : location_at p2 l
-    ≡ record (behind_take t (member t taken) (location_at (place_at w t) l)) { carries = c }) where
+    ≡ record (after_take t (member t taken) (location_at (place_at w t) l)) { carries = c }) where
   abbrev has : ℕ → Bool
   has u = member u taken
 
@@ -181,7 +181,7 @@ module _ (w : State) (t l : ℕ) (steady : IsInductive w) (there : t < length w.
   was u = location_at (place_at w u) l
 
   stood : (u : ℕ) → times u taken + times u left ≡ stood_in (was u).stands m
-  stood u = splits.counts u ∙ steady.stands.lines u l m
+  stood u = splits.counts u ∙ inductive.stands.lines u l m
 
   once : (u : ℕ) → times u taken ≤ 1
   once u = let a : times u taken + times u left ≡ stood_in (was u).stands m = stood u
@@ -211,11 +211,11 @@ module _ (w : State) (t l : ℕ) (steady : IsInductive w) (there : t < length w.
   -- a part of a location at the lock, but for the threads that t carries
   part_here : {A : Type 0} (g : Location → A) → ((x : Location) (b : Option Bool)
       → g (record x { carries = b }) ≡ g x) → (u : ℕ) → g (location_at (places_now u) l) ≡ g
-      (behind_take t (has u) (was u))
-  part_here g same_part = by_thread (λ u p. g (location_at p l) ≡ g (behind_take t (has u) (was u)))
-      (ap g now ∙ same_part (behind_take t (has t) (was t)) c)
-      (λ u nu h. ap g ((splits.sleeps u h).goes) ∙ sym (ap (λ b. g (behind_take t b (was u))) h))
-      (λ u nu h. sym (ap (λ b. g (behind_take t b (was u))) h))
+      (after_take t (has u) (was u))
+  part_here g same_part = by_thread (λ u p. g (location_at p l) ≡ g (after_take t (has u) (was u)))
+      (ap g now ∙ same_part (after_take t (has t) (was t)) c)
+      (λ u nu h. ap g ((splits.sleeps u h).goes) ∙ sym (ap (λ b. g (after_take t b (was u))) h))
+      (λ u nu h. sym (ap (λ b. g (after_take t b (was u))) h))
 
   -- At other locks all locations are as they were.
   location_there : (u k : ℕ) → k ≢ l → location_at (places_now u) k ≡ location_at (place_at w u) k
@@ -259,11 +259,12 @@ module _ (w : State) (t l : ℕ) (steady : IsInductive w) (there : t < length w.
       → ((u : ℕ) → has u ≡ true → c ≡ Some false)
       → Hands (TakesOne w) places_now
   hands_now some full = hands_taken (TakesOne w) (locations_of (place_at w)) (locations_of places_now)
-      steady.stands.hands t l has single c in_hand carries bare (λ u h. (splits.sleeps u h).unheld) some full
+      inductive.stands.hands t l has single c in_hand carries bare (λ u h. (splits.sleeps u h).unheld) some
+      full
 
   calls_now : (u : ℕ) → FitsItsLock w (places_now u)
   calls_now = by_thread (λ u p. FitsItsLock w p) fits (λ u nu h. (splits.sleeps u h).fits)
-      (λ u nu h. steady.stands.calls u)
+      (λ u nu h. inductive.stands.calls u)
 
   -- ---------------------------------------------------------------- lines
 
@@ -278,7 +279,7 @@ module _ (w : State) (t l : ℕ) (steady : IsInductive w) (there : t < length w.
 
   -- a thread that is taken stood in no other line of the lock
   stood_there : (u : ℕ) (n : Line) → has u ≡ true → n ≢ m → times u (queue_at w (key_of l n)) ≡ 0
-  stood_there u n h ng = steady.stands.lines u l n ∙ ap (λ o. stood_in o n) (splits.sleeps u h).stands
+  stood_there u n h ng = inductive.stands.lines u l n ∙ ap (λ o. stood_in o n) (splits.sleeps u h).stands
       ∙ stood_other m n ng
 
   -- those that are left stand in the line
@@ -289,7 +290,7 @@ module _ (w : State) (t l : ℕ) (steady : IsInductive w) (there : t < length w.
     | inl f ↦ rw f (at_line (has u) refl (same_line n m)
         ∙ sym (ap (λ o. stood_in o n) (part_here (λ y. y.stands) (λ x b. refl) u
         ∙ stands_of_take t (has u) (was u))))
-    | inr ne ↦ ap (times u) (others (key_of k n) (other_key l k m n ne)) ∙ steady.stands.lines u k n
+    | inr ne ↦ ap (times u) (others (key_of k n) (other_key l k m n ne)) ∙ inductive.stands.lines u k n
         ∙ sym (ap (λ (y : Location). stood_in y.stands n) (location_there u k ne))
   ]
     where
@@ -300,7 +301,7 @@ module _ (w : State) (t l : ℕ) (steady : IsInductive w) (there : t < length w.
       at_line true h (inr ng) = rw h (ap (times u) (others (key_of l n) (other_line l m n ng))
           ∙ stood_there u n h ng)
       at_line false h (inr ng) = rw h (ap (times u) (others (key_of l n) (other_line l m n ng))
-          ∙ steady.stands.lines u l n)
+          ∙ inductive.stands.lines u l n)
 
   -- Those that are left wait as before.
   waits_now : (queue : ℕ → List Waiter) → queue (key_of l m) ≡ left → ((key : ℕ) → key ≢ key_of l m
@@ -312,13 +313,13 @@ module _ (w : State) (t l : ℕ) (steady : IsInductive w) (there : t < length w.
           splits.lefts (λ u g. stays u (untaken_left u g)))
       | inr ng ↦ waiting_same (locations_of (place_at w)) (locations_of places_now) l n (queue (key_of l n))
           (subst (AreWaiting (locations_of (place_at w)) l n)
-          (sym (others (key_of l n) (other_line l m n ng))) (steady.stands.waits l n))
+          (sym (others (key_of l n) (other_line l m n ng))) (inductive.stands.waits l n))
           (λ u g. stays u (untaken_there u n ng (subst (λ (q : List Waiter). 1 ≤ times u q)
           (others (key_of l n) (other_line l m n ng)) g)))
     ])
     | inr ne ↦ waiting_same (locations_of (place_at w)) (locations_of places_now) k n (queue (key_of k n))
         (subst (AreWaiting (locations_of (place_at w)) k n) (sym (others (key_of k n) (other_key l k m n ne)))
-        (steady.stands.waits k n)) (λ u g. ap (λ (y : Location). y.waits) (location_there u k ne))
+        (inductive.stands.waits k n)) (λ u g. ap (λ (y : Location). y.waits) (location_there u k ne))
   ]
     where
       stays : (u : ℕ) → has u ≡ false → (location_at (places_now u) l).waits ≡ (was u).waits
@@ -444,9 +445,10 @@ module _ (w : State) (t l : ℕ) (steady : IsInductive w) (there : t < length w.
       word_now : (n : Line) → m ≡ n
           → (with_line (parts_at w l) n left).word ≡ code r (seen_in r l (with_line (parts_at w l) n left)
           places_now)
-      word_now Main e = word_by_lines w t l steady there r rules p2 beside fits left (queue_at w (2 * l + 1))
+      word_now Main e = word_by_lines w t l inductive there r rules p2 beside fits left
+          (queue_at w (2 * l + 1))
           places_now
-      word_now Second e = word_by_lines w t l steady there r rules p2 beside fits (queue_at w (2 * l)) left
+      word_now Second e = word_by_lines w t l inductive there r rules p2 beside fits (queue_at w (2 * l)) left
           places_now
 
       pub take_goes : ((b : Bool) → c ≡ Some b → (b ≡ false) × ((u : ℕ) × (has u ≡ true)))
@@ -462,13 +464,14 @@ module _ (w : State) (t l : ℕ) (steady : IsInductive w) (there : t < length w.
       take_goes some full d single_deed plain needed lock parked aside filled own_is = record {
         follows = follows_by w v l (with_line (parts_at w l) m left) places_now moves r rules
             (acts t (d ∷ [])) (λ e. all_by (length w.places) t (d ∷ []) there)
-            (limited w l steady r rules (acts t (d ∷ [])) (λ h. ordinary_by (length w.places) t (d ∷ []) there
+            (limited w l inductive r rules (acts t (d ∷ [])) (λ h. ordinary_by (length w.places) t (d ∷ [])
+            there
             plain) needed) (take_site d single_deed lock parked aside filled own_is) needed (word_now m refl);
         stands = stands_by w v places_now places moves.kinds
             (record {
               sections = subst (λ (f : ℕ → Option ℕ). Sections (locations_of places_now) f)
                   (sym (λ i key. get_or (es i) key None)) (sections_same (locations_of (place_at w))
-                  (locations_of places_now) (section_at w) steady.stands.sections inside_now);
+                  (locations_of places_now) (section_at w) inductive.stands.sections inside_now);
               lines = lines_now (queue_at v) here others;
               waits = waits_now (queue_at v) here others;
               hands = hands_now some full;

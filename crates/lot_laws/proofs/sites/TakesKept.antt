@@ -14,7 +14,7 @@ use Rattle.spec_locks.specs.Picks.{queued_of}
 use Rattle.spec_locks.specs.Sites.{Site, Deed, Line}
 use Rattle.lot_machine.specs.Machine.{State, place_at, queue_at}
 use Rattle.lot_laws.specs.Refinement.{taken_at}
-use Rattle.lot_laws.specs.MutexDeeds.{acts}
+use Rattle.lot_laws.specs.ThreadDeeds.{acts}
 use Rattle.lot_laws.specs.Locations.{Location, hand, location, location_at, nowhere, role_on}
 use Rattle.lot_laws.specs.SitesOf.{ActsNeeded, TakesOne, IsInductive, Goes, FitsItsLock, AreWaiting}
 use Rattle.lot_laws.specs.SitesOf.{after_acts, rules_in, key_of, stood_in, locations_of}
@@ -26,7 +26,7 @@ use Rattle.steps_base.specs.Locations.{want_in_line}
 use Rattle.lot_steps.specs.Steps.{profile}
 pub use Rattle.lot_laws.proofs.sites.TakesAt.{member, member_times, at_most_one, told_by, told_places}
 pub use Rattle.lot_laws.proofs.sites.TakesAt.{told_once, AllAre}
-use Rattle.lot_laws.proofs.sites.TakesAt.{IsTakenAt, behind_take}
+use Rattle.lot_laws.proofs.sites.TakesAt.{IsTakenAt, after_take}
 use Rattle.lot_laws.proofs.sites.TakesAt as at
 
 -- where a thread goes that sleeps in a line and is taken by t
@@ -53,13 +53,13 @@ taken_so w t l m p s = let here = location_here l p s.calls ∙ s.was in record 
   stands = ap (λ (y : Location). y.stands) here;
   unheld = ap (λ (y : Location). y.hand) here;
   goes = location_here l (next_place p (TakenBy t)) s.calls_then ∙ s.free
-      ∙ sym (ap (behind_take t true) here);
+      ∙ sym (ap (after_take t true) here);
   alike = own_alike l p (next_place p (TakenBy t)) s.calls s.calls_then;
   role = s.role;
   fits = s.fits;
 }
 
-module _ (w : State) (t l : ℕ) (steady : IsInductive w) (own : IsOf l (place_at w t)) (there : t
+module _ (w : State) (t l : ℕ) (inductive : IsInductive w) (own : IsOf l (place_at w t)) (there : t
     < length w.places) (p2 : Place)
     (of : IsOf l p2) (fits : FitsItsLock w p2) (many : TakesOne w l → ⊥)
     (m : Line) (taken left : List Waiter) (splits : Splits w t l m taken left)
@@ -74,7 +74,7 @@ module _ (w : State) (t l : ℕ) (steady : IsInductive w) (own : IsOf l (place_a
       either : (b : Bool) → member t taken ≡ b → b ≡ false
       either false h = refl
       either true h = absurd (let a : times t taken + times t left ≡ stood_in
-          (location_at (place_at w t) l).stands m = splits.counts t ∙ steady.stands.lines t l m in
+          (location_at (place_at w t) l).stands m = splits.counts t ∙ inductive.stands.lines t l m in
           let b : stood_in (location_at (place_at w t) l).stands m ≡ 0 =
           ap (λ (y : Location). stood_in y.stands m) was_here ∙ ap (λ o. stood_in o m) out in
           let c : 1 ≤ times t taken = member_times t taken h in omega arith)
@@ -84,7 +84,7 @@ module _ (w : State) (t l : ℕ) (steady : IsInductive w) (own : IsOf l (place_a
 
   -- its location, but for the threads that it carries
   now : (location p2).inside ≡ (location (place_at w t)).inside → (location p2).stands ≡ None
-      → (location p2).hand ≡ None → location_at p2 l ≡ record (behind_take t (member t taken)
+      → (location p2).hand ≡ None → location_at p2 l ≡ record (after_take t (member t taken)
       (location_at (place_at w t) l)) { carries = (location p2).carries }
   now inside stands unheld = location_here l p2 of ∙ (λ i. record (location (place_at w t)) {
     inside = inside i;
@@ -92,7 +92,7 @@ module _ (w : State) (t l : ℕ) (steady : IsInductive w) (own : IsOf l (place_a
     waits = (waits_out p2 stands ∙ sym (waits_out (place_at w t) out)) i;
     carries = (location p2).carries;
     hand = (unheld ∙ sym free) i;
-  }) ∙ sym (λ i. record (behind_take t (not_self i) (was_here i)) { carries = (location p2).carries })
+  }) ∙ sym (λ i. record (after_take t (not_self i) (was_here i)) { carries = (location p2).carries })
 
   module _ (r : Rules) (rules : rules_in w l ≡ r) (none : taken_at (place_at w t) l ≡ None)
       (none2 : taken_at p2 l ≡ None) where
@@ -121,7 +121,7 @@ module _ (w : State) (t l : ℕ) (steady : IsInductive w) (own : IsOf l (place_a
           → role_on p2 l ≡ (after_acts r (acts t (d ∷ [])) (lock_by w l r)).role t
           → Goes w v l (acts t (d ∷ []))
       take_goes inside stands unheld =
-          at.take_goes w t l steady there p2 (own_alike l (place_at w t) p2 own of) fits m taken left
+          at.take_goes w t l inductive there p2 (own_alike l (place_at w t) p2 own of) fits m taken left
           (record {
             counts = splits.counts;
             sleeps = λ u h. taken_so w t l m (place_at w u) (splits.sleeps u h);

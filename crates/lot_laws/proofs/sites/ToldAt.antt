@@ -49,7 +49,8 @@ pub record HoldsHere (w : State) (t l : ℕ) : Type 0 where
       ≡ true
   pub nobody : (k : ℕ) → k ≢ l → carried_at (place_at w t) k ≡ None
 
-module _ (w : State) (t l : ℕ) (steady : IsInductive w) (p2 : Place) (beside : SameHands l (place_at w t) p2)
+module _ (w : State) (t l : ℕ) (inductive : IsInductive w) (p2 : Place) (beside : SameHands l (place_at w t)
+    p2)
     (fits : FitsItsLock w p2) (holds : HoldsHere w t l) (reply : Reply) (after : Option Hand)
     (all : (u : ℕ) (b : Bool) → hand_at (place_at w u) l ≡ hand t b → IsToldAt w t l b after reply
     (place_at w u)) where
@@ -80,7 +81,7 @@ module _ (w : State) (t l : ℕ) (steady : IsInductive w) (p2 : Place) (beside :
         hand = subst (λ j. hand_at (place_at w u) j ≡ hand t k.handed) e k.hand;
       }
       by_lock (inr ne) = absurd (let a : carried_at (place_at w t) k.lock ≡ Some k.handed =
-          steady.stands.hands.taken t u k.lock k.handed k.hand in
+          inductive.stands.hands.taken t u k.lock k.handed k.hand in
           let c : ◌≡◌ {A = Option Bool} None (Some k.handed) = sym (holds.nobody k.lock ne) ∙ a in cc)
 
   pub told_on : (u : ℕ) → has u ≡ true → told u ≡ next_place (place_at w u) reply
@@ -130,7 +131,8 @@ module _ (w : State) (t l : ℕ) (steady : IsInductive w) (p2 : Place) (beside :
   calls_then u = elim (cases_eq u t) [
     | inl e ↦ rw (e, put_here told t p2) fits
     | inr nu ↦ subst (λ (y : Place). FitsItsLock w y) (sym (put_other told t p2 u nu))
-        (by_told (FitsItsLock w) u (λ held. (all u held.handed held.hand).fits) (λ h. steady.stands.calls u))
+        (by_told (FitsItsLock w) u (λ held. (all u held.handed held.hand).fits)
+        (λ h. inductive.stands.calls u))
   ]
 
   -- each thread that is told is in this hand then; t itself is so where it was in its own

@@ -5,8 +5,8 @@ use Rattle.std.proofs.Common.{length, length-set, nat_lt, inl, inr, refl, subst,
 use Rattle.lot_laws.proofs.once.Kept.{once_goes_late, once_begins}
 use Rattle.lot_machine.specs.Machine.{can_close, can_do, can_go, state_after_close, state_after_go}
 use Rattle.lot_machine.specs.Machine.{state_after_going}
-use Rattle.lot_laws.proofs.calls.Looking.{closing_steady}
-use Rattle.lot_laws.proofs.calls.Closings.{closing, closing_counted, closing_may, closing_shaped}
+use Rattle.lot_laws.proofs.calls.Looking.{closing_inductive}
+use Rattle.lot_laws.proofs.calls.Closings.{closing, closing_counted, closing_may, closing_well_formed}
 use Rattle.lot_laws.proofs.calls.Closings.{closing_there}
 use Rattle.lot_laws.proofs.calls.Closures.{closes_one}
 use Rattle.steps_mutex.specs.MutexProfiles.{mutex_profile}
@@ -35,21 +35,21 @@ use Rattle.lot_machine.specs.Machine.{state_after_turn, can_turn, is_possible, a
 use Rattle.lot_machine.specs.Fits.{IsWellFormed, PlaceFits}
 use Rattle.lot_laws.specs.Refinement.{lock_state, taken_at}
 use Rattle.lot_laws.specs.SitesOf.{is_mutex}
-use Rattle.lot_laws.specs.MutexDeeds.{mutex_role, mutex_location, acts, begin_deed}
+use Rattle.lot_laws.specs.ThreadDeeds.{mutex_role, mutex_location, acts, begin_deed}
 use Rattle.lot_laws.specs.Locations.{nowhere, location}
 use Rattle.lot_laws.specs.SitesOf.{AreCondvars, AreCounted, IsInductive, Goes}
-use Rattle.lot_machine.proofs.Shape.{both, looking_shaped}
+use Rattle.lot_machine.proofs.Shape.{both, looking_well_formed}
 use Rattle.lot_laws.proofs.machine.KindsStay.{calls_mutex, calls_readers, calls_once, calls_semaphore}
 use Rattle.lot_laws.proofs.machine.Parts.{parts_at, same, single_or_two, thread_is}
 use Rattle.lot_laws.proofs.machine.Parts.{mutex, own_role}
 use Rattle.lot_laws.proofs.sites.OneStep.{meets, others_same}
 use Rattle.lot_laws.proofs.sites.StandsMoved.{mutex_rules}
-use Rattle.lot_laws.proofs.sites.ActsKept.{goes_steady, place_goes}
+use Rattle.lot_laws.proofs.sites.ActsKept.{goes_inductive, place_goes}
 use Rattle.lot_laws.proofs.sites.SitesKept.{mutex_at}
-use Rattle.lot_laws.proofs.calls.Looking.{looking_steady, looks_now}
+use Rattle.lot_laws.proofs.calls.Looking.{looking_inductive, looks_now}
 use Rattle.lot_laws.proofs.hands.CountsPut.{looking_counted}
 use Rattle.lot_laws.proofs.mutex.Kept.{gone_kept, mutex_goes_late}
-use Rattle.lot_laws.proofs.condvar.ActsRefine.{condvar_steady}
+use Rattle.lot_laws.proofs.condvar.ActsRefine.{condvar_inductive}
 use Rattle.lot_laws.proofs.condvar.SameCondvars.{closing_condvars, looking_condvars}
 use Rattle.lot_laws.proofs.condvar.BeginsKept.{begins_at, condvar_begins, condvar_goes_late}
 use Rattle.lot_laws.proofs.calls.OwnPlace.{gone}
@@ -68,26 +68,28 @@ idle_is (Once l at) h = absurd cc
 idle_is (Condvar l at) h = absurd cc
 idle_is (Semaphore l at) h = absurd cc
 
-module _ (w : State) (t : ℕ) (steady : IsInductive w) (shape : IsWellFormed w) (there : t < length w.places)
+module _ (w : State) (t : ℕ) (inductive : IsInductive w) (shape : IsWellFormed w) (there : t
+    < length w.places)
   where
     -- a thread goes on from its place
-    gone_steady : AreCounted w → AreCondvars w → can_go w t ≡ true → IsInductive (state_after_go w t)
-    gone_steady counted condvars can = elim (single_or_two (place_at w t)) [
-      | inl single ↦ subst IsInductive (sym (gone w t single)) (gone_kept w t steady shape there counted
+    gone_inductive : AreCounted w → AreCondvars w → can_go w t ≡ true → IsInductive (state_after_go w t)
+    gone_inductive counted condvars can = elim (single_or_two (place_at w t)) [
+      | inl single ↦ subst IsInductive (sym (gone w t single)) (gone_kept w t inductive shape there counted
           (place_at w t) refl single (shape.places t) can)
       | inr two ↦ subst (λ p. IsInductive (state_after_going w t p)) (sym two.is)
-          (condvar_steady w t two.lock shape steady condvars there two.at two.is
+          (condvar_inductive w t two.lock shape inductive condvars there two.at two.is
           (ap (λ p. can_do w (act_of p)) (sym two.is) ∙ can))
     ]
 
-module _ (w : State) (t : ℕ) (steady : IsInductive w) (shape : IsWellFormed w) (there : t < length w.places)
+module _ (w : State) (t : ℕ) (inductive : IsInductive w) (shape : IsWellFormed w) (there : t
+    < length w.places)
   where
     -- it begins, with the claim that the call needs
     begin_kept : (l : ℕ) (at : MutexPlace) (c : Option Claim) → is_mutex (kind_at w l) ≡ true → place_at w t
         ≡ Idle → taken_at (Mutex l at) l ≡ None → mutex_role at ≡ record idle { claims = c }
         → HasClaim (lock_state w l) t c → mutex_location at ≡ nowhere → Goes w (put w t (Mutex l at)) l
         (acts t (Begin c ∷ []))
-    begin_kept l at c of_mutex is none e has s = place_goes w t l steady (rw is tt) there mutex
+    begin_kept l at c of_mutex is none e has s = place_goes w t l inductive (rw is tt) there mutex
         (mutex_rules (kind_at w l) of_mutex) (Mutex l at) refl of_mutex (Begin c ∷ []) (λ h. tt) (record {
           site = meets mutex l (parts_at w l) (place_at w) t (Mutex l at) _ (rw is (sym none)) refl refl refl
               refl
@@ -117,37 +119,41 @@ module _ (w : State) (t : ℕ) (steady : IsInductive w) (shape : IsWellFormed w)
         let parts = both (is_idle (place_at w t)) (is_open_to w t (calling.TheVariants.Mutex l c)) can in
         let open_to = both (nat_lt l (length w.locks)) _ parts.1 in
         let right = both (has_call (kind_at w l) (calling.TheVariants.Mutex l c)) _ open_to.1 in
-        goes_steady w _ l _ steady (calls_begin l (is_fair (kind_at w l)) c (calls_mutex (kind_at w l) l c
+        goes_inductive w _ l _ inductive (calls_begin l (is_fair (kind_at w l)) c
+        (calls_mutex (kind_at w l) l c
         right.0) (idle_is (place_at w t) parts.0) right.1)
     begun_kept (calling.TheVariants.Once l c) can =
         let parts = both (is_idle (place_at w t)) (is_open_to w t (calling.TheVariants.Once l c)) can in
         let open_to = both (nat_lt l (length w.locks)) _ parts.1 in
         let right = both (has_call (kind_at w l) (calling.TheVariants.Once l c)) _ open_to.1 in
-        goes_steady w _ l _ steady (once_begins w t l c steady there (idle_is (place_at w t) parts.0)
+        goes_inductive w _ l _ inductive (once_begins w t l c inductive there (idle_is (place_at w t) parts.0)
         (calls_once (kind_at w l) l c right.0))
     begun_kept (calling.TheVariants.Semaphore l c) can =
         let parts = both (is_idle (place_at w t)) (is_open_to w t (calling.TheVariants.Semaphore l c)) can in
         let open_to = both (nat_lt l (length w.locks)) _ parts.1 in
         let right = both (has_call (kind_at w l) (calling.TheVariants.Semaphore l c)) _ open_to.1 in
-        goes_steady w _ l _ steady (semaphore_begins w t l c steady there (idle_is (place_at w t) parts.0)
+        goes_inductive w _ l _ inductive (semaphore_begins w t l c inductive there
+        (idle_is (place_at w t) parts.0)
         (calls_semaphore (kind_at w l) l c right.0) right.1)
     begun_kept (calling.TheVariants.Condvar l c) can =
         let parts = both (is_idle (place_at w t)) (is_open_to w t (calling.TheVariants.Condvar l c)) can in
-        goes_steady w _ (begins_at l c) _ steady (condvar_begins w t l steady there
+        goes_inductive w _ (begins_at l c) _ inductive (condvar_begins w t l inductive there
         (idle_is (place_at w t) parts.0) c parts.1)
     begun_kept (calling.TheVariants.RwLock l c) can =
         let parts = both (is_idle (place_at w t)) (is_open_to w t (calling.TheVariants.RwLock l c)) can in
         let open_to = both (nat_lt l (length w.locks)) _ parts.1 in
         let right = both (has_call (kind_at w l) (calling.TheVariants.RwLock l c)) _ open_to.1 in
-        goes_steady w _ l _ steady (rwlock_begins w t l c steady there (idle_is (place_at w t) parts.0)
+        goes_inductive w _ l _ inductive (rwlock_begins w t l c inductive there
+        (idle_is (place_at w t) parts.0)
         (calls_readers (kind_at w l) l c right.0) right.1)
 
     -- it looks at the word once more
     spun_kept : AreCounted w → AreCondvars w → (o : Option Place) → looking (place_at w t) ≡ o
         → IsInductive (state_after_look w t o)
-    spun_kept counted condvars None is = steady
-    spun_kept counted condvars (Some q) is = gone_steady (put w t q) t (looking_steady w t there q is steady)
-        (looking_shaped w t q shape is) (rw (length-set w.places t q) there)
+    spun_kept counted condvars None is = inductive
+    spun_kept counted condvars (Some q) is =
+        gone_inductive (put w t q) t (looking_inductive w t there q is inductive)
+        (looking_well_formed w t q shape is) (rw (length-set w.places t q) there)
         (looking_counted w t there q is counted) (looking_condvars w t q there is condvars)
         (looks_now w t there q is)
 
@@ -158,7 +164,7 @@ module _ (w : State) (t : ℕ) (steady : IsInductive w) (shape : IsWellFormed w)
         → IsInductive (state_after_late_on w t (key_in (Some l) m))
     rwlock_late l a c is lt None e can = absurd cc
     rwlock_late l a c is lt (Some m) e can =
-        goes_steady w _ l _ steady (rwlock_goes_late w t l a c steady shape there lt is m e can)
+        goes_inductive w _ l _ inductive (rwlock_goes_late w t l a c inductive shape there lt is m e can)
 
     late_kept : (p : Place) → place_at w t ≡ p → PlaceFits (length w.locks) p → is_free_under w (late_key p)
         ≡ true
@@ -170,7 +176,8 @@ module _ (w : State) (t : ℕ) (steady : IsInductive w) (shape : IsWellFormed w)
             ≡ true
             → IsInductive (state_after_late_on w t (key_in (Some l) m))
         mutex_late None e h = absurd cc
-        mutex_late (Some m) e h = goes_steady w _ l _ steady (mutex_goes_late w t l at steady shape there
+        mutex_late (Some m) e h = goes_inductive w _ l _ inductive (mutex_goes_late w t l at inductive shape
+            there
             fits.0
             is m e h)
     late_kept (RwLock l a (Plain p)) is fits can = rwlock_late l a (Plain p) is fits
@@ -180,15 +187,16 @@ module _ (w : State) (t : ℕ) (steady : IsInductive w) (shape : IsWellFormed w)
         (call_late_line (BumpCall p)) refl can
     late_kept (RwLock l a c) is fits can = absurd cc
     late_kept Idle is fits can = absurd cc
-    late_kept (Condvar l at) is fits can = let goes = condvar_goes_late w t l shape steady there at is can
-        in goes_steady w _ goes.0 _ steady goes.1
+    late_kept (Condvar l at) is fits can = let goes = condvar_goes_late w t l shape inductive there at is can
+        in goes_inductive w _ goes.0 _ inductive goes.1
     late_kept (Semaphore l at) is fits can = semaphore_late (semaphore_profile at).late_line refl can
       where
         semaphore_late : (m : Option Line) → (semaphore_profile at).late_line ≡ m
             → is_free_under w (key_in (Some l) m) ≡ true
             → IsInductive (state_after_late_on w t (key_in (Some l) m))
         semaphore_late None e h = absurd cc
-        semaphore_late (Some m) e h = goes_steady w _ l _ steady (semaphore_goes_late w t l at steady shape
+        semaphore_late (Some m) e h = goes_inductive w _ l _ inductive (semaphore_goes_late w t l at inductive
+            shape
             there fits is m e h)
     late_kept (Once l at) is fits can = once_late (once_profile at).late_line refl can
       where
@@ -196,24 +204,27 @@ module _ (w : State) (t : ℕ) (steady : IsInductive w) (shape : IsWellFormed w)
             ≡ true
             → IsInductive (state_after_late_on w t (key_in (Some l) m))
         once_late None e h = absurd cc
-        once_late (Some m) e h = goes_steady w _ l _ steady (once_goes_late w t l at steady shape there fits
+        once_late (Some m) e h = goes_inductive w _ l _ inductive (once_goes_late w t l at inductive shape
+            there fits
             is
             m e h)
 
-    -- its closure has answered, and it goes on behind it
+    -- its closure has answered, and it goes on after it
     closed_kept : AreCounted w → AreCondvars w → (succeeded : Bool) → can_close w t succeeded ≡ true
         → IsInductive (state_after_close w t succeeded)
     closed_kept counted condvars succeeded can =
         let one = closes_one w t succeeded can in
-        gone_steady (closing w t there succeeded one) t (closing_steady w t there succeeded one steady)
-        (closing_shaped w t there succeeded one shape) (closing_there w t there succeeded one)
+        gone_inductive (closing w t there succeeded one) t (closing_inductive w t there succeeded one
+        inductive)
+        (closing_well_formed w t there succeeded one shape) (closing_there w t there succeeded one)
         (closing_counted w t there succeeded one counted) (closing_condvars w t there succeeded one condvars)
         (closing_may w t there succeeded one)
 
     turned_kept : AreCounted w → AreCondvars w → (x : Turn) → can_turn w t x ≡ true
         → IsInductive (state_after_turn w t x)
     turned_kept counted condvars (turn.TheVariants.Begin c) can = begun_kept c can
-    turned_kept counted condvars turn.TheVariants.Go can = gone_steady w t steady shape there counted condvars
+    turned_kept counted condvars turn.TheVariants.Go can = gone_inductive w t inductive shape there counted
+        condvars
         can
     turned_kept counted condvars turn.TheVariants.Spin can =
         spun_kept counted condvars (looking (place_at w t))
@@ -224,13 +235,13 @@ module _ (w : State) (t : ℕ) (steady : IsInductive w) (shape : IsWellFormed w)
     turned_kept counted condvars turn.TheVariants.Err can = closed_kept counted condvars false can
 
 -- a step keeps what holds between steps
-pub after_steady : (w : State) (s : Step) → IsWellFormed w → IsInductive w → AreCounted w → AreCondvars w
+pub after_inductive : (w : State) (s : Step) → IsWellFormed w → IsInductive w → AreCounted w → AreCondvars w
     → IsInductive (after w s)
-after_steady w s shape steady counted condvars = either (is_possible w s) refl
+after_inductive w s shape inductive counted condvars = either (is_possible w s) refl
   where
     either : (b : Bool) → is_possible w s ≡ b → IsInductive (if b then state_after_turn w s.thread s.turn
         else w)
     either true can = let parts = both (nat_lt s.thread (length w.places)) (can_turn w s.thread s.turn) can in
-        turned_kept w s.thread steady shape (ltb-true s.thread (length w.places) parts.0) counted condvars
+        turned_kept w s.thread inductive shape (ltb-true s.thread (length w.places) parts.0) counted condvars
         s.turn parts.1
-    either false can = steady
+    either false can = inductive

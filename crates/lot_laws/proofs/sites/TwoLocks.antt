@@ -15,8 +15,8 @@ use Rattle.spec_locks.specs.Sites.{Deed, Main, Site, has_readers}
 use Rattle.spec_locks.specs.Codes.{code, HasLimit}
 use Rattle.lot_machine.specs.Machine.{State, place_at, kind_at, shares_at, unlocked, word_at}
 use Rattle.lot_laws.specs.Refinement.{lock_state}
-use Rattle.lot_laws.specs.MutexDeeds.{acts}
-use Rattle.lot_laws.specs.MutexDeeds as deeds
+use Rattle.lot_laws.specs.ThreadDeeds.{acts}
+use Rattle.lot_laws.specs.ThreadDeeds as deeds
 use Rattle.lot_laws.specs.Locations.{Location}
 use Rattle.lot_laws.specs.SitesOf.{ActsNeeded, AllBy, FollowAll, IsInductive, SameNumbers, after_acts, key_of}
 use Rattle.lot_laws.specs.SitesOf.{rules_in, site_of}
@@ -33,7 +33,7 @@ abbrev pub two_at : ℕ → ℕ → List deeds.Act → List deeds.Act → ℕ �
 two_at c m at_c at_m k = if k == c then at_c else if k == m then at_m else []
 
 -- after it the lock has these parts, and its word says so
-pub record BehindIt (w v : State) (q : ℕ → Place) (l : ℕ) (ds : List deeds.Act) : Type 0 where
+pub record AfterIt (w v : State) (q : ℕ → Place) (l : ℕ) (ds : List deeds.Act) : Type 0 where
   pub parts : Parts
   pub here : parts_at v l ≡ parts
   pub led : seen_in (rules_in w l) l parts q ≡ after_acts (rules_in w l) ds (lock_by w l (rules_in w l))
@@ -43,11 +43,11 @@ pub record BehindIt (w v : State) (q : ℕ → Place) (l : ℕ) (ds : List deeds
   pub unshared : has_readers (rules_in w l).sort ≡ false
   pub by : (rules_in w l).sort ≡ locks.Semaphore → AllBy (length w.places) ds
 
-module _ (w v : State) (steady : IsInductive w) (q : ℕ → Place) (places : place_at v ≡ q)
+module _ (w v : State) (inductive : IsInductive w) (q : ℕ → Place) (places : place_at v ≡ q)
     (kinds : (k : ℕ) → kind_at v k ≡ kind_at w k) (numbers : SameNumbers w v) (c m : ℕ)
     (others : (k : ℕ) → k ≢ c → k ≢ m → (parts_at v k ≡ parts_at w k)
     × ((u : ℕ) → AlikeAt k (place_at w u) (q u))) where
-  site_at : (l : ℕ) (ds : List deeds.Act) → BehindIt w v q l ds → site_of v l ≡ after_acts (rules_in w l) ds
+  site_at : (l : ℕ) (ds : List deeds.Act) → AfterIt w v q l ds → site_of v l ≡ after_acts (rules_in w l) ds
       (site_of w l)
   site_at l ds b = (λ i. seen_in (rules_of (kinds l i)) l (b.here i) (places i)) ∙ b.led
 
@@ -58,17 +58,17 @@ module _ (w v : State) (steady : IsInductive w) (q : ℕ → Place) (places : pl
         role = λ u. (o.1 u).1 i;
       })
 
-  word_here : (l : ℕ) (ds : List deeds.Act) → BehindIt w v q l ds → word_at v l ≡ code (rules_in w l)
+  word_here : (l : ℕ) (ds : List deeds.Act) → AfterIt w v q l ds → word_at v l ≡ code (rules_in w l)
       (site_of v l)
   word_here l ds b = ap (λ (a : Parts). a.word) b.here ∙ b.coded
       ∙ sym (ap (code (rules_in w l)) (λ i. seen_in (rules_of (kinds l i)) l (b.here i) (places i)))
 
   word_else : (k : ℕ) → k ≢ c → k ≢ m → word_at v k ≡ code (rules_in w k) (site_of v k)
-  word_else k nc nm = ap (λ (a : Parts). a.word) (others k nc nm).0 ∙ steady.sites.word k
+  word_else k nc nm = ap (λ (a : Parts). a.word) (others k nc nm).0 ∙ inductive.sites.word k
       ∙ sym (ap (code (rules_in w k)) (site_else k nc nm))
 
-  module _ (at_c at_m : List deeds.Act) (apart : m ≢ c) (behind_c : BehindIt w v q c at_c)
-      (behind_m : BehindIt w v q m at_m) where
+  module _ (at_c at_m : List deeds.Act) (apart : m ≢ c) (after_c : AfterIt w v q c at_c)
+      (after_m : AfterIt w v q m at_m) where
     -- by which lock is looked at
     by_lock : (P : ℕ → List deeds.Act → Type 0) → P c at_c → P m at_m → ((k : ℕ) → k ≢ c → k ≢ m → P k [])
         → (k : ℕ)
@@ -88,30 +88,31 @@ module _ (w v : State) (steady : IsInductive w) (q : ℕ → Place) (places : pl
     pub follow_two : FollowAll w v (two_at c m at_c at_m)
     follow_two = record {
       site = by_lock (λ k ds. site_of v k ≡ after_acts (rules_in w k) ds (site_of w k))
-          (site_at c at_c behind_c) (site_at m at_m behind_m) site_else;
-      needed = by_lock (λ k ds. ActsNeeded (rules_in w k) ds (site_of w k)) behind_c.needed behind_m.needed
+          (site_at c at_c after_c) (site_at m at_m after_m) site_else;
+      needed = by_lock (λ k ds. ActsNeeded (rules_in w k) ds (site_of w k)) after_c.needed after_m.needed
           (λ k nc nm. tt);
-      word = by_lock (λ k ds. word_at v k ≡ code (rules_in w k) (site_of v k)) (word_here c at_c behind_c)
-          (word_here m at_m behind_m) word_else;
+      word = by_lock (λ k ds. word_at v k ≡ code (rules_in w k) (site_of v k)) (word_here c at_c after_c)
+          (word_here m at_m after_m) word_else;
       kinds = kinds;
       numbers = numbers;
       sharers = by_lock (λ k ds. length (shares_at v k) ≡ length (shares_at w k))
-          (ap (λ (a : Parts). length a.base.shared) behind_c.here ∙ behind_c.sharers)
-          (ap (λ (a : Parts). length a.base.shared) behind_m.here ∙ behind_m.sharers)
+          (ap (λ (a : Parts). length a.base.shared) after_c.here ∙ after_c.sharers)
+          (ap (λ (a : Parts). length a.base.shared) after_m.here ∙ after_m.sharers)
           (λ k nc nm. ap (λ (a : Parts). length a.base.shared) (others k nc nm).0);
       limit = by_lock (λ k ds. has_readers (rules_in w k).sort ≡ true → HasLimit (rules_in w k)
-          (lock_state v k)) (λ h. let z : true ≡ false = sym h ∙ behind_c.unshared in cc) (λ h. let z : true
-          ≡ false = sym h ∙ behind_m.unshared in cc)
+          (lock_state v k)) (λ h. let z : true ≡ false = sym h ∙ after_c.unshared in cc) (λ h. let z : true
+          ≡ false = sym h ∙ after_m.unshared in cc)
           (λ k nc nm h. subst (λ (s : Site). HasLimit (rules_in w k) s.lock) (sym (site_else k nc nm))
-          (steady.sites.limits k h).1);
-      by = by_lock (λ k ds. (rules_in w k).sort ≡ locks.Semaphore → AllBy (length w.places) ds) behind_c.by
-          behind_m.by (λ k nc nm h. tt);
+          (inductive.sites.limits k h).1);
+      by = by_lock (λ k ds. (rules_in w k).sort ≡ locks.Semaphore → AllBy (length w.places) ds) after_c.by
+          after_m.by (λ k nc nm h. tt);
     }
 
 -- -------------------------------------------------------- sections alone change, and the place of one thread
 
 -- it goes from where it stands by deeds at both locks
-module _ (w v : State) (steady : IsInductive w) (t : ℕ) (there : t < length w.places) (p2 : Place) (c m : ℕ)
+module _ (w v : State) (inductive : IsInductive w) (t : ℕ) (there : t < length w.places) (p2 : Place)
+    (c m : ℕ)
     (apart : m ≢ c)
     (alike : (k : ℕ) → k ≢ c → k ≢ m → Alike k (place_at w t) p2)
     (el : v.locks ≡ w.locks) (eh : v.shares ≡ w.shares) (eq : v.queues ≡ w.queues) (ep : v.places
@@ -139,15 +140,15 @@ module _ (w v : State) (steady : IsInductive w) (t : ℕ) (there : t < length w.
   pub same_kinds : (k : ℕ) → kind_at v k ≡ kind_at w k
   same_kinds k i = (get_or (el i) k (unlocked kind.TheVariants.Mutex)).kind
 
-  behind : (l : ℕ) (ds : List Deed) → has_readers (rules_in w l).sort ≡ false
+  afterwards : (l : ℕ) (ds : List Deed) → has_readers (rules_in w l).sort ≡ false
       → Steps (rules_in w l) l (parts_at w l) (parts_at w l) (place_at w) t p2 ds
-      → BehindIt w v (putting (place_at w) t p2) l (acts t ds)
-  behind l ds unshared steps = record {
+      → AfterIt w v (putting (place_at w) t p2) l (acts t ds)
+  afterwards l ds unshared steps = record {
     parts = parts_at w l;
     here = same_parts l;
     led = steps.site;
     needed = steps.needed;
-    coded = steady.sites.word l ∙ same_word (rules_in w l).sort (rules_in w l).limit _ _ _ _ refl refl refl
+    coded = inductive.sites.word l ∙ same_word (rules_in w l).sort (rules_in w l).limit _ _ _ _ refl refl refl
         refl refl refl;
     sharers = refl;
     unshared = unshared;
@@ -165,13 +166,13 @@ module _ (w v : State) (steady : IsInductive w) (t : ℕ) (there : t < length w.
   )
 
   pub two_follow : FollowAll w v (two_at c m (acts t ds_c) (acts t ds_m))
-  two_follow = follow_two w v steady (putting (place_at w) t p2) places_put same_kinds (record {
+  two_follow = follow_two w v inductive (putting (place_at w) t p2) places_put same_kinds (record {
     threads = ap (λ (xs : List Place). length xs) ep ∙ length-set w.places t p2;
     locks = λ i. length (el i);
     shares = λ i. length (eh i);
   })
-      c m others (acts t ds_c) (acts t ds_m) apart (behind c ds_c unshared_c steps_c)
-      (behind m ds_m unshared_m steps_m)
+      c m others (acts t ds_c) (acts t ds_m) apart (afterwards c ds_c unshared_c steps_c)
+      (afterwards m ds_m unshared_m steps_m)
 
 -- --------------------------------------------------------- its station at one of them, and then at the other
 

@@ -16,7 +16,7 @@ use Rattle.spec_locks.specs.Sites.{Deed, Line, End, Out, idle, wakened, leaves}
 use Rattle.lot_machine.specs.Machine.{State, place_at, filled_at, section_at, queue_at, put}
 use Rattle.lot_machine.specs.Machine.{state_with_sections, state_after_telling, place_after_telling}
 use Rattle.lot_laws.specs.Refinement.{taken_at}
-use Rattle.lot_laws.specs.MutexDeeds.{acts}
+use Rattle.lot_laws.specs.ThreadDeeds.{acts}
 use Rattle.lot_laws.specs.Locations.{Location, hand, location_at, role_on}
 use Rattle.lot_laws.specs.SitesOf.{ActsNeeded, TakesOne, Hands, Sections, IsInductive, Goes, FitsItsLock}
 use Rattle.lot_laws.specs.SitesOf.{after_acts, rules_in, key_of, carried_at, hand_at, locations_of}
@@ -88,7 +88,7 @@ pub record IsWokenAt (w : State) (t l : ℕ) (x : Note) (p : Place) : Type 0 whe
   pub alike : AlikeBeside l p (next_place p (Woken x))
   pub fits : FitsItsLock w (next_place p (Woken x))
 
-module _ (w : State) (t l : ℕ) (steady : IsInductive w) (there : t < length w.places) (p2 : Place)
+module _ (w : State) (t l : ℕ) (inductive : IsInductive w) (there : t < length w.places) (p2 : Place)
     (beside : SameHands l (place_at w t) p2) (fits : FitsItsLock w p2) (holds : HoldsHere w t l) (x : Note)
     (woken : (u : ℕ) (b : Bool) → hand_at (place_at w u) l ≡ hand t b → IsWokenAt w t l x (place_at w u))
   where
@@ -97,27 +97,28 @@ module _ (w : State) (t l : ℕ) (steady : IsInductive w) (there : t < length w.
     all_told u b held = let k = woken u b held in record { goes = k.goes; alike = k.alike; fits = k.fits }
 
     abbrev pub is_told : ℕ → Bool
-    is_told = has w t l steady p2 beside fits holds (Woken x) None all_told
+    is_told = has w t l inductive p2 beside fits holds (Woken x) None all_told
 
-    abbrev pub behind : ℕ → Place
-    behind = places_then w t l steady p2 beside fits holds (Woken x) None all_told
+    abbrev pub afterwards : ℕ → Place
+    afterwards = places_then w t l inductive p2 beside fits holds (Woken x) None all_told
 
     abbrev told_now : ℕ → Place
-    told_now = told w t l steady p2 beside fits holds (Woken x) None all_told
+    told_now = told w t l inductive p2 beside fits holds (Woken x) None all_told
 
     -- each other thread is let go, or stays
-    pub lets : (u : ℕ) → u ≢ t → LetGo t l (place_at w u) (behind u)
+    pub lets : (u : ℕ) → u ≢ t → LetGo t l (place_at w u) (afterwards u)
     lets u ne = subst (λ (y : Place). LetGo t l (place_at w u) y) (sym (put_other told_now t p2 u ne))
         (either (is_told u) refl)
       where
         either : (b : Bool) → is_told u ≡ b → LetGo t l (place_at w u) (told_now u)
-        either true h = let held = held_here w t l steady p2 beside fits holds (Woken x) None all_told u h
+        either true h = let held = held_here w t l inductive p2 beside fits holds (Woken x) None all_told u h
             in subst (λ (y : Place). LetGo t l (place_at w u) y)
-            (sym (told_on w t l steady p2 beside fits holds (Woken x) None all_told u h))
+            (sym (told_on w t l inductive p2 beside fits holds (Woken x) None all_told u h))
             (woken u held.handed held.hand).lets
         either false h = subst (λ (y : Place). LetGo t l (place_at w u) y)
-            (sym (told_off w t l steady p2 beside fits holds (Woken x) None all_told u h))
-            (stays t l (place_at w u) (untaken (place_at w u) t l (not_held w t l steady p2 beside fits holds
+            (sym (told_off w t l inductive p2 beside fits holds (Woken x) None all_told u h))
+            (stays t l (place_at w u) (untaken (place_at w u) t l (not_held w t l inductive p2 beside fits
+            holds
             (Woken x) None all_told u h false)))
 
     abbrev was : Location
@@ -128,35 +129,36 @@ module _ (w : State) (t l : ℕ) (steady : IsInductive w) (there : t < length w.
 
     -- t has nobody in hand then, and isn't in its own
     module _ (bare : is.carries ≡ None) (own_hand : is.hand ≡ (if is_told t then None else was.hand)) where
-      pub hands_then : Hands (TakesOne w) behind
-      hands_then = hands_freed (TakesOne w) (locations_of (place_at w)) (locations_of behind)
-          steady.stands.hands t l is_told (in_hand w t l steady p2 beside fits holds (Woken x) None all_told
+      pub hands_then : Hands (TakesOne w) afterwards
+      hands_then = hands_freed (TakesOne w) (locations_of (place_at w)) (locations_of afterwards)
+          inductive.stands.hands t l is_told (in_hand w t l inductive p2 beside fits holds (Woken x) None
+          all_told
           own_hand)
-          (λ i k. carries w t l steady p2 beside fits holds (Woken x) None all_told i k
+          (λ i k. carries w t l inductive p2 beside fits holds (Woken x) None all_told i k
           ∙ ap (λ c. if (i == t) && (k == l) then c else carried_at (place_at w i) k) bare)
-          (λ u h. let held = held_here w t l steady p2 beside fits holds (Woken x) None all_told u h
+          (λ u h. let held = held_here w t l inductive p2 beside fits holds (Woken x) None all_told u h
           in (held.handed, held.hand)) (λ u b h. holds.taker u b h)
 
-      -- how the threads stand, by the sections behind it
-      pub there_then : (after : ℕ → Option ℕ) → Sections (locations_of behind) after
+      -- how the threads stand, by the sections after it
+      pub there_then : (after : ℕ → Option ℕ) → Sections (locations_of afterwards) after
           → ((k : ℕ) → (location_at p2 k).stands ≡ (location_at (place_at w t) k).stands)
           → ((k : ℕ) → (location_at p2 k).waits ≡ (location_at (place_at w t) k).waits)
-          → AreThere (TakesOne w) (locations_of behind) after (queue_at w)
+          → AreThere (TakesOne w) (locations_of afterwards) after (queue_at w)
       there_then after sections stood waited = record {
         sections = sections;
-        lines = lines_same (locations_of (place_at w)) (locations_of behind) (queue_at w) (queue_at w)
-            steady.stands.lines (all_parts w t l steady p2 beside fits holds (Woken x) None all_told
+        lines = lines_same (locations_of (place_at w)) (locations_of afterwards) (queue_at w) (queue_at w)
+            inductive.stands.lines (all_parts w t l inductive p2 beside fits holds (Woken x) None all_told
             (λ y. y.stands) (λ y h. refl) stood) (λ key. refl);
-        waits = waits_same (locations_of (place_at w)) (locations_of behind) (queue_at w) (queue_at w)
-            steady.stands.waits (all_parts w t l steady p2 beside fits holds (Woken x) None all_told
+        waits = waits_same (locations_of (place_at w)) (locations_of afterwards) (queue_at w) (queue_at w)
+            inductive.stands.waits (all_parts w t l inductive p2 beside fits holds (Woken x) None all_told
             (λ y. y.waits) (λ y h. refl) waited) (λ key. refl);
         hands = hands_then;
       }
 
       -- nobody else comes into a section, or goes out of one
-      pub others_inside : (u k : ℕ) → u ≢ t → (location_at (behind u) k).inside
+      pub others_inside : (u k : ℕ) → u ≢ t → (location_at (afterwards u) k).inside
           ≡ (location_at (place_at w u) k).inside
-      others_inside = other_parts w t l steady p2 beside fits holds (Woken x) None all_told (λ y. y.inside)
+      others_inside = other_parts w t l inductive p2 beside fits holds (Woken x) None all_told (λ y. y.inside)
           (λ y h. refl)
 
       -- out of a section of the lock
@@ -167,8 +169,8 @@ module _ (w : State) (t l : ℕ) (steady : IsInductive w) (there : t < length w.
         abbrev pub v : State
         v = put (state_after_telling (state_with_sections w (One (key_of l m)) None) t (Woken x)) t p2
 
-        places : place_at v ≡ behind
-        places = places_are w t l steady p2 beside fits holds (Woken x) None all_told
+        places : place_at v ≡ afterwards
+        places = places_are w t l inductive p2 beside fits holds (Woken x) None all_told
             (state_with_sections w (One (key_of l m)) None) refl there
 
         -- a part of the station of t
@@ -179,7 +181,7 @@ module _ (w : State) (t l : ℕ) (steady : IsInductive w) (there : t < length w.
           | inr ne ↦ ap g (alike_there k ne).location
         ]
 
-        inside_else : (u k : ℕ) → (u ≡ t → k ≡ l → ⊥) → (location_at (behind u) k).inside
+        inside_else : (u k : ℕ) → (u ≡ t → k ≡ l → ⊥) → (location_at (afterwards u) k).inside
             ≡ (location_at (place_at w u) k).inside
         inside_else u k ne = elim (cases_eq u t) [
           | inl e ↦ rw (e, put_here told_now t p2) (ap (λ (y : Location). y.inside)
@@ -193,7 +195,7 @@ module _ (w : State) (t l : ℕ) (steady : IsInductive w) (there : t < length w.
             → AreLeaving ds → ActsNeeded r (acts t ds) (lock_by w l r)
             → role_on p2 l ≡ (after_acts r (acts t ds) (lock_by w l r)).role t → Goes w v l (acts t ds)
         wake_goes r rules own_taken ds leaving needed e = record {
-          follows = follows_by w v l (parts_at w l) behind (record {
+          follows = follows_by w v l (parts_at w l) afterwards (record {
             here = λ i. record (parts_at w l) {
               base = record { shared = get_or w.shares l (replicate (threads i) 0); filled = filled_at w l };
             };
@@ -202,26 +204,26 @@ module _ (w : State) (t l : ℕ) (steady : IsInductive w) (there : t < length w.
             };
             places = places;
             kinds = λ k. refl;
-            alike = λ k ne. alike w t l steady p2 beside fits holds (Woken x) None all_told k ne
+            alike = λ k ne. alike w t l inductive p2 beside fits holds (Woken x) None all_told k ne
                 ((alike_there k ne).taken, (alike_there k ne).role);
             numbers = record { threads = threads; locks = refl; shares = refl };
             sharers = refl;
-          }) r rules (acts t ds) (λ e. all_by (length w.places) t ds there) (limited w l steady r rules
+          }) r rules (acts t ds) (λ e. all_by (length w.places) t ds there) (limited w l inductive r rules
               (acts t ds) (λ h. leaving_ordinary (length w.places) t ds leaving) needed)
-              (leaving_by r l (parts_at w l) (place_at w) behind t
+              (leaving_by r l (parts_at w l) (place_at w) afterwards t
               (ap (λ y. taken_at y l) (put_here told_now t p2) ∙ own_taken) lets ds leaving
               (ap (λ y. role_on y l) (put_here told_now t p2) ∙ e))
-              needed (word_by_lines w t l steady there r rules p2 alike_there fits (queue_at w (2 * l))
-              (queue_at w (2 * l + 1)) behind);
-          stands = stands_by w v behind places (λ k. refl)
+              needed (word_by_lines w t l inductive there r rules p2 alike_there fits (queue_at w (2 * l))
+              (queue_at w (2 * l + 1)) afterwards);
+          stands = stands_by w v afterwards places (λ k. refl)
               (there_then (section_at v)
-              (left (locations_of (place_at w)) (locations_of behind) (section_at w) (section_at v)
-              steady.stands.sections t l m inside_else (λ key ne. get_or-set_other w.sections (key_of l m)
+              (left (locations_of (place_at w)) (locations_of afterwards) (section_at w) (section_at v)
+              inductive.stands.sections t l m inside_else (λ key ne. get_or-set_other w.sections (key_of l m)
               key None None ne)
               within (ap (λ y. (location_at y l).inside) (put_here told_now t p2) ∙ out)
               (get_or-set_same w.sections (key_of l m) None None line))
               (by_lock (λ y. y.stands) stood) (by_lock (λ y. y.waits) waited))
-              (λ u. calls_in w v (behind u) (λ k. refl) (calls_then w t l steady p2 beside fits holds
+              (λ u. calls_in w v (afterwards u) (λ k. refl) (calls_then w t l inductive p2 beside fits holds
               (Woken x)
               None all_told u));
         }

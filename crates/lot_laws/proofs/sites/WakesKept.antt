@@ -11,7 +11,7 @@ use Rattle.spec_locks.specs.Locks.{Rules, keep_from}
 use Rattle.spec_locks.specs.Sites.{Deed, Line}
 use Rattle.lot_machine.specs.Machine.{State, place_at, put, state_with_sections, state_after_telling}
 use Rattle.lot_laws.specs.Refinement.{taken_at}
-use Rattle.lot_laws.specs.MutexDeeds.{acts}
+use Rattle.lot_laws.specs.ThreadDeeds.{acts}
 use Rattle.lot_laws.specs.Locations.{Location, hand, location, location_at, nowhere, role_on}
 use Rattle.lot_laws.specs.SitesOf.{ActsNeeded, IsInductive, Goes, FitsItsLock, after_acts, rules_in, key_of}
 use Rattle.lot_laws.specs.SitesOf.{hand_at}
@@ -46,13 +46,13 @@ woken_of w t l x p handed of lets was free fits = record {
   fits = fits;
 }
 
-module _ (w : State) (t l : ℕ) (steady : IsInductive w) (own : IsOf l (place_at w t)) (there : t
+module _ (w : State) (t l : ℕ) (inductive : IsInductive w) (own : IsOf l (place_at w t)) (there : t
     < length w.places) (p2 : Place)
     (of : IsOf l p2) (fits : FitsItsLock w p2) (x : Note)
     (woken : (u : ℕ) (b : Bool) → hand_at (place_at w u) l ≡ hand t b → IsWokenAt w t l x (place_at w u))
     (free : (location (place_at w t)).hand ≡ None) where
   abbrev holds : HoldsHere w t l
-  holds = holds_here w t l steady (of_carries l (place_at w t) own)
+  holds = holds_here w t l inductive (of_carries l (place_at w t) own)
 
   was_here : location_at (place_at w t) l ≡ location (place_at w t)
   was_here = location_here l (place_at w t) own
@@ -71,9 +71,9 @@ module _ (w : State) (t l : ℕ) (steady : IsInductive w) (own : IsOf l (place_a
       → Goes w (put (state_after_telling (state_with_sections w (One (key_of l m)) None) t (Woken x)) t p2) l
       (acts t ds)
   wake_goes bare unheld m line within stood waited out r rules none none2 =
-      at.wake_goes w t l steady there p2 (same_hands l (place_at w t) p2 beside) fits holds x woken
+      at.wake_goes w t l inductive there p2 (same_hands l (place_at w t) p2 beside) fits holds x woken
       (ap (λ (y : Location). y.carries) is_here ∙ bare)
-      (unheld_then (at.is_told w t l steady there p2 (same_hands l (place_at w t) p2 beside) fits holds x
+      (unheld_then (at.is_told w t l inductive there p2 (same_hands l (place_at w t) p2 beside) fits holds x
       woken t))
       beside m line (ap (λ (y : Location). y.inside) was_here ∙ within) (ap (λ (y : Location). y.stands)
       is_here ∙ stood ∙ sym (ap (λ (y : Location). y.stands) was_here))

@@ -12,7 +12,7 @@ use std::io::Write;
 pub(crate) struct Told {
     /// Whether each of two readers saw the other while it read.
     pub(crate) met: bool,
-    /// The value that was read behind a write.
+    /// The value that was read after a write.
     pub(crate) read: u64,
     /// To what several threads counted.
     pub(crate) count: u64,

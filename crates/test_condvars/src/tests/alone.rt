@@ -136,7 +136,7 @@ fn a_condition_that_holds_times_out(rt: HostRuntime) {
     check(&rt, is_just_past(&clock, FAR + 30));
 }
 
-// Waits for so long, in vain. Whether it timed out, and the mutex is free behind it.
+// Waits for so long, in vain. Whether it timed out, and the mutex is free after it.
 fn gives_up<R: Wait>(rt: &R, room: &Room, token: &mut Token, clock: &TickClock) -> bool
     requires { IsTokenOf (lot_of room.now.mutex) token.old }
     ensures { IsTokenOf (lot_of room.now.mutex) token.new }

@@ -45,7 +45,7 @@ pub(super) fn add_and_wait<R: Wait>(rt: &R, room: &Room, token: &mut Token, whom
 }
 
 // The guard of a mutex under which so many have added 1.
-fn guard_behind<'r, R: Wait>(
+fn guard_after<'r, R: Wait>(
     rt: &R,
     room: &'r Room,
     token: &mut Token,
@@ -103,7 +103,7 @@ pub(super) fn notify_slow<R: Wait>(
     requires { IsTokenOf (lot_of room.now.mutex) token.old }
     ensures { IsTokenOf (lot_of room.now.mutex) token.new }
 {
-    let Some(guard) = guard_behind(rt, room, token, threads) else {
+    let Some(guard) = guard_after(rt, room, token, threads) else {
         return false;
     };
     let told = notify(rt, room, token, guard, whom);
@@ -144,7 +144,7 @@ pub(super) fn notify_in_turn<R: Wait>(rt: &R, room: &Room, token: &mut Token, tu
     ensures { IsTokenOf (lot_of room.now.mutex) token.new }
 {
     for turn in 1..=turns {
-        let Some(guard) = guard_behind(rt, room, token, turn) else {
+        let Some(guard) = guard_after(rt, room, token, turn) else {
             return false;
         };
         room.condvar.notify_one(rt, token);

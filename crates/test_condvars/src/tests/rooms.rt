@@ -99,7 +99,7 @@ fn take_part<R: Wait>(
 }
 
 // Whether so many threads were content with their parts, and what the number came to. Nobody waits
-// behind them.
+// after them.
 pub(super) fn play<R: Threads + Wait + Abort + Sync>(
     rt: &R,
     alloc: Global,

@@ -26,8 +26,8 @@ fn two_lines<Q: Queues + Drop>(rt: &impl Abort, alloc: Global) -> Q
     queues
 }
 
-/// Room for those of a line behind the thread 7.
-fn behind_seven(rt: &impl Abort, alloc: Global) -> Vec<usize>
+/// Room for those of a line after the thread 7.
+fn after_seven(rt: &impl Abort, alloc: Global) -> Vec<usize>
     ensures { (vec_len result ≡ 1) × (9 ≤ vec_capacity result) }
 {
     let Ok(mut out) = Vec::with_capacity(alloc, 9) else {
@@ -94,9 +94,9 @@ fn a_thread_stands_at_most_once<Q: Queues + Drop>(rt: &impl Abort, alloc: Global
     firsts(rt, &mut queues, &wanted);
 }
 
-fn takes_all_behind_what_was_taken<Q: Queues + Drop>(rt: &impl Abort, alloc: Global) {
+fn takes_all_after_what_was_taken<Q: Queues + Drop>(rt: &impl Abort, alloc: Global) {
     let mut queues = two_lines::<Q>(rt, alloc);
-    let mut out = behind_seven(rt, alloc);
+    let mut out = after_seven(rt, alloc);
     queues.take_all(6, &mut out);
     check_eq(rt, out.as_slice(), [7, 0, 2, 4].as_slice());
     counts(rt, &queues, &[(6, 0), (7, 2)]);
@@ -182,7 +182,7 @@ fn picks_readers_and_the_first_who_wants_more<Q: Queues + Drop>(
 
 fn takes_by_turns_and_keeps_the_order<Q: Queues + Drop>(rt: &impl Abort, alloc: Global) {
     let mut queues = two_lines::<Q>(rt, alloc);
-    let mut out = behind_seven(rt, alloc);
+    let mut out = after_seven(rt, alloc);
     queues.take_by(6, LockPicker::Readers, &mut out);
     check_eq(rt, out.as_slice(), [7, 2].as_slice());
     let wanted = [
@@ -195,7 +195,7 @@ fn takes_by_turns_and_keeps_the_order<Q: Queues + Drop>(rt: &impl Abort, alloc: 
     firsts(rt, &mut queues, &wanted);
 }
 
-/// Under a key stand these threads with these wants. It answers the place behind them.
+/// Under a key stand these threads with these wants. It answers the place after them.
 fn line_is<Q: Queues + Drop>(
     rt: &impl Abort,
     queues: &Q,
@@ -256,7 +256,7 @@ const REQUEUED: &[Requeued] = &[
     },
 ];
 
-fn requeues_behind_the_last<Q: Queues + Drop>(rt: &impl Abort, alloc: Global) {
+fn requeues_after_the_last<Q: Queues + Drop>(rt: &impl Abort, alloc: Global) {
     for wanted in REQUEUED {
         let mut queues = two_lines::<Q>(rt, alloc);
         check_eq(rt, queues.requeue(6, 7, wanted.op), wanted.answer);
@@ -322,10 +322,10 @@ fn moves_between_keys_of_one_bucket<Q: Queues + Drop>(
 fn answers_as_queues<Q: Queues + Drop>(rt: &impl Abort, alloc: Global) -> Result<(), Fail> {
     first_in_first_out::<Q>(rt, alloc);
     a_thread_stands_at_most_once::<Q>(rt, alloc);
-    takes_all_behind_what_was_taken::<Q>(rt, alloc);
+    takes_all_after_what_was_taken::<Q>(rt, alloc);
     picks_readers_and_the_first_who_wants_more::<Q>(rt, alloc)?;
     takes_by_turns_and_keeps_the_order::<Q>(rt, alloc);
-    requeues_behind_the_last::<Q>(rt, alloc);
+    requeues_after_the_last::<Q>(rt, alloc);
     walks_a_line::<Q>(rt, alloc);
     refuses_too_much_memory::<Q>(rt, alloc);
     moves_between_keys_of_one_bucket::<Q>(rt, alloc)

@@ -24,7 +24,7 @@ fn go(thread: usize) -> Step {
     Step { thread, turn }
 }
 
-/// One thread owns the mutex, another falls asleep behind it, and the first has begun to unlock.
+/// One thread owns the mutex, another falls asleep after it, and the first has begun to unlock.
 fn steps() -> [Step; 11] {
     [
         begin(0, MutexCall::Lock),

@@ -196,9 +196,9 @@ drain refused
     ),
 ];
 
-/// Schedules of one lock, named `r` or `m`, behind whose last line it can be drained.
+/// Schedules of one lock, named `r` or `m`, after whose last line it can be drained.
 pub const DRAINED: [&[u8]; 8] = [
-    // A writer waits for a reader, and another reader waits behind it.
+    // A writer waits for a reader, and another reader waits after it.
     b"threads 3
 lock r rwlock
 0 do read r
@@ -269,7 +269,7 @@ lock r rwlock
 0 begin unlock_shared r
 0 go
 ",
-    // Writers and readers wait behind a writer.
+    // Writers and readers wait after a writer.
     b"threads 4
 lock r rwlock
 0 do write r

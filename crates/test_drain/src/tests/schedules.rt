@@ -29,7 +29,7 @@ fn schedules_have_their_texts(rt: HostRuntime) {
     }
 }
 
-/// The schedule with these lines behind it.
+/// The schedule with these lines after it.
 fn with_lines(alloc: Global, schedule: &[u8], lines: &[u8]) -> Result<Vec<u8>, AllocError> {
     let mut input = Vec::new(alloc);
     input.extend_from_slice(schedule)?;
@@ -104,7 +104,7 @@ fn are_drained_or_refused(
 }
 
 #[test]
-fn worked_schedules_are_drained_behind_each_line(rt: HostRuntime) {
+fn worked_schedules_are_drained_after_each_line(rt: HostRuntime) {
     for schedule in WORKED.iter() {
         let tried = are_drained_or_refused(&rt, rt.alloc(), schedule);
         check_eq(&rt, tried, Ok(()));

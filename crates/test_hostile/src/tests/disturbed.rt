@@ -1,4 +1,4 @@
-//! Worked schedules that a late wake-up, a spin or a repeated line disturbs, behind each of their step
+//! Worked schedules that a late wake-up, a spin or a repeated line disturbs, after each of their step
 //! lines and by each thread.
 ghost use Rattle.std.specs.Prelude.{◌≤◌, length};
 
@@ -30,7 +30,7 @@ const DISTURBANCES: [Disturbance; 3] = [Disturbance::Late, Disturbance::Spin, Di
 /// How many disturbed runs there were, and of how many steps.
 type Figures = (usize, usize);
 
-/// The line by which a thread disturbs a schedule behind these lines, if there is one.
+/// The line by which a thread disturbs a schedule after these lines, if there is one.
 fn disturbing(lines: &[Line], thread: usize, disturbance: Disturbance) -> Option<Line> {
     let deed = match disturbance {
         Disturbance::Late => Deed::Takes(Turn::Late),
@@ -40,19 +40,19 @@ fn disturbing(lines: &[Line], thread: usize, disturbance: Disturbance) -> Option
     Some(Line { thread, deed })
 }
 
-/// Plays a schedule with this line between those before and those behind, and then each thread alone. It
+/// Plays a schedule with this line between those before and those after, and then each thread alone. It
 /// answers how many steps were checked.
 fn disturbed<Q: Queues + Drop>(
     alloc: Global,
     script: &Script,
     before: &[Line],
     line: Line,
-    behind: &[Line],
+    afterwards: &[Line],
 ) -> Result<usize, Stop> {
     let mut checked = Checked::<Q>::new(alloc, script.kinds.as_slice(), script.threads)?;
     play_all(&mut checked, before)?;
     play(&mut checked, line)?;
-    play_all(&mut checked, behind)?;
+    play_all(&mut checked, afterwards)?;
     for thread in 0..script.threads {
         checked.go_on(thread)?;
     }
@@ -70,14 +70,14 @@ fn bears_at<Q: Queues + Drop, A: Abort>(
 ) -> Figures
     requires { place ≤ length script.now.lines.items }
 {
-    let (before, behind) = script.lines.split_at(place);
+    let (before, afterwards) = script.lines.split_at(place);
     let (mut runs, mut steps) = (0usize, 0usize);
     for thread in 0..script.threads {
         for disturbance in DISTURBANCES {
             let Some(line) = disturbing(before, thread, disturbance) else {
                 continue;
             };
-            let found = disturbed::<Q>(alloc, script, before, line, behind);
+            let found = disturbed::<Q>(alloc, script, before, line, afterwards);
             runs = runs.wrapping_add(1);
             steps = steps.wrapping_add(found.unwrap_or(0));
             check_eq(
@@ -90,7 +90,7 @@ fn bears_at<Q: Queues + Drop, A: Abort>(
     (runs, steps)
 }
 
-/// Nothing is wrong with it behind any number of lines, over both kinds of queues.
+/// Nothing is wrong with it after any number of lines, over both kinds of queues.
 fn bears<A: Abort>(rt: &A, alloc: Global, name: &str, script: &Script) -> Figures {
     let (mut runs, mut steps) = (0usize, 0usize);
     for place in 0..script.lines.len() + 1 {

@@ -577,7 +577,7 @@ const TAKINGS: &[Taking<'static>] = &[
     ),
 ];
 
-/// The moments before and behind the step in which the thread 0 takes them.
+/// The moments before and after the step in which the thread 0 takes them.
 fn taking(alloc: Global, taking: &Taking<'_>) -> Result<(Seen, Seen), AllocError> {
     let (kind, kept, _, wants, taken, _) = taking;
     let (mut waiters, mut left) = (Vec::new(alloc), Vec::new(alloc));

@@ -326,8 +326,8 @@ fn add_while_held<R: Wait + Abort>(
     end(rt, token, guard);
 }
 
-// Returns the value once the mutex is locked, behind the thread that has it.
-fn read_behind<R: Wait + Abort>(
+// Returns the value once the mutex is locked, after the thread that has it.
+fn read_after<R: Wait + Abort>(
     rt: &R,
     mutex: &ReentrantMutex<AtomicU64>,
     token: &mut Token,
@@ -348,7 +348,7 @@ fn read_behind<R: Wait + Abort>(
     seen
 }
 
-// The first to come adds while it has the mutex, and the other reads behind it. Or both add many
+// The first to come adds while it has the mutex, and the other reads after it. Or both add many
 // times.
 fn take_part<R: Wait + Abort>(
     rt: &R,
@@ -371,7 +371,7 @@ fn take_part<R: Wait + Abort>(
         add_while_held(rt, mutex, token, is_held);
         return 0;
     }
-    read_behind(rt, mutex, token, is_held)
+    read_after(rt, mutex, token, is_held)
 }
 
 // The values that both threads saw together, and the last one.

@@ -23,7 +23,7 @@ const KEY: Key = 0;
 
 const THREADS: usize = 1024;
 
-// A thread stands behind the last in a section. A place for which there is no memory is missed by
+// A thread stands after the last in a section. A place for which there is no memory is missed by
 // the test.
 fn stand<'a>(
     lot: &ParkingLot,

@@ -124,7 +124,7 @@ fn take_part<R: Wait>(
     }
 }
 
-// How many of two threads were content with their parts. The mutex is free behind them, and nobody
+// How many of two threads were content with their parts. The mutex is free after them, and nobody
 // waits for it.
 fn play<R: Threads + Wait + Abort + Sync>(rt: &R, alloc: Global, part: Part<'_>) -> usize {
     let (lot, mutex, mut token, tickets) = seats(rt, alloc, 2);

@@ -68,7 +68,7 @@ fn is_just_past(clock: &TickClock, time: u64) -> bool
 }
 
 // Waits in vain, for a time and up to a deadline. Whether it gave up each time, no sooner than it
-// was to, and soon behind that.
+// was to, and soon after that.
 fn gives_up<M: lock_api::RawMutexTimed, R: Wait>(
     rt: &R,
     mutex: &lock_api::Mutex<M, u64>,

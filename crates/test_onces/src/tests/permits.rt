@@ -154,7 +154,7 @@ fn as_many_have_a_permit_as_there_are(rt: HostRuntime) {
 }
 
 #[test]
-fn a_wait_that_gives_up_leaves_nothing_behind(rt: HostRuntime) {
+fn a_wait_that_gives_up_leaves_nothing_after(rt: HostRuntime) {
     let (lot, semaphore, mut token) = alone(&rt, rt.alloc(), 1);
     let permit = semaphore.acquire(&rt, &mut token);
     all_wait(&rt, &semaphore, &mut token, false);

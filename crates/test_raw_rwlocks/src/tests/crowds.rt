@@ -5,7 +5,7 @@ ghost use Rattle.test_any_rwlock.specs.AnyLocks.{lot_of};
 
 use super::fixtures::{AnyRwLock, Inside, Sort, seats};
 use super::mixes::mix;
-use super::timed::{come_behind, give_up, read_on};
+use super::timed::{come_after, give_up, read_on};
 use parking_lot::{Fault, ParkingLot, Ticket, Token};
 use std::alloc::Global;
 use std::sync::Wait;
@@ -18,7 +18,7 @@ use std::thread::{Threads, map_vec};
 pub(super) enum Part {
     /// Makes all calls, in an order of its own.
     Mix,
-    /// Reads as the first, gives up as the next, by an upgrade or not, and comes behind it as the
+    /// Reads as the first, gives up as the next, by an upgrade or not, and comes after it as the
     /// third.
     LetIn(bool),
 }
@@ -51,7 +51,7 @@ fn take_part<R: Wait>(
         Part::LetIn(upgrades) => match place {
             0 => read_on(rt, lot, lock, token, told),
             1 => give_up(rt, lock, token, upgrades, told),
-            _ => come_behind(rt, lot, lock, token, told),
+            _ => come_after(rt, lot, lock, token, told),
         },
     }
 }

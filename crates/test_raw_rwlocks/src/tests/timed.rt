@@ -255,7 +255,7 @@ pub(super) fn give_up<R: Wait>(
 }
 
 // Reads once a writer waits, which keeps it out at first.
-pub(super) fn come_behind<R: Wait>(
+pub(super) fn come_after<R: Wait>(
     rt: &R,
     lot: &ParkingLot,
     lock: &AnyRwLock,

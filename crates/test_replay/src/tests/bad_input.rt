@@ -15,7 +15,7 @@ const INPUTS: &[(&[u8], &[u8], u8)] = &[
     (b"threads 1\nlock m mutex\nsh", b"line 3 malformed\n", 2),
     (b"threads 01\nshow\n", b"line 1 malformed\n", 2),
     (b"show\n", b"line 1 malformed\n", 2),
-    // A carriage return before a line feed, behind answered lines, and alone.
+    // A carriage return before a line feed, after answered lines, and alone.
     (
         b"threads 1\nlock m mutex\nshow\nshow\r\n",
         b"m 0\nline 4 malformed\n",
@@ -37,7 +37,7 @@ const INPUTS: &[(&[u8], &[u8], u8)] = &[
         2,
     ),
     (b"threads 18446744073709551617\n", b"line 1 malformed\n", 2),
-    // A `lock` line behind each other sort of line.
+    // A `lock` line after each other sort of line.
     (
         b"threads 1\nlock m mutex\ndrain\nlock n mutex\n",
         b"line 4 malformed\n",
@@ -206,7 +206,7 @@ fn ends<Q: Queues + Drop>(rt: &impl Abort, alloc: Global, input: &[u8], wanted: 
     check_eq(rt, (input, status), (input, ended));
 }
 
-/// A lock of a kind behind three threads, with a number.
+/// A lock of a kind after three threads, with a number.
 fn lock_line(alloc: Global, kind: &str, number: &str) -> Result<String, AllocError> {
     let mut input = String::new(alloc);
     write!(input, "threads 3\nlock l {kind} {number}\nshow\n")?;

@@ -59,7 +59,7 @@ fn told(alloc: Global) -> Result<Vec<u8>, AllocError> {
 }
 
 /// The answers to the lines that end within so many bytes, and that the next is malformed.
-fn malformed_behind(alloc: Global, len: usize) -> Result<Vec<u8>, AllocError> {
+fn malformed_after(alloc: Global, len: usize) -> Result<Vec<u8>, AllocError> {
     let (lines, mut told) = told_within(alloc, len)?;
     let mut last = String::new(alloc);
     write!(last, "line {} malformed\n", lines.wrapping_add(1))?;
@@ -67,7 +67,7 @@ fn malformed_behind(alloc: Global, len: usize) -> Result<Vec<u8>, AllocError> {
     Ok(told)
 }
 
-/// Whether a line of the run ends behind so many bytes, with its line feed or but for it.
+/// Whether a line of the run ends after so many bytes, with its line feed or but for it.
 fn is_end(input: &[u8], len: usize) -> bool {
     len == 0 || input.get(len - 1) == Some(&b'\n') || input.get(len) == Some(&b'\n')
 }
@@ -94,7 +94,7 @@ fn a_read_that_fails_leaves_the_lines_before(rt: HostRuntime) -> Result<(), Fail
     Ok(())
 }
 
-/// The text and the status of an input whose reader refuses one look behind so many bytes.
+/// The text and the status of an input whose reader refuses one look after so many bytes.
 fn stumbled(alloc: Global, bytes: &[u8], before: usize, kind: ErrorKind) -> (Vec<u8>, u8) {
     let refusal = Some(kind);
     replayed(
@@ -129,7 +129,7 @@ fn an_input_that_is_cut_ends_at_its_last_line(rt: HostRuntime) -> Result<(), Fai
             let (_, wanted) = told_within(rt.alloc(), len.wrapping_add(1))?;
             leads_both_to(&rt, rt.alloc(), cut, wanted.as_slice(), 0);
         } else {
-            let wanted = malformed_behind(rt.alloc(), len)?;
+            let wanted = malformed_after(rt.alloc(), len)?;
             leads_both_to(&rt, rt.alloc(), cut, wanted.as_slice(), 2);
         }
     }
@@ -143,7 +143,7 @@ const STRANGE: [u8; 6] = [0, b'\t', b'\r', 0x7f, 0x80, 0xff];
 fn a_strange_byte_is_malformed_wherever_it_stands(rt: HostRuntime) -> Result<(), Fail> {
     let input = input(rt.alloc())?;
     for place in 0..input.len() + 1 {
-        let wanted = malformed_behind(rt.alloc(), place)?;
+        let wanted = malformed_after(rt.alloc(), place)?;
         for byte in STRANGE {
             let mut bytes = Vec::new(rt.alloc());
             bytes.extend_from_slice(&input.as_slice()[..place])?;
@@ -155,7 +155,7 @@ fn a_strange_byte_is_malformed_wherever_it_stands(rt: HostRuntime) -> Result<(),
     Ok(())
 }
 
-/// A run into a writer that takes so many bytes at a time: it refuses a write behind `room` bytes.
+/// A run into a writer that takes so many bytes at a time: it refuses a write after `room` bytes.
 fn run_into(
     rt: &impl Abort,
     alloc: Global,

@@ -62,7 +62,7 @@ impl Write for Short {
     }
 }
 
-/// Shows a piece of its bytes at a time, is interrupted at most looks, and fails behind them once,
+/// Shows a piece of its bytes at a time, is interrupted at most looks, and fails after them once,
 /// if it is to.
 #[derive(Drop)]
 pub struct Pieces<'a> {

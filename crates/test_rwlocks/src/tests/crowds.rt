@@ -76,7 +76,7 @@ fn add_and_read<R: Wait>(rt: &R, lock: &Lock, token: &mut Token) -> bool
     before != TORN && found == before.wrapping_add(1)
 }
 
-// Reads, and adds 1 by an upgrade. Whether it found the value whole, and the same behind its
+// Reads, and adds 1 by an upgrade. Whether it found the value whole, and the same after its
 // upgrade.
 fn add_by_upgrade<R: Wait>(rt: &R, lock: &Lock, token: &mut Token) -> bool
     requires { IsTokenOf (lot_of_rwlock lock.now) token.old }

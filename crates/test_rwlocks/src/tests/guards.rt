@@ -55,7 +55,7 @@ fn beside_upgradable<R: Wait>(rt: &R, lock: &Lock, token: &mut Token) -> Option<
     Some(seen)
 }
 
-// Beside a writer, behind each of its downgrades, and in the end.
+// Beside a writer, after each of its downgrades, and in the end.
 fn beside_writer<R: Wait>(rt: &R, lock: &Lock, token: &mut Token) -> [[bool; 5]; 4]
     requires { IsTokenOf (lot_of_rwlock lock.now) token.old }
     ensures { IsTokenOf (lot_of_rwlock lock.now) token.new }
@@ -76,7 +76,7 @@ const BESIDE_READER: [bool; 5] = [true, true, false, true, false];
 // Beside one that may write later.
 const BESIDE_UPGRADABLE: [bool; 5] = [true, false, false, true, false];
 
-// Beside a writer, behind each of its downgrades, and in the end.
+// Beside a writer, after each of its downgrades, and in the end.
 const BESIDE_WRITER: [[bool; 5]; 4] = [
     [false, false, false, true, true],
     BESIDE_UPGRADABLE,

@@ -127,7 +127,7 @@ fn convert<R: Wait>(rt: &R, token: &mut Token, guard: Upgradable<'_>) -> Option<
     }
 }
 
-// A conversion beside another reader, and one behind it.
+// A conversion beside another reader, and one after it.
 fn convert_twice<R: Wait>(rt: &R, lock: &Lock, token: &mut Token) -> [Option<[u64; 4]>; 2]
     requires { IsTokenOf (lot_of_rwlock lock.now) token.old }
     ensures { IsTokenOf (lot_of_rwlock lock.now) token.new }

@@ -65,7 +65,7 @@ fn a_release_wakes_the_one_that_it_took(rt: HostRuntime) {
 }
 
 #[test]
-fn a_release_ends_behind_its_wake(rt: HostRuntime) {
+fn a_release_ends_after_its_wake(rt: HostRuntime) {
     let leave = mutex(MutexPlace::Unlock(UnlockAt::Leave { any: true }));
     let end = follow(&rt, leave, &[Goes(Reply::Done, ENDS)]);
     check(&rt, end.is_idle());

@@ -97,7 +97,7 @@ fn all_leave(world: &mut World<ListQueues>, threads: usize) -> bool {
     true
 }
 
-// These threads wait, and have the mutex in their order behind what happens meanwhile.
+// These threads wait, and have the mutex in their order after what happens meanwhile.
 fn wait_and_leave(
     rt: &impl Abort,
     world: &mut World<ListQueues>,
@@ -235,7 +235,7 @@ const THE_REST_ARE_MOVED: &[Line] = &[
     Rests(CONDVAR, 0, None),
 ];
 
-// Another locks the mutex first: a thread that was woken sleeps behind the rest.
+// Another locks the mutex first: a thread that was woken sleeps after the rest.
 const OVERTAKEN: &[Line] = &[
     Calls(3, NOTIFY_ALL, Outcome::End(Answer::Number(3))),
     Calls(4, LOCK, DONE),

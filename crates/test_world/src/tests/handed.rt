@@ -64,7 +64,7 @@ const BUMP_WRITING: Call = Call::RwLock {
     call: RwLockCall::Bump(Access::Exclusive),
 };
 
-// Two readers have the lock behind it, and the writer behind them waits for them.
+// Two readers have the lock after it, and the writer after them waits for them.
 const HANDS_OVER: &[Line] = &[
     Calls(0, WRITE, DONE),
     Calls(1, READ, Outcome::Sleep),
@@ -97,7 +97,7 @@ fn is_owned<A: Abort>(rt: &A, alloc: Global, world: &World<ListQueues>) {
 }
 
 #[test]
-fn a_fair_release_hands_the_lock_to_readers_and_the_writer_behind_them(rt: HostRuntime) {
+fn a_fair_release_hands_the_lock_to_readers_and_the_writer_after_them(rt: HostRuntime) {
     let mut world = world_of(&rt, rt.alloc(), &[LOCK], 4);
     plays(&rt, &mut world, HANDS_OVER);
     is_owned(&rt, rt.alloc(), &world);
@@ -133,7 +133,7 @@ const GIVES_WAY: &[Line] = &[
 ];
 
 #[test]
-fn a_bump_enters_again_behind_those_to_whom_it_gave_way(rt: HostRuntime) {
+fn a_bump_enters_again_after_those_to_whom_it_gave_way(rt: HostRuntime) {
     plays_anew(&rt, rt.alloc(), &[LOCK], 3, GIVES_WAY);
 }
 

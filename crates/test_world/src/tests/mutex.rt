@@ -85,7 +85,7 @@ const LISTED: &[(Owner, usize)] = &[
 ];
 
 #[test]
-fn who_shares_is_listed_behind_the_owners(rt: HostRuntime) {
+fn who_shares_is_listed_after_the_owners(rt: HostRuntime) {
     let owners = Owners {
         upgradable: Some(2),
         ..Owners::NOBODY
@@ -119,7 +119,7 @@ const HANDS_OVER: &[Line] = &[
             Some((Debt::Owes, 0)),
         ),
     ),
-    // The one behind it is next.
+    // The one after it is next.
     Takes(0, Turn::Go, DONE),
     Takes(1, Turn::Go, DONE),
     Calls(1, BUMP, Outcome::Sleep),
@@ -168,7 +168,7 @@ const TOLD: &[Outcome] = &[
     Outcome::NotNow,
 ];
 
-/// The run tells its outcomes behind what was told before.
+/// The run tells its outcomes after what was told before.
 fn tells<A: Abort>(rt: &A, alloc: Global, world: &mut World<ListQueues>) {
     let mut outcomes = Vec::new(alloc);
     if outcomes.push(Outcome::Sleep).is_err() {

@@ -1,7 +1,7 @@
 use Rattle.std.proofs.Common.{◌≡◌, ◌+◌, ◌∙◌, ap, length}
 use Rattle.std.specs.Arc.{arc_value}
 use Rattle.std.proofs.lemmas.List.{length-append}
-use Rattle.lock_api.proofs.Stays.{stays_behind}
+use Rattle.lock_api.proofs.Stays.{stays_afterwards}
 use Rattle.lock_monitor.proofs.More.{all_more}
 use Rattle.lock_monitor.proofs.Stays.{refused_at_last}
 use Rattle.lock_monitor.proofs.monitor.conditions.Goals as goal
@@ -9,7 +9,7 @@ use Rattle.lock_monitor.proofs.monitor.conditions.Goals as goal
 pub returns-in-Err-clause-token : goal.returns-in-Err-clause-token
 returns-in-Err-clause-token g c = (
   c.new.ensures.token.0,
-  stays_behind g.R.RawMutex.RawMutex.stays g.R.RawMutex.RawMutex.stays_on _ _ _
+  stays_afterwards g.R.RawMutex.RawMutex.stays g.R.RawMutex.RawMutex.stays_on _ _ _
       c.loop.invariant.stays c.new.ensures.token.1,
 )
 
@@ -20,14 +20,15 @@ returns-in-Err-clause-err g c = refused_at_last (g.R.RawMutex.RawMutex.found_ful
 pub returns-in_err-push-in-Ok-clause-token : goal.returns-in_err-push-in-Ok-clause-token
 returns-in_err-push-in-Ok-clause-token g c = (
   c.new.ensures.token.0,
-  stays_behind g.R.RawMutex.RawMutex.stays g.R.RawMutex.RawMutex.stays_on _ _ _
+  stays_afterwards g.R.RawMutex.RawMutex.stays g.R.RawMutex.RawMutex.stays_on _ _ _
       c.loop.invariant.stays c.new.ensures.token.1,
 )
 
 pub loop-preserved : goal.loop-preserved
 loop-preserved g c = record {
   thread = c.new.ensures.token.0;
-  stays = stays_behind g.R.RawMutex.RawMutex.stays g.R.RawMutex.RawMutex.stays_on _ _ _ c.loop.invariant.stays
+  stays = stays_afterwards g.R.RawMutex.RawMutex.stays g.R.RawMutex.RawMutex.stays_on _ _ _
+      c.loop.invariant.stays
       c.new.ensures.token.1;
   counted = ap length c.in_ok-push-in-Ok.ensures.items ∙ length-append _ _
       ∙ ap (λ n. n + 1) c.loop.invariant.counted;

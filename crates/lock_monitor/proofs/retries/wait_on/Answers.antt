@@ -1,5 +1,5 @@
 use Rattle.std.proofs.Common.{◌∙◌, ap, inl, refl, false}
-use Rattle.lock_api.proofs.Stays.{stays_behind}
+use Rattle.lock_api.proofs.Stays.{stays_afterwards}
 use Rattle.lock_api.proofs.WaitsOn.{waits_on, with_given}
 use Rattle.lock_monitor.proofs.Stays.{stays_after}
 use Rattle.spec_locks.specs.declared.outcomes.Answer.TheVariants as answers
@@ -18,7 +18,8 @@ pub loop-preserved : goal.loop-preserved
 loop-preserved g c = record {
   turns = (tt, tt);
   thread = c.in-Err.ensures.token.0;
-  stays = stays_behind g.R.RawMutex.RawMutex.stays g.R.RawMutex.RawMutex.stays_on _ _ _ c.loop.invariant.stays
+  stays = stays_afterwards g.R.RawMutex.RawMutex.stays g.R.RawMutex.RawMutex.stays_on _ _ _
+      c.loop.invariant.stays
       c.in-Err.ensures.token.1;
   refused = waits_on (λ mutex. g.R.RawCondvar.waited c.args.condvar.now mutex false answers.TwoMutexes) _ _ _
       _ _ c.loop.invariant.guard c.loop.invariant.refused c.in-Err.ensures.path;

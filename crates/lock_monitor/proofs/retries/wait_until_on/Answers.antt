@@ -1,7 +1,7 @@
 use Rattle.std.proofs.Common.{◌∙◌, ap, inl, refl, subst, sym, true}
 use Rattle.lock_raw.specs.Answers.{late_answer}
 use Rattle.lock_api.specs.Guards.{lock_of}
-use Rattle.lock_api.proofs.Stays.{stays_behind}
+use Rattle.lock_api.proofs.Stays.{stays_afterwards}
 use Rattle.lock_api.proofs.WaitsOn.{waits_on, with_given}
 use Rattle.lock_monitor.proofs.Stays.{stays_after}
 use Rattle.spec_locks.specs.declared.outcomes.Answer.TheVariants as answers
@@ -20,7 +20,8 @@ pub loop-preserved : goal.loop-preserved
 loop-preserved g c = record {
   turns = (tt, tt);
   thread = c.in-Err.ensures.token.0;
-  stays = stays_behind g.R.RawMutex.RawMutex.stays g.R.RawMutex.RawMutex.stays_on _ _ _ c.loop.invariant.stays
+  stays = stays_afterwards g.R.RawMutex.RawMutex.stays g.R.RawMutex.RawMutex.stays_on _ _ _
+      c.loop.invariant.stays
       c.in-Err.ensures.token.1;
   refused = waits_on (λ mutex. g.R.RawCondvar.waited c.args.condvar.now mutex true answers.TwoMutexes) _ _ _ _
       _ c.loop.invariant.guard c.loop.invariant.refused c.in-Err.ensures.path;

@@ -1,7 +1,7 @@
 use Rattle.std.proofs.Common.{◌∙◌, ap, inl, refl, false}
 use denote.Param.Always.{mut_next}
 use denote.Param.Members.{was_Called}
-use Rattle.lock_api.proofs.Stays.{stays_behind}
+use Rattle.lock_api.proofs.Stays.{stays_afterwards}
 use Rattle.lock_api.proofs.WaitsOn.{waits_on}
 use Rattle.lock_monitor.specs.Conditions.{WaitsAtLast}
 use Rattle.spec_locks.specs.declared.outcomes.Answer.TheVariants as answers
@@ -22,7 +22,8 @@ pub loop-preserved : goal.loop-preserved
 loop-preserved g c = record {
   turns = (tt, tt);
   thread = c.wait_on-guard.ensures.token.0;
-  stays = stays_behind g.R.RawMutex.RawMutex.stays g.R.RawMutex.RawMutex.stays_on _ _ _ c.loop.invariant.stays
+  stays = stays_afterwards g.R.RawMutex.RawMutex.stays g.R.RawMutex.RawMutex.stays_on _ _ _
+      c.loop.invariant.stays
       c.wait_on-guard.ensures.token.1;
   waits = waits_on (λ mutex. WaitsAtLast (g.R.RawCondvar.waited c.args.condvar.now mutex false) answers.Ok) _
       _ _ _ _ c.loop.invariant.guard c.loop.invariant.waits c.wait_on-guard.ensures.path;

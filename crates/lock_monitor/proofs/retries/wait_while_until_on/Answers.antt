@@ -1,7 +1,7 @@
 use Rattle.std.proofs.Common.{◌∙◌, ap, inl, refl, true}
 use denote.Param.Always.{mut_next}
 use denote.Param.Members.{was_Called}
-use Rattle.lock_api.proofs.Stays.{stays_behind}
+use Rattle.lock_api.proofs.Stays.{stays_afterwards}
 use Rattle.lock_api.specs.Guards.{lock_of}
 use Rattle.lock_api.proofs.WaitsOn.{late_or_holds, not_begun, not_late, waits_in_time, waits_so_far}
 use Rattle.lock_monitor.specs.Conditions.{WaitsAtLast}
@@ -23,7 +23,8 @@ pub loop-preserved : goal.loop-preserved
 loop-preserved g c = record {
   turns = (tt, tt);
   thread = c.wait_until_on-back.ensures.token.0;
-  stays = stays_behind g.R.RawMutex.RawMutex.stays g.R.RawMutex.RawMutex.stays_on _ _ _ c.loop.invariant.stays
+  stays = stays_afterwards g.R.RawMutex.RawMutex.stays g.R.RawMutex.RawMutex.stays_on _ _ _
+      c.loop.invariant.stays
       c.wait_until_on-back.ensures.token.1;
   waits = waits_so_far (λ mutex. WaitsAtLast (g.R.RawCondvar.waited c.args.condvar.now mutex true)) _ _ _ _ _
       _ c.loop.invariant.guard (not_late (WaitsAtLast (g.R.RawCondvar.waited c.args.condvar.now _ true))

@@ -8,7 +8,7 @@ push_reserved-requires g c =
     let queues = g.Q.Queues in
     let all = line c.args.key (queues.waiting c.args.queues.now) in
     let room = room_for c.loop-waiter.out.items c.args.out.now.items c.in-Some.waiter
-    (queues.rest c.args.queues.now c.args.key c.in-Some.behind) (queues.rest c.args.queues.now c.args.key
+    (queues.rest c.args.queues.now c.args.key c.in-Some.afterwards) (queues.rest c.args.queues.now c.args.key
     c.loop-waiter.place) all c.loop-waiter.invariant.listed c.in-Some.ensures.found in
     omega (
       arith,

@@ -5,7 +5,7 @@ use Rattle.lot_text.proofs.SentLemmas.{puts_then}
 use Rattle.lot_replay.specs.Replay.{LineMayLead}
 use Rattle.lot_replay.specs.Fronts.{MayAnswerAll, BeginsWithLines, Refuses}
 use Rattle.lot_replay.specs.Sessions.{replay_stage_of}
-use Rattle.lot_replay.proofs.ReplayLemmas.{answered_more, as_answered, begins_more, kept_line, left_behind}
+use Rattle.lot_replay.proofs.ReplayLemmas.{answered_more, as_answered, begins_more, kept_line, left_after}
 use Rattle.lot_replay.proofs.ReplayLemmas.{refused_first}
 use Rattle.lot_replay.proofs.replay.answer_front.Goals as goal
 
@@ -68,7 +68,7 @@ loop-first-preserved g c =
     let said = as_answered _ _ c.in_default-answer_next.field-0 stage next _ _ c.loop-first.page
     c.answer_next.new.page c.in_default-answer_next.ensures in
     let answers = subst (λ l. LineMayLead stage l next said.text) kept said.wanted in
-    let behind : drop (front.len + first.len) shown ≡ begins.1 = left_behind shown line begins.1 front.len
+    let afterwards : drop (front.len + first.len) shown ≡ begins.1 = left_after shown line begins.1 front.len
     first.len left begins.3 in (
       omega (
         arith,
@@ -83,7 +83,7 @@ loop-first-preserved g c =
       (
         a.0 ++ line ∷ [],
         a.1 ++ said.text,
-        subst (BeginsWithLines shown (a.0 ++ line ∷ [])) (sym behind)
+        subst (BeginsWithLines shown (a.0 ++ line ∷ [])) (sym afterwards)
             (begins_more shown (drop front.len shown) line begins.1 a.0 a.2 left begins.4),
         omega (arith, length-append a.0 (line ∷ []), a.3),
         answered_more _ a.0 stage next a.1 said.text line a.4 answers,

@@ -15,7 +15,7 @@ use Rattle.run_locks.specs.declared.rwlock_courses.Course.TheVariants.{Ends, Tak
 use Rattle.run_locks.proofs.RwLockCalling.{ended_on, may_start, path_ended, rest_fits, saw, started}
 use Rattle.run_locks.proofs.RwLockCalling.{wakes_at_once}
 use Rattle.run_locks.proofs.RwLockCourses.{ends_with, takes_at}
-use Rattle.run_locks.proofs.RwLockHalves.{ended_behind}
+use Rattle.run_locks.proofs.RwLockHalves.{ended_after}
 use Rattle.run_locks.proofs.RwLockTakes.{over_taken, path_taken, word_may_take}
 use Rattle.run_locks.proofs.rwlock_calls.call_fast.Goals as goal
 
@@ -86,7 +86,7 @@ returns-then-found-seen-clause-over g c = let goes : course_of c.args.settings.n
     subst (λ (answer : Answer). HasEndedRwLock (IsUp g.C.Clock.tells c.args._limit.now) c.args.word.now
     c.args.settings.now.admission c.args.purpose answer c.args.token.now c.word_again-found.new.token)
     (sym c.answer_with.ensures)
-    (ended_behind up c.args.word.now c.requires.own.2 c.args.settings.now.admission c.requires.own.4
+    (ended_after up c.args.word.now c.requires.own.2 c.args.settings.now.admission c.requires.own.4
     c.args.purpose c.word-seen.result c.args.token.now c.word-seen.new.token (
       c.word-seen.ensures.own.0.1,
       subst (λ (o : Op). view_of c.word-seen.new.token ≡ after_step

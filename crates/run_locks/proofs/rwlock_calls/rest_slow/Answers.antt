@@ -15,7 +15,7 @@ use Rattle.run_base.proofs.Unqueued.{after_begin}
 use Rattle.run_locks.proofs.rwlock_calls.rest_slow.Goals as goal
 
 pub run_out-requires-clause-words : goal.run_out-requires-clause-words
-run_out-requires-clause-words g c = let start : c.place_behind-start.result
+run_out-requires-clause-words g c = let start : c.place_after-start.result
     ≡ next_place (rwlock_begin c.args.word.now.number c.args.admission.now c.args.purpose.now)
     (Value c.args.seen) = search rules in
     subst (λ (p : Place). AreWordsFor p (kind_in (single_word c.args.word.now))
@@ -24,7 +24,7 @@ run_out-requires-clause-words g c = let start : c.place_behind-start.result
     c.requires.own.3)
 
 pub run_out-requires-clause-fits : goal.run_out-requires-clause-fits
-run_out-requires-clause-fits g c = let start : c.place_behind-start.result
+run_out-requires-clause-fits g c = let start : c.place_after-start.result
     ≡ next_place (rwlock_begin c.args.word.now.number c.args.admission.now c.args.purpose.now)
     (Value c.args.seen) = search rules in (
       c.requires.fits.0,
@@ -33,7 +33,7 @@ run_out-requires-clause-fits g c = let start : c.place_behind-start.result
     )
 
 pub returns-clause-path : goal.returns-clause-path
-returns-clause-path g c = let start : c.place_behind-start.result ≡ next_place
+returns-clause-path g c = let start : c.place_after-start.result ≡ next_place
     (rwlock_begin c.args.word.now.number c.args.admission.now c.args.purpose.now) (Value c.args.seen) =
     search rules in
     subst (λ (at : ℕ → ℕ). Courses at c.args.token.now.number
@@ -45,7 +45,7 @@ returns-clause-path g c = let start : c.place_behind-start.result ≡ next_place
     c.run_out.ensures.path)
 
 pub returns-clause-over : goal.returns-clause-over
-returns-clause-over g c = λ (base : List Ownership) fits. let start : c.place_behind-start.result
+returns-clause-over g c = λ (base : List Ownership) fits. let start : c.place_after-start.result
     ≡ next_place (rwlock_begin c.args.word.now.number c.args.admission.now c.args.purpose.now)
     (Value c.args.seen) = search rules in
     subst (λ (p : Place). IsOver (IsUp g.C.Clock.tells c.args.limit.now) base (call_purpose p)
@@ -54,7 +54,7 @@ returns-clause-over g c = λ (base : List Ownership) fits. let start : c.place_b
     (stage_of c.args.token.now None)) (sym start) fits))
 
 pub run_out-requires-clause-unqueued : goal.run_out-requires-clause-unqueued
-run_out-requires-clause-unqueued g c = let start : c.place_behind-start.result
+run_out-requires-clause-unqueued g c = let start : c.place_after-start.result
     ≡ next_place (rwlock_begin c.args.word.now.number c.args.admission.now c.args.purpose.now)
     (Value c.args.seen) = search rules in
     subst (λ (p : Place). is_queued p ≡ false) (sym start) (after_begin c.args.word.now.number

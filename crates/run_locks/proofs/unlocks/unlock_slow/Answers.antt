@@ -3,7 +3,7 @@ use Rattle.spec_locks.specs.declared.calls.MutexCall.TheVariants.{Unlock}
 use Rattle.spec_locks.specs.declared.outcomes.Answer.TheVariants.{Ok}
 use Rattle.run_base.specs.Courses.{Courses, trail_of}
 use Rattle.run_base.specs.Words.{at_in}
-use Rattle.run_base.proofs.Behind.{alone_at, path_behind}
+use Rattle.run_base.proofs.Afterwards.{alone_at, path_after}
 use Rattle.steps_mutex.specs.declared.unlock.UnlockAt.TheVariants as unlock
 use Rattle.run_locks.specs.MutexCourses.{unlocks_at}
 use Rattle.run_locks.proofs.unlocks.unlock_slow.Goals as goal
@@ -13,7 +13,7 @@ returns-clause-path g c = λ before same saw untold. let n = c.args.word.number 
     let courses = subst (λ (k : ℕ). Courses (at_in c.alone.result) c.args.token.now.number
     (unlocks_at k unlock.Enter) (trail_of c.args.token.now None) (trail_of c.unlock_through.new.token
     None) Ok) c.number.ensures c.unlock_through.ensures.2 in
-    path_behind n Unlock 3 before c.args.token.now c.unlock_through.new.token Ok
+    path_after n Unlock 3 before c.args.token.now c.unlock_through.new.token Ok
     (subst (λ (at : ℕ → ℕ). Courses at c.args.token.now.number (unlocks_at n unlock.Enter)
     (trail_of c.args.token.now None) (trail_of c.unlock_through.new.token None) Ok)
     (ap at_in c.alone.ensures ∙ alone_at c.args.word c.requires.own.2) courses) same saw untold

@@ -1,5 +1,5 @@
 use Rattle.core_queues.proofs.Joined.{few}
-use Rattle.core_queues.proofs.Places.{at_first, behind_nobody, in_another}
+use Rattle.core_queues.proofs.Places.{at_first, after_nobody, in_another}
 use Rattle.std.proofs.Common.{sym, refl}
 use Rattle.core_queues.proofs.kind.BucketQueuesQueues.find.Goals as goal
 
@@ -8,14 +8,14 @@ returns-then-place-eq0-clause-few c = few c.args.self.now c.args.key c.bucket-bu
 
 pub returns-then-place-eq0-clause-found : goal.returns-then-place-eq0-clause-found
 returns-then-place-eq0-clause-found c = at_first c.args.self.now c.args.key c.bucket-bucket.result
-    c.args.place c.find_behind.result c.bucket-bucket.ensures.hashed c.if-place-eq0.true
-    c.bucket-bucket.ensures.bucket c.find_behind.ensures.found
+    c.args.place c.find_after.result c.bucket-bucket.ensures.hashed c.if-place-eq0.true
+    c.bucket-bucket.ensures.bucket c.find_after.ensures.found
 
 pub returns-in_default-clause-few : goal.returns-in_default-clause-few
 returns-in_default-clause-few c = few c.args.self.now c.args.key c.bucket-bucket.ensures.hashed
 
 pub returns-in_default-clause-found : goal.returns-in_default-clause-found
-returns-in_default-clause-found c = behind_nobody c.args.self.now c.args.key c.args.place _
+returns-in_default-clause-found c = after_nobody c.args.self.now c.args.key c.args.place _
     c.if-place-eq0.false refl (sym c.in_default.ensures.key)
 
 pub returns-then-bucket-clause-few : goal.returns-then-bucket-clause-few

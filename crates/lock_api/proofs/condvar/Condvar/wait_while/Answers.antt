@@ -1,7 +1,7 @@
 use Rattle.std.proofs.Common.{◌∙◌, ap, inl, refl, false}
 use denote.Param.Always.{mut_next}
 use denote.Param.Members.{was_Called}
-use Rattle.lock_api.proofs.Stays.{stays_behind}
+use Rattle.lock_api.proofs.Stays.{stays_afterwards}
 use Rattle.lock_api.proofs.WaitsOn.{waits_on, with_given}
 use Rattle.spec_locks.specs.declared.outcomes.Answer.TheVariants as answers
 use Rattle.lock_api.proofs.condvar.Condvar.wait_while.Goals as goal
@@ -21,7 +21,8 @@ pub loop-preserved : goal.loop-preserved
 loop-preserved g c = record {
   turns = (tt, tt);
   thread = c.in-Ok.ensures.token.0;
-  stays = stays_behind g.R.RawMutex.RawMutex.stays g.R.RawMutex.RawMutex.stays_on _ _ _ c.loop.invariant.stays
+  stays = stays_afterwards g.R.RawMutex.RawMutex.stays g.R.RawMutex.RawMutex.stays_on _ _ _
+      c.loop.invariant.stays
       c.in-Ok.ensures.token.1;
   waits = waits_on (λ mutex. g.R.RawCondvar.waited c.args.self.now mutex false answers.Ok) _ _ _ _ _
       c.loop.invariant.guard c.loop.invariant.waits c.in-Ok.ensures.path;
@@ -35,7 +36,7 @@ loop-preserved g c = record {
 pub returns-in-Err-clause-token : goal.returns-in-Err-clause-token
 returns-in-Err-clause-token g c = (
   c.in-Err.ensures.token.0,
-  stays_behind g.R.RawMutex.RawMutex.stays g.R.RawMutex.RawMutex.stays_on _ _ _
+  stays_afterwards g.R.RawMutex.RawMutex.stays g.R.RawMutex.RawMutex.stays_on _ _ _
       c.loop.invariant.stays c.in-Err.ensures.token.1,
 )
 

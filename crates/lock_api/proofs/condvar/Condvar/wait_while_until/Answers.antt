@@ -3,7 +3,7 @@ use denote.Param.Always.{mut_next}
 use denote.Param.Members.{was_Called}
 use Rattle.lock_raw.specs.Answers.{late_answer}
 use Rattle.lock_api.specs.Guards.{lock_of}
-use Rattle.lock_api.proofs.Stays.{stays_behind}
+use Rattle.lock_api.proofs.Stays.{stays_afterwards}
 use Rattle.lock_api.proofs.WaitsOn.{late_or_holds, not_begun, not_late, waits_in_time, waits_so_far}
 use Rattle.lock_api.proofs.WaitsOn.{with_given}
 use Rattle.spec_locks.specs.declared.outcomes.Answer.TheVariants as answers
@@ -25,7 +25,8 @@ pub loop-preserved : goal.loop-preserved
 loop-preserved g c = record {
   turns = (tt, tt);
   thread = c.in-Ok.ensures.token.0;
-  stays = stays_behind g.R.RawMutex.RawMutex.stays g.R.RawMutex.RawMutex.stays_on _ _ _ c.loop.invariant.stays
+  stays = stays_afterwards g.R.RawMutex.RawMutex.stays g.R.RawMutex.RawMutex.stays_on _ _ _
+      c.loop.invariant.stays
       c.in-Ok.ensures.token.1;
   waits = waits_so_far (λ mutex. g.R.RawCondvar.waited c.args.self.now mutex true) _ _ c.timed_out-late.result
       _ _ _ c.loop.invariant.guard (not_late (g.R.RawCondvar.waited c.args.self.now _ true) c.loop.late _ _
@@ -43,7 +44,7 @@ loop-preserved g c = record {
 pub returns-in-Err-clause-token : goal.returns-in-Err-clause-token
 returns-in-Err-clause-token g c = (
   c.in-Err.ensures.token.0,
-  stays_behind g.R.RawMutex.RawMutex.stays g.R.RawMutex.RawMutex.stays_on _ _ _
+  stays_afterwards g.R.RawMutex.RawMutex.stays g.R.RawMutex.RawMutex.stays_on _ _ _
       c.loop.invariant.stays c.in-Err.ensures.token.1,
 )
 

@@ -1,6 +1,6 @@
 use Rattle.std.proofs.Common.{◌≡◌, ◌∙◌, ap}
 use Rattle.lot_machine.specs.Machine.{after, go_of, step_outcome}
-use Rattle.lot_machine.proofs.Shape.{after_shaped, after_size}
+use Rattle.lot_machine.proofs.Shape.{after_well_formed, after_size}
 use Rattle.lot_world.specs.Schedules.{Progress, one_more}
 use Rattle.lot_world.proofs.DrainLemmas.{not_taken}
 use Rattle.lot_world.proofs.draining.Drain.go.Goals as goal
@@ -10,7 +10,7 @@ invariant_of-self-in-NotNow g c =
     let w = c.self.inside.machine in
     let s = c.go_of-step.result in
     rw c.turn-outcome.ensures.state (
-      after_shaped w s c.self.invariant.0,
+      after_well_formed w s c.self.invariant.0,
       (after_size w s).locks
           ∙ c.self.invariant.1,
     )
@@ -20,7 +20,7 @@ invariant_of-self-in_default g c =
     let w = c.self.inside.machine in
     let s = c.go_of-step.result in
     rw c.turn-outcome.ensures.state (
-      after_shaped w s c.self.invariant.0,
+      after_well_formed w s c.self.invariant.0,
       (after_size w s).locks
           ∙ c.self.invariant.1,
     )

@@ -13,10 +13,11 @@ pub copy-requires-clause-once : goal.copy-requires-clause-once
 copy-requires-clause-once g c = stand_once c.self.inside.machine c.self.invariant
 
 pub copy-requires-clause-below : goal.copy-requires-clause-below
-copy-requires-clause-below g c = c.self.invariant.shaped.waiting
+copy-requires-clause-below g c = c.self.invariant.well_formed.waiting
 
-pub schedule-requires-clause-shaped : goal.schedule-requires-clause-shaped
-schedule-requires-clause-shaped g c = subst IsWellFormed (sym c.in_ok-copy.ensures.ok) c.self.invariant.shaped
+pub schedule-requires-clause-well_formed : goal.schedule-requires-clause-well_formed
+schedule-requires-clause-well_formed g c = subst IsWellFormed (sym c.in_ok-copy.ensures.ok)
+    c.self.invariant.well_formed
 
 pub schedule-requires-clause-one : goal.schedule-requires-clause-one
 schedule-requires-clause-one g c = ap (λ (w : State). length w.locks) (c.in_ok-copy.ensures.ok

@@ -11,14 +11,14 @@ can_restore : (w v : State) → IsWorld w → IsWorld v → length v.places ≡ 
 can_restore w v before after threads locks = record {
   threads = threads;
   locks = locks;
-  shares = after.steady.numbers.locks ∙ locks ∙ sym before.steady.numbers.locks;
-  sections = after.shaped.sections ∙ ap (λ n. 2 * n) locks ∙ sym before.shaped.sections;
-  queues = after.shaped.queues;
-  rights = before.steady.numbers.locks;
-  rows = before.steady.numbers.threads;
-  rows_after = after.steady.numbers.threads;
+  shares = after.inductive.numbers.locks ∙ locks ∙ sym before.inductive.numbers.locks;
+  sections = after.well_formed.sections ∙ ap (λ n. 2 * n) locks ∙ sym before.well_formed.sections;
+  queues = after.well_formed.queues;
+  rights = before.inductive.numbers.locks;
+  rows = before.inductive.numbers.threads;
+  rows_after = after.inductive.numbers.threads;
   once = stand_once v after;
-  below = after.shaped.waiting;
+  below = after.well_formed.waiting;
   keyed = stand_under v after;
 }
 

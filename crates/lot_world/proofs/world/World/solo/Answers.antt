@@ -13,32 +13,32 @@ pub returns-clause-rests : goal.returns-clause-rests
 returns-clause-rests g c =
     let before : IsWorld c.self.inside.machine = c.self.invariant in
     rw (c.step_alone.ensures.outcome, ← c.self.view_is) (rests_alone c.self.inside.machine c.args.thread
-    before.shaped before.steady before.counted before.condvars before.settled)
+    before.well_formed before.inductive before.counted before.condvars before.settled)
 
 pub returns-clause-ends : goal.returns-clause-ends
 returns-clause-ends g c =
     let before : IsWorld c.self.inside.machine = c.self.invariant in
     rw (c.step_alone.ensures.outcome, c.step_alone.ensures.state, ← c.self.view_is)
-    (ends_alone c.self.inside.machine c.args.thread before.shaped before.steady before.counted
+    (ends_alone c.self.inside.machine c.args.thread before.well_formed before.inductive before.counted
     before.condvars before.settled)
 
 pub returns-clause-rests_or_barred : goal.returns-clause-rests_or_barred
 returns-clause-rests_or_barred g c =
     let before : IsWorld c.self.inside.machine = c.self.invariant in
     rw (c.step_alone.ensures.outcome, c.step_alone.ensures.state, ← c.self.view_is)
-    (rests_or_barred c.self.inside.machine c.args.thread before.shaped before.steady before.counted
+    (rests_or_barred c.self.inside.machine c.args.thread before.well_formed before.inductive before.counted
     before.condvars before.settled)
 
 pub returns-clause-ends_or_barred : goal.returns-clause-ends_or_barred
 returns-clause-ends_or_barred g c =
     let before : IsWorld c.self.inside.machine = c.self.invariant in
     rw (c.step_alone.ensures.outcome, c.step_alone.ensures.state, ← c.self.view_is)
-    (ends_or_barred c.self.inside.machine c.args.thread before.shaped before.steady before.counted
+    (ends_or_barred c.self.inside.machine c.args.thread before.well_formed before.inductive before.counted
     before.condvars before.settled)
 
 pub returns-clause-tries : goal.returns-clause-tries
 returns-clause-tries g c =
     let before : IsWorld c.self.inside.machine = c.self.invariant in
     rw (c.step_alone.ensures.outcome, c.step_alone.ensures.state, ← c.self.view_is)
-    (tries_alone c.self.inside.machine c.args.thread before.shaped before.steady before.counted
+    (tries_alone c.self.inside.machine c.args.thread before.well_formed before.inductive before.counted
     before.condvars before.settled)

@@ -24,7 +24,7 @@ returns-clause-refines g c =
 pub returns-clause-one_thing : goal.returns-clause-one_thing
 returns-clause-one_thing g c =
     let before : IsWorld c.self.inside.machine = c.self.invariant in
-    rw (c.turn.ensures.state, ← c.self.view_is) (one_thing c.self.inside.machine c.args.step before.steady)
+    rw (c.turn.ensures.state, ← c.self.view_is) (one_thing c.self.inside.machine c.args.step before.inductive)
 
 pub returns-clause-kept : goal.returns-clause-kept
 returns-clause-kept g c =
@@ -38,8 +38,8 @@ returns-clause-same_size g c = rw (c.turn.ensures.state, ← c.self.view_is)
 pub returns-clause-fair : goal.returns-clause-fair
 returns-clause-fair g c =
     let before : IsWorld c.self.inside.machine = c.self.invariant in
-    rw (c.turn.ensures.state, ← c.self.view_is) (is_fair c.self.inside.machine c.args.step before.shaped
-    before.steady before.counted before.condvars)
+    rw (c.turn.ensures.state, ← c.self.view_is) (is_fair c.self.inside.machine c.args.step before.well_formed
+    before.inductive before.counted before.condvars)
 
 pub returns-clause-touches : goal.returns-clause-touches
 returns-clause-touches g c = rw (c.turn.ensures.state, ← c.self.view_is) (touches c.self.inside.machine
@@ -49,7 +49,7 @@ pub returns-clause-owing : goal.returns-clause-owing
 returns-clause-owing g c =
     let before : IsWorld c.self.inside.machine = c.self.invariant in
     rw (c.turn.ensures.outcome, c.turn.ensures.state, ← c.self.view_is) (owes_since c.self.inside.machine
-    c.args.step before.shaped before.steady before.counted before.condvars)
+    c.args.step before.well_formed before.inductive before.counted before.condvars)
 
 pub returns-clause-readers_stay_out : goal.returns-clause-readers_stay_out
 returns-clause-readers_stay_out g c =

@@ -6,7 +6,7 @@ use Rattle.core_words.specs.Indices.{word_index}
 use Rattle.core_words.specs.declared.views.View.{View}
 use Rattle.core_words.specs.declared.words.WordKind.{WordKind}
 use Rattle.parking_lot_core.specs.Tokens.{view_of}
-use Rattle.run_base.proofs.Behind.{path_at_once}
+use Rattle.run_base.proofs.Afterwards.{path_at_once}
 use Rattle.raw_mutexes.proofs.raw_mutex.RawMutex.lock_timed.Goals as goal
 
 pub returns-in-Ok-clause-path : goal.returns-in-Ok-clause-path

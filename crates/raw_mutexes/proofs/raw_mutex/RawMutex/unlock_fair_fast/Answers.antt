@@ -11,7 +11,7 @@ use Rattle.core_words.specs.declared.owners.Owner.TheVariants.{Exclusive}
 use Rattle.core_words.specs.declared.views.View.{View}
 use Rattle.core_words.specs.declared.words.WordKind.{WordKind}
 use Rattle.parking_lot_core.specs.Tokens.{last_of, view_of}
-use Rattle.run_base.proofs.Behind.{path_at_once}
+use Rattle.run_base.proofs.Afterwards.{path_at_once}
 use Rattle.raw_mutexes.specs.MutexGuards.{StaysAs}
 use Rattle.raw_mutexes.proofs.raw_mutex.RawMutex.unlock_fair_fast.Goals as goal
 

@@ -6,7 +6,7 @@ use Rattle.core_words.specs.Indices.{word_index}
 use Rattle.core_words.specs.declared.views.View.{View}
 use Rattle.core_words.specs.declared.words.WordKind.{WordKind}
 use Rattle.parking_lot_core.specs.Tokens.{view_of}
-use Rattle.run_base.proofs.Behind.{path_of_try}
+use Rattle.run_base.proofs.Afterwards.{path_of_try}
 use Rattle.raw_mutexes.proofs.raw_mutex.RawMutexRawMutex.try_lock.Goals as goal
 
 pub returns-in-Some-clause-path : goal.returns-in-Some-clause-path

@@ -7,7 +7,7 @@ use Rattle.spec_locks.specs.declared.calls.MutexCall.TheVariants.{Bump}
 use Rattle.core_words.specs.Steps.{has}
 use Rattle.core_words.specs.declared.views.View.{View}
 use Rattle.parking_lot_core.specs.Tokens.{view_of}
-use Rattle.run_base.proofs.Behind.{path_at_once}
+use Rattle.run_base.proofs.Afterwards.{path_at_once}
 use Rattle.raw_mutexes.proofs.raw_mutex.RawMutexRawMutexFair.bump.Goals as goal
 
 pub returns-then-not-is_parked-clause-path : goal.returns-then-not-is_parked-clause-path

@@ -1,7 +1,7 @@
 use Rattle.std.proofs.Common.{List}
 use Rattle.core_words.specs.declared.owners.Ownership.{Ownership}
 use Rattle.run_base.specs.Telling.{owns_of}
-use Rattle.run_signals.proofs.Knowing.{behind_run, has_run}
+use Rattle.run_signals.proofs.Knowing.{after_run, has_run}
 use Rattle.run_signals.proofs.once.Once.end_run.Goals as goal
 
 pub close-requires-clause-runs : goal.close-requires-clause-runs
@@ -9,5 +9,5 @@ close-requires-clause-runs g c = has_run c.args.self.now.word.number c.requires.
     (owns_of c.args.token.now) c.requires.runs.1
 
 pub returns-clause-owns : goal.returns-clause-owns
-returns-clause-owns g c = λ (base : List Ownership) r. behind_run c.args.self.now.word.number c.args.succeeded
+returns-clause-owns g c = λ (base : List Ownership) r. after_run c.args.self.now.word.number c.args.succeeded
     base (owns_of c.args.token.now) (owns_of c.close.new.token) r c.close.ensures.owns

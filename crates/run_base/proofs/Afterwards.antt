@@ -1,4 +1,4 @@
--- Where a call goes on behind its first step, and what it has at its end.
+-- Where a call goes on after its first step, and what it has at its end.
 use Rattle.std.proofs.Common.{ℕ, ◌≡◌, Bool, true, false, List, ◌∷◌, ◌++◌, ◌<◌, Option, None, inl, inr}
 use Rattle.std.proofs.Common.{if◌then◌else◌, not, sym, refl, ap, ◌∙◌, subst, arith, ne_eqb}
 use Rattle.core_base.specs.declared.ops.Op.TheVariants.{Or}
@@ -44,7 +44,7 @@ use Rattle.run_base.proofs.Courses.{arrives_at_once, courses_between, courses_fr
 use Rattle.run_base.proofs.Turning.{words_on}
 use Rattle.run_base.proofs.Unqueued.{after_first}
 
--- the place behind the first step
+-- the place after the first step
 abbrev rest : MutexCall → MutexPlace
 rest call.Lock = at_mutex.Lock entry.TheVariants.Lock false lock.TheVariants.Load
 rest call.LockTimed = at_mutex.Lock entry.TheVariants.LockTimed false lock.TheVariants.Load
@@ -143,27 +143,27 @@ module _ (n : ℕ) where
           else next.TheVariants.End Yes)) e
 
   -- a release that saw a waiter took it
-  pub releases_behind : (c : MutexCall) (seen : ℕ) (old mid new : List WordStep) (last : Option SectionRecord)
+  pub releases_after : (c : MutexCall) (seen : ℕ) (old mid new : List WordStep) (last : Option SectionRecord)
       → saw_waiter c seen ≡ true → mid ≡ old ++ step (mutex_at n) (first_op c) seen → (more : List WordStep)
       × (new ≡ mid ++ more) → TookAt n last → TookIfSeen n c old new last
-  releases_behind c seen old mid new last waits saw rest took = (
+  releases_after c seen old mid new last waits saw rest took = (
     seen,
     rest.0,
     rest.1 ∙ ap (λ (l : List WordStep). l ++ rest.0) saw,
     subst (λ (b : Bool). TookIfParked n b rest.0 last) (sym waits) took,
   )
 
-  pub fits_behind : (up : Type 0) (c : MutexCall) (seen : ℕ) (owns : List Ownership)
+  pub fits_after : (up : Type 0) (c : MutexCall) (seen : ℕ) (owns : List Ownership)
       (last : Option SectionRecord) (steps : List WordStep) → IsUnfinished n c seen owns
       → Fits up owns (next_place (beginning n c) (Value seen)) (stage owns None last steps)
-  fits_behind up c seen owns last steps g = subst (λ (p : Place). Fits up owns p (stage owns None last steps))
+  fits_after up c seen owns last steps g = subst (λ (p : Place). Fits up owns p (stage owns None last steps))
       (sym (goes_to c seen owns g)) (fits_there up c seen owns last steps g)
 
-  pub over_behind : (up : Type 0) (c : MutexCall) (seen : ℕ) (owns : List Ownership) (answer : Answer)
+  pub over_after : (up : Type 0) (c : MutexCall) (seen : ℕ) (owns : List Ownership) (answer : Answer)
       (new : Stage) → IsUnfinished n c seen owns
       → IsOver up owns (call_purpose (next_place (beginning n c) (Value seen))) answer new
       → IsMutexOver up n owns (purpose_in c) answer new
-  over_behind up c seen owns answer new g over = subst (λ aim. IsOver up owns aim answer new)
+  over_after up c seen owns answer new g over = subst (λ aim. IsOver up owns aim answer new)
       (ap call_purpose (goes_to c seen owns g) ∙ same_aim c) over
 
   pub never_pauses : (up : Type 0) (c : MutexCall) (seen : ℕ) (owns : List Ownership) (place : Place)
@@ -174,12 +174,12 @@ module _ (n : ℕ) where
       new (subst (λ aim. IsStopped up owns aim (Paused place state) new)
       (ap call_purpose (goes_to c seen owns g) ∙ same_aim c) stopped)
 
-  pub path_behind : (c : MutexCall) (seen : ℕ) (before old new : Token) (answer : Answer)
+  pub path_after : (c : MutexCall) (seen : ℕ) (before old new : Token) (answer : Answer)
       → Courses (at_mutex n) old.number (next_place (beginning n c) (Value seen)) (trail_of old None)
       (trail_of new None) answer → old.number ≡ before.number
       → steps_of old ≡ steps_of before ++ step (mutex_at n) (first_op c) seen → told_of old ≡ told_of before
       → HasWalkedMutex n c answer before new
-  path_behind c seen before old new answer rest same saw untold =
+  path_after c seen before old new answer rest same saw untold =
       courses_from (at_mutex n) before.number (beginning n c) n (first_op c) seen (steps_of before)
       (steps_of old) (told_of before) (told_of old) (trail_of new None) answer (begins_with c)
       (after_first n c seen) saw untold
@@ -207,8 +207,8 @@ module _ (word : Word) (is : word.kind ≡ kinds.TheVariants.Mutex) where
   alone_at = ap {B = ℕ → ℕ} (λ (kind : kinds.WordKind) (lock : ℕ). word_index word.number kind) is
 
   -- the word of a mutex serves its call
-  pub words_behind : (c : MutexCall) (seen : ℕ) → word.number < 9223372036854775808
+  pub words_afterwards : (c : MutexCall) (seen : ℕ) → word.number < 9223372036854775808
       → AreWordsFor (next_place (beginning word.number c) (Value seen)) (kind_in (single_word word))
       (at_in (single_word word))
-  words_behind c seen small = words_on (beginning word.number c) (Value seen) (kind_in (single_word word))
+  words_afterwards c seen small = words_on (beginning word.number c) (Value seen) (kind_in (single_word word))
       (at_in (single_word word)) (small, alone_kinds, alone_at)

@@ -3,8 +3,8 @@ use Rattle.std.specs.Prelude.{slice_index_or}
 use Rattle.std.proofs.lemmas.List.{get_or_read}
 use Rattle.core_queues.proofs.Linked.{hashed}
 use Rattle.core_queues.proofs.Found.{found, found_stands}
-use Rattle.core_queues.specs.Links.{waiter_at, next_behind, chains_of}
-use Rattle.core_queues.proofs.buckets.BucketQueues.behind.Goals as goal
+use Rattle.core_queues.specs.Links.{waiter_at, next_after, chains_of}
+use Rattle.core_queues.proofs.buckets.BucketQueues.rest_after.Goals as goal
 
 pub returns : goal.returns
 returns c =
@@ -18,8 +18,8 @@ returns c =
     let ends : c.index-ends.result.now ≡ slice_index_or buckets c.args.bucket None =
     get_or_read buckets c.args.bucket _ (omega arith) c.index-ends.ensures None in
     let seen : c.waiter.result ≡ waiter_at records
-    (next_behind records (slice_index_or buckets c.args.bucket None) c.args.before) =
-    rw (c.waiter.ensures, c.deref-2.ensures.value, c.behind-thread.ensures, c.deref.ensures.value, ends)
+    (next_after records (slice_index_or buckets c.args.bucket None) c.args.before) =
+    rw (c.waiter.ensures, c.deref-2.ensures.value, c.after-thread.ensures, c.deref.ensures.value, ends)
     refl in
     record {
       hashed = rw (← c.self.view_is) (hashed _ _ _ _ linked);

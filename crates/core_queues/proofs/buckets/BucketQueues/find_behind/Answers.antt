@@ -1,9 +1,0 @@
-use Rattle.std.proofs.Common.{◌∙◌}
-use Rattle.core_queues.proofs.Places.{rest_behind_one}
-use Rattle.core_queues.proofs.buckets.BucketQueues.find_behind.Goals as goal
-
-pub returns : goal.returns
-returns c = record {
-  found = c.in-Some.ensures.found ∙ rest_behind_one c.args.self.now c.args.key
-      c.args.bucket c.in-Some.waiter c.requires.bucket;
-}
