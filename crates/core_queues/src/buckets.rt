@@ -62,7 +62,8 @@ impl BucketQueues {
         requires stands { IfSome before (λ b. 1 ≤ times b (chain self.now bucket)) }
         ensures hashed { IsHashed self.now }
         ensures found { MatchOption result (rest_after before (chain self.now bucket) ≡ [])
-            (λ w. rest_after before (chain self.now bucket) ≡ w ∷ rest_after (Some w.thread) (chain self.now bucket)) }
+            (λ w. rest_after before (chain self.now bucket)
+            ≡ w ∷ rest_after (Some w.thread) (chain self.now bucket)) }
         ensures stands { IfSome result (λ w. 1 ≤ times w.thread (chain self.now bucket)) }
     {
         let ends = self.buckets[bucket];
