@@ -6,6 +6,7 @@ pub mod hands
 pub mod mutex
 pub mod condvar
 pub mod sites
+pub mod book
 pub mod once
 pub mod rwlock
 pub mod promises

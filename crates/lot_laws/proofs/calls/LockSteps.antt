@@ -7,7 +7,12 @@ use Rattle.lot_laws.proofs.rwlock.Late.{call_late, late_row}
 use Rattle.lot_laws.proofs.machine.Possible.{begins_outside, closure_gone, late_outside}
 use Rattle.spec_locks.specs.Runs.{AtLock}
 use Rattle.spec_locks.specs.Codes.{is_marked}
-use Rattle.lot_laws.proofs.once.Steps.{closes_event, step_event}
+use Rattle.lot_laws.proofs.book.Kept.{Book}
+use Rattle.lot_laws.proofs.book.Pages.{booked, semaphore_timed}
+use Rattle.lot_laws.proofs.once.Page.{keeps_all as once_keeps}
+use Rattle.lot_laws.proofs.semaphore.Page.{keeps_all as semaphore_keeps}
+use Rattle.lot_laws.proofs.book.Steps.{step, step_event}
+use Rattle.lot_laws.proofs.once.Page.{closes_event}
 use Rattle.lot_laws.proofs.calls.Looking.{alike_event, closing_here, closing_inductive, like}
 use Rattle.lot_laws.proofs.calls.Closings.{closing_well_formed, closing_there, goes_there, is_after}
 use Rattle.lot_laws.proofs.calls.Closings.{told_there}
@@ -33,8 +38,6 @@ use Rattle.steps_once.specs.declared.places.OncePlace.TheVariants.{Look, Run}
 use Rattle.steps_once.specs.declared.places.OncePlace.{OncePlace}
 use Rattle.steps_once.specs.OnceProfiles.{once_profile}
 use Rattle.lot_laws.proofs.once.Owing.{late_place}
-use Rattle.lot_laws.proofs.once.Steps.{once_step}
-use Rattle.lot_laws.proofs.semaphore.Steps.{semaphore_step}
 use Rattle.lot_laws.proofs.semaphore.Owing.{late_place as semaphore_late_place}
 use Rattle.steps_semaphore.specs.declared.acquire.AcquireAt.TheVariants as acquire
 use Rattle.steps_semaphore.specs.declared.places.SemaphorePlace.{SemaphorePlace}
@@ -95,7 +98,7 @@ use Rattle.steps_rwlock_fair.proofs.FairSleepers.{fair_sleepers_hear}
 use Rattle.steps_mutex.specs.declared.places.MutexPlace.{MutexPlace}
 use Rattle.steps_condvar.specs.declared.places.CondvarPlace.{CondvarPlace}
 use Rattle.steps_condvar.specs.declared.places.CondvarPlace.TheVariants as condvars
-use Rattle.lot_laws.proofs.machine.Parts.{IsSingle, single_or_two}
+use Rattle.lot_laws.proofs.machine.Parts.{IsSingle, same, single_or_two}
 use Rattle.lot_laws.proofs.condvar.ActsRefine.{condvar_on}
 use Rattle.lot_laws.proofs.condvar.SameCondvars.{looking_condvars}
 use Rattle.lot_laws.proofs.sites.SitesKept.{go_by}
@@ -114,11 +117,12 @@ module _ (w : State) (t : ℕ) (shape : IsWellFormed w) (inductive : IsInductive
         (locks_of (go_by w t p (act_of p)))
     go_goes counted Idle is single fits of can = absurd cc
     go_goes counted (Condvar l at) is single fits of can = absurd single
-    go_goes counted (Once l at) is single fits of can = once_step w t l at inductive shape there fits is can
-    go_goes counted (Semaphore l at) is single fits of can = semaphore_step w t l at inductive shape there
+    go_goes counted (Once l at) is single fits of can = step w t l (Once l at) inductive shape there fits is
+        (booked w t l (Once l at) inductive is tt (same l)) (same l) (once_keeps l at) can
+    go_goes counted (Semaphore l at) is single fits of can = step w t l (Semaphore l at) inductive shape there
         fits
-        is
-        can
+        is (booked w t l (Semaphore l at) inductive is tt (same l)) (same l) (semaphore_keeps l at
+        (semaphore_timed w l at of)) can
     go_goes counted (RwLock l a c) is single fits of can = rwlock_step w t l a c inductive shape there fits is
         counted can
     go_goes counted (Mutex l at) is single fits of can = mutex_step w t l at inductive shape there fits.0 is
@@ -363,8 +367,10 @@ module _ (w : State) (t : ℕ) (shape : IsWellFormed w) (inductive : IsInductive
             (sym (told_there w t there succeeded one ∙ told_from_there v t (Once one.lock at) is_v tt))
             (alike_event w t there (closed_place w t succeeded) (like w t there succeeded one) _ _
             (AtLock one.lock (OfOnce (run_ending succeeded))) (
-              once_step v t one.lock at inductive_v shape_v there_v lt is_v refl,
-              step_event v t one.lock at inductive_v shape_v there_v lt is_v refl
+              step v t one.lock (Once one.lock at) inductive_v shape_v there_v lt is_v book_v (same one.lock)
+                  (once_keeps one.lock at) refl,
+              step_event v t one.lock (Once one.lock at) inductive_v shape_v
+                  there_v lt is_v book_v (same one.lock) (once_keeps one.lock at) refl
                   ∙ closes_event one.lock succeeded (is_marked (word_at v one.lock)),
             )))
           where
@@ -382,6 +388,9 @@ module _ (w : State) (t : ℕ) (shape : IsWellFormed w) (inductive : IsInductive
 
             lt : one.lock < length v.locks
             lt = subst (PlaceFits (length v.locks)) is_v (shape_v.places t)
+
+            book_v : Book v one.lock
+            book_v = booked v t one.lock (Once one.lock at) inductive_v is_v tt (same one.lock)
 
     turned_does : AreCounted w → AreCondvars w → (x : Turn) → can_turn w t x ≡ true
         → MayTurn (locks_of w) t x × Does (locks_of w) t x (turn_outcome w t x)

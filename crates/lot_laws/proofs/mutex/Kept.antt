@@ -57,7 +57,7 @@ use Rattle.lot_laws.proofs.calls.OtherCalls.{WakesOwn, befalls, befalls_nobody}
 use Rattle.lot_laws.proofs.hands.Handed.{handed_is}
 use Rattle.lot_laws.proofs.machine.AtPlaces.{in_no_hand}
 use Rattle.lot_laws.proofs.machine.Parts.{IsOf, IsSingle, base_at, differ, free_of, location_here, mutex}
-use Rattle.lot_laws.proofs.machine.Parts.{next_of, of_single, own_stance, role_here, untaken}
+use Rattle.lot_laws.proofs.machine.Parts.{next_of, of_single, own_stance, role_here, same, untaken}
 use Rattle.lot_laws.proofs.mutex.Acts.{IsOfWord, OwnedBy, owned_by, works_at}
 use Rattle.lot_laws.proofs.mutex.Hands.{accepts as has_now, first_goes, first_sleeps, first_stands, hands_to}
 use Rattle.lot_laws.proofs.mutex.Hands.{tries}
@@ -65,12 +65,14 @@ use Rattle.lot_laws.proofs.mutex.Moves.{MutexMoves, StoresNothing, Works, mutex_
 use Rattle.lot_laws.proofs.mutex.Moves.{mutex_late_move, mutex_move, owner_alone}
 use Rattle.lot_laws.proofs.mutex.Waiters.{CallsMutex, IsHeldThere, WasGivenThere, calls_mutex_at, given_there}
 use Rattle.lot_laws.proofs.mutex.Waiters.{held_there}
-use Rattle.lot_laws.proofs.once.Kept.{goes_once}
+use Rattle.lot_laws.proofs.book.Kept.{goes_on}
+use Rattle.lot_laws.proofs.book.Pages.{booked, semaphore_timed}
+use Rattle.lot_laws.proofs.once.Page.{keeps_all as once_keeps}
+use Rattle.lot_laws.proofs.semaphore.Page.{keeps_all as semaphore_keeps}
 use Rattle.lot_laws.proofs.sites.ByAct.{AreCalm, GoesBy, IsBrief, accepted, calm_case, into, left_main}
 use Rattle.lot_laws.proofs.sites.ByAct.{line_there, none_is, on_time, out_of, parked, section_there}
 use Rattle.lot_laws.proofs.sites.ByAct.{tells_all, took_first}
 use Rattle.lot_laws.proofs.rwlock.Steps.{rwlock_goes_on}
-use Rattle.lot_laws.proofs.semaphore.Kept.{goes_semaphore}
 use Rattle.lot_laws.proofs.sites.ActsKept.{goes_inductive, lock_by}
 use Rattle.lot_laws.proofs.sites.FirstTaken.{TakesFirst}
 use Rattle.lot_laws.proofs.sites.FirstTaken as first
@@ -555,9 +557,14 @@ module _ (w : State) (t : ℕ) (inductive : IsInductive w) (shape : IsWellFormed
     gone_kept counted Idle is single fits can = absurd cc
     gone_kept counted (Condvar l at) is single fits can = absurd single
     gone_kept counted (Once l at) is single fits can = goes_inductive w _ l _ inductive
-        (goes_once w t l at inductive shape there fits is can).goes
+        (goes_on w t l (Once l at) inductive shape there fits is (booked w t l (Once l at) inductive is tt
+        (same l))
+        (same l) (once_keeps l at) can).goes
     gone_kept counted (Semaphore l at) is single fits can =
-        goes_inductive w _ l _ inductive (goes_semaphore w t l at inductive shape there fits is can).goes
+        goes_inductive w _ l _ inductive (goes_on w t l (Semaphore l at) inductive shape there fits is
+        (booked w t l (Semaphore l at) inductive is tt (same l)) (same l)
+        (semaphore_keeps l at (semaphore_timed w l at (subst (FitsItsLock w) is (inductive.stands.calls t))))
+        can).goes
     gone_kept counted (Mutex l at) is single fits can = goes_inductive w _ l _ inductive
         (goes_mutex w t l at inductive shape there fits.0 is can).goes
     gone_kept counted (RwLock l a c) is single fits can =

@@ -1,7 +1,7 @@
 -- A thread in a call of a reader-writer lock goes on by its act: for itself alone, or handing its right over
 -- to those that it has in hand.
-use Rattle.std.proofs.Common.{ℕ, Bool, true, false, Option, Some, ◌≡◌, ◌≢◌, ◌<◌, List, [], length, refl, sym}
-use Rattle.std.proofs.Common.{◌∙◌, ap, subst, append-nil}
+use Rattle.std.proofs.Common.{ℕ, Bool, true, false, Option, Some, ◌≡◌, ◌≢◌, ◌<◌, ◌*◌, ◌+◌, List, [], ◌∷◌}
+use Rattle.std.proofs.Common.{length, refl, sym, ◌∙◌, ap, subst, append-nil}
 use Rattle.core_base.specs.declared.ops.Op.{Op}
 use Rattle.spec_locks.specs.declared.calls.Access.TheVariants as access
 use Rattle.steps_base.specs.declared.acts.Act.{Act}
@@ -29,13 +29,13 @@ use Rattle.steps_rwlock_fair.specs.FairMoves.{CallMoves, call_hears, call_move}
 use Rattle.steps_rwlock_fair.specs.FairProfiles.{call_profile}
 use Rattle.steps_rwlock_fair.specs.FairSteps.{call_act}
 use Rattle.steps_rwlock_fair.proofs.FairActs.{fair_acts_move}
-use Rattle.lot_steps.specs.declared.places.Place.TheVariants.{RwLock}
+use Rattle.lot_steps.specs.declared.places.Place.TheVariants.{Idle, RwLock}
 use Rattle.lot_steps.specs.Steps.{called_lock, next_place}
 use Rattle.spec_locks.specs.Deeds.{case_of, event_by}
 use Rattle.spec_locks.specs.Locks.{LockCase}
-use Rattle.spec_locks.specs.Sites.{Deed}
-use Rattle.lot_machine.specs.Machine.{State, can_do, place_at, put, reply_to, state_after_hand_over_by}
-use Rattle.lot_machine.specs.Machine.{word_at}
+use Rattle.spec_locks.specs.Sites.{Begin, Deed}
+use Rattle.lot_machine.specs.Machine.{State, can_do, kind_at, owners_at, place_at, put, queue_at, reply_to}
+use Rattle.lot_machine.specs.Machine.{share_at, shares_at, state_after_hand_over_by, word_at}
 use Rattle.lot_machine.specs.Fits.{IsWellFormed}
 use Rattle.lot_laws.specs.ThreadDeeds.{acts}
 use Rattle.lot_laws.specs.SitesOf.{AreCounted, Goes, IsInductive, carried_at, rules_in}
@@ -52,7 +52,17 @@ use Rattle.lot_laws.proofs.machine.PlaceTest.{call_facts}
 use Rattle.lot_laws.proofs.calls.OtherCalls.{Stay, IsCalm, WakesOwn, calm, hands_nothing, lonely, no_hand_off}
 use Rattle.lot_laws.proofs.calls.OtherCalls.{wakes_own}
 use Rattle.lot_laws.proofs.promises.PlacePromises.{location_own}
-use Rattle.lot_laws.proofs.rwlock.Kept.{GoesFrom, goes_unhanded, stands}
+use Rattle.lot_laws.proofs.rwlock.Kept.{GoesFrom, admits_by, first_fits, stands}
+use Rattle.lot_laws.proofs.book.Kept.{begins_with, goes_on, whom_by}
+use Rattle.spec_locks.specs.declared.calls.RwLockCall.{RwLockCall}
+use Rattle.steps_rwlock.specs.RwLockBegins.{admission_of_kind}
+use Rattle.steps_rwlock_fair.specs.FairBegins.{call_first, call_right}
+use Rattle.steps_rwlock_fair.specs.FairLaws.{CallOpens}
+use Rattle.steps_rwlock_fair.proofs.FairOpenings.{calls_open}
+use Rattle.lot_steps.specs.declared.places.Place.{Place}
+use Rattle.lot_laws.specs.Refinement.{taken_at}
+use Rattle.lot_laws.proofs.book.Pages.{booked}
+use Rattle.lot_laws.proofs.machine.Parts.{same}
 use Rattle.lot_laws.proofs.sites.SitesKept.{go_by}
 
 -- ---------------------------------------------------------------- a thread that hands over
@@ -212,6 +222,13 @@ module _ (w : State) (t l : ℕ) (a : Admission) (c : RwLockCallPlace) (inductiv
     effect_whom true f = refl
     effect_whom false f = refl
 
+  -- by any act that hands nothing over
+  pub goes_unhanded : ((k : ℕ) (op : Op) → call_act l a c ≢ act.HandOver k op) → can_do w (call_act l a c)
+      ≡ true → GoesFrom w t l a c inductive shape there lt is (RwLock l a c) (call_act l a c)
+  goes_unhanded plain can = let g = goes_on w t l (RwLock l a c) inductive shape there lt is
+      (booked w t l (RwLock l a c) inductive is tt (same l)) (same l) plain can in
+      record { whom = whom_by w (call_act l a c); goes = g.goes; tells = g.tells; others = g.others }
+
   -- wherever it stands
   pub rwlock_goes_on : AreCounted w → can_do w (call_act l a c) ≡ true → GoesOnBy w t l a c (call_act l a c)
   rwlock_goes_on counted can = by_act (call_act l a c) refl
@@ -221,7 +238,7 @@ module _ (w : State) (t l : ℕ) (a : Admission) (c : RwLockCallPlace) (inductiv
 
       alone : ((k : ℕ) (op : Op) → call_act l a c ≢ act.HandOver k op) → GoesOnBy w t l a c (call_act l a c)
       alone plain = by_own (call_act l a c) (takes_here l (location (RwLock l a c)) (call_act l a c)
-          (call_facts l a c).line) (goes_unhanded w t l a c inductive shape there lt is plain can)
+          (call_facts l a c).line) (goes_unhanded plain can)
 
       by_act : (y : Act) → call_act l a c ≡ y → GoesOnBy w t l a c (call_act l a c)
       by_act (act.HandOver k op) e =
@@ -232,3 +249,23 @@ module _ (w : State) (t l : ℕ) (a : Admission) (c : RwLockCallPlace) (inductiv
           subst (GoesOnBy w t l a c) (sym here) (by_effect n.0 n.1 counted op here
           (takes_effect op (word_at w l)) refl)
       by_act y e = alone (λ k op f. let g : y ≡ act.HandOver k op = sym e ∙ f in cc)
+
+-- ---------------------------------------------------------------- a call begins
+
+module _ (w : State) (t l : ℕ) (c : RwLockCall) (inductive : IsInductive w) (there : t < length w.places)
+    (idle_now : place_at w t ≡ Idle)
+    (readers : has_readers (rules_in w l).sort ≡ true) (right : call_right c t (owners_at w l)
+    (share_at w l t) ≡ true) where
+  abbrev pub first : Place
+  first = RwLock l (admission_of_kind (kind_at w l)) (call_first c)
+
+  pub opens : CallOpens (admission_of_kind (kind_at w l)) c
+  opens = calls_open (admission_of_kind (kind_at w l)) c
+
+  -- with what it claims
+  pub rwlock_begins : Goes w (put w t first) l (acts t (Begin opens.opening.claims ∷ []))
+  rwlock_begins = begins_with w t l inductive there idle_now first refl refl
+      (first_fits w l (admission_of_kind (kind_at w l)) c (admits_by (kind_at w l) readers))
+      opens.opening.claims opens.opening.location opens.opening.role
+      (opens.has t (shares_at w l) (owners_at w l) (queue_at w (2 * l)) (queue_at w (2 * l + 1))
+      (λ u. taken_at (place_at w u) l) right)
