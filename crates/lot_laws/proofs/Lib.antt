@@ -1,3 +1,4 @@
+mod Names
 pub mod machine
 pub mod semaphore
 pub mod calls

@@ -1,31 +1,17 @@
 -- A thread does an act at one lock, wherever it stands about others meanwhile: the acts of `sites/MovesKept`,
 -- at a lock. So a
 -- call of two locks has a page at each. No sort of lock is named.
-use Rattle.std.proofs.Common.{ℕ, Bool, true, false, Option, Some, None, if◌then◌else◌, ◌==◌, ◌≡◌, ◌≢◌, ◌*◌}
-use Rattle.std.proofs.Common.{◌+◌, ◌<◌, List, [], ◌∷◌, length, refl, sym, ◌∙◌, ap, subst}
-use Rattle.core_base.specs.declared.keys.Keys.TheVariants.{One}
-use Rattle.core_base.specs.declared.wants.Want.{Want}
-use Rattle.core_base.specs.Lines.{first_of, times, without}
-use Rattle.steps_base.specs.declared.acts.Check.{Check}
-use Rattle.steps_base.specs.declared.acts.Reply.{Reply}
-use Rattle.steps_base.specs.declared.acts.Reply.TheVariants.{Done, Parked, Removed}
-use Rattle.steps_base.specs.Acts.{holds}
-use Rattle.steps_base.specs.Locations.{Location}
-use Rattle.steps_base.specs.Moves.{Accepts, AreLeaving, GoesIn, Hears, LeavesLine, Move, Parks, location_of}
-use Rattle.steps_base.specs.Moves.{location_then, inside_of}
-use Rattle.steps_base.specs.Profiles.{Hand, Profile, hand, taken_from}
+use Rattle.lot_laws.proofs.Names
+use Names.{ℕ, Bool, true, false, Option, Some, None, if◌then◌else◌, ◌==◌, ◌≡◌, ◌≢◌, ◌*◌, ◌+◌, ◌<◌, List, []}
+use Names.{◌∷◌, length, refl, sym, ◌∙◌, ap, subst, One, Want, first_of, times, without, Check, Reply, Done}
+use Names.{Parked, Removed, holds, Location, Accepts, AreLeaving, GoesIn, Hears, LeavesLine, Move, Parks}
+use Names.{location_of, location_then, inside_of, Hand, Profile, hand, taken_from, Park, Rules, keep_from}
+use Names.{putting, Case, Deed, End, In, Line, Main, Out, Role, Second, Site, after_deed, Place, State}
+use Names.{place_at, put, queue_at, queues_with_last, queues_without, section_at, state_after_park}
+use Names.{state_with_sections, word_at, acts, taken_at, location_at, role_on, ActsNeeded, FitsItsLock, Goes}
+use Names.{IsInductive, after_acts, carried_at, hand_at, key_of, rules_in, stood_in}
 use Rattle.spec_locks.specs.Deeds as laws
 use Rattle.spec_locks.specs.Locks as locks
-use Rattle.spec_locks.specs.Locks.{Park, Rules, keep_from, putting}
-use Rattle.spec_locks.specs.Sites.{Case, Deed, End, In, Line, Main, Out, Role, Second, Site, after_deed}
-use Rattle.lot_steps.specs.declared.places.Place.{Place}
-use Rattle.lot_machine.specs.Machine.{State, place_at, put, queue_at, queues_with_last, queues_without}
-use Rattle.lot_machine.specs.Machine.{section_at, state_after_park, state_with_sections, word_at}
-use Rattle.lot_laws.specs.ThreadDeeds.{acts}
-use Rattle.lot_laws.specs.Refinement.{taken_at}
-use Rattle.lot_laws.specs.Locations.{location_at, role_on}
-use Rattle.lot_laws.specs.SitesOf.{ActsNeeded, FitsItsLock, Goes, IsInductive, after_acts, carried_at}
-use Rattle.lot_laws.specs.SitesOf.{hand_at, key_of, rules_in, stood_in}
 use Rattle.lot_laws.proofs.hands.Counts.{aside_kept, first_out}
 use Rattle.lot_laws.proofs.machine.Parts.{LetGo, parts_at, put_here, put_other, stays, untaken}
 use Rattle.lot_laws.proofs.sites.ActsAt as acting

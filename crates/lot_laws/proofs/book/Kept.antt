@@ -1,56 +1,28 @@
 -- A thread in a call of any one lock goes on: every lock is a site again. No sort of lock is named: the page
 -- of its place
 -- says what it does.
-use Rattle.std.proofs.Common.{ℕ, Bool, true, false, Option, Some, None, if◌then◌else◌, ◌≡◌, ◌≢◌, ◌*◌, ◌+◌}
-use Rattle.std.proofs.Common.{◌<◌, List, [], ◌∷◌, length, inl, inr, refl, sym, ◌∙◌, ap, subst}
-use Rattle.core_base.specs.declared.notes.Note.TheVariants.{HandOff, Normal}
-use Rattle.core_base.specs.declared.ops.Op.{Op}
-use Rattle.core_base.specs.declared.wants.Want.{Want}
-use Rattle.core_base.specs.Lines.{first_of}
-use Rattle.core_base.specs.Words.{apply}
-use Rattle.steps_base.specs.declared.acts.Act.{Act}
+use Rattle.lot_laws.proofs.Names
+use Names.{ℕ, Bool, true, false, Option, Some, None, if◌then◌else◌, ◌≡◌, ◌≢◌, ◌*◌, ◌+◌, ◌<◌, List, [], ◌∷◌}
+use Names.{length, inl, inr, refl, sym, ◌∙◌, ap, subst, Normal, Op, Want, first_of, apply, Act, Check, Next}
+use Names.{Reply, Parked, Picked, TakenBy, Took, Value, Late, Woken, CallFollows, holds, outcome_of, Move}
+use Names.{Picks, StaysPut, TakesAside, TellsHanded, WasGiven, location_then, row_of, takes_aside, Wakes}
+use Names.{Location, location_by, Hand, Of, hand, in_hand, taken_from, shares_then, Profile, RestsAfter}
+use Names.{TakesAll, aside_in, code, parked_in, case_of, event_by, OfOnce, Rules, is_recursive, keep_from}
+use Names.{Rest, TakeAll, Begins, Begin, Case, Claim, Deed, HasClaim, Line, Main, Second, Site, has_readers}
+use Names.{idle, wakened, Place, Idle, act_of, beside_of, called_lock, calls, is_lock, next_act, next_place}
+use Names.{owners_after, profile, profile_beside, shares_after, State, can_do, section_is_free, owners_at}
+use Names.{place_at, put, queue_at, reply_to, section_at, share_at, shares_at, state_after_act}
+use Names.{state_after_late_under, word_at, IsWellFormed, locks_of, taken_at, acts, location, nowhere}
+use Names.{role_on, FitsItsLock, Goes, IsInductive, TakesOne, carried_at, hand_at, key_of, rules_in}
+use Rattle.core_base.specs.declared.notes.Note.TheVariants.{HandOff}
 use Rattle.steps_base.specs.declared.acts.Act.TheVariants as act
-use Rattle.steps_base.specs.declared.acts.Check.{Check}
-use Rattle.steps_base.specs.declared.acts.Next.{Next}
 use Rattle.steps_base.specs.declared.acts.Next.TheVariants as next
-use Rattle.steps_base.specs.declared.acts.Reply.{Reply}
-use Rattle.steps_base.specs.declared.acts.Reply.TheVariants.{Parked, Picked, TakenBy, Took, Value, Late}
-use Rattle.steps_base.specs.declared.acts.Reply.TheVariants.{Woken}
 use Rattle.steps_base.specs.declared.acts.Whom.TheVariants as whom
 use Rattle.steps_base.specs.Calls as Calls
-use Rattle.steps_base.specs.Calls.{CallFollows}
-use Rattle.steps_base.specs.Acts.{holds, outcome_of}
-use Rattle.steps_base.specs.Moves.{Move, Picks, StaysPut, TakesAside, TellsHanded, WasGiven, location_then}
-use Rattle.steps_base.specs.Moves.{row_of, takes_aside}
-use Rattle.steps_base.specs.declared.acts.Wakes.{Wakes}
-use Rattle.steps_base.specs.Locations.{Location, location_by}
-use Rattle.steps_base.specs.Profiles.{Hand, Of, hand, in_hand, taken_from}
-use Rattle.steps_base.specs.Owners.{lock_seen, shares_then}
-use Rattle.steps_base.specs.Profiles.{Profile}
-use Rattle.steps_once.specs.OnceMoves.{RestsAfter, TakesAll}
+use Rattle.steps_base.specs.Owners.{lock_seen}
 use Rattle.steps_semaphore.specs.SemaphoreDeeds.{take_deeds}
-use Rattle.spec_locks.specs.Codes.{aside_in, code, parked_in}
-use Rattle.spec_locks.specs.Deeds.{case_of, event_by}
 use Rattle.spec_locks.specs.Deeds as laws
 use Rattle.spec_locks.specs.Locks as locks
-use Rattle.spec_locks.specs.Locks.{OfOnce, Rules, is_recursive, keep_from}
-use Rattle.spec_locks.specs.Onces.{Rest, TakeAll}
-use Rattle.spec_locks.specs.Runs.{Begins}
-use Rattle.spec_locks.specs.Sites.{Begin, Case, Claim, Deed, HasClaim, Line, Main, Second, Site, has_readers}
-use Rattle.spec_locks.specs.Sites.{idle, wakened}
-use Rattle.lot_steps.specs.declared.places.Place.{Place}
-use Rattle.lot_steps.specs.declared.places.Place.TheVariants.{Idle}
-use Rattle.lot_steps.specs.Steps.{act_of, beside_of, called_lock, calls, is_lock, next_act, next_place}
-use Rattle.lot_steps.specs.Steps.{owners_after, profile, profile_beside, shares_after}
-use Rattle.lot_machine.specs.Machine.{State, can_do, section_is_free, owners_at, place_at, put, queue_at}
-use Rattle.lot_machine.specs.Machine.{reply_to, section_at, share_at, shares_at, state_after_act}
-use Rattle.lot_machine.specs.Machine.{state_after_late_under, word_at}
-use Rattle.lot_machine.specs.Fits.{IsWellFormed}
-use Rattle.lot_laws.specs.Refinement.{locks_of, taken_at}
-use Rattle.lot_laws.specs.ThreadDeeds.{acts}
-use Rattle.lot_laws.specs.Locations.{location, nowhere, role_on}
-use Rattle.lot_laws.specs.SitesOf.{FitsItsLock, Goes, IsInductive, TakesOne, carried_at, hand_at, key_of}
-use Rattle.lot_laws.specs.SitesOf.{rules_in}
 use Rattle.lot_laws.proofs.book.Page.{Follows, IsThere, Leaves, MovesBy, Page, Says, move_of}
 use Rattle.lot_laws.proofs.calls.OtherCalls.{IsCalm, WakesOwn}
 use Rattle.lot_laws.proofs.machine.Parts.{IsOf, IsSingle, free_of, location_here, next_of, not_beside}

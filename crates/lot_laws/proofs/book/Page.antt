@@ -1,32 +1,18 @@
 -- What a sort of lock says of one of its places, at its lock and in no machine: a page. No sort is named
 -- here.
+use Rattle.lot_laws.proofs.Names
+use Names.{slice_index, Op, Waiter, apply, Act, Next, Reply, Value, Late, Owners, CallFollows, Accepts}
+use Names.{GoesIn, Hears, Move, MovesByAct, RowWaits, TakesAside, TellsHanded, WasGiven, row_of, CallWaits}
+use Names.{One, shares_then, Profile, hand, RowPromises, OnceState, HasLimit, aside_in, code, parked_in}
+use Names.{AllNeeded, after_all, Rules, Taken, is_recursive, standing, Deed, IsSite, Line, Main, Runs, Second}
+use Names.{Site, has_readers, ClosureAnswers, RestsAfter, TakesAll}
 use Rattle.std.specs.Prelude.{ℕ, Bool, Option, Some, None, true, false, ◌⊎◌, ◌≡◌, ◌≢◌, ◌<◌, ◌≤◌, ◌-◌, ◌^◌}
-use Rattle.std.specs.Prelude.{List, length, slice_index}
-use Rattle.core_base.specs.declared.ops.Op.{Op}
-use Rattle.core_base.specs.declared.wants.Waiter.{Waiter}
+use Rattle.std.specs.Prelude.{List, length}
 use Rattle.core_base.specs.Keys.{key_of}
-use Rattle.core_base.specs.Words.{apply}
-use Rattle.steps_base.specs.declared.acts.Act.{Act}
 use Rattle.steps_base.specs.declared.acts.Act.TheVariants as act
-use Rattle.steps_base.specs.declared.acts.Next.{Next}
-use Rattle.steps_base.specs.declared.acts.Reply.{Reply}
-use Rattle.steps_base.specs.declared.acts.Reply.TheVariants.{Value, Late}
 use Rattle.steps_base.specs.declared.acts.Whom.TheVariants as whom
-use Rattle.steps_base.specs.declared.owners.Owners.{Owners}
-use Rattle.steps_base.specs.Calls.{CallFollows}
-use Rattle.steps_base.specs.Moves.{Accepts, GoesIn, Hears, Move, MovesByAct, RowWaits, TakesAside}
-use Rattle.steps_base.specs.Moves.{TellsHanded, WasGiven, row_of}
-use Rattle.steps_rwlock_fair.specs.FairMoves.{CallWaits}
-use Rattle.core_base.specs.declared.keys.Keys.TheVariants.{One}
-use Rattle.steps_base.specs.Owners.{lock_seen, shares_then}
-use Rattle.steps_base.specs.Profiles.{Profile, hand}
-use Rattle.steps_base.specs.Rows.{RowPromises}
-use Rattle.spec_locks.specs.declared.outcomes.OnceState.{OnceState}
-use Rattle.spec_locks.specs.Codes.{HasLimit, aside_in, code, parked_in}
-use Rattle.spec_locks.specs.Deeds.{AllNeeded, after_all}
-use Rattle.spec_locks.specs.Locks.{Condvar, Mutex, Rules, Semaphore, Taken, is_recursive, standing}
-use Rattle.spec_locks.specs.Sites.{Deed, IsSite, Line, Main, Runs, Second, Site, has_readers}
-use Rattle.steps_once.specs.OnceMoves.{ClosureAnswers, RestsAfter, TakesAll}
+use Rattle.steps_base.specs.Owners.{lock_seen}
+use Rattle.spec_locks.specs.Locks.{Condvar, Mutex, Semaphore}
 use Rattle.steps_semaphore.specs.SemaphoreDeeds.{take_deeds}
 use Rattle.lot_laws.proofs.sites.FirstTaken.{TakesFirst}
 

@@ -1,24 +1,15 @@
 -- The page of each place, by its sort of lock: the one file that goes through the sorts.
-use Rattle.std.proofs.Common.{ℕ, Bool, true, false, ◌≡◌, List, [], refl, sym, ◌∙◌, ap, subst}
-use Rattle.std.proofs.lemmas.Bool.{eqb-true}
+use Rattle.lot_laws.proofs.Names
+use Names.{ℕ, Bool, true, false, ◌≡◌, List, [], refl, sym, ◌∙◌, ap, subst, eqb-true, No, blank_row}
+use Names.{SemaphorePlace, Rules, Sort, has_readers, Place, Idle, Mutex, RwLock, Once, Condvar, Semaphore}
+use Names.{calls, State, kind_at, place_at, FitsItsLock, IsInductive, LateIsTimed, rules_in, Admission}
+use Names.{RwLockCallPlace}
 use Rattle.steps_base.specs.declared.acts.Next.TheVariants.{End}
-use Rattle.spec_locks.specs.declared.outcomes.Answer.TheVariants.{No}
-use Rattle.steps_base.specs.Profiles.{blank_row}
 use Rattle.spec_locks.specs.Locks as locks
-use Rattle.steps_semaphore.specs.declared.places.SemaphorePlace.{SemaphorePlace}
-use Rattle.spec_locks.specs.Locks.{Rules, Sort}
-use Rattle.spec_locks.specs.Sites.{has_readers}
-use Rattle.lot_steps.specs.declared.places.Place.{Place}
-use Rattle.lot_steps.specs.declared.places.Place.TheVariants.{Idle, Mutex, RwLock, Once, Condvar, Semaphore}
-use Rattle.lot_steps.specs.Steps.{calls}
-use Rattle.lot_machine.specs.Machine.{State, kind_at, place_at}
-use Rattle.lot_laws.specs.SitesOf.{FitsItsLock, IsInductive, LateIsTimed, rules_in}
 use Rattle.lot_laws.proofs.book.Page.{Says}
 use Rattle.lot_laws.proofs.book.Kept.{Book, Tied}
 use Rattle.lot_laws.proofs.once.Page.{once_says, once_tied}
 use Rattle.lot_laws.proofs.rwlock.Page.{rwlock_says, rwlock_tied}
-use Rattle.steps_rwlock.specs.declared.places.Admission.{Admission}
-use Rattle.steps_rwlock_fair.specs.declared.places.RwLockCallPlace.{RwLockCallPlace}
 use Rattle.lot_laws.proofs.semaphore.Page.{semaphore_says, semaphore_tied}
 use Rattle.lot_laws.proofs.sites.StandsMoved.{mutex_rules}
 

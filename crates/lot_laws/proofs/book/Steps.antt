@@ -1,36 +1,17 @@
 -- A thread in a call of any one lock goes on by its act: that is one event of the lock, and its call goes on
 -- with it.
 -- No sort of lock is named.
-use Rattle.std.proofs.Common.{ℕ, Bool, true, false, Option, Some, None, ◌≡◌, ◌≢◌, ◌<◌, [], length}
-use Rattle.std.proofs.Common.{get_or-set_same, inl, inr, refl, sym, ◌∙◌, ap, subst, append-nil}
-use Rattle.spec_locks.specs.declared.outcomes.OnceState.{OnceState}
+use Rattle.lot_laws.proofs.Names
+use Names.{ℕ, Bool, true, false, Option, Some, None, ◌≡◌, ◌≢◌, ◌<◌, [], length, get_or-set_same, inl, inr}
+use Names.{refl, sym, ◌∙◌, ap, subst, append-nil, OnceState, Act, Next, Reply, outcome_of, Op, Location}
+use Names.{row_of, Hand, Profile, hand, IsWaiting, is_acting, ComesTo, MayCome, after_event, case_of}
+use Names.{event_by, LockCase, GoesOn, Role, Runs, Place, Idle, act_of, called_lock, calls, is_lock, next_act}
+use Names.{next_place, profile, State, can_do, place_at, reply_to, state_after_act, IsWellFormed}
+use Names.{performed_counts, lock_state, locks_of, acts, location, role_on, FitsItsLock, Goes, IsInductive}
+use Names.{carried_at, rules_in}
 use Rattle.spec_locks.specs.declared.outcomes.Outcome.TheVariants as outcome
-use Rattle.steps_base.specs.declared.acts.Act.{Act}
 use Rattle.steps_base.specs.declared.acts.Act.TheVariants as act
-use Rattle.steps_base.specs.declared.acts.Next.{Next}
 use Rattle.steps_base.specs.declared.acts.Next.TheVariants as next
-use Rattle.steps_base.specs.declared.acts.Reply.{Reply}
-use Rattle.steps_base.specs.Acts.{outcome_of}
-use Rattle.core_base.specs.declared.ops.Op.{Op}
-use Rattle.steps_base.specs.Locations.{Location}
-use Rattle.steps_base.specs.Moves.{row_of}
-use Rattle.steps_base.specs.Profiles.{Hand, Profile, hand}
-use Rattle.steps_base.specs.Rows.{IsWaiting, is_acting}
-use Rattle.steps_base.specs.Calls.{ComesTo, MayCome}
-use Rattle.spec_locks.specs.Deeds.{after_event, case_of, event_by}
-use Rattle.spec_locks.specs.Locks.{LockCase}
-use Rattle.spec_locks.specs.Runs.{GoesOn}
-use Rattle.spec_locks.specs.Sites.{Role, Runs}
-use Rattle.lot_steps.specs.declared.places.Place.{Place}
-use Rattle.lot_steps.specs.declared.places.Place.TheVariants.{Idle}
-use Rattle.lot_steps.specs.Steps.{act_of, called_lock, calls, is_lock, next_act, next_place, profile}
-use Rattle.lot_machine.specs.Machine.{State, can_do, place_at, reply_to, state_after_act}
-use Rattle.lot_machine.specs.Fits.{IsWellFormed}
-use Rattle.lot_machine.proofs.Shape.{performed_counts}
-use Rattle.lot_laws.specs.Refinement.{lock_state, locks_of}
-use Rattle.lot_laws.specs.ThreadDeeds.{acts}
-use Rattle.lot_laws.specs.Locations.{location, role_on}
-use Rattle.lot_laws.specs.SitesOf.{FitsItsLock, Goes, IsInductive, carried_at, rules_in}
 use Rattle.lot_laws.proofs.book.Kept.{Book, ComesBy, GoesFrom, Tied, goes_on, k, own, whom_by}
 use Rattle.lot_laws.proofs.book.Page.{Says}
 use Rattle.lot_laws.proofs.calls.Events.{GoesAs, Happens, LeadsTo, OthersFollow, goes_by, goes_event, happens}

@@ -1,49 +1,23 @@
 -- Each step of a wait in the section and the line of its mutex, as it releases it and locks it again: every
 -- lock is a site again.
-use Rattle.std.proofs.Common.{ℕ, Bool, true, false, Some, None, if◌then◌else◌, ◌≡◌, ◌≢◌, ◌*◌, ◌<◌, List, []}
-use Rattle.std.proofs.Common.{◌∷◌, length, refl, sym, ◌∙◌, ap, subst, inl, inr}
-use Rattle.std.proofs.lemmas.Bool.{cases_eq}
-use Rattle.core_base.specs.declared.keys.Keys.TheVariants.{One}
-use Rattle.core_base.specs.declared.wants.Want.TheVariants.{Exclusive}
-use Rattle.steps_base.specs.declared.acts.Act.{Act}
+use Rattle.lot_laws.proofs.Names
+use Names.{ℕ, Bool, true, false, Some, None, if◌then◌else◌, ◌≡◌, ◌≢◌, ◌*◌, ◌<◌, List, [], ◌∷◌, length, refl}
+use Names.{sym, ◌∙◌, ap, subst, inl, inr, cases_eq, One, Exclusive, Act, Next, At, Reply, Done, Parked}
+use Names.{Nobody, Move, Line, Location, location_by, Place, Condvar, condvar_goes, LockAt, UnlockAt}
+use Names.{still_retries, CondvarPlace, Wait, Stands, WaitAt, condvar_next, in_wait, next_wait, relocked}
+use Names.{wait_act, row_beside, there, MayHearWaiter, WaiterFollows, itself_woken, waiter_deeds, waiter_next}
+use Names.{Park, Rules, keep_from, Case, Deed, Role, End, In, Main, Out, Site, wakened, State, can_do}
+use Names.{place_at, put, reply_to, section_at, state_after_act, word_at, queues_with_last, acts, taken_at}
+use Names.{role_on, location_at, FitsItsLock, Goes, IsInductive, key_of, rules_in, site_of, WordIs, holds}
 use Rattle.steps_base.specs.declared.acts.Act.TheVariants as act
-use Rattle.steps_base.specs.declared.acts.Next.{Next}
-use Rattle.steps_base.specs.declared.acts.Next.TheVariants.{At}
-use Rattle.steps_base.specs.declared.acts.Reply.{Reply}
-use Rattle.steps_base.specs.declared.acts.Reply.TheVariants.{Done, Parked}
-use Rattle.steps_base.specs.declared.acts.Wakes.TheVariants.{Nobody}
-use Rattle.steps_base.specs.Moves.{Move}
-use Rattle.spec_locks.specs.Sites.{Line}
-use Rattle.steps_base.specs.Locations.{Location, location_by}
-use Rattle.lot_steps.specs.declared.places.Place.{Place}
-use Rattle.lot_steps.specs.declared.places.Place.TheVariants.{Condvar}
-use Rattle.lot_steps.specs.Steps.{condvar_goes}
 use Rattle.steps_mutex.specs.declared.lock.Entry.TheVariants as entry
-use Rattle.steps_mutex.specs.declared.lock.LockAt.{LockAt}
 use Rattle.steps_mutex.specs.declared.lock.LockAt.TheVariants as lock
 use Rattle.steps_mutex.specs.declared.places.MutexPlace.TheVariants as mutex
-use Rattle.steps_mutex.specs.declared.unlock.UnlockAt.{UnlockAt}
 use Rattle.steps_mutex.specs.declared.unlock.UnlockAt.TheVariants as unlock
-use Rattle.steps_mutex.specs.MutexSteps.{in_lock, still_retries}
-use Rattle.steps_condvar.specs.declared.places.CondvarPlace.{CondvarPlace}
-use Rattle.steps_condvar.specs.declared.places.CondvarPlace.TheVariants.{Wait}
-use Rattle.steps_condvar.specs.declared.wait.Stands.{Stands}
-use Rattle.steps_condvar.specs.declared.wait.WaitAt.{WaitAt}
+use Rattle.steps_mutex.specs.MutexSteps.{in_lock}
 use Rattle.steps_condvar.specs.declared.wait.WaitAt.TheVariants as wait
-use Rattle.steps_condvar.specs.CondvarSteps.{condvar_next, in_wait, next_wait, relocked, wait_act}
-use Rattle.steps_condvar.specs.CondvarMoves.{row_beside, there}
-use Rattle.steps_condvar.specs.CondvarWaits.{MayHearWaiter, WaiterFollows, itself_woken, waiter_deeds}
-use Rattle.steps_condvar.specs.CondvarWaits.{waiter_next}
 use Rattle.spec_locks.specs.Deeds as laws
 use Rattle.spec_locks.specs.Locks as locks
-use Rattle.spec_locks.specs.Locks.{Park, Rules, keep_from}
-use Rattle.spec_locks.specs.Sites.{Case, Deed, Role, End, In, Main, Out, Site, wakened}
-use Rattle.lot_machine.specs.Machine.{State, can_do, place_at, put, reply_to, section_at, state_after_act}
-use Rattle.lot_machine.specs.Machine.{word_at, queues_with_last}
-use Rattle.lot_laws.specs.ThreadDeeds.{acts}
-use Rattle.lot_laws.specs.Refinement.{taken_at}
-use Rattle.lot_laws.specs.Locations.{role_on, location_at}
-use Rattle.lot_laws.specs.SitesOf.{FitsItsLock, Goes, IsInductive, key_of, rules_in, site_of}
 use Rattle.lot_laws.proofs.sites.StandsKept.{AlikeBeside}
 use Rattle.lot_laws.proofs.condvar.Replies as hears
 use Rattle.lot_laws.proofs.condvar.Replies.{taken_by_wait, waiter_hears, none_so}
@@ -52,8 +26,6 @@ use Rattle.lot_laws.proofs.condvar.WaitWords.{StaysThere}
 use Rattle.lot_laws.proofs.book.At.{Enters, LeadsTo, StandsAs, goes_in, goes_out_alone, leaves_main}
 use Rattle.lot_laws.proofs.book.At.{stands_last}
 use Rattle.lot_laws.proofs.book.At as at_lock
-use Rattle.steps_base.specs.declared.acts.Check.TheVariants.{WordIs}
-use Rattle.steps_base.specs.Acts.{holds}
 use Rattle.lot_laws.proofs.condvar.TwoParts.{location_beside, location_there, nothing_there, role_beside}
 use Rattle.lot_laws.proofs.condvar.TwoParts.{taken_beside}
 

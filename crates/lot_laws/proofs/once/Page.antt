@@ -1,57 +1,34 @@
 -- The pages of the places of a `Once`: what its laws say of each, as any sort of lock says it.
-use Rattle.std.proofs.Common.{rules, ℕ, Bool, true, false, Option, Some, None, ◌==◌, ◌≡◌, ◌≢◌, List, [], ◌∷◌}
-use Rattle.std.proofs.Common.{inl, inr, refl, sym, ◌∙◌, ap, subst}
-use Rattle.core_base.specs.declared.ops.Op.{Op}
-use Rattle.spec_locks.specs.declared.calls.OnceCall.{OnceCall}
-use Rattle.spec_locks.specs.declared.calls.OnceCall.TheVariants.{CallOnce, Wait, WaitTimed}
-use Rattle.steps_base.specs.declared.acts.Act.{Act}
+use Rattle.lot_laws.proofs.Names
+use Names.{rules, ℕ, Bool, true, false, Option, Some, None, ◌==◌, ◌≡◌, ◌≢◌, List, [], ◌∷◌, inl, inr, refl}
+use Names.{sym, ◌∙◌, ap, subst, Op, OnceCall, WaitTimed, Act, Next, Reply, Done, Value, Parked, Took, Removed}
+use Names.{Late, IsNotLate, row_of, OfOnce, Rules, is_recursive, Deed, Runs as Running, Site, aside_in, code}
+use Names.{is_marked, parked_in, Course, Ends, Marks, OncePlace, Run, GiveUp, OnceSectionsFollow, closes}
+use Names.{run_ending, exchanged_deeds, looked_deeds, once_deeds, OnceMoves, once_hears, once_move}
+use Names.{once_profile, course_of, once_act, once_next, once_acts_move, once_late_move, once_sleepers_move}
+use Names.{once_owners_follow, once_steps_code, once_steps_follow, once_promises, once_sections_tell}
+use Names.{once_steps_tell, Once, once_does, once_goes, owners_after, shares_after, State, can_do, reply_to}
+use Names.{word_at, FitsItsLock, rules_in, OnceState, Outcome, holds, outcome_of, case_of, event_by, Phase}
+use Names.{New, Poisoned, InProgress, MayStart, AtLock, Begins, LocksState, Nothing, state_told, lock_state}
+use Names.{locks_of, IsInductive, site_of, is_poisoned, check_of, closure_begun, course_act, ended, in_look}
+use Names.{in_run, is_forced, is_run, marked, state_before}
+use Rattle.spec_locks.specs.declared.calls.OnceCall.TheVariants.{CallOnce, Wait}
 use Rattle.steps_base.specs.declared.acts.Act.TheVariants as act
-use Rattle.steps_base.specs.declared.acts.Next.{Next}
 use Rattle.steps_base.specs.declared.acts.Next.TheVariants as next
-use Rattle.steps_base.specs.declared.acts.Reply.{Reply}
-use Rattle.steps_base.specs.declared.acts.Reply.TheVariants.{Done, Value, Parked, Took, Removed, Late}
 use Rattle.steps_base.specs.declared.acts.Whom.TheVariants as whom
-use Rattle.steps_base.specs.Calls.{IsNotLate}
-use Rattle.steps_base.specs.Moves.{row_of}
-use Rattle.spec_locks.specs.Locks.{OfOnce, Rules, is_recursive}
 use Rattle.spec_locks.specs.Locks as locks
-use Rattle.spec_locks.specs.Sites.{Deed, Runs as Running, Site}
-use Rattle.spec_locks.specs.Codes.{aside_in, code, is_marked, parked_in}
 use Rattle.spec_locks.specs.Deeds as laws
 use Rattle.steps_once.specs.declared.give_up.GiveUpAt.TheVariants as give_up
 use Rattle.steps_once.specs.declared.look.LookAt.TheVariants as look
-use Rattle.steps_once.specs.declared.look.Course.{Course}
-use Rattle.steps_once.specs.declared.look.Course.TheVariants.{Ends, Runs, Marks, Parks}
+use Rattle.steps_once.specs.declared.look.Course.TheVariants.{Runs, Parks}
 use Rattle.steps_once.specs.declared.run.RunAt.TheVariants as run
-use Rattle.steps_once.specs.declared.places.OncePlace.{OncePlace}
-use Rattle.steps_once.specs.declared.places.OncePlace.TheVariants.{Look, Run, GiveUp}
+use Rattle.steps_once.specs.declared.places.OncePlace.TheVariants.{Look}
 use Rattle.steps_once.specs.OnceCalls.{next_row}
-use Rattle.steps_once.specs.OnceDeeds.{IsAt, OnceSectionsFollow, MayHear, closes, role_next, run_ending}
-use Rattle.steps_once.specs.OnceDeeds.{exchanged_deeds, looked_deeds, once_deeds}
-use Rattle.steps_once.specs.OnceMoves.{OnceMoves, once_hears, once_move}
-use Rattle.steps_once.specs.OnceProfiles.{once_profile}
-use Rattle.steps_once.specs.OnceSteps.{course_of, once_act, once_next}
-use Rattle.steps_once.proofs.OnceActs.{once_acts_move, once_late_move, once_sleepers_move}
-use Rattle.steps_once.proofs.OnceFit.{once_owners_follow, once_steps_code, once_steps_follow}
-use Rattle.steps_once.proofs.OnceRowCheck.{once_promises}
-use Rattle.steps_once.proofs.OnceTells.{once_sections_tell, once_steps_tell}
+use Rattle.steps_once.specs.OnceDeeds.{IsAt, MayHear, role_next}
 use Rattle.steps_once.proofs.OnceWords as words
-use Rattle.lot_steps.specs.declared.places.Place.TheVariants.{Once}
-use Rattle.lot_steps.specs.Steps.{once_does, once_goes, owners_after, shares_after}
-use Rattle.lot_machine.specs.Machine.{State, can_do, reply_to, word_at}
-use Rattle.lot_laws.specs.SitesOf.{FitsItsLock, rules_in}
-use Rattle.spec_locks.specs.declared.outcomes.OnceState.{OnceState}
-use Rattle.spec_locks.specs.declared.outcomes.Outcome.{Outcome}
 use Rattle.spec_locks.specs.declared.outcomes.Outcome.TheVariants as outcome
-use Rattle.steps_base.specs.Acts.{holds, outcome_of}
-use Rattle.spec_locks.specs.Deeds.{case_of, event_by}
-use Rattle.spec_locks.specs.Onces.{Phase, New, Poisoned, InProgress, Done as IsDone, MayStart}
-use Rattle.spec_locks.specs.Runs.{AtLock, Begins, LocksState, Nothing, state_told}
-use Rattle.lot_laws.specs.Refinement.{lock_state, locks_of}
-use Rattle.lot_laws.specs.SitesOf.{IsInductive, site_of}
-use Rattle.spec_locks.specs.Codes.{is_poisoned}
-use Rattle.steps_once.specs.OnceSteps.{check_of, closure_begun, course_act, ended, in_look, in_run, is_forced}
-use Rattle.steps_once.specs.OnceSteps.{is_mark, is_run, looked_by, marked, state_before}
+use Rattle.spec_locks.specs.Onces.{Done as IsDone}
+use Rattle.steps_once.specs.OnceSteps.{is_mark, looked_by}
 use Rattle.std.specs.Prelude.{◌&&◌, if◌then◌else◌}
 use Rattle.lot_laws.proofs.book.Page.{Follows, IsThere, Leaves, MovesBy, Page, Says, never_given}
 use Rattle.lot_laws.proofs.book.Page.{plainly_waits}

@@ -1,88 +1,39 @@
 -- A thread in a call of a reader-writer lock goes on: every lock is a site again.
-use Rattle.std.proofs.Common.{inl, inr, ℕ, Bool, true, false, Option, Some, None, if◌then◌else◌, ◌==◌, ◌≡◌}
-use Rattle.std.proofs.Common.{◌≢◌, ◌+◌, ◌*◌, ◌-◌, ◌^◌, ◌≤◌, ◌<◌, List, [], ◌∷◌, length, refl, sym, ◌∙◌, ap}
-use Rattle.std.proofs.Common.{subst, arith}
-use Rattle.std.proofs.lemmas.Bool.{eqb-true}
-use Rattle.core_base.specs.declared.notes.Note.TheVariants.{HandOff, Normal}
-use Rattle.core_base.specs.declared.ops.Op.{Op}
-use Rattle.core_base.specs.Words.{apply}
-use Rattle.core_base.specs.declared.wants.Want.{Want}
-use Rattle.steps_base.specs.Calls.{IsNotLate}
-use Rattle.spec_locks.specs.declared.calls.RwLockCall.{RwLockCall}
-use Rattle.spec_locks.specs.declared.kinds.Kind.{Kind}
+use Rattle.lot_laws.proofs.Names
+use Names.{inl, inr, ℕ, Bool, true, false, Option, Some, None, if◌then◌else◌, ◌==◌, ◌≡◌, ◌≢◌, ◌+◌, ◌*◌, ◌-◌}
+use Names.{◌^◌, ◌≤◌, ◌<◌, List, [], ◌∷◌, length, refl, sym, ◌∙◌, ap, subst, arith, eqb-true, Normal, Op}
+use Names.{apply, Want, IsNotLate, RwLockCall, Kind, Patience, Act, Next, Reply, Done, Value, Took, Picked}
+use Names.{Late, TakenBy, Woken, Wakes, StaysPut, Picks, TakesAside, TellsHanded, takes_aside, row_of}
+use Names.{Profile, hand, in_hand, taken_from, Location, location_by, shares_then, Admission, RwLockPlace}
+use Names.{RwLockAt, patience_of, Admits, late_line_at, HasDeadline, MayBeTold, admission_of_kind}
+use Names.{RwLockCallPlace, Plain, Glance, HandOver, Bump, Handed, CallMayBeTold, CallMayHear, CallStands}
+use Names.{CallStandsNext, IsInCall, call_deeds, call_role, call_role_next, CallMoves, call_hears, call_move}
+use Names.{call_late_line, call_profile, fair_acts_move, fair_late_moves, fair_sleepers_move}
+use Names.{fair_sections_tell, fair_steps_tell, fair_steps_code, fair_steps_follow, handed_move}
+use Names.{fair_owners_follow, fair_sections_follow, fair_calls_stand, call_first, call_right, CallOpens}
+use Names.{CallTells, next_rows, call_act, call_next, call_owners, call_shares, calls_open, SemaphorePlace}
+use Names.{Place, Idle, Mutex, RwLock, Once, Condvar, Semaphore as OfSemaphore, MutexPlace, OncePlace}
+use Names.{next_place, profile, calls, rwlock_goes, Rules, Sort, Recursive, count, keep_from, one_if_some}
+use Names.{standing, Site, IsSite, Deed, Line, Main, Second, Begin, Case, has_readers, wakened, HasLimit, bit}
+use Names.{code, code_of, packed, writers, case_of, rules_of, State, place_at, word_at, kind_at, owners_at}
+use Names.{shares_at, share_at, queue_at, section_at, can_do, section_is_free, put, state_after_act}
+use Names.{state_after_late_under, reply_to, IsWellFormed, taken_at, acts, location, role_on, IsInductive}
+use Names.{Goes, FitsItsLock, TakesOne, LimitHasRoom, carried_at, hand_at, is_mutex, rules_in, key_of}
+use Names.{CondvarPlace, is_lock, Hand, mutex_beside}
+use Rattle.core_base.specs.declared.notes.Note.TheVariants.{HandOff}
 use Rattle.spec_locks.specs.declared.kinds.Kind.TheVariants as kinds
-use Rattle.spec_locks.specs.declared.calls.Patience.{Patience}
 use Rattle.spec_locks.specs.declared.calls.Patience.TheVariants as patience
-use Rattle.steps_base.specs.declared.acts.Act.{Act}
 use Rattle.steps_base.specs.declared.acts.Act.TheVariants as act
-use Rattle.steps_base.specs.declared.acts.Next.{Next}
 use Rattle.steps_base.specs.declared.acts.Next.TheVariants as next
-use Rattle.steps_base.specs.declared.acts.Reply.{Reply}
-use Rattle.steps_base.specs.declared.acts.Reply.TheVariants.{Done, Value, Took, Picked, Late, TakenBy, Woken}
-use Rattle.steps_base.specs.declared.acts.Wakes.{Wakes}
 use Rattle.steps_base.specs.declared.acts.Whom as whom
-use Rattle.steps_base.specs.Moves.{StaysPut, Picks, TakesAside, TellsHanded, takes_aside, row_of}
-use Rattle.steps_base.specs.Profiles.{Profile, hand, in_hand, taken_from}
-use Rattle.steps_base.specs.Locations.{Location, nowhere, location_by}
-use Rattle.steps_base.specs.Owners.{lock_seen, shares_then}
-use Rattle.steps_rwlock.specs.declared.places.Admission.{Admission}
-use Rattle.steps_rwlock.specs.declared.places.RwLockPlace.{RwLockPlace}
-use Rattle.steps_rwlock.specs.declared.places.RwLockAt.{RwLockAt}
+use Rattle.steps_base.specs.Locations.{nowhere}
+use Rattle.steps_base.specs.Owners.{lock_seen}
 use Rattle.steps_rwlock.specs.declared.places.RwLockAt.TheVariants as at
 use Rattle.steps_rwlock.specs.declared.park.ParkAt.TheVariants as parking
-use Rattle.steps_rwlock.specs.RwLockSteps.{patience_of}
-use Rattle.steps_rwlock.specs.RwLockDeeds.{Admits, MayHear}
-use Rattle.steps_rwlock.specs.RwLockProfiles.{late_line_at}
-use Rattle.steps_rwlock.specs.RwLockCalls.{HasDeadline, MayBeTold}
-use Rattle.steps_rwlock.specs.RwLockBegins.{admission_of_kind}
-use Rattle.steps_rwlock_fair.specs.declared.places.RwLockCallPlace.{RwLockCallPlace}
-use Rattle.steps_rwlock_fair.specs.declared.places.RwLockCallPlace.TheVariants.{Plain, Glance, HandOver, Bump}
-use Rattle.steps_rwlock_fair.specs.declared.places.RwLockCallPlace.TheVariants.{Handed}
-use Rattle.steps_rwlock_fair.specs.FairCalls.{CallMayBeTold, CallMayHear, CallStands, CallStandsNext}
-use Rattle.steps_rwlock_fair.specs.FairCalls.{IsInCall}
-use Rattle.steps_rwlock_fair.specs.FairDeeds.{call_deeds, call_role, call_role_next}
-use Rattle.steps_rwlock_fair.specs.FairMoves.{CallMoves, call_hears, call_move}
-use Rattle.steps_rwlock_fair.specs.FairProfiles.{call_late_line, call_profile}
-use Rattle.steps_rwlock_fair.proofs.FairActs.{fair_acts_move, fair_late_moves, fair_sleepers_move}
-use Rattle.steps_rwlock_fair.proofs.FairCallTells.{fair_sections_tell, fair_steps_tell}
-use Rattle.steps_rwlock_fair.proofs.FairCodes.{fair_steps_code}
-use Rattle.steps_rwlock_fair.proofs.FairFit.{fair_steps_follow}
-use Rattle.steps_rwlock_fair.proofs.FairMoves.{handed_move}
-use Rattle.steps_rwlock_fair.proofs.FairOwners.{fair_owners_follow}
-use Rattle.steps_rwlock_fair.proofs.FairSections.{fair_sections_follow}
-use Rattle.steps_rwlock_fair.proofs.FairStands.{fair_calls_stand}
-use Rattle.steps_rwlock_fair.specs.FairBegins.{call_first, call_right}
-use Rattle.steps_rwlock_fair.specs.FairLaws.{CallOpens, CallTells, next_rows}
-use Rattle.steps_rwlock_fair.specs.FairSteps.{call_act, call_next, call_owners, call_shares}
-use Rattle.steps_rwlock_fair.proofs.FairOpenings.{calls_open}
-use Rattle.steps_semaphore.specs.declared.places.SemaphorePlace.{SemaphorePlace}
-use Rattle.lot_steps.specs.declared.places.Place.{Place}
-use Rattle.lot_steps.specs.declared.places.Place.TheVariants.{Idle, Mutex, RwLock, Once, Condvar}
-use Rattle.lot_steps.specs.declared.places.Place.TheVariants.{Semaphore as OfSemaphore}
-use Rattle.steps_mutex.specs.declared.places.MutexPlace.{MutexPlace}
-use Rattle.steps_once.specs.declared.places.OncePlace.{OncePlace}
-use Rattle.lot_steps.specs.Steps.{next_place, profile, calls, rwlock_goes}
-use Rattle.spec_locks.specs.Locks.{Rules, Sort, Normal as NormalSort, Recursive, Semaphore, count, keep_from}
-use Rattle.spec_locks.specs.Locks.{one_if_some, standing}
+use Rattle.steps_rwlock.specs.RwLockDeeds.{MayHear}
+use Rattle.spec_locks.specs.Locks.{Normal as NormalSort, Semaphore}
 use Rattle.spec_locks.specs.Locks as locks
-use Rattle.spec_locks.specs.Sites.{Site, IsSite, Deed, Line, Main, Second, Begin, Case, has_readers, wakened}
-use Rattle.spec_locks.specs.Codes.{HasLimit, bit, code, code_of, packed, writers}
-use Rattle.spec_locks.specs.Deeds.{case_of}
 use Rattle.spec_locks.specs.Deeds as laws
-use Rattle.spec_locks.specs.Purposes.{rules_of}
-use Rattle.lot_machine.specs.Machine.{State, place_at, word_at, kind_at, owners_at, shares_at, share_at}
-use Rattle.lot_machine.specs.Machine.{queue_at, section_at, can_do, section_is_free, put, state_after_act}
-use Rattle.lot_machine.specs.Machine.{state_after_late_under, reply_to}
-use Rattle.lot_machine.specs.Fits.{IsWellFormed}
-use Rattle.lot_laws.specs.Refinement.{taken_at}
-use Rattle.lot_laws.specs.ThreadDeeds.{acts}
-use Rattle.lot_laws.specs.Locations.{location, role_on}
-use Rattle.lot_laws.specs.SitesOf.{IsInductive, Goes, FitsItsLock, TakesOne, LimitHasRoom, carried_at}
-use Rattle.lot_laws.specs.SitesOf.{hand_at, is_mutex, rules_in, key_of}
-use Rattle.steps_condvar.specs.declared.places.CondvarPlace.{CondvarPlace}
-use Rattle.lot_steps.specs.Steps.{is_lock}
-use Rattle.steps_base.specs.Profiles.{Hand}
-use Rattle.steps_condvar.specs.CondvarSteps.{mutex_beside}
 use Rattle.lot_laws.proofs.machine.Parts.{not_beside, condvar_unheld, free_of, IsOf, next_of, parts_at}
 use Rattle.lot_laws.proofs.machine.Parts.{put_here, role_here, location_here, of_single}
 use Rattle.lot_laws.proofs.sites.WakesAt.{IsWokenAt}

@@ -1,61 +1,26 @@
 -- The pages of the places of a reader-writer lock: what its laws say of each, as any sort of lock says it.
-use Rattle.std.proofs.Common.{ℕ, Bool, true, false, Option, Some, None, ◌≡◌, ◌≢◌, ◌-◌, ◌^◌, ◌<◌, List, []}
-use Rattle.std.proofs.Common.{inl, inr, refl, sym, ◌∙◌, ap, subst}
-use Rattle.core_base.specs.declared.ops.Op.{Op}
-use Rattle.spec_locks.specs.declared.calls.Patience.{Patience}
+use Rattle.lot_laws.proofs.Names
+use Names.{ℕ, Bool, true, false, Option, Some, None, ◌≡◌, ◌≢◌, ◌-◌, ◌^◌, ◌<◌, List, [], inl, inr, refl, sym}
+use Names.{◌∙◌, ap, subst, Op, Patience, OnceState, Act, Next, Reply, Done, Value, Parked, Took, Picked}
+use Names.{Removed, Late, TakenBy, Woken, outcome_of, IsNotLate, row_of, Admission, RwLockPlace, RwLockAt}
+use Names.{patience_of, Admits, late_line_at, HasDeadline, MayBeTold, RwLockCallPlace, Plain, Glance}
+use Names.{HandOver, Bump, Handed, CallMayBeTold, CallMayHear, CallStands, CallStandsNext, IsInCall}
+use Names.{call_deeds, call_role, call_role_next, next_rows, CallMoves, call_hears, call_move, call_late_line}
+use Names.{call_profile, call_act, call_next, fair_acts_move, fair_late_moves, fair_sleepers_move}
+use Names.{fair_sections_tell, fair_steps_tell, fair_steps_code, fair_steps_follow, handed_move}
+use Names.{fair_owners_follow, fair_sections_follow, fair_calls_stand, HasLimit, TellsTrue, code, case_of}
+use Names.{event_by, Rules, Sort, is_recursive, standing, is_closure, IsSite, Line, Site, has_readers, RwLock}
+use Names.{owners_after, rwlock_does, rwlock_goes, shares_after, State, reply_to, runs_closure, word_at}
+use Names.{call_runs_none, locks_of, FitsItsLock, IsInductive, rules_in, acts, words_tell_true}
 use Rattle.spec_locks.specs.declared.calls.Patience.TheVariants as patience
-use Rattle.spec_locks.specs.declared.outcomes.OnceState.{OnceState}
-use Rattle.steps_base.specs.declared.acts.Act.{Act}
 use Rattle.steps_base.specs.declared.acts.Act.TheVariants as act
-use Rattle.steps_base.specs.declared.acts.Next.{Next}
 use Rattle.steps_base.specs.declared.acts.Next.TheVariants as next
-use Rattle.steps_base.specs.declared.acts.Reply.{Reply}
-use Rattle.steps_base.specs.declared.acts.Reply.TheVariants.{Done, Value, Parked, Took, Picked, Removed, Late}
-use Rattle.steps_base.specs.declared.acts.Reply.TheVariants.{TakenBy, Woken}
 use Rattle.steps_base.specs.declared.acts.Whom.TheVariants as whom
-use Rattle.steps_base.specs.Acts.{outcome_of}
-use Rattle.steps_base.specs.Calls.{IsNotLate}
-use Rattle.steps_base.specs.Moves.{row_of}
-use Rattle.steps_rwlock.specs.declared.places.Admission.{Admission}
-use Rattle.steps_rwlock.specs.declared.places.RwLockPlace.{RwLockPlace}
-use Rattle.steps_rwlock.specs.declared.places.RwLockAt.{RwLockAt}
 use Rattle.steps_rwlock.specs.declared.places.RwLockAt.TheVariants as at
 use Rattle.steps_rwlock.specs.declared.park.ParkAt.TheVariants as parking
-use Rattle.steps_rwlock.specs.RwLockSteps.{patience_of}
-use Rattle.steps_rwlock.specs.RwLockDeeds.{Admits, MayHear}
-use Rattle.steps_rwlock.specs.RwLockProfiles.{late_line_at}
-use Rattle.steps_rwlock.specs.RwLockCalls.{HasDeadline, MayBeTold}
-use Rattle.steps_rwlock_fair.specs.declared.places.RwLockCallPlace.{RwLockCallPlace}
-use Rattle.steps_rwlock_fair.specs.declared.places.RwLockCallPlace.TheVariants.{Plain, Glance, HandOver, Bump}
-use Rattle.steps_rwlock_fair.specs.declared.places.RwLockCallPlace.TheVariants.{Handed}
-use Rattle.steps_rwlock_fair.specs.FairCalls.{CallMayBeTold, CallMayHear, CallStands, CallStandsNext}
-use Rattle.steps_rwlock_fair.specs.FairCalls.{IsInCall}
-use Rattle.steps_rwlock_fair.specs.FairDeeds.{call_deeds, call_role, call_role_next}
-use Rattle.steps_rwlock_fair.specs.FairLaws.{next_rows}
-use Rattle.steps_rwlock_fair.specs.FairMoves.{CallMoves, call_hears, call_move}
-use Rattle.steps_rwlock_fair.specs.FairProfiles.{call_late_line, call_profile}
-use Rattle.steps_rwlock_fair.specs.FairSteps.{call_act, call_next}
-use Rattle.steps_rwlock_fair.proofs.FairActs.{fair_acts_move, fair_late_moves, fair_sleepers_move}
-use Rattle.steps_rwlock_fair.proofs.FairCallTells.{fair_sections_tell, fair_steps_tell}
-use Rattle.steps_rwlock_fair.proofs.FairCodes.{fair_steps_code}
-use Rattle.steps_rwlock_fair.proofs.FairFit.{fair_steps_follow}
-use Rattle.steps_rwlock_fair.proofs.FairMoves.{handed_move}
-use Rattle.steps_rwlock_fair.proofs.FairOwners.{fair_owners_follow}
-use Rattle.steps_rwlock_fair.proofs.FairSections.{fair_sections_follow}
-use Rattle.steps_rwlock_fair.proofs.FairStands.{fair_calls_stand}
-use Rattle.spec_locks.specs.Codes.{HasLimit, TellsTrue, code}
+use Rattle.steps_rwlock.specs.RwLockDeeds.{MayHear}
 use Rattle.spec_locks.specs.Deeds as laws
-use Rattle.spec_locks.specs.Deeds.{case_of, event_by}
-use Rattle.spec_locks.specs.Locks.{Rules, Sort, is_recursive, standing}
 use Rattle.spec_locks.specs.Locks as locks
-use Rattle.spec_locks.specs.Runs.{is_closure}
-use Rattle.spec_locks.specs.Sites.{IsSite, Line, Site, has_readers}
-use Rattle.lot_steps.specs.declared.places.Place.TheVariants.{RwLock}
-use Rattle.lot_steps.specs.Steps.{owners_after, rwlock_does, rwlock_goes, shares_after}
-use Rattle.lot_machine.specs.Machine.{State, reply_to, runs_closure, word_at}
-use Rattle.lot_machine.proofs.Closures.{call_runs_none}
-use Rattle.lot_laws.specs.Refinement.{locks_of}
-use Rattle.lot_laws.specs.SitesOf.{FitsItsLock, IsInductive, rules_in}
 use Rattle.lot_laws.proofs.book.Kept.{ComesBy, MayCome, Tied}
 use Rattle.lot_laws.proofs.book.Page.{Follows, IsThere, Leaves, MovesBy, Page, Says}
 use Rattle.lot_laws.proofs.calls.Closures.{closure_told}
@@ -63,8 +28,6 @@ use Rattle.lot_laws.proofs.calls.Events.{RunsNothing, begins_nothing, runs_nothi
 use Rattle.lot_laws.proofs.rwlock.CallRows.{call_promises}
 use Rattle.lot_laws.proofs.sites.LawsKept.{after_same, aside_read, needed_same, parked_read}
 use Rattle.lot_laws.proofs.sites.OneStep.{acts_keep}
-use Rattle.lot_laws.specs.ThreadDeeds.{acts}
-use Rattle.spec_locks.proofs.CodeLaws.{words_tell_true}
 use Rattle.lot_laws.proofs.rwlock.Kept.{call_told_done, call_told_late, call_told_other, call_told_value}
 use Rattle.lot_laws.proofs.rwlock.Kept.{role_is, role_row, word_few}
 use Rattle.lot_laws.proofs.rwlock.Late.{late_row}

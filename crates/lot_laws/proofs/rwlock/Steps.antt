@@ -1,51 +1,25 @@
 -- A thread in a call of a reader-writer lock goes on by its act: for itself alone, or handing its right over
 -- to those that it has in hand.
-use Rattle.std.proofs.Common.{ℕ, Bool, true, false, Option, Some, ◌≡◌, ◌≢◌, ◌<◌, ◌*◌, ◌+◌, List, [], ◌∷◌}
-use Rattle.std.proofs.Common.{length, refl, sym, ◌∙◌, ap, subst, append-nil}
-use Rattle.core_base.specs.declared.ops.Op.{Op}
+use Rattle.lot_laws.proofs.Names
+use Names.{ℕ, Bool, true, false, Option, Some, ◌≡◌, ◌≢◌, ◌<◌, ◌*◌, ◌+◌, List, [], ◌∷◌, length, refl, sym, ◌∙◌}
+use Names.{ap, subst, append-nil, Op, Act, Value, takes_effect, Location, Admission, RwLockPlace, MayStand}
+use Names.{rwlock_move, rwlock_hears, rwlock_act, rwlock_acts_move, MovesByAct, RwLockCallPlace, Plain}
+use Names.{Glance, HandOver, Bump, Handed, CallStands, in_hand_of, call_deeds, CallTells, CallMoves}
+use Names.{call_hears, call_move, call_profile, call_act, fair_acts_move, Idle, RwLock, called_lock}
+use Names.{next_place, case_of, event_by, LockCase, Begin, Deed, State, can_do, kind_at, owners_at, place_at}
+use Names.{put, queue_at, reply_to, share_at, shares_at, state_after_hand_over_by, word_at, IsWellFormed}
+use Names.{acts, AreCounted, Goes, IsInductive, carried_at, rules_in, location, has_readers, RwLockCall}
+use Names.{admission_of_kind, call_first, call_right, CallOpens, calls_open, Place, taken_at}
 use Rattle.spec_locks.specs.declared.calls.Access.TheVariants as access
-use Rattle.steps_base.specs.declared.acts.Act.{Act}
 use Rattle.steps_base.specs.declared.acts.Act.TheVariants as act
-use Rattle.steps_base.specs.declared.acts.Reply.TheVariants.{Value}
-use Rattle.steps_base.specs.Acts.{takes_effect}
-use Rattle.steps_base.specs.Locations.{Location}
-use Rattle.steps_rwlock.specs.declared.places.Admission.{Admission}
-use Rattle.steps_rwlock.specs.declared.places.RwLockPlace.{RwLockPlace}
-use Rattle.steps_rwlock.specs.RwLockCalls.{MayStand}
-use Rattle.steps_rwlock.specs.RwLockMoves.{rwlock_move, rwlock_hears}
-use Rattle.steps_rwlock.specs.RwLockSteps.{rwlock_act}
-use Rattle.steps_rwlock.proofs.RwLockMoves.{rwlock_acts_move}
-use Rattle.steps_base.specs.Moves.{MovesByAct}
-use Rattle.steps_rwlock_fair.specs.declared.places.RwLockCallPlace.{RwLockCallPlace}
-use Rattle.steps_rwlock_fair.specs.declared.places.RwLockCallPlace.TheVariants.{Plain, Glance, HandOver, Bump}
-use Rattle.steps_rwlock_fair.specs.declared.places.RwLockCallPlace.TheVariants.{Handed}
 use Rattle.steps_rwlock_fair.specs.declared.hand_over.Taken.{Taken as Counted}
 use Rattle.steps_rwlock_fair.specs.declared.hand_over.HandOverAt.TheVariants as handing
 use Rattle.steps_rwlock_fair.specs.declared.handed.HandedAt.TheVariants as handed
-use Rattle.steps_rwlock_fair.specs.FairCalls.{CallStands, in_hand_of}
-use Rattle.steps_rwlock_fair.specs.FairDeeds.{call_deeds}
-use Rattle.steps_rwlock_fair.specs.FairLaws.{CallTells}
-use Rattle.steps_rwlock_fair.specs.FairMoves.{CallMoves, call_hears, call_move}
-use Rattle.steps_rwlock_fair.specs.FairProfiles.{call_profile}
-use Rattle.steps_rwlock_fair.specs.FairSteps.{call_act}
-use Rattle.steps_rwlock_fair.proofs.FairActs.{fair_acts_move}
-use Rattle.lot_steps.specs.declared.places.Place.TheVariants.{Idle, RwLock}
-use Rattle.lot_steps.specs.Steps.{called_lock, next_place}
-use Rattle.spec_locks.specs.Deeds.{case_of, event_by}
-use Rattle.spec_locks.specs.Locks.{LockCase}
-use Rattle.spec_locks.specs.Sites.{Begin, Deed}
-use Rattle.lot_machine.specs.Machine.{State, can_do, kind_at, owners_at, place_at, put, queue_at, reply_to}
-use Rattle.lot_machine.specs.Machine.{share_at, shares_at, state_after_hand_over_by, word_at}
-use Rattle.lot_machine.specs.Fits.{IsWellFormed}
-use Rattle.lot_laws.specs.ThreadDeeds.{acts}
-use Rattle.lot_laws.specs.SitesOf.{AreCounted, Goes, IsInductive, carried_at, rules_in}
-use Rattle.lot_laws.specs.Locations.{location}
 use Rattle.lot_laws.proofs.sites.ActsKept.{lock_by}
 use Rattle.lot_laws.proofs.machine.AtPlaces.{in_no_hand}
 use Rattle.lot_laws.proofs.calls.Events.{Happens, OthersFollow, happens, others_follow}
 use Rattle.lot_laws.proofs.hands.HandsOn.{g, hands_fails, hands_tell, whom}
 use Rattle.lot_laws.proofs.hands.HandsOnEvents.{hands_happen, hands_others}
-use Rattle.spec_locks.specs.Sites.{has_readers}
 use Rattle.lot_laws.proofs.rwlock.Kept.{admits}
 use Rattle.lot_laws.proofs.promises.LineActs.{TakesHere, takes_here}
 use Rattle.lot_laws.proofs.machine.PlaceTest.{call_facts}
@@ -54,13 +28,6 @@ use Rattle.lot_laws.proofs.calls.OtherCalls.{wakes_own}
 use Rattle.lot_laws.proofs.promises.PlacePromises.{location_own}
 use Rattle.lot_laws.proofs.rwlock.Kept.{GoesFrom, admits_by, first_fits, stands}
 use Rattle.lot_laws.proofs.book.Kept.{begins_with, goes_on, whom_by}
-use Rattle.spec_locks.specs.declared.calls.RwLockCall.{RwLockCall}
-use Rattle.steps_rwlock.specs.RwLockBegins.{admission_of_kind}
-use Rattle.steps_rwlock_fair.specs.FairBegins.{call_first, call_right}
-use Rattle.steps_rwlock_fair.specs.FairLaws.{CallOpens}
-use Rattle.steps_rwlock_fair.proofs.FairOpenings.{calls_open}
-use Rattle.lot_steps.specs.declared.places.Place.{Place}
-use Rattle.lot_laws.specs.Refinement.{taken_at}
 use Rattle.lot_laws.proofs.book.Pages.{booked}
 use Rattle.lot_laws.proofs.machine.Parts.{same}
 use Rattle.lot_laws.proofs.sites.SitesKept.{go_by}

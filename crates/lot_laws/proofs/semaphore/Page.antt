@@ -1,53 +1,31 @@
 -- The pages of a semaphore's places: what its laws say of each, as any sort of lock says it.
-use Rattle.std.proofs.Common.{ℕ, Bool, true, false, Option, Some, None, if◌then◌else◌, ◌-◌, ◌==◌, ◌≡◌, ◌≢◌}
-use Rattle.std.proofs.Common.{◌*◌, ◌≤◌, List, [], ◌∷◌, inl, not, refl, sym, ◌∙◌, ap, subst, arith}
-use Rattle.std.specs.Prelude.{◌&&◌, slice_index}
-use Rattle.std.proofs.lemmas.Bool.Decides.{nat_tests}
-use Rattle.core_base.specs.declared.ops.Op.{Op}
-use Rattle.core_base.specs.declared.wants.Want.TheVariants.{Shared}
+use Rattle.lot_laws.proofs.Names
+use Names.{ℕ, Bool, true, false, Option, Some, None, if◌then◌else◌, ◌-◌, ◌==◌, ◌≡◌, ◌≢◌, ◌*◌, ◌≤◌, List, []}
+use Names.{◌∷◌, inl, not, refl, sym, ◌∙◌, ap, subst, arith, slice_index, nat_tests, Op, Shared, SemaphoreCall}
+use Names.{Act, Next, Reply, Value, Late, outcome_of, row_of, LockState, Rules, is_recursive, Case, Claim}
+use Names.{Deed, End, Has, HasClaim, Line, Main, Mark, Site, idle, is_closure, aside_in, code, has_parked}
+use Names.{parked_in, SemaphorePlace, Acquire, Release, semaphore_deeds, LeavesWord, semaphore_role}
+use Names.{semaphore_profile, is_free, semaphore_act, semaphore_first, semaphore_next, semaphore_right}
+use Names.{semaphore_steps_code, semaphore_steps_follow, semaphore_promises, semaphore_steps_tell, Semaphore}
+use Names.{Idle, owners_after, semaphore_does, semaphore_goes, shares_after, State, reply_to, runs_closure}
+use Names.{semaphore_runs_none, location, FitsItsLock, LateIsTimed, rules_in, locks_of}
+use Rattle.std.specs.Prelude.{◌&&◌}
 use Rattle.spec_locks.specs.declared.calls.Patience.TheVariants as how
-use Rattle.spec_locks.specs.declared.calls.SemaphoreCall.{SemaphoreCall}
 use Rattle.spec_locks.specs.declared.calls.SemaphoreCall.TheVariants as semaphore_call
-use Rattle.steps_base.specs.declared.acts.Act.{Act}
 use Rattle.steps_base.specs.declared.acts.Act.TheVariants as act
-use Rattle.steps_base.specs.declared.acts.Next.{Next}
 use Rattle.steps_base.specs.declared.acts.Next.TheVariants as next
-use Rattle.steps_base.specs.declared.acts.Reply.{Reply}
-use Rattle.steps_base.specs.declared.acts.Reply.TheVariants.{Value, Late}
 use Rattle.steps_base.specs.declared.acts.Whom.TheVariants as whom
-use Rattle.steps_base.specs.Acts.{outcome_of}
-use Rattle.steps_base.specs.Moves.{row_of}
-use Rattle.spec_locks.specs.Locks.{LockState, Rules, is_recursive}
 use Rattle.spec_locks.specs.Locks as locks
-use Rattle.spec_locks.specs.Sites.{Case, Claim, Deed, End, Has, HasClaim, Line, Main, Mark, Site, idle}
-use Rattle.spec_locks.specs.Runs.{is_closure}
-use Rattle.spec_locks.specs.Codes.{aside_in, code, has_parked, parked_in}
 use Rattle.spec_locks.specs.Deeds as laws
 use Rattle.steps_semaphore.specs.declared.acquire.AcquireAt.TheVariants as acquire
 use Rattle.steps_semaphore.specs.declared.tries.TryAt.TheVariants as tries
 use Rattle.steps_semaphore.specs.declared.release.ReleaseAt.TheVariants as release
-use Rattle.steps_semaphore.specs.declared.places.SemaphorePlace.{SemaphorePlace}
-use Rattle.steps_semaphore.specs.declared.places.SemaphorePlace.TheVariants.{Acquire, Try, Release}
-use Rattle.steps_semaphore.specs.SemaphoreDeeds.{enter_deeds, semaphore_deeds}
-use Rattle.steps_semaphore.specs.SemaphoreLaws.{IsAt, LeavesWord, MayHear, role_next, next_row}
-use Rattle.steps_semaphore.specs.SemaphoreLaws.{semaphore_role}
-use Rattle.steps_semaphore.specs.SemaphoreProfiles.{semaphore_profile}
-use Rattle.steps_semaphore.specs.SemaphoreSteps.{is_free, semaphore_act, semaphore_first, semaphore_next}
-use Rattle.steps_semaphore.specs.SemaphoreSteps.{semaphore_right}
-use Rattle.steps_semaphore.proofs.SemaphoreCode.{semaphore_steps_code}
-use Rattle.steps_semaphore.proofs.SemaphoreFit.{semaphore_steps_follow}
-use Rattle.steps_semaphore.proofs.SemaphoreRowCheck.{semaphore_promises}
-use Rattle.steps_semaphore.proofs.SemaphoreTells.{semaphore_steps_tell}
+use Rattle.steps_semaphore.specs.declared.places.SemaphorePlace.TheVariants.{Try}
+use Rattle.steps_semaphore.specs.SemaphoreDeeds.{enter_deeds}
+use Rattle.steps_semaphore.specs.SemaphoreLaws.{IsAt, MayHear, role_next, next_row}
 use Rattle.steps_semaphore.proofs.SemaphoreWords as words
-use Rattle.lot_steps.specs.declared.places.Place.TheVariants.{Semaphore, Idle}
-use Rattle.lot_steps.specs.Steps.{owners_after, semaphore_does, semaphore_goes, shares_after}
-use Rattle.lot_machine.specs.Machine.{State, reply_to, runs_closure}
-use Rattle.lot_machine.proofs.Closures.{semaphore_runs_none}
-use Rattle.lot_laws.specs.Locations.{location}
-use Rattle.lot_laws.specs.SitesOf.{FitsItsLock, LateIsTimed, rules_in}
 use Rattle.lot_laws.proofs.book.Page.{Follows, IsThere, Leaves, MovesBy, Page, Says, never_given}
 use Rattle.lot_laws.proofs.book.Page.{plainly_waits}
-use Rattle.lot_laws.specs.Refinement.{locks_of}
 use Rattle.lot_laws.proofs.book.Kept.{ComesBy, MayCome, Tied}
 use Rattle.lot_laws.proofs.calls.Closures.{closure_told}
 use Rattle.lot_laws.proofs.calls.Events.{RunsNothing, begins_nothing, runs_nothing}

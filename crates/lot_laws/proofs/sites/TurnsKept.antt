@@ -1,47 +1,27 @@
 -- Each turn of a thread keeps every lock a site, and every thread in the line, the section and the hand that
 -- its place says.
-use Rattle.std.proofs.Common.{ℕ, Bool, true, false, Option, Some, None, if◌then◌else◌, ◌≡◌, ◌<◌, [], ◌∷◌}
-use Rattle.std.proofs.Common.{length, length-set, nat_lt, inl, inr, refl, subst, sym, ◌∙◌, ap}
+use Rattle.lot_laws.proofs.Names
+use Names.{ℕ, Bool, true, false, Option, Some, None, if◌then◌else◌, ◌≡◌, ◌<◌, [], ◌∷◌, length, length-set}
+use Names.{nat_lt, inl, inr, refl, subst, sym, ◌∙◌, ap, once_first, semaphore_first, can_close, can_do}
+use Names.{can_go, state_after_close, state_after_go, state_after_going, mutex_profile, once_profile}
+use Names.{semaphore_profile, ltb-true, Exclusive, Call, MutexCall, Step, Turn, has_call, is_fair, Place}
+use Names.{Idle, Mutex, RwLock, Once, Condvar, Semaphore, MutexPlace, mutex_first, mutex_right, act_of}
+use Names.{is_idle, looking, late_key, key_in, Claim, Has, Begin, HasClaim, idle, State, place_at, owners_at}
+use Names.{kind_at, put, state_after_begin, can_begin, is_open_to, state_after_look, state_after_late_on}
+use Names.{is_free_under, state_after_turn, can_turn, is_possible, after, IsWellFormed, PlaceFits, lock_state}
+use Names.{taken_at, is_mutex, mutex_role, mutex_location, acts, begin_deed, nowhere, location, AreCondvars}
+use Names.{AreCounted, IsInductive, Goes, both, looking_well_formed, Admission, RwLockCallPlace, Plain}
+use Names.{Bump as BumpCall, call_late_line}
 use Rattle.lot_laws.proofs.book.Kept.{begins_with, goes_late}
 use Rattle.lot_laws.proofs.book.Pages.{booked}
-use Rattle.steps_once.specs.OnceSteps.{once_first}
-use Rattle.steps_semaphore.specs.SemaphoreSteps.{semaphore_first}
-use Rattle.lot_machine.specs.Machine.{can_close, can_do, can_go, state_after_close, state_after_go}
-use Rattle.lot_machine.specs.Machine.{state_after_going}
 use Rattle.lot_laws.proofs.calls.Looking.{closing_inductive}
 use Rattle.lot_laws.proofs.calls.Closings.{closing, closing_counted, closing_may, closing_well_formed}
 use Rattle.lot_laws.proofs.calls.Closings.{closing_there}
 use Rattle.lot_laws.proofs.calls.Closures.{closes_one}
-use Rattle.steps_mutex.specs.MutexProfiles.{mutex_profile}
-use Rattle.steps_once.specs.OnceProfiles.{once_profile}
-use Rattle.steps_semaphore.specs.SemaphoreProfiles.{semaphore_profile}
 use Rattle.lot_laws.proofs.semaphore.Page.{claim_held, claims_first, opens}
-use Rattle.std.proofs.lemmas.Bool.{ltb-true}
-use Rattle.core_base.specs.declared.wants.Want.TheVariants.{Exclusive}
-use Rattle.spec_locks.specs.declared.calls.Call.{Call}
 use Rattle.spec_locks.specs.declared.calls.Call as calling
-use Rattle.spec_locks.specs.declared.calls.MutexCall.{MutexCall}
 use Rattle.spec_locks.specs.declared.calls.MutexCall.TheVariants as call
-use Rattle.spec_locks.specs.declared.calls.Step.{Step}
-use Rattle.spec_locks.specs.declared.calls.Turn.{Turn}
 use Rattle.spec_locks.specs.declared.calls.Turn as turn
-use Rattle.spec_locks.specs.Kinds.{has_call, is_fair}
-use Rattle.lot_steps.specs.declared.places.Place.{Place}
-use Rattle.lot_steps.specs.declared.places.Place.TheVariants.{Idle, Mutex, RwLock, Once, Condvar, Semaphore}
-use Rattle.steps_mutex.specs.declared.places.MutexPlace.{MutexPlace}
-use Rattle.steps_mutex.specs.MutexSteps.{mutex_first, mutex_right}
-use Rattle.lot_steps.specs.Steps.{act_of, is_idle, looking, late_key, key_in}
-use Rattle.spec_locks.specs.Sites.{Claim, Has, Begin, HasClaim, idle}
-use Rattle.lot_machine.specs.Machine.{State, place_at, owners_at, kind_at, put, state_after_begin, can_begin}
-use Rattle.lot_machine.specs.Machine.{is_open_to, state_after_look, state_after_late_on, is_free_under}
-use Rattle.lot_machine.specs.Machine.{state_after_turn, can_turn, is_possible, after}
-use Rattle.lot_machine.specs.Fits.{IsWellFormed, PlaceFits}
-use Rattle.lot_laws.specs.Refinement.{lock_state, taken_at}
-use Rattle.lot_laws.specs.SitesOf.{is_mutex}
-use Rattle.lot_laws.specs.ThreadDeeds.{mutex_role, mutex_location, acts, begin_deed}
-use Rattle.lot_laws.specs.Locations.{nowhere, location}
-use Rattle.lot_laws.specs.SitesOf.{AreCondvars, AreCounted, IsInductive, Goes}
-use Rattle.lot_machine.proofs.Shape.{both, looking_well_formed}
 use Rattle.lot_laws.proofs.machine.KindsStay.{calls_mutex, calls_readers, calls_once, calls_semaphore}
 use Rattle.lot_laws.proofs.machine.Parts.{parts_at, same, single_or_two, thread_is}
 use Rattle.lot_laws.proofs.machine.Parts.{mutex, own_role}
@@ -58,10 +38,6 @@ use Rattle.lot_laws.proofs.condvar.BeginsKept.{begins_at, condvar_begins, condva
 use Rattle.lot_laws.proofs.calls.OwnPlace.{gone}
 use Rattle.lot_laws.proofs.rwlock.Steps.{rwlock_begins}
 use Rattle.lot_laws.proofs.rwlock.Late.{late_row}
-use Rattle.steps_rwlock.specs.declared.places.Admission.{Admission}
-use Rattle.steps_rwlock_fair.specs.declared.places.RwLockCallPlace.{RwLockCallPlace}
-use Rattle.steps_rwlock_fair.specs.declared.places.RwLockCallPlace.TheVariants.{Plain, Bump as BumpCall}
-use Rattle.steps_rwlock_fair.specs.FairProfiles.{call_late_line}
 use Rattle.core_base.specs.declared.keys.Line.{Line}
 
 pub idle_is : (p : Place) → is_idle p ≡ true → p ≡ Idle
