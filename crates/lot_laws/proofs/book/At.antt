@@ -1,6 +1,5 @@
 -- A thread does an act at one lock, wherever it stands about others meanwhile: the acts of `sites/MovesKept`,
--- at a lock. So a
--- call of two locks has a page at each. No sort of lock is named.
+-- at a lock. So a call of two locks has a page at each. No sort of lock is named.
 use Rattle.lot_laws.proofs.Names
 use Names.{ℕ, Bool, true, false, Option, Some, None, if◌then◌else◌, ◌==◌, ◌≡◌, ◌≢◌, ◌*◌, ◌+◌, ◌<◌, List, []}
 use Names.{◌∷◌, length, refl, sym, ◌∙◌, ap, subst, One, Want, first_of, times, without, Check, Reply, Done}

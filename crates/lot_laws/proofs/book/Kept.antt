@@ -1,6 +1,5 @@
 -- A thread in a call of any one lock goes on: every lock is a site again. No sort of lock is named: the page
--- of its place
--- says what it does.
+-- of its place says what it does.
 use Rattle.lot_laws.proofs.Names
 use Names.{ℕ, Bool, true, false, Option, Some, None, if◌then◌else◌, ◌≡◌, ◌≢◌, ◌*◌, ◌+◌, ◌<◌, List, [], ◌∷◌}
 use Names.{length, inl, inr, refl, sym, ◌∙◌, ap, subst, Normal, Op, Want, first_of, apply, Act, Check, Next}

@@ -1,6 +1,5 @@
 -- When a call of a condition variable has something to do, and when its time may be up: where it sleeps in a
--- queue, of the condition
--- variable or, moved, of its mutex.
+-- queue, of the condition variable or, moved, of its mutex.
 use Rattle.lot_laws.proofs.Names
 use Names.{ℕ, Bool, true, false, Some, None, if◌then◌else◌, ◌==◌, ◌*◌, ◌<◌, ◌≡◌, ◌≢◌, inl, inr, refl, sym}
 use Names.{◌∙◌, ap, Sleep, Late, in_line, Condvar, act_of, late_key, next_place, NotifyAt, CondvarPlace, Wait}

@@ -1,6 +1,5 @@
 -- A notification moves waiters of a condition variable to its mutex: some it takes, and the others stand
--- there after the last. Where the threads
--- stand then, in sections, lines and hands.
+-- there after the last. Where the threads stand then, in sections, lines and hands.
 use Rattle.lot_laws.proofs.Names
 use Names.{ℕ, Bool, true, false, Option, Some, None, if◌then◌else◌, ◌==◌, ◌&&◌, ◌||◌, ◌≡◌, ◌≢◌, ◌+◌, ◌≤◌, ◌⊎◌}
 use Names.{List, [], ◌∷◌, ◌++◌, inl, inr, refl, sym, ◌∙◌, ap, subst, arith, cases_eq, and-true, and-false}

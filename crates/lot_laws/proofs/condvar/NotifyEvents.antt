@@ -1,6 +1,5 @@
 -- A step of a notification is one event of its condition variable or of the mutex that it saw, or a move of
--- waiters from the one to the other; and its
--- call goes on by it.
+-- waiters from the one to the other; and its call goes on by it.
 use Rattle.lot_laws.proofs.Names
 use Names.{ℕ, Bool, true, false, Option, Some, None, if◌then◌else◌, ◌==◌, ◌≡◌, ◌≢◌, ◌⊎◌, ◌*◌, ◌≤◌, List, []}
 use Names.{◌∷◌, length, inl, inr, refl, sym, ◌∙◌, ap, subst, arith, cases_eq, eqb-true, nat_tests, outcome_of}

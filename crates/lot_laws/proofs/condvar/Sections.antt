@@ -1,6 +1,5 @@
 -- An act in a call of a condition variable enters sections of its two locks, and one that leaves sections or
--- touches queues is of those that
--- its thread is inside, as its row says.
+-- touches queues is of those that its thread is inside, as its row says.
 use Rattle.lot_laws.proofs.Names
 use Names.{ℕ, Bool, true, false, Option, Some, None, if◌then◌else◌, ◌==◌, not, ◌+◌, ◌*◌, ◌≡◌, ◌≢◌, ◌⊎◌, inl}
 use Names.{inr, [], map, get_or, refl, sym, ◌∙◌, ap, cases_eq, eqb-true, get_or-map, One, Two, without, times}

@@ -1,6 +1,5 @@
 -- A thread that goes on in a call of a condition variable does so in the abstract locks, where its step has
--- led both locks as its deeds say, and the
--- others' calls follow.
+-- led both locks as its deeds say, and the others' calls follow.
 use Rattle.lot_laws.proofs.Names
 use Names.{ℕ, Bool, true, false, Option, Some, None, if◌then◌else◌, ◌==◌, ◌&&◌, ◌≡◌, ◌≢◌, ◌<◌, List, []}
 use Names.{length, not, refl, sym, ◌∙◌, ap, subst, outcome_of, Hand, taken_from, Value, NotifyAt, Wait, Look}

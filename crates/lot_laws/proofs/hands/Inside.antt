@@ -1,6 +1,5 @@
 -- A thread that has taken others is inside the section from whose line it took them. One that is yet to set a
--- parked bit beside waiters is inside
--- too, or has ended its run of a `Once` and owes them their wake.
+-- parked bit beside waiters is inside too, or has ended its run of a `Once` and owes them their wake.
 use Rattle.lot_laws.proofs.Names
 use Names.{ℕ, Bool, true, false, Some, None, if◌then◌else◌, ◌≡◌, inl, inr, sym, ◌∙◌, ap, subst, Taken, Role}
 use Names.{Line, Main, idle, CondvarPlace, Place, Condvar, beside_of, calls, is_lock, line_owed, or_else}

@@ -1,6 +1,6 @@
 -- Each place of a call of one lock, by what befalls its thread there: one that tells others something hears
--- nothing, one that sleeps does so on,
--- and a call goes on as it was where its thread is taken, and tries again where it is woken.
+-- nothing, one that sleeps does so on, and a call goes on as it was where its thread is taken, and tries
+-- again where it is woken.
 use Rattle.lot_laws.proofs.Names
 use Names.{ℕ, Bool, true, false, Option, Some, None, if◌then◌else◌, ◌==◌, ◌≡◌, not, ◌+◌, ◌-◌, ◌*◌, refl, sym}
 use Names.{ap, ◌∙◌, One, Note, Access, has_aside, Rights, Bumps, CallState, Hand, hand, Act, Word, Enter}

@@ -1,6 +1,5 @@
 -- An act that enters a section is of a line of the lock that the thread calls, and one that leaves a section
--- or touches a queue is of the line
--- whose section the thread is in, as its place says.
+-- or touches a queue is of the line whose section the thread is in, as its place says.
 use Rattle.lot_laws.proofs.Names
 use Names.{ℕ, zero, suc, Option, Some, None, ◌≡◌, ◌≢◌, ◌⊎◌, ◌+◌, ◌*◌, ◌<◌, inl, inr, [], map, length, get_or}
 use Names.{refl, sym, ◌∙◌, ap, subst, arith, cases_eq, get_or-map, without, times, Act, act_of, key_in}

@@ -1,6 +1,5 @@
 -- Each place of a call of a reader-writer lock says of its thread what is promised of it: also of a fair
--- release, of a bump, and of one that was
--- handed the lock.
+-- release, of a bump, and of one that was handed the lock.
 use Rattle.lot_laws.proofs.Names
 use Names.{ℕ, Bool, true, false, Some, None, if◌then◌else◌, ◌≡◌, ◌≢◌, ◌+◌, ◌*◌, ◌⊎◌, inl, inr, refl, sym, ◌∙◌}
 use Names.{ap, subst, arith, One, Exclusive, Access, Patience, Patient, Timed, Try, Sleep, Profile, Admission}

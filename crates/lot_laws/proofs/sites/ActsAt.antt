@@ -1,6 +1,5 @@
 -- Each act of one thread keeps every lock of the world a site whose word says so, whatever the thread does
--- about other locks meanwhile: it is there as
--- it was.
+-- about other locks meanwhile: it is there as it was.
 use Rattle.lot_laws.proofs.Names
 use Names.{ℕ, Bool, true, Option, Some, None, if◌then◌else◌, ◌==◌, ◌||◌, ◌≡◌, ◌≢◌, ◌+◌, ◌*◌, ◌/◌, ◌%◌, ◌≤◌}
 use Names.{◌<◌, ◌⊎◌, List, [], ◌∷◌, ◌++◌, length, replicate, get_or, set, map, drop, inl, inr, refl, sym, ◌∙◌}

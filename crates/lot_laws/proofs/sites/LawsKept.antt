@@ -1,6 +1,5 @@
 -- A step on the word of a lock that is shared, by what the laws of its sort conclude of it: that its deeds
--- may be done, what its thread does then, the owners
--- and the word after it.
+-- may be done, what its thread does then, the owners and the word after it.
 use Rattle.lot_laws.proofs.Names
 use Names.{ℕ, true, ◌||◌, ◌≡◌, ◌<◌, List, [], ◌∷◌, length, refl, sym, ◌∙◌, ap, Op, apply, Place, Rules, Sort}
 use Names.{Recursive, Site, IsSite, Deed, has_readers, after_deed, code, fills, parked_in, aside_in}

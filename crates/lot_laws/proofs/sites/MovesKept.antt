@@ -1,6 +1,5 @@
 -- A thread goes on where its act takes it: every lock is a site again. No place is named: the row of a place
--- says where
--- the act takes its thread, and the laws of its sort of lock that its deeds may be done.
+-- says where the act takes its thread, and the laws of its sort of lock that its deeds may be done.
 use Rattle.lot_laws.proofs.Names
 use Names.{ℕ, Bool, true, false, Option, Some, None, if◌then◌else◌, ◌==◌, ◌≡◌, ◌≢◌, ◌+◌, ◌*◌, ◌≤◌, ◌<◌, List}
 use Names.{[], ◌∷◌, length, map, drop, get_or, cond, not, inl, inr, refl, sym, ◌∙◌, ap, subst, arith}
