@@ -8,7 +8,6 @@ mod explaining;
 mod first;
 mod picture;
 mod printing;
-mod reducing;
 mod report;
 mod searches;
 mod settling;
