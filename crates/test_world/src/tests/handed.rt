@@ -133,7 +133,7 @@ const GIVES_WAY: &[Line] = &[
 ];
 
 #[test]
-fn a_bump_enters_again_after_those_to_whom_it_gave_way(rt: HostRuntime) {
+fn a_bump_enters_again_after_those_that_it_let_in(rt: HostRuntime) {
     plays_anew(&rt, rt.alloc(), &[LOCK], 3, GIVES_WAY);
 }
 

@@ -85,7 +85,7 @@ const LISTED: &[(Owner, usize)] = &[
 ];
 
 #[test]
-fn who_shares_is_listed_after_the_owners(rt: HostRuntime) {
+fn sharers_are_listed_after_the_owners(rt: HostRuntime) {
     let owners = Owners {
         upgradable: Some(2),
         ..Owners::NOBODY

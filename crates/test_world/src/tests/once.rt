@@ -40,7 +40,7 @@ const RUNS_NEW: Outcome = Outcome::Closure(OnceState::New);
 const RUNS_POISONED: Outcome = Outcome::Closure(OnceState::Poisoned);
 
 #[test]
-fn who_waits_for_a_run_tries_again_when_woken(rt: HostRuntime) {
+fn a_waiter_of_a_run_tries_again_when_woken(rt: HostRuntime) {
     let taken = Place::Once {
         lock: 3,
         at: OncePlace::Look {
@@ -91,7 +91,7 @@ const WAITS_BEFORE: &[Line] = &[
 ];
 
 #[test]
-fn who_waits_before_the_run_sees_it_done(rt: HostRuntime) {
+fn a_waiter_from_before_the_run_sees_it_done(rt: HostRuntime) {
     plays_anew(&rt, rt.alloc(), &[Kind::Once], 2, WAITS_BEFORE);
 }
 
@@ -204,6 +204,6 @@ const GIVES_UP: &[Line] = &[
 ];
 
 #[test]
-fn who_waits_with_a_deadline_leaves_the_bit_to_others(rt: HostRuntime) {
+fn a_waiter_with_a_deadline_leaves_the_bit_to_others(rt: HostRuntime) {
     plays_anew(&rt, rt.alloc(), &[Kind::Once], 3, GIVES_UP);
 }

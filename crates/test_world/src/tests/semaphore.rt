@@ -81,7 +81,7 @@ const GIVES_UP: &[Line] = &[
 ];
 
 #[test]
-fn who_gives_up_leaves_the_bit_to_others(rt: HostRuntime) {
+fn a_thread_that_gives_up_leaves_the_bit_to_others(rt: HostRuntime) {
     plays_anew(
         &rt,
         rt.alloc(),
