@@ -16,7 +16,6 @@ pub use Rattle.std.proofs.lemmas.List.{get_or_past, length-map, length-replicate
 pub use Rattle.std.proofs.lemmas.List.Elements.{All-cons, All-nil}
 pub use Rattle.std.specs.List.{filter}
 pub use Rattle.std.specs.Prelude.{nat_le, slice_index, slice_set, sum}
-
 -- Words, queues, notes.
 pub use Rattle.core_base.proofs.Counts.{times_append, times_gone, times_without}
 pub use Rattle.core_base.specs.Lines.{first_of, line, threads_of, times, waiter, without}
@@ -36,7 +35,6 @@ pub use Rattle.core_base.specs.declared.requeues.Requeue.{Requeue}
 pub use Rattle.core_base.specs.declared.wants.Waiter.{Waiter}
 pub use Rattle.core_base.specs.declared.wants.Want.{Want}
 pub use Rattle.core_base.specs.declared.wants.Want.TheVariants.{CallOnce, Exclusive, Shared, Upgradable}
-
 -- Locks, calls, runs.
 pub use Rattle.spec_locks.proofs.Bypass.{nobody_overtakes}
 pub use Rattle.spec_locks.proofs.CallTable.{loses}
@@ -137,7 +135,6 @@ pub use Rattle.spec_locks.specs.declared.outcomes.Answer.{Answer}
 pub use Rattle.spec_locks.specs.declared.outcomes.Answer.TheVariants.{No, Ok}
 pub use Rattle.spec_locks.specs.declared.outcomes.OnceState.{OnceState}
 pub use Rattle.spec_locks.specs.declared.outcomes.Outcome.{Outcome}
-
 -- The steps of each sort of lock.
 pub use Rattle.steps_base.proofs.RowCheck.{is_line, is_try, no_line}
 pub use Rattle.steps_base.specs.Acts.{any_picked, holds, outcome_of, takes_effect, wakes_taken}
@@ -337,7 +334,6 @@ pub use Rattle.steps_semaphore.specs.declared.places.SemaphorePlace.{SemaphorePl
 pub use Rattle.steps_semaphore.specs.declared.places.SemaphorePlace.TheVariants.{Acquire, Release}
 pub use Rattle.steps_semaphore.specs.declared.release.ReleaseAt.{ReleaseAt}
 pub use Rattle.steps_semaphore.specs.declared.tries.TryAt.{TryAt}
-
 -- Places of calls.
 pub use Rattle.lot_steps.specs.Steps.{act_of, beside_of, called_lock, calls, condvar_does, condvar_goes}
 pub use Rattle.lot_steps.specs.Steps.{first_place, has_right, in_condvar, in_mutex, in_once, in_rwlock}
@@ -349,7 +345,6 @@ pub use Rattle.lot_steps.specs.Steps.{taker, wants}
 pub use Rattle.lot_steps.specs.declared.places.Place.{Place}
 pub use Rattle.lot_steps.specs.declared.places.Place.TheVariants.{Condvar, Idle, Mutex, Once, RwLock}
 pub use Rattle.lot_steps.specs.declared.places.Place.TheVariants.{Semaphore}
-
 -- The machine.
 pub use Rattle.lot_machine.proofs.Acted.{Befalls, acted_keeps, tells}
 pub use Rattle.lot_machine.proofs.Closures.{IsOwn, call_own, call_runs_none, course_own, mutex_own}
@@ -393,7 +388,6 @@ pub use Rattle.lot_machine.specs.Machine.{wants_more_in_hand, with_share, word_a
 unfoldable pub use Rattle.lot_machine.specs.Machine.{solo}
 pub use Rattle.lot_machine.specs.NewLocks.{new_site}
 pub use Rattle.lot_machine.specs.declared.hands.Successor.{Successor}
-
 -- What contracts of this crate cite.
 pub use Rattle.lot_laws.specs.Fair.{FairReleaseComesTo, GivesUpFairly, HandsMutexOver, IsFair, IsFairRelease}
 pub use Rattle.lot_laws.specs.Fair.{IsToGiveAt, LetsMutexGo, OwnerReleasesFairly, OwnsOn}

@@ -167,7 +167,7 @@ abbrev pub rwlock_tries : RwLockAt → Bool
 rwlock_tries at.First = true
 rwlock_tries to = false
 
--- and an owner that gives its right up fairly, unless the right is upgradable
+-- an owner that gives its right up fairly does, unless the right is upgradable
 abbrev pub call_tries : RwLockCallPlace → Bool
 call_tries (call.Plain p) = rwlock_tries p.at
 call_tries (call.Bump p) = rwlock_tries p.at

@@ -43,7 +43,7 @@ module _ (w : State) (t l : ℕ) (inductive : IsInductive w) (there : t < length
     pub taken : taken_at (place_at w t) l ≡ taken_from x.row.hand x.row.wants true
     pub role : role_on (place_at w t) l ≡ x.row.role
 
-  -- and so it does at the place to which a reply leads, which leaves all else
+  -- at the place to which a reply leads it does so too, and leaves all else
   pub record LeadsTo (who : Option ℕ) (told : Reply) (p2 : Place) : Type 0 where
     pub alike : AlikeBeside l (place_at w t) p2
     pub fits : FitsItsLock w p2

@@ -345,7 +345,7 @@ module _ (w : State) (t l : ℕ) (p : Place) (inductive : IsInductive w) (shape 
     free = ap (λ (y : Location). y.hand) (g.goes _ _);
   })
 
-  -- ---------------------------------------------------------------- those to whom it has handed the lock
+  -- ---------------------------------------------------------------- threads to which it has handed the lock
 
   calls_there : (q : Place) → is_lock l (beside_of q) ≡ false → (h : Hand) → hand_at q l ≡ Some h
       → (calls q l ≡ true) × ((location q).hand ≡ Some h)

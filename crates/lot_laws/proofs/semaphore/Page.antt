@@ -41,7 +41,7 @@ role_is (next.End answer) = refl
 
 -- ---------------------------------------------------------------- its word
 
--- it has no second line, and nothing but who holds a permit changes
+-- it has no second line, and nothing but the holders of permits changes
 module _ (r : Rules) (s : Site) (t : ℕ) where
   pub record OnlyPermits (ds : List Deed) : Type 0 where
     pub aside : (laws.after_all r ds s t).aside_parked ≡ s.aside_parked
@@ -238,7 +238,7 @@ semaphore_tied w l p fits = record {
 
 -- ---------------------------------------------------------------- a call begins
 
--- tells what it claims: who is to give a permit back holds one
+-- tells what it claims: a thread that is to give a permit back holds one
 abbrev pub claims_first : SemaphoreCall → Option Claim
 claims_first (semaphore_call.Acquire patience) = None
 claims_first semaphore_call.Release = Some (Has Shared)
@@ -260,7 +260,7 @@ opens semaphore_call.Release = record { location = refl; role = refl; timed = λ
 some_held : (n : ℕ) → not (n == 0) ≡ true → 1 ≤ n
 some_held n h = grind (arith, nat_tests)
 
--- who gives a permit back holds one
+-- a thread that gives a permit back holds one
 pub claim_held : (s : LockState) (t : ℕ) (c : SemaphoreCall) → semaphore_right c (slice_index s.shared t)
     ≡ true → HasClaim s t (claims_first c)
 claim_held s t (semaphore_call.Acquire patience) h = tt
