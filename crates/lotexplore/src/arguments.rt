@@ -56,6 +56,8 @@ pub struct Arguments<'a> {
     pub from: Option<&'a str>,
     pub way: Way,
     pub limits: Limits,
+    /// How many threads share a search; 0 are as many as there are processors.
+    pub jobs: usize,
     pub depth: Option<u32>,
     pub seconds: Option<u64>,
     pub turns: Turns,
@@ -96,6 +98,7 @@ fn arguments_in<'a>(matches: &ArgMatches<'a>) -> Arguments<'a> {
             states: matches.get_one::<u32>("states").unwrap_or(0),
             bytes: matches.get_one::<u64>("bytes"),
         },
+        jobs: matches.get_one::<u64>("jobs").unwrap_or(0) as usize,
         depth: matches.get_one::<u32>("depth"),
         seconds: matches.get_one::<u64>("seconds"),
         turns: Turns {
@@ -247,6 +250,7 @@ fn with_limits<'a>(alloc: Global, command: Command<'a>) -> Result<Command<'a>, E
                 .value_parser(value_parser!(u32))
                 .help("Tries at most so many turns one after another"),
         )?
+        .arg(number(alloc, "jobs", "Shares a search among so many threads"))?
         .arg(number(alloc, "seconds", "Ends after so many seconds"))?;
     Ok(command)
 }

@@ -2,10 +2,14 @@
 
 use super::{Found, Turns, check_eq, search_by};
 use core_base::ListQueues;
+use lot_explore::{Walk, explore_from, explore_in};
 use lot_program::Deadlines;
-use state_search::Limits;
+use lot_program_text::parse;
+use state_search::{Limits, Unobserved, Verdict};
+use std::alloc::Global;
 use std::process::Abort;
 use std::test::Fail;
+use std::thread::Threads;
 
 /// Room for each program here.
 const ROOM: Limits = Limits {
@@ -194,4 +198,48 @@ fn where_no_deadline_passes_a_timed_call_waits_for_ever(rt: HostRuntime) {
     };
     check_eq(&rt, found(Deadlines::Pass), Found::Nothing(58));
     check_eq(&rt, found(Deadlines::Never), Found::Deadlock(4));
+}
+
+/// What a search tells.
+#[derive(Debug, Drop, PartialEq, Eq)]
+enum Told {
+    /// All states are fine: so many, each after fewer moves than `depth`.
+    Fine { states: usize, depth: usize },
+    /// These moves lead to a wrong state.
+    Wrong(Vec<usize>),
+    /// Something else.
+    Neither,
+}
+
+impl Told {
+    fn of(verdict: Verdict) -> Told {
+        match verdict {
+            Verdict::Holds { states, depth } => Told::Fine { states, depth },
+            Verdict::Broken { moves } => Told::Wrong(moves),
+            _ => Told::Neither,
+        }
+    }
+}
+
+// Asserts that a search of a program by steps tells the same in so many threads as in one.
+fn check_in<R: Threads + Abort + Sync>(rt: &R, alloc: Global, text: &str, threads: usize) {
+    let Ok(parsed) = parse(alloc, text) else {
+        return;
+    };
+    if !parsed.program.is_fit() {
+        return;
+    }
+    let Ok(walk) = Walk::<ListQueues>::new(alloc, &parsed.program) else {
+        return;
+    };
+    let one = Told::of(explore_from(alloc, &walk, ROOM, &mut Unobserved));
+    let many = Told::of(explore_in(rt, threads, alloc, &walk, ROOM, &mut Unobserved));
+    check_eq(rt, many, one);
+}
+
+#[test]
+fn several_threads_tell_what_one_does(rt: HostRuntime) {
+    for program in PROGRAMS {
+        check_in(&rt, rt.alloc(), program.text, 4);
+    }
 }
