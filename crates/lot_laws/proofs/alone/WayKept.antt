@@ -82,8 +82,8 @@ module _ (w : State) (t k : ℕ) (only : IsOnly t (section_at w k)) where
 -- ---------------------------------------------------------------- the locks that a place names
 
 -- the lock that it calls, or the mutex beside
-abbrev Names : Place → ℕ → Type 0
-Names p k = (called_lock p ≡ Some k) ⊎ (beside_of p ≡ Some k)
+abbrev NamesLock : Place → ℕ → Type 0
+NamesLock p k = (called_lock p ≡ Some k) ⊎ (beside_of p ≡ Some k)
 
 abbrev IsLook : Place → Type 0
 IsLook (Condvar c (Look all)) = Unit {0}
@@ -95,9 +95,9 @@ looks_to_come w p k e = let f : ◌≡◌ {A = Option ℕ} None (Some k) = e in 
 
 -- it names such locks alone, and is to look for no mutex
 abbrev NamesOnly : (ℕ → Type 0) → Place → Type 0
-NamesOnly Named p = ((k : ℕ) → Names p k → Named k) × (IsLook p → ⊥)
+NamesOnly Named p = ((k : ℕ) → NamesLock p k → Named k) × (IsLook p → ⊥)
 
-nothing_named : (k : ℕ) → Names Idle k → ⊥
+nothing_named : (k : ℕ) → NamesLock Idle k → ⊥
 nothing_named k (inl e) = cc
 nothing_named k (inr e) = cc
 
@@ -244,7 +244,7 @@ module _ (w : State) (t : ℕ) (world : IsWorld w) (way : IsUnobstructed w t) wh
   unbarred_now b = let own = enters_own w t world b
       in b.another (way b.lock b.other b.line (may own.0) own.1 b.inside)
     where
-      may : Names (place_at w t) b.lock → Named b.lock
+      may : NamesLock (place_at w t) b.lock → Named b.lock
       may (inl own) = inl own
       may (inr beside) = inr (inl beside)
 
