@@ -19,7 +19,7 @@ returns c =
     get_or_read buckets c.args.bucket _ (omega arith) c.index-ends.ensures None in
     let seen : c.waiter.result ≡ waiter_at records
     (next_after records (slice_index_or buckets c.args.bucket None) c.args.before) =
-    rw (c.waiter.ensures, c.deref-2.ensures.value, c.after-thread.ensures, c.deref.ensures.value, ends)
+    rw (c.waiter.ensures, c.deref-2.ensures.value, c.rest_after-thread.ensures, c.deref.ensures.value, ends)
     refl in
     record {
       hashed = rw (← c.self.view_is) (hashed _ _ _ _ linked);
