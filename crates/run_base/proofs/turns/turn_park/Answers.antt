@@ -1,4 +1,4 @@
-use Rattle.std.proofs.Common.{Option, ap, ◌∙◌, refl, sym, subst}
+use Rattle.std.proofs.Common.{Option, ap, ◌∙◌, ◌≡◌, refl, sym, subst}
 use Rattle.core_base.specs.Clocks.{IsUp}
 use Rattle.core_base.specs.declared.ops.Op.TheVariants.{Load}
 use Rattle.core_words.specs.Indices.{word_index}
@@ -39,9 +39,11 @@ returns-clause-done g c = λ p at is.
     c.park.ensures.own.0 c.park.ensures.same.0 (
       seen,
       c.park.ensures.stepped.1,
-      there.0,
-      ap (λ (i : Option SectionView). stage (view_of c.park.new.token).owns i (last_of c.park.new.token)
-          (view_of c.park.new.token).steps) c.park.ensures.same.1 ∙ there.1,
+      (
+        there.0,
+        ap (λ (i : Option SectionView). stage (view_of c.park.new.token).owns i (last_of c.park.new.token)
+            (view_of c.park.new.token).steps) c.park.ensures.same.1 ∙ there.1,
+      ),
     )
     (seen, c.park.ensures.stepped.1, ap (λ (v : View). v.steps) then)
     c.park.ensures.stands c.park.ensures.told
