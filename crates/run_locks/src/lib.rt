@@ -1,12 +1,13 @@
 //! Calls of condition variables and reader-writer locks for threads.
 //!
-//! A wait, and a notification that has seen a mutex, go by courses of their own, turn by turn, and
-//! leave for the driver (`run_base`) wherever something comes between: another mutex, an owner whom a
-//! wait meets as it locks again, a time that is up. A call of a reader-writer lock has a fast half of
-//! its own, of a step or two. All that it does beyond, to wake, wait or hand over, goes by the driver.
+//! A wait, and a notification that has seen a mutex, go by courses of their own, turn by turn. They
+//! leave for the driver (`run_base`) wherever something comes between: another mutex, an owner of the
+//! mutex as it is locked again, a time that is up. A call of a reader-writer lock has a fast half of
+//! its own, of a step or two. To wake those in the main queue it has a course too. It waits, hands
+//! over and wakes a writer aside by the driver.
 //!
-//! A turn by the driver takes some 500 instructions where one of a course takes 200: the head of
-//! `run_mutexes` has the figures. Waits and notifications pay that at each, and inside the lot's lock.
+//! A turn by the driver takes some 500 instructions, one of a course 200: the head of `run_mutexes`
+//! has the figures. Waits and notifications would pay that at each turn, inside the lot's lock.
 #![tactic(auto)]
 
 pub mod condvar_calls;

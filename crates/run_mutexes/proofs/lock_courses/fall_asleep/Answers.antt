@@ -2,6 +2,7 @@ use Rattle.std.proofs.Common.{◌≡◌, true, None, Some, refl, sym, ap, ◌∙
 use Rattle.core_base.specs.Clocks.{IsUp}
 use Rattle.core_base.specs.declared.notes.Note.TheVariants.{HandOff}
 use Rattle.steps_base.specs.declared.acts.Reply.TheVariants.{Done, Woken}
+use Rattle.steps_mutex.specs.MutexSteps.{entered}
 use Rattle.steps_mutex.specs.declared.lock.LockAt.TheVariants as lock
 use Rattle.lot_steps.specs.Steps.{next_act, next_place}
 use Rattle.lot_steps.specs.declared.places.Place.{Place}
@@ -38,8 +39,8 @@ end-requires g c =
     (locks_at c.args.mutex c.args.entry lock.Asleep) c.turn_sleep-reply.result) ≡ None)
     = rw woken (refl, refl) in
     let awake = turns_to here reply new now turned (at lock.Accept) on in
-    turn_outside up lot words (at lock.Accept) Done new new now now c.entered.result awake.at
-    (accepts up lot words (at lock.Accept) new now refl awake.at) (ap Some (sym c.entered.ensures))
+    turn_outside up lot words (at lock.Accept) Done new new now now (entered c.args.entry) awake.at
+    (accepts up lot words (at lock.Accept) new now refl awake.at) refl
 
 pub returns-then-matches : goal.returns-then-matches
 returns-then-matches g c =
