@@ -1,6 +1,7 @@
 use Rattle.std.proofs.Common.{Some, refl, sym, ap}
 use Rattle.core_base.specs.Clocks.{IsUp}
 use Rattle.steps_base.specs.declared.acts.Reply.TheVariants.{Done}
+use Rattle.steps_rwlock.specs.RwLockSteps.{ends_with}
 use Rattle.steps_rwlock.specs.declared.release.WakeAt.TheVariants as waking
 use Rattle.run_base.proofs.Coming.{begins, leaves_one, may_do, over, turn_outside}
 use Rattle.run_locks.specs.WakeCourses.{wakes_at}
@@ -23,8 +24,8 @@ end-requires g c =
     let here = begins up lot words (at (waking.Leave c.args.any)) c.args.token.now c.args.section c.requires in
     let is = leaves_one c.main_key.ensures c.taken-wakes.ensures in
     turn_outside up lot words (at (waking.Leave c.args.any)) Done c.args.token.now c.turn_leave.new.token
-    c.args.section c.turn_leave.new.section c.answer_after.result c.requires
-    (c.turn_leave.ensures (at (waking.Leave c.args.any)) c.requires is) (ap Some (sym c.answer_after.ensures))
+    c.args.section c.turn_leave.new.section (ends_with c.args.purpose) c.requires
+    (c.turn_leave.ensures (at (waking.Leave c.args.any)) c.requires is) refl
 
 pub returns : goal.returns
 returns g c =

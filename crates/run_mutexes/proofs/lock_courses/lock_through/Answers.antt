@@ -26,8 +26,8 @@ park-requires g c =
     let there = named looked (ap (λ (k : ℕ). locks_at c.args.mutex c.args.entry (lock.Decide k)) three) in
     there.at
 
-pub returns-then-seen-LOCKED : goal.returns-then-seen-LOCKED
-returns-then-seen-LOCKED g c =
+pub returns-then-seen : goal.returns-then-seen
+returns-then-seen g c =
     let at = locks_at c.args.mutex c.args.entry in
     let up = IsUp g.C.Clock.tells c.args.limit in
     let lot = c.args.lot.now in let words = c.args.words in let seen = c.turn_word-seen.result in

@@ -83,8 +83,7 @@ fall_asleep-requires-clause-queued g c =
     = rw stands (refl, refl) in
     let left = comes stood Done c.turn_leave.new.token c.turn_leave.new.section c.turn_leave.ensures
     (leaves_one c.main_key-key.ensures refl) (at lock.Asleep) on in
-    subst (λ (k : ℕ). HasPlace c.args.lot.now k c.turn_park-parked.new.queue) (sym entered.same
-    ∙ sym left.same)
+    subst (λ (k : ℕ). HasPlace c.args.lot.now k c.turn_park-parked.new.queue) (entered.same ∙ sym left.same)
     (c.turn_park-parked.ensures.place stands)
 
 pub returns-then-parked : goal.returns-then-parked
