@@ -99,7 +99,7 @@ module _ {a n : ℕ} (e : a ≡ n) where
   pub leaves_one : {w v : Wakes} → w ≡ v → Leave (One n) v ≡ Leave (One a) w
   leaves_one h i = Leave (One (sym e i)) (sym h i)
 
--- a take of those whom a lock lets in, by what was computed
+-- a take of those that a lock lets in, by what was computed
 pub takes_wanted : {a n : ℕ} {start wanted : Option Want} {recursive : Bool} → a ≡ n → start ≡ wanted
     → Take n (Picked wanted recursive) ≡ Take a (Picked start recursive)
 takes_wanted {recursive} e h i = Take (sym e i) (Picked (sym h i) recursive)

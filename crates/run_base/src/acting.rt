@@ -215,7 +215,7 @@ pub(crate) fn leave<R: Wait>(
     }
 }
 
-/// Takes the waiters whom a lock lets in: how many of them want to share, the want of the first that
+/// Takes the waiters that a lock lets in: how many of them want to share, the want of the first that
 /// wants more, and whether none is left.
 #[tactic(auto, using(crate::proofs::TakesFew::picked_few, crate::proofs::TakesFew::few_waiters))]
 pub(crate) fn take_wanted(

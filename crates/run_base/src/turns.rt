@@ -148,7 +148,7 @@ pub fn turn_take_first<C: Clock>(
     take_first(lot, section, key)
 }
 
-/// A turn that takes the waiters whom a lock lets in: how many of them want to share, the want of the
+/// A turn that takes the waiters that a lock lets in: how many of them want to share, the want of the
 /// first that wants more, and whether none is left.
 #[inline]
 pub fn turn_take_wanted<C: Clock>(

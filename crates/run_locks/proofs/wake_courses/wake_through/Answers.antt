@@ -24,7 +24,7 @@ turn_take_wanted-sharers-requires g c =
     let here = begins up lot words (at waking.Enter) c.args.token.now None c.requires in
     let entered = comes here Done c.turn_enter.new.token c.turn_enter.new.section c.turn_enter.ensures
     (enters_one c.main_key-key.ensures) (at waking.Take) (refl, refl) in
-    let picks = takes_wanted c.main_key-key.ensures c.start.ensures in
+    let picks = takes_wanted c.main_key-key.ensures c.start-start.ensures in
     may_do entered picks
 
 pub clear_and_wake-requires : goal.clear_and_wake-requires
@@ -35,7 +35,7 @@ clear_and_wake-requires g c =
     let here = begins up lot words (at waking.Enter) c.args.token.now None c.requires in
     let entered = comes here Done c.turn_enter.new.token c.turn_enter.new.section c.turn_enter.ensures
     (enters_one c.main_key-key.ensures) (at waking.Take) (refl, refl) in
-    let picks = takes_wanted c.main_key-key.ensures c.start.ensures in
+    let picks = takes_wanted c.main_key-key.ensures c.start-start.ensures in
     let sharers = c.turn_take_wanted-sharers.result.0 in
     let successor = c.turn_take_wanted-sharers.result.1 in let none = c.turn_take_wanted-sharers.result.2 in
     let took = comes entered (Picked sharers successor none) c.turn_enter.new.token
@@ -54,7 +54,7 @@ returns g c =
     let here = begins up lot words (at waking.Enter) c.args.token.now None c.requires in
     let entered = comes here Done c.turn_enter.new.token c.turn_enter.new.section c.turn_enter.ensures
     (enters_one c.main_key-key.ensures) (at waking.Take) (refl, refl) in
-    let picks = takes_wanted c.main_key-key.ensures c.start.ensures in
+    let picks = takes_wanted c.main_key-key.ensures c.start-start.ensures in
     let sharers = c.turn_take_wanted-sharers.result.0 in
     let successor = c.turn_take_wanted-sharers.result.1 in let none = c.turn_take_wanted-sharers.result.2 in
     let took = comes entered (Picked sharers successor none) c.turn_enter.new.token
