@@ -132,8 +132,9 @@ def row(tool, program, found):
 def tools_for(folder, program, installed):
     threads, locks, times = program
     text = text_of(threads, locks, times)
-    ours = Tool("lotexplore", [PROGRAM, "--grain", "step", "--states", MOST], OURS, text)
-    tools = [ours]
+    plain = [PROGRAM, "--grain", "step", "--states", MOST]
+    ours = Tool("lotexplore", [*plain, "--jobs", "1"], OURS, text)
+    tools = [ours, Tool(f"lotexplore, {JOBS} threads", [*plain, "--jobs", str(JOBS)], OURS, text)]
     if locks == 1 and "spin" in installed:
         tools += spin_tools(folder, threads, times, timed(ours).states.bit_length() + 1)
     if locks == 1 and "rumur" in installed:

@@ -3,8 +3,7 @@ use Rattle.std.specs.Prelude.{◌≡◌, ◌≤◌, ◌<◌, ◌⊎◌, ℕ, Lis
 use Rattle.lot_replay.specs.Replay.{IsText, StopsForMemory}
 
 -- A text that fits is at the front of the buffer, and the other bytes are as they were. Where it doesn't fit,
--- all
--- bytes are.
+-- all bytes are.
 abbrev pub Delivers : List ℕ → List ℕ → ℕ → List ℕ → ℕ → ℕ → Type 0
 Delivers old new written text ending status =
     ((status ≡ ending) × (length text ≤ length old) × (new ≡ text ++ drop (length text) old)

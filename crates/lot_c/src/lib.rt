@@ -10,7 +10,6 @@ mod found;
 mod replies;
 mod search;
 mod status;
-mod walking;
 
 use crate::delivery::deliver;
 use crate::replies::reply;

@@ -1,3 +1,4 @@
+mod Names
 pub mod machine
 pub mod semaphore
 pub mod calls
@@ -6,6 +7,7 @@ pub mod hands
 pub mod mutex
 pub mod condvar
 pub mod sites
+pub mod book
 pub mod once
 pub mod rwlock
 pub mod promises

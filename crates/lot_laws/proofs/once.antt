@@ -1,6 +1,5 @@
 pub mod MovesKept
-pub mod Kept
-pub mod Steps
+pub mod Page
 pub mod Owing
 pub mod Rows
 pub mod Owes

@@ -1,4 +1,5 @@
 pub mod Kept
+pub mod Page
 pub mod Rows
 pub mod CallRows
 pub mod Owing

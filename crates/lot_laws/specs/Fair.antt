@@ -1,7 +1,6 @@
 -- The promises of a fair release. It lets a mutex go only where its word told of nobody, or nobody waits.
--- Else
--- the first waiter owns it in its place. At a lock that is shared each waiter that it takes has its right in
--- that one step, or would pass the limit, and is woken.
+-- Else the first waiter owns it in its place. At a lock that is shared each waiter that it takes has its
+-- right in that one step, or would pass the limit, and is woken.
 use Rattle.std.specs.Prelude.{ℕ, true, false, Some, None, MatchOption, ◌≡◌, ◌≢◌, ◌⊎◌, []}
 use Rattle.core_base.specs.declared.wants.Want.{Want}
 use Rattle.core_base.specs.declared.wants.Want.TheVariants.{Exclusive, Shared}

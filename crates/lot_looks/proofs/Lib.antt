@@ -11,3 +11,4 @@ pub mod Turns
 pub mod World
 pub mod Spins
 pub mod Runs
+pub mod Exchanges

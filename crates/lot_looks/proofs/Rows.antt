@@ -12,8 +12,7 @@ use Rattle.steps_base.specs.Profiles.{Profile}
 use Rattle.lot_machine.proofs.Acted.{Befalls}
 
 -- the steps of a sort of lock at one lock: a place's act, where each reply leads, the owners and shares after
--- an
--- operation, and from where the thread has looked; the places that threads come to
+-- an operation, and from where the thread has looked; the places that threads come to
 pub record Table (P : Type 0) : Type 1 where
   pub act : P → Act
   pub next : P → Reply → Next P

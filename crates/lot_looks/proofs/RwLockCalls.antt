@@ -1,6 +1,5 @@
 -- Looks of each call of a reader-writer lock: a bump enters as any entering call does, and a fair release
--- looks
--- at the waiters that it lets in.
+-- looks at the waiters that it lets in.
 use Rattle.std.proofs.Common.{ℕ, arith, Bool, true, false, Option, Some, None, if◌then◌else◌, ◌==◌, ◌^◌, ◌<◌}
 use Rattle.std.proofs.Common.{◌≡◌, ◌⊎◌, inl, inr, refl, sym, ◌∙◌, ap, subst}
 use Rattle.std.proofs.lemmas.Bool.Decides.{nat_tests}

@@ -1,6 +1,5 @@
 -- A turn of one thread, taken where no thread has looked for its exchange: it looks when it exchanges, and so
--- never
--- misses.
+-- never misses.
 use Rattle.std.proofs.Common.{ℕ, zero, suc, arith, Bool, true, false, Option, Some, None, ◌==◌, ◌||◌, not}
 use Rattle.std.proofs.Common.{nat_lt, ◌≡◌, ◌<◌, ◌⊎◌, inl, inr, List, [], ◌∷◌, ◌++◌, length, map, set, get_or}
 use Rattle.std.proofs.Common.{refl, sym, ◌∙◌, ap, subst, eqb-true, get_or-set_same, length-set}

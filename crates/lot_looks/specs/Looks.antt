@@ -1,8 +1,10 @@
 -- A thread looks at a word, and exchanges it by what it saw. Between the two another thread may change the
 -- word:
 -- then the exchange misses. What runs without such misses come to.
-use Rattle.std.specs.Prelude.{ℕ, Bool, true, false, Option, Some, None, if◌then◌else◌, ◌==◌, ◌≡◌, ◌&&◌, not}
+use Rattle.std.specs.Prelude.{ℕ, Bool, true, false, Option, Some, None, if◌then◌else◌, ◌==◌, ◌≡◌, ◌&&◌, ◌⊎◌, not}
 use Rattle.std.specs.Prelude.{is_some, List, [], ◌∷◌, ◌++◌, map}
+use Rattle.core_base.specs.declared.ops.Op.{Op}
+use Rattle.core_base.specs.declared.ops.Op.TheVariants as op
 use Rattle.spec_locks.specs.declared.calls.Access.TheVariants as access
 use Rattle.spec_locks.specs.declared.calls.Access.{Access}
 use Rattle.spec_locks.specs.declared.calls.OnceCall.{OnceCall}
@@ -47,6 +49,7 @@ use Rattle.steps_condvar.specs.declared.notify.NotifyAt.TheVariants as notify
 use Rattle.steps_condvar.specs.declared.wait.WaitAt.TheVariants as wait
 use Rattle.steps_condvar.specs.declared.places.CondvarPlace.{CondvarPlace}
 use Rattle.steps_condvar.specs.declared.places.CondvarPlace.TheVariants as condvar
+use Rattle.steps_condvar.specs.CondvarCalls.{IsReached}
 use Rattle.steps_condvar.specs.CondvarSteps.{in_lock}
 use Rattle.lot_steps.specs.declared.places.Place.{Place}
 use Rattle.lot_steps.specs.declared.places.Place.TheVariants.{Idle, Mutex, RwLock, Once, Condvar, Semaphore}
@@ -123,6 +126,80 @@ looked_from (RwLock lock a at) = in_rwlock lock a (call_looked a at)
 looked_from (Once lock at) = in_once lock (once_looked at)
 looked_from (Condvar lock at) = in_condvar lock (condvar_looked at)
 looked_from (Semaphore lock at) = in_semaphore lock (semaphore_looked at)
+
+-- ---------------------------------------------------------------- exchanges, and tries without a look
+
+abbrev pub exchanges : Op → Bool
+exchanges op.Load = false
+exchanges (op.Store value) = false
+exchanges (op.Swap value) = false
+exchanges (op.Add by) = false
+exchanges (op.Sub by) = false
+exchanges (op.Or bits) = false
+exchanges (op.And bits) = false
+exchanges (op.Exchange from to) = true
+
+-- an act is an exchange of a word
+abbrev pub is_exchange : Act → Bool
+is_exchange act.Rest = false
+is_exchange (act.Word l f) = exchanges f
+is_exchange (act.HandOver l f) = exchanges f
+is_exchange (act.Enter keys) = false
+is_exchange (act.Park l key check want) = false
+is_exchange (act.Stand key want) = false
+is_exchange (act.Take key whom) = false
+is_exchange (act.Requeue from to how) = false
+is_exchange (act.Remove key) = false
+is_exchange (act.Leave keys wakes) = false
+is_exchange act.Sleep = false
+is_exchange act.Accept = false
+is_exchange (act.Closure state) = false
+is_exchange (act.End answer) = false
+
+-- a thread tries a mutex by an exchange before it looks: as its call begins, and as it unlocks fairly
+abbrev pub mutex_tries : MutexPlace → Bool
+mutex_tries (mutex.Lock e retries lock.First) = true
+mutex_tries mutex.UnlockFair = true
+mutex_tries at = false
+
+-- so a writer, as its call begins
+abbrev pub rwlock_tries : RwLockAt → Bool
+rwlock_tries at.First = true
+rwlock_tries to = false
+
+-- an owner that gives its right up fairly does, unless the right is upgradable
+abbrev pub call_tries : RwLockCallPlace → Bool
+call_tries (call.Plain p) = rwlock_tries p.at
+call_tries (call.Bump p) = rwlock_tries p.at
+call_tries (call.HandOver access.Exclusive bumps (handing.Free seen)) = true
+call_tries (call.HandOver access.Shared bumps (handing.Free seen)) = true
+call_tries c = false
+
+-- a wait shows its mutex so, and tries it as it locks it again
+abbrev pub condvar_tries : CondvarPlace → Bool
+condvar_tries (condvar.Wait m timed wait.Show) = true
+condvar_tries (condvar.Wait m timed (wait.Lock timed_out at)) = mutex_tries at
+condvar_tries p = false
+
+-- no call of a `Once` or of a semaphore does
+abbrev pub tries_word : Place → Bool
+tries_word Idle = false
+tries_word (Mutex lock at) = mutex_tries at
+tries_word (RwLock lock a at) = call_tries at
+tries_word (Once lock at) = false
+tries_word (Condvar lock at) = condvar_tries at
+tries_word (Semaphore lock at) = false
+
+-- calls of condition variables come only to some of their places
+abbrev pub MayBeAt : Place → Type 0
+MayBeAt (Condvar lock at) = IsReached at
+MayBeAt p = Unit {0}
+
+-- each exchange of a word is one that a look comes before, or one of the tries above
+abbrev pub EachExchangeIsKnown : Type 0
+EachExchangeIsKnown =
+    (p : Place) → MayBeAt p → is_exchange (act_of p) ≡ true
+    → (is_some (looked_from p) ≡ true) ⊎ (tries_word p ≡ true)
 
 -- ---------------------------------------------------------------- misses
 

@@ -1,6 +1,5 @@
 -- A step at a place: it uses an event up, or sets a bit that was clear, or its thread comes nearer to its own
--- next
--- event while no word and no other thread's place changes.
+-- next event while no word and no other thread's place changes.
 use Rattle.std.proofs.Common.{ℕ, Bool, true, false, if◌then◌else◌, ◌==◌, ◌&&◌, not, ◌≡◌, ◌+◌, ◌≤◌, ◌<◌, ◌⊎◌}
 use Rattle.std.proofs.Common.{inr, length, ap, arith}
 use Rattle.std.proofs.lemmas.Bool.Decides.{nat_tests}

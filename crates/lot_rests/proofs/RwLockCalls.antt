@@ -1,6 +1,5 @@
 -- Each step of a call of a reader-writer lock uses up what its thread has before it: of a plain call, of a
--- bump, of one
--- that hands the lock over, and of one that was handed it.
+-- bump, of one that hands the lock over, and of one that was handed it.
 use Rattle.std.proofs.Common.{ℕ, Bool, true, false, None, if◌then◌else◌, ◌==◌, ◌≡◌, ◌+◌, ◌^◌, ◌≤◌, ◌<◌, inl}
 use Rattle.std.proofs.Common.{length, refl, sym, subst, arith}
 use Rattle.core_base.specs.declared.ops.Op.TheVariants.{Exchange, Load as LoadOp}

@@ -203,8 +203,7 @@ calling_command_of a b c d =
 
 -- the words of a line with a meaning: `show`, `drain`, `threads N`, `T TURN`, `lock NAME KIND`,
 -- `lock NAME KIND LIMIT`, `lock NAME semaphore PERMITS`, `T begin CALL NAME`, `T do CALL NAME`, and of a wait
--- on a condition
--- variable `T begin CALL NAME MUTEX`, `T do CALL NAME MUTEX`
+-- on a condition variable `T begin CALL NAME MUTEX`, `T do CALL NAME MUTEX`
 abbrev pub command_of : List (List ℕ) → Option Command
 command_of (a ∷ []) =
     if bytes_eq a (codes "show") then Some command.TheVariants.Show

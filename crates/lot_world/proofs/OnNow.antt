@@ -41,8 +41,8 @@ use Rattle.steps_base.specs.Moves.{claim_handed}
 use Rattle.lot_laws.proofs.machine.KindsStay.{after_kinds}
 use Rattle.lot_laws.proofs.sites.SitesKept.{go_by}
 use Rattle.lot_laws.proofs.calls.OwnPlace.{goes_from_there}
-use Rattle.lot_laws.proofs.rwlock.Steps.{gives_counted}
-use Rattle.lot_laws.proofs.rwlock.Kept.{goes_unhanded, stands}
+use Rattle.lot_laws.proofs.rwlock.Steps.{gives_counted, goes_unhanded}
+use Rattle.lot_laws.proofs.rwlock.Kept.{stands}
 use Rattle.lot_world.specs.Drained.{as_now}
 use Rattle.lot_world.proofs.AsNow.{another}
 use Rattle.lot_world.specs.Quiet.{IsDraining}

@@ -2,6 +2,7 @@
 use clap::error::Error;
 use clap::{Arg, ArgAction, ArgMatches, Command, value_parser};
 use lot_program::Deadlines;
+use lot_reports::{GrainName, Turns};
 use state_search::Limits;
 use std::alloc::Global;
 
@@ -13,14 +14,6 @@ pub const MOST_TURNS: u32 = 10000;
 
 /// The words for each grain.
 static GRAINS: [&str; 3] = ["step", "call", "auto"];
-
-/// How long a turn of a thread goes on.
-#[derive(Clone, Copy, Debug, PartialEq, Eq)]
-pub enum GrainName {
-    Step,
-    Call,
-    Auto,
-}
 
 /// In what form is printed what was found.
 #[derive(Clone, Copy, Debug, PartialEq, Eq)]
@@ -63,10 +56,11 @@ pub struct Arguments<'a> {
     pub from: Option<&'a str>,
     pub way: Way,
     pub limits: Limits,
+    /// How many threads share a search; 0 are as many as there are processors.
+    pub jobs: usize,
     pub depth: Option<u32>,
     pub seconds: Option<u64>,
-    pub grain: GrainName,
-    pub deadlines: Deadlines,
+    pub turns: Turns,
     pub form: Form,
     /// Whether it goes on after a finding, without the line that is broken.
     pub goes_on: bool,
@@ -78,25 +72,6 @@ pub struct Arguments<'a> {
     pub schedule: Option<&'a str>,
     /// The file that its picture goes to.
     pub picture: Option<&'a str>,
-}
-
-impl GrainName {
-    /// Returns the word that asks for it.
-    pub fn word(self) -> &'static str {
-        match self {
-            GrainName::Step => "step",
-            GrainName::Call => "call",
-            GrainName::Auto => "auto",
-        }
-    }
-
-    fn of_word(word: &str) -> GrainName {
-        match word {
-            "step" => GrainName::Step,
-            "call" => GrainName::Call,
-            _ => GrainName::Auto,
-        }
-    }
 }
 
 /// Returns what the words of a command line ask for.
@@ -123,13 +98,16 @@ fn arguments_in<'a>(matches: &ArgMatches<'a>) -> Arguments<'a> {
             states: matches.get_one::<u32>("states").unwrap_or(0),
             bytes: matches.get_one::<u64>("bytes"),
         },
+        jobs: matches.get_one::<u64>("jobs").unwrap_or(0) as usize,
         depth: matches.get_one::<u32>("depth"),
         seconds: matches.get_one::<u64>("seconds"),
-        grain: GrainName::of_word(matches.get_str("grain").unwrap_or("auto")),
-        deadlines: if matches.get_flag("no-late") {
-            Deadlines::Never
-        } else {
-            Deadlines::Pass
+        turns: Turns {
+            grain: GrainName::of_word(matches.get_str("grain").unwrap_or("auto")),
+            deadlines: if matches.get_flag("no-late") {
+                Deadlines::Never
+            } else {
+                Deadlines::Pass
+            },
         },
         form: form_in(matches),
         goes_on: matches.get_flag("all"),
@@ -272,6 +250,7 @@ fn with_limits<'a>(alloc: Global, command: Command<'a>) -> Result<Command<'a>, E
                 .value_parser(value_parser!(u32))
                 .help("Tries at most so many turns one after another"),
         )?
+        .arg(number(alloc, "jobs", "Shares a search among so many threads"))?
         .arg(number(alloc, "seconds", "Ends after so many seconds"))?;
     Ok(command)
 }

@@ -1,11 +1,11 @@
 //! A walk by orders, which are lines of standard input.
 use crate::arguments::Arguments;
-use crate::first::walk_by;
 use crate::printing::write_files;
 use crate::status;
 use crate::watch::Watch;
-use lot_findings::{Finding, Source};
+use lot_findings::Source;
 use lot_prompt::{Order, Prompt, order_of};
+use lot_reports::finding_by;
 use state_search::NoRoom;
 use std::io;
 use std::io::{BufWriter, ErrorKind, Write};
@@ -24,7 +24,7 @@ pub fn walk_by_orders(
 ) -> io::Result<u8> {
     let mut prompt = Prompt {
         source,
-        grain: asked.grain.word(),
+        grain: asked.turns.grain.word(),
         limits: asked.limits,
         moves,
     };
@@ -80,16 +80,8 @@ fn write_walk(
     asked: Arguments<'_>,
     moves: &[usize],
 ) -> io::Result<()> {
-    match finding_by(rt, source, moves) {
+    match finding_by(rt.alloc(), source, moves) {
         Ok(finding) => write_files(rt, asked, &finding),
         Err(NoRoom) => Err(io::Error::from(ErrorKind::OutOfMemory)),
     }
-}
-
-fn finding_by<'a>(
-    rt: &HostRuntime,
-    source: Source<'a>,
-    moves: &[usize],
-) -> Result<Finding<'a>, NoRoom> {
-    Finding::new(rt.alloc(), source, walk_by(rt, source, moves)?)
 }

@@ -1,11 +1,8 @@
 //! The turns that come first.
 use crate::arguments::Arguments;
 use crate::status;
-use core_base::ListQueues;
-use lot_explore::Walk;
 use lot_findings::Source;
 use lot_prompt::{AlongError, moves_along};
-use state_search::NoRoom;
 use std::io::ErrorKind;
 use std::{fs, io};
 
@@ -45,35 +42,4 @@ pub fn first_moves(
             Ok(Err(status::MALFORMED))
         }
     }
-}
-
-/// Returns the walk of some moves from the start of a program.
-///
-/// # Errors
-///
-/// `NoRoom`, where memory was refused.
-pub fn walk_by<'a>(
-    rt: &HostRuntime,
-    source: Source<'a>,
-    moves: &[usize],
-) -> Result<Walk<'a, ListQueues>, NoRoom> {
-    let program = &source.parsed.program;
-    if !program.is_fit() {
-        return Err(NoRoom);
-    }
-    let mut walk = Walk::new(rt.alloc(), program)?;
-    walk_on(&mut walk, moves)?;
-    Ok(walk)
-}
-
-/// Takes moves after those of a walk.
-///
-/// # Errors
-///
-/// `NoRoom`, where memory was refused.
-pub fn walk_on(walk: &mut Walk<'_, ListQueues>, moves: &[usize]) -> Result<(), NoRoom> {
-    for by in moves {
-        walk.turn(*by)?;
-    }
-    Ok(())
 }

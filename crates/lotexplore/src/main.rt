@@ -8,7 +8,6 @@ mod explaining;
 mod first;
 mod picture;
 mod printing;
-mod reducing;
 mod report;
 mod searches;
 mod settling;
@@ -22,10 +21,11 @@ use crate::report::report;
 use lot_program_text::{TextError, parse};
 use std::io::ErrorKind;
 use std::process::ExitCode;
-use std::{env, fs, io};
+use std::thread::Threads;
+use std::{env, fs, io, thread};
 
 fn main(rt: HostRuntime) -> ExitCode {
-    match run(&rt) {
+    match run(&rt, &rt) {
         Ok(status) => ExitCode::from(status),
         Err(error) => {
             eprintln!(rt; "lotexplore: {error}").unwrap_or(());
@@ -34,7 +34,7 @@ fn main(rt: HostRuntime) -> ExitCode {
     }
 }
 
-fn run(rt: &HostRuntime) -> io::Result<u8> {
+fn run<T: Threads + Sync>(threads: &T, rt: &HostRuntime) -> io::Result<u8> {
     let words = match env::args(rt) {
         Ok(args) => args.collect::<Vec<String>>(rt.alloc())?,
         Err(e) if e.kind() == ErrorKind::InvalidData => {
@@ -44,7 +44,7 @@ fn run(rt: &HostRuntime) -> io::Result<u8> {
         Err(e) => return Err(e),
     };
     match job_from(rt.alloc(), words.as_slice()) {
-        Ok(Job::Search(arguments)) => search_program(rt, arguments),
+        Ok(Job::Search(arguments)) => search_program(threads, rt, with_jobs(threads, arguments)),
         Ok(Job::Explain { schedule }) => explain_schedule(rt, schedule),
         Err(error) => {
             error.print(rt)?;
@@ -53,8 +53,23 @@ fn run(rt: &HostRuntime) -> io::Result<u8> {
     }
 }
 
+// Counts the processors where no number of threads is asked for.
+fn with_jobs<'a>(threads: &impl Threads, mut asked: Arguments<'a>) -> Arguments<'a> {
+    if asked.jobs == 0 {
+        asked.jobs = match thread::available_parallelism(threads) {
+            Ok(number) => number.get(),
+            Err(_) => 1,
+        };
+    }
+    asked
+}
+
 // Reads the program, and prints what a search of it finds.
-fn search_program(rt: &HostRuntime, arguments: Arguments<'_>) -> io::Result<u8> {
+fn search_program<T: Threads + Sync>(
+    threads: &T,
+    rt: &HostRuntime,
+    arguments: Arguments<'_>,
+) -> io::Result<u8> {
     let text = match read_program(rt, arguments) {
         Ok(text) => text,
         Err(e) if e.kind() == ErrorKind::InvalidData => {
@@ -68,7 +83,7 @@ fn search_program(rt: &HostRuntime, arguments: Arguments<'_>) -> io::Result<u8> 
         }
     };
     match parse(rt.alloc(), text.as_str()) {
-        Ok(mut parsed) => report(rt, &mut parsed, text.as_str(), arguments),
+        Ok(mut parsed) => report(threads, rt, &mut parsed, text.as_str(), arguments),
         Err(TextError::NoMemory) => {
             println!(rt; "no memory")?;
             Ok(status::NOT_ALL)

@@ -1,10 +1,8 @@
 //! What was found, as it is asked for.
 use crate::arguments::{Arguments, Form};
 use crate::picture::draw_finding;
-use lot_findings::{
-    Finding, Headline, Lap, explain, waitings, write_headline, write_json, write_schedule,
-    write_waitings,
-};
+use lot_findings::{Finding, Headline, explain, write_headline, write_json, write_schedule};
+use lot_reports::write_story;
 use std::io::{BufWriter, Write};
 use std::{fs, io};
 
@@ -42,56 +40,12 @@ fn print_form<W: Write>(
         Form::Json | Form::JsonLines => write_json(rt.alloc(), out, headline, finding),
         Form::Words | Form::Explained => {
             writeln!(out, "{headline}")?;
-            print_story(rt, out, asked, finding)?;
+            write_story(rt.alloc(), out, finding)?;
+            if asked.form == Form::Explained {
+                explain(rt.alloc(), out, finding)?;
+            }
             write_schedule(out, finding.source, finding.steps.as_slice())
         }
-    }
-}
-
-// Prints which property is broken, where each thread is, and the turns where they are asked for.
-fn print_story<W: Write>(
-    rt: &HostRuntime,
-    out: &mut W,
-    asked: Arguments<'_>,
-    finding: &Finding<'_>,
-) -> io::Result<()> {
-    if let Some(line) = finding.property_line() {
-        writeln!(out, "line {line}: {}", finding.source.line(line))?;
-    }
-    print_left_out(out, finding.source.parsed.left_out.as_slice())?;
-    if let Some(lap) = finding.lap {
-        print_lap(out, finding.walk.moves().len(), lap)?;
-    }
-    match waitings(rt.alloc(), &finding.walk, &finding.world) {
-        Ok(waitings) => write_waitings(out, finding.source, waitings.as_slice())?,
-        Err(_) => writeln!(out, "no memory to tell what the threads wait for")?,
-    }
-    if asked.form == Form::Explained {
-        explain(rt.alloc(), out, finding)?;
-    }
-    Ok(())
-}
-
-// Prints which lines are left out, if any are.
-fn print_left_out<W: Write>(out: &mut W, lines: &[u32]) -> io::Result<()> {
-    let Some((first, others)) = lines.split_last() else {
-        return Ok(());
-    };
-    write!(out, "left out: line {first}")?;
-    for line in others.iter().rev() {
-        write!(out, ", line {line}")?;
-    }
-    writeln!(out)
-}
-
-// Prints which turns come again and again.
-fn print_lap<W: Write>(out: &mut W, last: usize, lap: Lap) -> io::Result<()> {
-    let first = last.saturating_sub(lap.turns).saturating_add(1);
-    write!(out, "turns {first} to {last} come again and again, ")?;
-    match lap.steps {
-        0 => writeln!(out, "without a line of the schedule"),
-        1 => writeln!(out, "the last line of the schedule"),
-        steps => writeln!(out, "the last {steps} lines of the schedule"),
     }
 }
 

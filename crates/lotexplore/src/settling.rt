@@ -22,7 +22,7 @@ pub fn settle_threads(
         Ok(finding) => {
             let headline = Headline::Rests {
                 turns: finding.walk.moves().len(),
-                grain: asked.grain.word(),
+                grain: asked.turns.grain.word(),
             };
             print_finding(rt, asked, &headline, &finding)?;
             Ok(status::NOTHING)

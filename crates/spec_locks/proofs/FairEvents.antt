@@ -1,6 +1,5 @@
 -- The effect of an event on a fair mutex while somebody waits: it stays owned, unless a fair release lets it
--- go, and nobody comes
--- into a hand but from its queue.
+-- go, and nobody comes into a hand but from its queue.
 use Rattle.std.proofs.Common.{ℕ, Bool, true, false, Option, Some, None, if◌then◌else◌, ◌==◌, ◌≡◌, ◌≢◌, ◌≤◌}
 use Rattle.std.proofs.Common.{◌⊎◌, inl, inr, List, [], ◌∷◌, length, refl, sym, ◌∙◌, ap, subst, arith}
 use Rattle.std.proofs.lemmas.Bool.{cases_eq, eqb-true}

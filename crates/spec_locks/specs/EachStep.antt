@@ -62,8 +62,7 @@ pub record Recalls (w : LocksState) (t : ℕ) (now : CallState) : Type 0 where
   pub notified : IsNotified now.recalls → IsNotified (w.calls t).recalls
 
 -- what a call recalls now: a notification, the mutex that it saw shown, and how many it has moved, the first
--- or
--- all that stood there; a call of a `Once`, that the run of its thread left that poisoned
+-- or all that stood there; a call of a `Once`, that the run of its thread left that poisoned
 pub record RecallsTruly (w v : LocksState) (t : ℕ) (now : CallState) : Type 0 where
   pub saw : (m : ℕ) → now.recalls ≡ Saw m → ((w.calls t).recalls ≡ Saw m)
       ⊎ ((c : ℕ) × (all : Bool) × ((w.calls t).purpose ≡ Some (Notifies c all))

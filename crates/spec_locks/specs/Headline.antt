@@ -1,7 +1,6 @@
 -- The headline, the second page: what any list of steps comes to is a run of the abstract locks, and each
--- waiter
--- whose way nobody bars has a thread that looks after it. There is no word here, no place of a call, and no
--- queue of the machine. The first page is Guarantees, which follows of this one.
+-- waiter whose way nobody bars has a thread that looks after it. There is no word here, no place of a call,
+-- and no queue of the machine. The first page is Guarantees, which follows of this one.
 use Rattle.std.specs.Prelude.{ℕ, Bool, true, false, Option, Some, None, ◌≡◌, ◌≢◌, ◌≤◌, ◌<◌, ◌-◌, ◌⊎◌, ◌↔◌}
 use Rattle.std.specs.Prelude.{List, [], ◌∷◌}
 use Rattle.core_base.specs.declared.keys.Keys.TheVariants.{One}

@@ -1,6 +1,7 @@
 mod checked;
 mod disturbed;
 mod planted;
+mod planted_answers;
 mod scripts;
 mod walks;
 

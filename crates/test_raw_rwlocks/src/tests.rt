@@ -252,7 +252,7 @@ fn sees_all(sort: Sort, rt: &impl Wait, alloc: Global) -> Result<bool, Fault> {
 }
 
 #[test]
-fn rights_keep_out_whom_they_are_to(rt: HostRuntime) -> Result<(), Fail> {
+fn rights_keep_out_the_others(rt: HostRuntime) -> Result<(), Fail> {
     check(&rt, sees_all(Sort::Normal, &rt, rt.alloc())?);
     check(&rt, sees_all(Sort::Recursive, &rt, rt.alloc())?);
     Ok(())

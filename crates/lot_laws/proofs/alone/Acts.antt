@@ -1,57 +1,31 @@
 -- A thread that steps alone: what each of its acts leads to, of the lock that it calls.
-use Rattle.std.proofs.Common.{subst, ℕ, true, false, Option, Some, None, if◌then◌else◌, ◌==◌, ◌≡◌, ◌+◌, ◌*◌}
-use Rattle.std.proofs.Common.{◌<◌, List, [], ◌∷◌, ◌++◌, length, get_or, map, drop, is_none, refl, sym, ◌∙◌}
-use Rattle.std.proofs.Common.{ap, get_or-set_same, length-set}
-use Rattle.std.proofs.lemmas.Bool.{lt-ltb}
-use Rattle.std.proofs.lemmas.List.{length-map}
-use Rattle.std.proofs.Math.ListN.{get_or-map}
-use Rattle.core_base.specs.declared.keys.Keys.TheVariants.{One}
-use Rattle.core_base.specs.declared.notes.Note.{Note}
-use Rattle.core_base.specs.declared.ops.Op.{Op}
-use Rattle.core_base.specs.declared.wants.Waiter.{Waiter}
-use Rattle.core_base.specs.declared.wants.Want.TheVariants.{Exclusive}
-use Rattle.core_base.specs.Words.{apply}
-use Rattle.core_base.specs.Lines.{waiter, without, first_of}
+use Rattle.lot_laws.proofs.Names
+use Names.{subst, ℕ, true, false, Option, Some, None, if◌then◌else◌, ◌==◌, ◌≡◌, ◌+◌, ◌*◌, ◌<◌, List, [], ◌∷◌}
+use Names.{◌++◌, length, get_or, map, drop, is_none, refl, sym, ◌∙◌, ap, get_or-set_same, length-set, lt-ltb}
+use Names.{length-map, get_or-map, One, Note, Op, Waiter, Exclusive, apply, waiter, without, first_of, WordIs}
+use Names.{Done, Value, Parked, Took, Removed, TakenBy, Woken, Outcome, Place, Idle, Mutex, MutexPlace}
+use Names.{takes_effect, outcome_of, act_of, next_place, next_act, state_after_hand_over_by, hand_over_told}
+use Names.{State, unlocked, place_at, word_at, owners_at, section_at, queue_at, put, state_after_operation}
+use Names.{state_with_sections, queues_with_last, queues_without, queues_without_first, state_after_taking}
+use Names.{state_after_reply, state_after_act, reply_to, can_do, state_after_go, go_of, is_possible, after}
+use Names.{step_outcome, go_outcome, place_after_telling, state_after_telling, state_after_hand_over}
+use Names.{owners_handed_over, is_there, going_outcome, state_after_going, IsWellFormed, SameSize, owner_at}
+use Names.{Main, EntersSection, location, location_at, AreCondvars, AreCounted, IsInductive}
+use Names.{after_well_formed, after_size, main_key_there, main_line_there, Owners, with_exclusive}
+use Names.{owners_after}
 use Rattle.spec_locks.specs.declared.kinds.Kind as kind
 use Rattle.steps_base.specs.declared.acts.Act as act
-use Rattle.steps_base.specs.declared.acts.Check.TheVariants.{WordIs}
 use Rattle.steps_base.specs.declared.acts.Wakes as wakes
-use Rattle.steps_base.specs.declared.acts.Reply.TheVariants.{Done, Value, Parked, Took, Removed, TakenBy}
-use Rattle.steps_base.specs.declared.acts.Reply.TheVariants.{Woken}
-use Rattle.spec_locks.specs.declared.outcomes.Outcome.{Outcome}
 use Rattle.spec_locks.specs.declared.outcomes.Outcome as outcome
-use Rattle.lot_steps.specs.declared.places.Place.{Place}
-use Rattle.lot_steps.specs.declared.places.Place.TheVariants.{Idle, Mutex}
-use Rattle.steps_mutex.specs.declared.places.MutexPlace.{MutexPlace}
 use Rattle.steps_base.specs.declared.acts.Whom as whoms
-use Rattle.steps_base.specs.Acts.{takes_effect, outcome_of}
-use Rattle.lot_steps.specs.Steps.{act_of, next_place, next_act}
-use Rattle.lot_machine.specs.Machine.{state_after_hand_over_by, hand_over_told, State, unlocked, place_at}
-use Rattle.lot_machine.specs.Machine.{word_at, owners_at, section_at, queue_at, put, state_after_operation}
-use Rattle.lot_machine.specs.Machine.{state_with_sections, queues_with_last, queues_without}
-use Rattle.lot_machine.specs.Machine.{queues_without_first, state_after_taking, state_after_reply}
-use Rattle.lot_machine.specs.Machine.{state_after_act, reply_to, can_do, state_after_go, go_of, is_possible}
-use Rattle.lot_machine.specs.Machine.{after, step_outcome, go_outcome, place_after_telling}
-use Rattle.lot_machine.specs.Machine.{state_after_telling, state_after_hand_over, owners_handed_over}
-use Rattle.lot_machine.specs.Machine.{is_there, going_outcome, state_after_going}
-use Rattle.lot_machine.specs.Fits.{IsWellFormed, SameSize}
 use Rattle.lot_laws.proofs.machine.Parts.{IsSingle, next_single, nothing_at}
 use Rattle.lot_laws.proofs.alone.Leads.{Leads, leads_barred, leads_step}
 use Rattle.lot_laws.proofs.calls.OwnPlace.{goes_from_there, told_from_there}
-use Rattle.lot_laws.specs.Refinement.{owner_at}
-use Rattle.spec_locks.specs.Sites.{Main}
-use Rattle.lot_laws.specs.Solo.{EntersSection}
-use Rattle.lot_laws.specs.Locations.{location, location_at}
-use Rattle.lot_laws.specs.SitesOf.{AreCondvars, AreCounted, IsInductive}
-use Rattle.lot_machine.proofs.Shape.{after_well_formed, after_size, main_key_there, main_line_there}
 use Rattle.lot_laws.proofs.condvar.StepsKeep.{after_condvars}
 use Rattle.lot_laws.proofs.hands.CountsKept.{counted_after}
 use Rattle.lot_laws.proofs.sites.TurnsKept.{after_inductive}
 use Rattle.lot_laws.proofs.machine.AtPlaces.{same_without}
 use Rattle.lot_laws.proofs.promises.ExclusiveOwners.{mutex_is, mutex_owner_after}
-use Rattle.steps_base.specs.declared.owners.Owners.{Owners}
-use Rattle.steps_base.specs.Owners.{with_exclusive}
-use Rattle.lot_steps.specs.Steps.{owners_after}
 
 -- ---------------------------------------------------------------- acts
 

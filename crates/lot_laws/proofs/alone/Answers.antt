@@ -1,20 +1,14 @@
 -- The answer of a call that has stepped alone to its end is true.
-use Rattle.std.proofs.Common.{Some, None, ℕ, zero, suc, Bool, true, false, Option, if◌then◌else◌, ◌≡◌, ◌≢◌}
-use Rattle.std.proofs.Common.{inl, inr, List, [], ◌∷◌, length, replicate, refl, sym, ◌∙◌, ap, subst}
-use Rattle.spec_locks.specs.declared.outcomes.Answer.{Answer}
-use Rattle.spec_locks.specs.declared.outcomes.Outcome.{Outcome}
+use Rattle.lot_laws.proofs.Names
+use Names.{Some, None, ℕ, zero, suc, Bool, true, false, Option, if◌then◌else◌, ◌≡◌, ◌≢◌, inl, inr, List, []}
+use Names.{◌∷◌, length, replicate, refl, sym, ◌∙◌, ap, subst, Answer, Outcome, Rights, Pend, Settle, Leave}
+use Names.{Park, Aside, Wake, HandOff, OfOnce, OnceCase, Start, Finish, Fail, Rest, TakeAll, Purpose, Recall}
+use Names.{WasMoved, moved_of, LocksState, CallState, Event, Nothing, AtLock, IsStep, IsRun, GoesOn}
+use Names.{AnswerHolds, after_wake, going_on, is_among, is_taken_by, woken, Moves, gives_up, go_of}
+use Names.{GoesOnUntil, last_told}
 use Rattle.spec_locks.specs.declared.outcomes.Outcome.TheVariants as outcome
-use Rattle.spec_locks.specs.Locks.{Rights, Enter, Pend, Settle, Leave, Park, Aside, Wake, HandOff, Late}
-use Rattle.spec_locks.specs.Locks.{OfOnce}
-use Rattle.spec_locks.specs.Onces.{OnceCase, Start, Finish, Fail, Rest, TakeAll}
+use Rattle.spec_locks.specs.Locks.{Enter, Late}
 use Rattle.spec_locks.specs.Locks as locks
-use Rattle.spec_locks.specs.Purposes.{Purpose, Recall, WasMoved}
-use Rattle.spec_locks.specs.Condvars.{moved_of}
-use Rattle.spec_locks.specs.Runs.{LocksState, CallState, Event, Nothing, AtLock, IsStep, IsRun, GoesOn}
-use Rattle.spec_locks.specs.Runs.{AnswerHolds, after_wake, going_on, is_among, is_taken_by, woken, Moves}
-use Rattle.spec_locks.specs.Runs.{gives_up}
-use Rattle.lot_machine.specs.Machine.{go_of}
-use Rattle.lot_laws.specs.Solo.{GoesOnUntil, last_told}
 use Rattle.lot_laws.proofs.machine.Parts.{same}
 
 once_keeps_purpose : (case : OnceCase) (l : ℕ) (c : CallState) → (going_on (AtLock l (OfOnce case)) c).purpose

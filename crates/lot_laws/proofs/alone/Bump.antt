@@ -1,67 +1,37 @@
 -- A bump that enters again steps alone as a call that enters: each of its steps is the same, but for the call
 -- that its place is of.
-use Rattle.std.proofs.Common.{ℕ, zero, suc, Bool, true, false, Option, Some, None, if◌then◌else◌, ◌==◌, ◌&&◌}
-use Rattle.std.proofs.Common.{◌≡◌, ◌≢◌, ◌+◌, ◌*◌, ◌^◌, ◌<◌, List, [], ◌∷◌, length, set, get_or, nat_lt}
-use Rattle.std.proofs.Common.{replicate, slice_index_or, slice_set, inl, inr, refl, sym, ◌∙◌, ap, subst}
-use Rattle.std.proofs.Common.{arith, get_or-set_same, length-set}
-use Rattle.core_base.specs.declared.keys.Keys.TheVariants.{One}
+use Rattle.lot_laws.proofs.Names
+use Names.{ℕ, zero, suc, Bool, true, false, Option, Some, None, if◌then◌else◌, ◌==◌, ◌&&◌, ◌≡◌, ◌≢◌, ◌+◌, ◌*◌}
+use Names.{◌^◌, ◌<◌, List, [], ◌∷◌, length, set, get_or, nat_lt, replicate, slice_index_or, inl, inr, refl}
+use Names.{sym, ◌∙◌, ap, subst, arith, get_or-set_same, length-set, One, Waiter, Access, Patient, Outcome}
+use Names.{Act, Next, At, Reply, holds, outcome_of, Admission, RwLockPlace, RwLockAt, RwLockPurpose, Decision}
+use Names.{ParkAt, Admits, decided, decided_act, exchange, plus, rwlock_act, rwlock_next, act_at, IsDecided}
+use Names.{IsNoRefusal, MayBeTold, MayStand, MayStandNext, ParksBy, StandsAt, rwlock_calls_stand}
+use Names.{RwLockCallPlace, Plain, Glance, HandOver, Bump, Handed, CallStands, IsOfBump, bump_next}
+use Names.{enters_again, gives_way, plain_next, unless_given, rwlock_first, StaysFor, stays_for, has_aside}
+use Names.{Place, Idle, RwLock, act_of, next_act, next_place, rwlock_does, rwlock_goes, shares_after}
+use Names.{SoloEnd as Ran, State, state_after_operation, after, alone_after, can_do, can_go, go_of}
+use Names.{go_outcome, held, is_possible, owners_at, place_at, put, queue_at, queues_with_last, reply_to}
+use Names.{runs_closure, solo, state_after_act, state_after_go, step_outcome, word_at, going_outcome}
+use Names.{state_after_going, kind_at, IsWellFormed, SameSize, IsOfItsKind, after_well_formed, after_size}
+use Names.{performed_counts, put_well_formed, AreCondvars, AreCounted, IsInductive, rules_in, role_on}
+use Names.{location, lock_seen, lock_state, taken_at, IsBarred, Rests}
+use Rattle.std.proofs.Common.{slice_set}
 use Rattle.core_base.specs.declared.keys.Line.{Line}
 use Rattle.core_base.specs.declared.keys.Line.TheVariants.{Main, Second}
-use Rattle.core_base.specs.declared.wants.Waiter.{Waiter}
-use Rattle.spec_locks.specs.declared.calls.Access.{Access}
 use Rattle.spec_locks.specs.declared.calls.Access.TheVariants as access
-use Rattle.spec_locks.specs.declared.calls.Patience.TheVariants.{Patient}
-use Rattle.spec_locks.specs.declared.outcomes.Outcome.{Outcome}
 use Rattle.spec_locks.specs.declared.outcomes.Outcome.TheVariants as outcome
-use Rattle.steps_base.specs.declared.acts.Act.{Act}
 use Rattle.steps_base.specs.declared.acts.Act.TheVariants as act
-use Rattle.steps_base.specs.declared.acts.Next.{Next}
-use Rattle.steps_base.specs.declared.acts.Next.TheVariants.{At, End}
-use Rattle.steps_base.specs.declared.acts.Reply.{Reply}
+use Rattle.steps_base.specs.declared.acts.Next.TheVariants.{End}
 use Rattle.steps_base.specs.declared.acts.Wakes.TheVariants as wakes
-use Rattle.steps_base.specs.Acts.{holds, outcome_of}
-use Rattle.steps_rwlock.specs.declared.places.Admission.{Admission}
-use Rattle.steps_rwlock.specs.declared.places.RwLockPlace.{RwLockPlace}
-use Rattle.steps_rwlock.specs.declared.places.RwLockAt.{RwLockAt}
 use Rattle.steps_rwlock.specs.declared.places.RwLockAt.TheVariants as at
-use Rattle.steps_rwlock.specs.declared.purposes.RwLockPurpose.{RwLockPurpose}
 use Rattle.steps_rwlock.specs.declared.purposes.RwLockPurpose.TheVariants as purpose
-use Rattle.steps_rwlock.specs.declared.enter.Decision.{Decision}
 use Rattle.steps_rwlock.specs.declared.enter.Decision.TheVariants as decisions
-use Rattle.steps_rwlock.specs.declared.park.ParkAt.{ParkAt}
 use Rattle.steps_rwlock.specs.declared.park.ParkAt.TheVariants as parking
-use Rattle.steps_rwlock.specs.RwLockDeeds.{Admits}
-use Rattle.steps_rwlock.specs.RwLockSteps.{decided, decided_act, exchange, plus, rwlock_act, rwlock_next}
-use Rattle.steps_rwlock.specs.RwLockSteps.{act_at}
-use Rattle.steps_rwlock.specs.RwLockCalls.{IsDecided, IsNoRefusal, MayBeTold, MayStand, MayStandNext, ParksBy}
-use Rattle.steps_rwlock.specs.RwLockCalls.{StandsAt}
-use Rattle.steps_rwlock.proofs.RwLockStands.{rwlock_calls_stand}
-use Rattle.steps_rwlock_fair.specs.declared.places.RwLockCallPlace.{RwLockCallPlace}
-use Rattle.steps_rwlock_fair.specs.declared.places.RwLockCallPlace.TheVariants.{Plain, Glance, HandOver, Bump}
-use Rattle.steps_rwlock_fair.specs.declared.places.RwLockCallPlace.TheVariants.{Handed}
 use Rattle.steps_rwlock_fair.specs.declared.handed.HandedAt.TheVariants as handed
-use Rattle.steps_rwlock_fair.specs.FairCalls.{CallStands, IsOfBump}
-use Rattle.steps_rwlock_fair.specs.FairSteps.{bump_next, enters_again, gives_way, plain_next, unless_given}
-use Rattle.steps_rwlock.specs.RwLockBegins.{rwlock_first}
-use Rattle.steps_rwlock_fair.proofs.FairStands.{StaysFor, stays_for}
-use Rattle.spec_locks.specs.Codes.{has_aside}
-use Rattle.lot_steps.specs.declared.places.Place.{Place}
-use Rattle.lot_steps.specs.declared.places.Place.TheVariants.{Idle, RwLock}
-use Rattle.lot_steps.specs.Steps.{act_of, next_act, next_place, rwlock_does, rwlock_goes, shares_after}
-use Rattle.lot_machine.specs.Machine.{SoloEnd as Ran, State, state_after_operation, after, alone_after}
-use Rattle.lot_machine.specs.Machine.{can_do, can_go, go_of, go_outcome, held, is_possible, owners_at}
-use Rattle.lot_machine.specs.Machine.{place_at, put, queue_at, queues_with_last, reply_to, runs_closure, solo}
-use Rattle.lot_machine.specs.Machine.{state_after_act, state_after_go, step_outcome, word_at, going_outcome}
-use Rattle.lot_machine.specs.Machine.{state_after_going, kind_at}
-use Rattle.lot_machine.specs.Fits.{IsWellFormed, SameSize, IsOfItsKind}
-use Rattle.lot_machine.proofs.Shape.{after_well_formed, after_size, performed_counts, put_well_formed}
 use Rattle.lot_laws.proofs.calls.OwnPlace.{goes_from_there, told_from_there}
-use Rattle.lot_laws.specs.SitesOf.{AreCondvars, AreCounted, IsInductive, rules_in}
 use Rattle.lot_laws.proofs.calls.Closures.{call_runs_none}
 use Rattle.lot_laws.proofs.mutex.FairMutexes.{put_settled}
-use Rattle.lot_laws.specs.Locations.{role_on, location}
-use Rattle.lot_laws.specs.Refinement.{lock_seen, lock_state, taken_at}
-use Rattle.lot_laws.specs.Solo.{IsBarred, Rests}
 use Rattle.lot_laws.proofs.sites.ActsKept.{goes_inductive, place_goes}
 use Rattle.lot_laws.proofs.machine.Parts.{parts_at}
 use Rattle.lot_laws.proofs.sites.OneStep.{steps_by}

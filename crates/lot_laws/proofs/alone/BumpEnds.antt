@@ -1,53 +1,29 @@
 -- Each call of a reader-writer lock that steps alone from its beginning: a bump ends with its right, or
 -- gives it up and is as a call that enters.
-use Rattle.std.proofs.Common.{ℕ, zero, suc, Bool, true, false, Option, Some, None, ◌==◌, ◌&&◌, ◌||◌, not, ◌≡◌}
-use Rattle.std.proofs.Common.{◌≢◌, ◌+◌, ◌-◌, ◌≤◌, ◌<◌, ◌^◌, ◌⊎◌, inl, inr, [], length, replicate, refl, sym}
-use Rattle.std.proofs.Common.{◌∙◌, ap, subst, arith}
-use Rattle.std.specs.Prelude.{slice_index, slice_set, sum}
-use Rattle.std.proofs.lemmas.Bool.{eqb-true}
-use Rattle.std.proofs.lemmas.Bool.Decides.{nat_tests}
-use Rattle.core_base.specs.declared.wants.Want.TheVariants.{Exclusive, Upgradable, Shared}
-use Rattle.spec_locks.specs.declared.calls.Access.{Access}
+use Rattle.lot_laws.proofs.Names
+use Names.{ℕ, zero, suc, Bool, true, false, Option, Some, None, ◌==◌, ◌&&◌, ◌||◌, not, ◌≡◌, ◌≢◌, ◌+◌, ◌-◌}
+use Names.{◌≤◌, ◌<◌, ◌^◌, ◌⊎◌, inl, inr, [], length, replicate, refl, sym, ◌∙◌, ap, subst, arith, slice_index}
+use Names.{slice_set, sum, eqb-true, nat_tests, Exclusive, Upgradable, Shared, Access, Patient, Timed, Try}
+use Names.{RwLockCall, Outcome, Admission, RwLockPlace, rwlock_first, Admits, wanted, Plain, Glance}
+use Names.{call_first, call_role, enters_again, gives_way, IsLockState, LockState, Rights, Sort, Recursive}
+use Names.{Rules, IsBlocked, IsFree, MayEnter, Owns, count, is_recursive, one_if_some, readers, rights_of}
+use Names.{with_right, TellsTrue, bit, code, count_in, has_parked, has_writer, writers, Bumps, rwlock_purpose}
+use Names.{LocksState, IsRun, one_more_at, rules_at, Role, Has, IsSite, Main, has_readers, rw_is}
+use Names.{words_tell_true, packed_writer, fewer_share, RwLock, act_of, SoloEnd as Ran, State, after}
+use Names.{after_steps, alone_after, go_of, place_at, queue_at, section_at, solo, step_outcome, step_outcomes}
+use Names.{word_at, call_at, call_state, lock_state, locks_of, IsInductive, IsWorld, key_of, rules_in}
+use Names.{site_of, role_on, BumpsShared, ComesBack, EndsAlone, locks_afterwards, EntersAlone, BumpGivesWay}
+use Names.{MayEnterAtOnce, NeedsNoWay, Rests, WaitsAlone, WaitsForReaders, EntersSection, HasWhatItReads}
+use Names.{IsBarred, IsWorldRun}
 use Rattle.spec_locks.specs.declared.calls.Access.TheVariants as access
-use Rattle.spec_locks.specs.declared.calls.Patience.TheVariants.{Patient, Timed, Try}
-use Rattle.spec_locks.specs.declared.calls.RwLockCall.{RwLockCall}
 use Rattle.spec_locks.specs.declared.calls.RwLockCall.TheVariants as call
 use Rattle.spec_locks.specs.declared.outcomes.Answer.TheVariants as answer
-use Rattle.spec_locks.specs.declared.outcomes.Outcome.{Outcome}
 use Rattle.spec_locks.specs.declared.outcomes.Outcome.TheVariants as outcome
-use Rattle.steps_rwlock.specs.declared.places.Admission.{Admission}
-use Rattle.steps_rwlock.specs.declared.places.RwLockPlace.{RwLockPlace}
 use Rattle.steps_rwlock.specs.declared.purposes.RwLockPurpose.TheVariants as purpose
-use Rattle.steps_rwlock.specs.RwLockBegins.{rwlock_first}
-use Rattle.steps_rwlock.specs.RwLockDeeds.{Admits}
-use Rattle.steps_rwlock.specs.RwLockSteps.{wanted}
-use Rattle.steps_rwlock_fair.specs.declared.places.RwLockCallPlace.TheVariants.{Plain, Glance}
 use Rattle.steps_rwlock_fair.specs.declared.hand_over.HandOverAt.TheVariants as handing
-use Rattle.steps_rwlock_fair.specs.FairBegins.{call_first}
-use Rattle.steps_rwlock_fair.specs.FairDeeds.{call_role}
-use Rattle.steps_rwlock_fair.specs.FairSteps.{enters_again, gives_way}
-use Rattle.spec_locks.specs.Locks.{IsLockState, LockState, Rights, Sort, Mutex as Mutual, Normal, Recursive}
-use Rattle.spec_locks.specs.Locks.{Semaphore, Once, Rules, IsBlocked, IsFree, MayEnter, Owns, count}
-use Rattle.spec_locks.specs.Locks.{is_recursive, one_if_some, readers, rights_of, with_right, Condvar}
-use Rattle.spec_locks.specs.Codes.{TellsTrue, bit, code, count_in, has_parked, has_writer, writers}
-use Rattle.spec_locks.specs.Purposes.{Bumps, rwlock_purpose}
-use Rattle.spec_locks.specs.Runs.{LocksState, IsRun, one_more_at, rules_at}
-use Rattle.spec_locks.specs.Sites.{Role, Has, IsSite, Main, has_readers}
-use Rattle.spec_locks.proofs.CodeLaws.{rw_is, words_tell_true}
-use Rattle.spec_locks.proofs.Seen.{packed_writer}
-use Rattle.spec_locks.proofs.SiteFacts.{fewer_share}
-use Rattle.lot_steps.specs.declared.places.Place.TheVariants.{RwLock}
-use Rattle.lot_steps.specs.Steps.{act_of}
-use Rattle.lot_machine.specs.Machine.{SoloEnd as Ran, State, after, after_steps, alone_after, go_of, place_at}
-use Rattle.lot_machine.specs.Machine.{queue_at, section_at, solo, step_outcome, step_outcomes, word_at}
-use Rattle.lot_laws.specs.Refinement.{call_at, call_state, lock_state, locks_of}
-use Rattle.lot_laws.specs.SitesOf.{IsInductive, IsWorld, key_of, rules_in, site_of}
-use Rattle.lot_laws.specs.Locations.{role_on}
-use Rattle.lot_laws.specs.Solo.{BumpsShared, ComesBack, EndsAlone, locks_afterwards, EntersAlone}
-use Rattle.lot_laws.specs.Solo.{BumpGivesWay}
-use Rattle.lot_laws.specs.Solo.{MayEnterAtOnce, NeedsNoWay, Rests, WaitsAlone, WaitsForReaders, EntersSection}
-use Rattle.lot_laws.specs.Solo.{HasWhatItReads, IsBarred}
-use Rattle.lot_laws.specs.WorldRuns.{IsWorldRun}
+use Rattle.spec_locks.specs.Locks.{Mutex as Mutual, Normal}
+use Rattle.spec_locks.specs.Locks.{Semaphore, Once}
+use Rattle.spec_locks.specs.Locks.{Condvar}
 use Rattle.lot_laws.proofs.machine.Parts.{role_here, inside_is, put_here}
 use Rattle.lot_laws.proofs.alone.Leads.{Leads, or_so}
 use Rattle.lot_laws.proofs.alone.TwoLines.{StepsAlone}

@@ -1,36 +1,17 @@
 -- A thread that steps alone in a call of a condition variable: where each of its acts leads it.
-use Rattle.std.proofs.Common.{ℕ, true, Option, Some, None, if◌then◌else◌, ◌≡◌, ◌⊎◌, ◌+◌, ◌*◌, ◌<◌, length}
-use Rattle.std.proofs.Common.{get_or-set_same, inl, inr, refl, sym, ◌∙◌, ap, subst, arith}
-use Rattle.std.proofs.lemmas.Bool.{lt-ltb}
-use Rattle.core_base.specs.declared.ops.Op.{Op}
-use Rattle.core_base.specs.Words.{apply}
+use Rattle.lot_laws.proofs.Names
+use Names.{ℕ, true, Option, Some, None, if◌then◌else◌, ◌≡◌, ◌⊎◌, ◌+◌, ◌*◌, ◌<◌, length, get_or-set_same, inl}
+use Names.{inr, refl, sym, ◌∙◌, ap, subst, arith, lt-ltb, Op, apply, Outcome, Next, Reply, outcome_of}
+use Names.{Location, location_by, CondvarPlace, IsReached, MayHear, after_condvar_deeds, condvar_deeds}
+use Names.{condvar_profile, mutex_side, condvar_act, condvar_next, mutex_beside, Place, Idle, Condvar, act_of}
+use Names.{condvar_does, condvar_goes, next_act, next_place, Line, Main, IsThere, PlaceFits, SameSize, State}
+use Names.{after, can_do, go_of, go_outcome, going_outcome, is_possible, place_at, put, reply_to, section_at}
+use Names.{state_after_act, state_after_go, state_after_going, step_outcome, unlocked, word_at, after_size}
+use Names.{performed_counts, lock_state, location_at, IsWorld, condvar_of, EntersSection, IsBarred}
 use Rattle.spec_locks.specs.declared.kinds.Kind.TheVariants as kind
-use Rattle.spec_locks.specs.declared.outcomes.Outcome.{Outcome}
 use Rattle.spec_locks.specs.declared.outcomes.Outcome.TheVariants as outcome
 use Rattle.steps_base.specs.declared.acts.Act.TheVariants as act
-use Rattle.steps_base.specs.declared.acts.Next.{Next}
 use Rattle.steps_base.specs.declared.acts.Next.TheVariants as next
-use Rattle.steps_base.specs.declared.acts.Reply.{Reply}
-use Rattle.steps_base.specs.Acts.{outcome_of}
-use Rattle.steps_base.specs.Locations.{Location, location_by}
-use Rattle.steps_condvar.specs.declared.places.CondvarPlace.{CondvarPlace}
-use Rattle.steps_condvar.specs.CondvarCalls.{IsReached}
-use Rattle.steps_condvar.specs.CondvarDeeds.{MayHear, after_condvar_deeds, condvar_deeds}
-use Rattle.steps_condvar.specs.CondvarProfiles.{condvar_profile, mutex_side}
-use Rattle.steps_condvar.specs.CondvarSteps.{condvar_act, condvar_next, mutex_beside}
-use Rattle.lot_steps.specs.declared.places.Place.{Place}
-use Rattle.lot_steps.specs.declared.places.Place.TheVariants.{Idle, Condvar}
-use Rattle.lot_steps.specs.Steps.{act_of, condvar_does, condvar_goes, next_act, next_place}
-use Rattle.spec_locks.specs.Sites.{Line, Main}
-use Rattle.lot_machine.specs.Fits.{IsThere, PlaceFits, SameSize}
-use Rattle.lot_machine.specs.Machine.{State, after, can_do, go_of, go_outcome, going_outcome, is_possible}
-use Rattle.lot_machine.specs.Machine.{place_at, put, reply_to, section_at, state_after_act, state_after_go}
-use Rattle.lot_machine.specs.Machine.{state_after_going, step_outcome, unlocked, word_at}
-use Rattle.lot_machine.proofs.Shape.{after_size, performed_counts}
-use Rattle.lot_laws.specs.Refinement.{lock_state}
-use Rattle.lot_laws.specs.Locations.{location_at}
-use Rattle.lot_laws.specs.SitesOf.{IsWorld, condvar_of}
-use Rattle.lot_laws.specs.Solo.{EntersSection, IsBarred}
 use Rattle.lot_laws.proofs.condvar.Replies.{fits_here, may_hear, location_beside}
 use Rattle.lot_laws.proofs.condvar.Sites.{location_there}
 use Rattle.lot_laws.proofs.condvar.MachineFollows.{goes_led}

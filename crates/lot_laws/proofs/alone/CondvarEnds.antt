@@ -1,23 +1,12 @@
 -- A call of a condition variable whose thread steps alone: from any place it ends or sleeps, and from its
 -- beginning it does what it is for.
-use Rattle.std.proofs.Common.{ℕ, Bool, Option, Some, None, ◌≡◌, ◌≢◌, ◌*◌, ◌<◌, length, refl, sym, ◌∙◌, ap}
-use Rattle.std.proofs.Common.{arith}
-use Rattle.spec_locks.specs.declared.calls.CondvarCall.{CondvarCall}
+use Rattle.lot_laws.proofs.Names
+use Names.{ℕ, Bool, Option, Some, None, ◌≡◌, ◌≢◌, ◌*◌, ◌<◌, length, refl, sym, ◌∙◌, ap, arith, CondvarCall}
+use Names.{Outcome, CondvarPlace, Wait, Look, Notify, condvar_act, condvar_first, Condvar, condvar_purpose}
+use Names.{Line, Main, State, place_at, section_at, lock_state, IsWorld, EndsAlone, HasWhatItReads, IsOnly}
+use Names.{Rests, location_at, Location}
 use Rattle.spec_locks.specs.declared.calls.CondvarCall.TheVariants as condvar_call
-use Rattle.spec_locks.specs.declared.outcomes.Outcome.{Outcome}
 use Rattle.steps_base.specs.declared.acts.Act.TheVariants as act
-use Rattle.steps_condvar.specs.declared.places.CondvarPlace.{CondvarPlace}
-use Rattle.steps_condvar.specs.declared.places.CondvarPlace.TheVariants.{Wait, Look, Notify}
-use Rattle.steps_condvar.specs.CondvarSteps.{condvar_act, condvar_first}
-use Rattle.lot_steps.specs.declared.places.Place.TheVariants.{Condvar}
-use Rattle.spec_locks.specs.Purposes.{condvar_purpose}
-use Rattle.spec_locks.specs.Sites.{Line, Main}
-use Rattle.lot_machine.specs.Machine.{State, place_at, section_at}
-use Rattle.lot_laws.specs.Refinement.{lock_state}
-use Rattle.lot_laws.specs.SitesOf.{IsWorld}
-use Rattle.lot_laws.specs.Solo.{EndsAlone, HasWhatItReads, IsOnly, Rests}
-use Rattle.lot_laws.specs.Locations.{location_at}
-use Rattle.steps_base.specs.Locations.{Location}
 use Rattle.lot_laws.proofs.alone.Condvar.{GoesAlone, Keeps}
 use Rattle.lot_laws.proofs.condvar.Replies.{fits_here}
 use Rattle.lot_laws.proofs.condvar.Sites.{location_there}

@@ -1,55 +1,30 @@
 -- A fair release, a bump, or a call that was handed the lock, whose thread steps alone: from each place it
 -- ends, or begins to enter again.
-use Rattle.std.proofs.Common.{ℕ, suc, Bool, true, false, None, if◌then◌else◌, ◌==◌, ◌&&◌, ◌≡◌, ◌+◌, ◌*◌, ◌≤◌}
-use Rattle.std.proofs.Common.{List, ◌∷◌, replicate, inl, inr, refl, sym, ◌∙◌, ap, subst, arith}
+use Rattle.lot_laws.proofs.Names
+use Names.{ℕ, suc, Bool, true, false, None, if◌then◌else◌, ◌==◌, ◌&&◌, ◌≡◌, ◌+◌, ◌*◌, ◌≤◌, List, ◌∷◌}
+use Names.{replicate, inl, inr, refl, sym, ◌∙◌, ap, subst, arith, One, Waiter, first_of, apply, Access}
+use Names.{Patience, Ok, Outcome, Act, Next, At, Done, outcome_of, wakes_taken, Admission, RwLockAt, WakeAt}
+use Names.{entered, unparked, Admits, RwLockCallPlace, Glance, HandOver, Bump, Handed, HandOverAt, any_taken}
+use Names.{bump_next, enters_again, exchange_act, freed_next, gives_up_at, gives_way, has_room, looked}
+use Names.{note_by, parked_as, with_taken, word_without, HandsOverAt, count_in, has_aside, has_parked}
+use Names.{rules_of, RwLock, act_of, next_act, next_place, rwlock_does, rwlock_goes, State, after}
+use Names.{after_steps, go_of, queue_at, queues_without_first, solo, step_outcome, step_outcomes, key_of}
+use Names.{rules_in, Rests, location}
 use Rattle.core_base.specs.declared.keys.Line.{Line}
 use Rattle.core_base.specs.declared.keys.Line.TheVariants.{Main, Second}
-use Rattle.core_base.specs.declared.keys.Keys.TheVariants.{One}
 use Rattle.core_base.specs.declared.ops.Op.TheVariants as op
-use Rattle.core_base.specs.declared.wants.Waiter.{Waiter}
-use Rattle.core_base.specs.Lines.{first_of}
-use Rattle.core_base.specs.Words.{apply}
-use Rattle.spec_locks.specs.declared.calls.Access.{Access}
 use Rattle.spec_locks.specs.declared.calls.Access.TheVariants as access
-use Rattle.spec_locks.specs.declared.calls.Patience.{Patience}
-use Rattle.spec_locks.specs.declared.outcomes.Answer.TheVariants.{Ok}
-use Rattle.spec_locks.specs.declared.outcomes.Outcome.{Outcome}
 use Rattle.spec_locks.specs.declared.outcomes.Outcome.TheVariants as outcome
-use Rattle.steps_base.specs.declared.acts.Act.{Act}
 use Rattle.steps_base.specs.declared.acts.Act.TheVariants as act
-use Rattle.steps_base.specs.declared.acts.Next.{Next}
-use Rattle.steps_base.specs.declared.acts.Next.TheVariants.{At, End}
-use Rattle.steps_base.specs.declared.acts.Reply.TheVariants.{Done}
+use Rattle.steps_base.specs.declared.acts.Next.TheVariants.{End}
 use Rattle.steps_base.specs.declared.acts.Whom.TheVariants as whoms
-use Rattle.steps_base.specs.Acts.{outcome_of, wakes_taken}
-use Rattle.steps_rwlock.specs.declared.places.Admission.{Admission}
-use Rattle.steps_rwlock.specs.declared.places.RwLockAt.{RwLockAt}
 use Rattle.steps_rwlock.specs.declared.places.RwLockAt.TheVariants as at
 use Rattle.steps_rwlock.specs.declared.purposes.RwLockPurpose.TheVariants as purpose
-use Rattle.steps_rwlock.specs.declared.release.WakeAt.{WakeAt}
 use Rattle.steps_rwlock.specs.declared.release.WakeAt.TheVariants as waking
-use Rattle.steps_rwlock.specs.RwLockSteps.{entered, unparked}
-use Rattle.steps_rwlock.specs.RwLockDeeds.{Admits}
-use Rattle.steps_rwlock_fair.specs.declared.places.RwLockCallPlace.{RwLockCallPlace}
-use Rattle.steps_rwlock_fair.specs.declared.places.RwLockCallPlace.TheVariants.{Glance, HandOver, Bump}
-use Rattle.steps_rwlock_fair.specs.declared.places.RwLockCallPlace.TheVariants.{Handed}
 use Rattle.steps_rwlock_fair.specs.declared.hand_over.Taken.{Taken}
-use Rattle.steps_rwlock_fair.specs.declared.hand_over.HandOverAt.{HandOverAt}
 use Rattle.steps_rwlock_fair.specs.declared.hand_over.HandOverAt.TheVariants as handing
 use Rattle.steps_rwlock_fair.specs.declared.handed.HandedAt.TheVariants as handed
-use Rattle.steps_rwlock_fair.specs.FairSteps.{any_taken, bump_next, enters_again, exchange_act, freed_next}
-use Rattle.steps_rwlock_fair.specs.FairSteps.{gives_up_at, gives_way, has_room, looked, note_by, parked_as}
-use Rattle.steps_rwlock_fair.specs.FairSteps.{released, with_taken, word_without}
-use Rattle.steps_rwlock_fair.specs.FairCalls.{HandsOverAt}
-use Rattle.spec_locks.specs.Codes.{count_in, has_aside, has_parked}
-use Rattle.spec_locks.specs.Purposes.{rules_of}
-use Rattle.lot_steps.specs.declared.places.Place.TheVariants.{RwLock}
-use Rattle.lot_steps.specs.Steps.{act_of, next_act, next_place, rwlock_does, rwlock_goes}
-use Rattle.lot_machine.specs.Machine.{State, after, after_steps, go_of, queue_at, queues_without_first, solo}
-use Rattle.lot_machine.specs.Machine.{step_outcome, step_outcomes}
-use Rattle.lot_laws.specs.SitesOf.{key_of, rules_in}
-use Rattle.lot_laws.specs.Solo.{Rests}
-use Rattle.lot_laws.specs.Locations.{location}
+use Rattle.steps_rwlock_fair.specs.FairSteps.{released}
 use Rattle.lot_laws.proofs.machine.Parts.{same}
 use Rattle.lot_laws.proofs.machine.KindsStay.{after_kinds}
 use Rattle.lot_laws.proofs.rwlock.Rows.{of}

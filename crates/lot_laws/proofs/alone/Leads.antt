@@ -1,17 +1,11 @@
 -- Some steps of a thread alone, and to where they lead.
-use Rattle.std.proofs.Common.{ℕ, zero, suc, Bool, true, false, Some, None, if◌then◌else◌, ◌&&◌, ◌≡◌, ◌+◌, ◌≤◌}
-use Rattle.std.proofs.Common.{◌⊎◌, nat_lt, length, is_none, inl, inr, refl, sym, ◌∙◌, ap, subst, arith}
-use Rattle.std.proofs.Common.{slice_index_or}
-use Rattle.core_base.specs.declared.keys.Keys.TheVariants.{One, Two}
-use Rattle.steps_base.specs.declared.acts.Act.{Act}
+use Rattle.lot_laws.proofs.Names
+use Names.{ℕ, zero, suc, Bool, true, false, Some, None, if◌then◌else◌, ◌&&◌, ◌≡◌, ◌+◌, ◌≤◌, ◌⊎◌, nat_lt}
+use Names.{length, is_none, inl, inr, refl, sym, ◌∙◌, ap, subst, arith, slice_index_or, One, Two, Act}
+use Names.{Outcome, act_of, State, after, can_do, go_of, go_outcome, place_at, section_at, solo, step_outcome}
+use Names.{key_of, EntersSection, IsBarred, Rests}
 use Rattle.steps_base.specs.declared.acts.Act.TheVariants as act
-use Rattle.spec_locks.specs.declared.outcomes.Outcome.{Outcome}
 use Rattle.spec_locks.specs.declared.outcomes.Outcome as outcome
-use Rattle.lot_steps.specs.Steps.{act_of}
-use Rattle.lot_machine.specs.Machine.{State, after, can_do, go_of, go_outcome, place_at, section_at, solo}
-use Rattle.lot_machine.specs.Machine.{step_outcome}
-use Rattle.lot_laws.specs.SitesOf.{key_of}
-use Rattle.lot_laws.specs.Solo.{EntersSection, IsBarred, Rests}
 use Rattle.lot_laws.proofs.alone.Steps.{rests_after}
 
 -- after at most k steps of the thread alone its call rests, and then this holds

@@ -1,59 +1,37 @@
 -- A call of a mutex whose thread steps alone: from each place, where it ends or falls asleep.
-use Rattle.std.proofs.Common.{append-nil, ℕ, zero, suc, Bool, true, false, Option, Some, None, if◌then◌else◌}
-use Rattle.std.proofs.Common.{◌==◌, ◌&&◌, not, ◌≡◌, ◌≢◌, ◌+◌, ◌*◌, ◌≤◌, ◌<◌, inl, inr, List, [], ◌∷◌, ◌++◌}
-use Rattle.std.proofs.Common.{length, drop, map, refl, sym, ◌∙◌, ap, subst, arith}
-use Rattle.std.proofs.lemmas.Bool.{cases_eq, eqb-true}
+use Rattle.lot_laws.proofs.Names
+use Names.{append-nil, ℕ, zero, suc, Bool, true, false, Option, Some, None, if◌then◌else◌, ◌==◌, ◌&&◌, not}
+use Names.{◌≡◌, ◌≢◌, ◌+◌, ◌*◌, ◌≤◌, ◌<◌, inl, inr, List, [], ◌∷◌, ◌++◌, length, drop, map, refl, sym, ◌∙◌, ap}
+use Names.{subst, arith, cases_eq, eqb-true, Waiter, Exclusive, apply, waiter, without, first_of, Value, Took}
+use Names.{Removed, Outcome, NOT_PARKED, Entry, Lock, TryLock, Unlock, UnlockFair, LockAt, First, Load}
+use Names.{Decide, Asleep, Accept, Remove, UnlockAt, HandOffAt, Place, Mutex, outcome_of, is_locked}
+use Names.{is_parked, hand_off_word, in_unlock, act_of, next_place, next_act, mutex_goes, mutex_does, State}
+use Names.{place_at, word_at, queue_at, go_of, after, owners_handed_over, is_there, IsMutexWord, Site, acts}
+use Names.{queued, IsInductive, Goes, hand_at, first_thread, queued_of, owner_at, taken_at, Rests, decides}
+use Names.{MutexPlace, Owners, with_exclusive}
 use Rattle.core_base.specs.declared.notes.Note.TheVariants as note
 use Rattle.core_base.specs.declared.ops.Op as op
-use Rattle.core_base.specs.declared.wants.Waiter.{Waiter}
-use Rattle.core_base.specs.declared.wants.Want.TheVariants.{Exclusive}
-use Rattle.core_base.specs.Words.{apply}
-use Rattle.core_base.specs.Lines.{waiter, without, first_of}
 use Rattle.steps_base.specs.declared.acts.Act as act
-use Rattle.steps_base.specs.declared.acts.Reply.TheVariants.{Value, Took, Removed}
 use Rattle.steps_base.specs.declared.acts.Next as next
 use Rattle.spec_locks.specs.declared.outcomes.Answer as answer
-use Rattle.spec_locks.specs.declared.outcomes.Outcome.{Outcome}
 use Rattle.spec_locks.specs.declared.outcomes.Outcome as outcome
-use Rattle.steps_mutex.specs.declared.places.TheConstants.{NOT_PARKED}
-use Rattle.steps_mutex.specs.declared.lock.Entry.{Entry}
 use Rattle.steps_mutex.specs.declared.lock.Entry.TheVariants as entries
-use Rattle.steps_mutex.specs.declared.places.MutexPlace.TheVariants.{Lock, TryLock, Unlock, UnlockFair, Bump}
+use Rattle.steps_mutex.specs.declared.places.MutexPlace.TheVariants.{Bump}
 use Rattle.steps_mutex.specs.declared.places.MutexPlace.TheVariants.{HandOff}
-use Rattle.steps_mutex.specs.declared.lock.LockAt.{LockAt}
-use Rattle.steps_mutex.specs.declared.lock.LockAt.TheVariants.{First, Load, Decide, Check, Leave, Asleep}
-use Rattle.steps_mutex.specs.declared.lock.LockAt.TheVariants.{Taken, Handed, Accept, Remove, Clear, GiveUp}
-use Rattle.steps_mutex.specs.declared.unlock.UnlockAt.{UnlockAt}
+use Rattle.steps_mutex.specs.declared.lock.LockAt.TheVariants.{Check, Leave}
+use Rattle.steps_mutex.specs.declared.lock.LockAt.TheVariants.{Taken, Handed, Clear, GiveUp}
 use Rattle.steps_mutex.specs.declared.unlock.UnlockAt.TheVariants as unlock
-use Rattle.steps_mutex.specs.declared.hand_off.HandOffAt.{HandOffAt}
 use Rattle.steps_mutex.specs.declared.hand_off.HandOffAt.TheVariants as hand_off
-use Rattle.lot_steps.specs.declared.places.Place.{Place}
-use Rattle.lot_steps.specs.declared.places.Place.TheVariants.{Mutex}
-use Rattle.steps_base.specs.Acts.{outcome_of}
-use Rattle.steps_mutex.specs.MutexSteps.{is_locked, is_parked, entered, looked, hand_off_word, in_unlock}
-use Rattle.lot_steps.specs.Steps.{act_of, next_place, next_act, mutex_goes, mutex_does}
-use Rattle.lot_machine.specs.Machine.{State, place_at, word_at, queue_at, go_of, after, owners_handed_over}
-use Rattle.lot_machine.specs.Machine.{is_there}
-use Rattle.lot_laws.specs.MutexPromises.{IsMutexWord}
-use Rattle.spec_locks.specs.Sites.{Site}
-use Rattle.lot_laws.specs.ThreadDeeds.{acts, take_deeds, queued}
+use Rattle.steps_mutex.specs.MutexSteps.{entered, looked}
+use Rattle.lot_laws.specs.ThreadDeeds.{take_deeds}
 use Rattle.lot_laws.specs.Locations.{Location, hand}
-use Rattle.lot_laws.specs.SitesOf.{IsInductive, Goes, hand_at}
 use Rattle.lot_laws.proofs.promises.ExclusiveOwners.{by_code, mutex_owner_after}
-use Rattle.spec_locks.specs.Locks.{first_thread}
-use Rattle.spec_locks.specs.Picks.{queued_of}
-use Rattle.lot_laws.specs.Refinement.{owner_at, taken_at}
-use Rattle.lot_laws.specs.Solo.{Rests}
-use Rattle.steps_mutex.proofs.MutexCalls.{decides}
 use Rattle.lot_laws.proofs.hands.Counts.{first_times}
 use Rattle.lot_laws.proofs.machine.Parts.{taken_held, put_here, own_stance, differ, aparts}
 use Rattle.lot_laws.proofs.hands.Handed.{successor_one, of_carries}
 use Rattle.lot_laws.proofs.promises.SitesPromise.{parked_at}
-use Rattle.steps_mutex.specs.declared.places.MutexPlace.{MutexPlace}
 use Rattle.steps_base.specs.declared.acts.Whom as whoms
 use Rattle.lot_laws.proofs.sites.SitesKept.{go_by, unshared_at, single_at, alone_at}
-use Rattle.steps_base.specs.declared.owners.Owners.{Owners}
-use Rattle.steps_base.specs.Owners.{with_exclusive}
 use Rattle.lot_laws.proofs.mutex.Kept.{goes_mutex}
 use Rattle.lot_laws.proofs.machine.AtPlaces.{coded_for, rules_for, owns}
 use Rattle.lot_laws.proofs.alone.Leads.{Leads, leads_rest, leads_step, leads_more, leads_so}

@@ -1,33 +1,17 @@
 -- A notification whose thread steps alone: from each place it ends, and has moved the first, or all, or
 -- nobody where its mutex is not shown.
-use Rattle.std.proofs.Common.{ℕ, Bool, true, false, if◌then◌else◌, ◌==◌, ◌&&◌, ◌≡◌, ◌+◌, ◌*◌, ◌≤◌, List, []}
-use Rattle.std.proofs.Common.{◌∷◌, drop, length, nat_lt, not, inl, inr, refl, sym, ◌∙◌, ap, subst, arith}
-use Rattle.core_base.specs.declared.ops.Op.{Op}
+use Rattle.lot_laws.proofs.Names
+use Names.{ℕ, Bool, true, false, if◌then◌else◌, ◌==◌, ◌&&◌, ◌≡◌, ◌+◌, ◌*◌, ◌≤◌, List, [], ◌∷◌, drop, length}
+use Names.{nat_lt, not, inl, inr, refl, sym, ◌∙◌, ap, subst, arith, Op, apply, first_of, Outcome, Reply}
+use Names.{Requeued, outcome_of, is_locked, NotifyAt, Notify, MayHear, after_condvar_deeds, condvar_deeds}
+use Names.{condvar_next, is_shown, marks, move_act, moved_one, notified, notify_act, Condvar, SeeAgain}
+use Names.{MissIt, Queued, State, after, can_do, go_of, is_there, place_at, queue_at, reply_to}
+use Names.{state_after_act, word_at, lock_state, condvar_of, Rests}
 use Rattle.core_base.specs.declared.ops.Op.TheVariants as op
-use Rattle.core_base.specs.Words.{apply}
-use Rattle.core_base.specs.Lines.{first_of}
-use Rattle.spec_locks.specs.declared.outcomes.Outcome.{Outcome}
 use Rattle.spec_locks.specs.declared.outcomes.Outcome.TheVariants as outcome
 use Rattle.steps_base.specs.declared.acts.Act.TheVariants as act
 use Rattle.steps_base.specs.declared.acts.Next.TheVariants as next
-use Rattle.steps_base.specs.declared.acts.Reply.{Reply}
-use Rattle.steps_base.specs.declared.acts.Reply.TheVariants.{Requeued}
-use Rattle.steps_base.specs.Acts.{outcome_of}
-use Rattle.steps_mutex.specs.MutexSteps.{is_locked}
-use Rattle.steps_condvar.specs.declared.notify.NotifyAt.{NotifyAt}
 use Rattle.steps_condvar.specs.declared.notify.NotifyAt.TheVariants as notify
-use Rattle.steps_condvar.specs.declared.places.CondvarPlace.TheVariants.{Notify}
-use Rattle.steps_condvar.specs.CondvarDeeds.{MayHear, after_condvar_deeds, condvar_deeds}
-use Rattle.steps_condvar.specs.CondvarSteps.{condvar_next, is_shown, marks, move_act, moved_one, notified}
-use Rattle.steps_condvar.specs.CondvarSteps.{notify_act}
-use Rattle.lot_steps.specs.declared.places.Place.TheVariants.{Condvar}
-use Rattle.spec_locks.specs.Condvars.{SeeAgain, MissIt}
-use Rattle.spec_locks.specs.Locks.{Queued}
-use Rattle.lot_machine.specs.Machine.{State, after, can_do, go_of, is_there, place_at, queue_at, reply_to}
-use Rattle.lot_machine.specs.Machine.{state_after_act, word_at}
-use Rattle.lot_laws.specs.Refinement.{lock_state}
-use Rattle.lot_laws.specs.SitesOf.{condvar_of}
-use Rattle.lot_laws.specs.Solo.{Rests}
 use Rattle.lot_laws.proofs.alone.Condvar.{Afterwards, GoesAlone, Keeps, free_beside, free_here, hears}
 use Rattle.lot_laws.proofs.alone.Condvar.{leads_afterwards, queue_then, reached, so_then, word_then}
 use Rattle.lot_laws.proofs.condvar.OwnStand.{notifier_still}

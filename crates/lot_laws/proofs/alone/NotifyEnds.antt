@@ -1,23 +1,15 @@
 -- A notification from its beginning, whose thread steps alone: it moves the first, or all, where a mutex is
 -- shown.
-use Rattle.std.proofs.Common.{ℕ, Bool, true, false, Option, Some, None, if◌then◌else◌, ◌==◌, ◌≡◌, ◌*◌, ◌≢◌}
-use Rattle.std.proofs.Common.{◌+◌, List, [], ◌∷◌, is_none, inr, refl, sym, ◌∙◌, ap, subst, arith}
-use Rattle.std.proofs.Common.{get_or-set_same}
-use Rattle.std.proofs.lemmas.Bool.Decides.{nat_tests}
+use Rattle.lot_laws.proofs.Names
+use Names.{ℕ, Bool, true, false, Option, Some, None, if◌then◌else◌, ◌==◌, ◌≡◌, ◌*◌, ◌≢◌, ◌+◌, List, [], ◌∷◌}
+use Names.{is_none, inr, refl, sym, ◌∙◌, ap, subst, arith, get_or-set_same, nat_tests, Outcome, Look, Notify}
+use Names.{word_showing, is_shown, look_next, mutex_shown, notified, shown_as, IsAsInside, IsSettledAt}
+use Names.{Queued, State, after, go_of, section_at, unlocked, word_at, lock_state, condvar_of, NotifiesAlone}
+use Names.{Rests}
 use Rattle.spec_locks.specs.declared.kinds.Kind.TheVariants as kind
-use Rattle.spec_locks.specs.declared.outcomes.Outcome.{Outcome}
 use Rattle.spec_locks.specs.declared.outcomes.Outcome.TheVariants as outcome
 use Rattle.steps_base.specs.declared.acts.Next.TheVariants as next
 use Rattle.steps_condvar.specs.declared.notify.NotifyAt.TheVariants as notify
-use Rattle.steps_condvar.specs.declared.places.CondvarPlace.TheVariants.{Look, Notify}
-use Rattle.steps_condvar.specs.CondvarDeeds.{word_showing}
-use Rattle.steps_condvar.specs.CondvarSteps.{is_shown, look_next, mutex_shown, notified, shown_as}
-use Rattle.spec_locks.specs.Condvars.{IsAsInside, IsSettledAt}
-use Rattle.spec_locks.specs.Locks.{Queued}
-use Rattle.lot_machine.specs.Machine.{State, after, go_of, section_at, unlocked, word_at}
-use Rattle.lot_laws.specs.Refinement.{lock_state}
-use Rattle.lot_laws.specs.SitesOf.{condvar_of}
-use Rattle.lot_laws.specs.Solo.{NotifiesAlone, Rests}
 use Rattle.lot_laws.proofs.alone.Condvar.{Afterwards, GoesAlone, Keeps, leads_afterwards, lock_there}
 use Rattle.lot_laws.proofs.alone.Condvar.{queue_then}
 use Rattle.lot_laws.proofs.alone.Condvar.{so_then}

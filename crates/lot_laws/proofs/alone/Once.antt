@@ -1,47 +1,28 @@
 -- A call of a `Once` whose thread steps alone ends, sleeps or comes to its closure.
-use Rattle.std.proofs.lemmas.Bool.{eqb-true}
-use Rattle.std.proofs.Common.{ℕ, Bool, true, false, if◌then◌else◌, ◌==◌, ◌≡◌, ◌≢◌, ◌+◌, ◌*◌, List, refl, sym}
-use Rattle.std.proofs.Common.{◌∙◌, ap, subst, arith}
+use Rattle.lot_laws.proofs.Names
+use Names.{eqb-true, ℕ, Bool, true, false, if◌then◌else◌, ◌==◌, ◌≡◌, ◌≢◌, ◌+◌, ◌*◌, List, refl, sym, ◌∙◌, ap}
+use Names.{subst, arith, Op, Waiter, apply, OnceCall, WaitTimed, Outcome, Value, Nobody, Normal, holds}
+use Names.{outcome_of, wakes_taken, is_marked, is_poisoned, Phase, New, Poisoned, InProgress, Line, Main}
+use Names.{GiveUpAt, LookAt, Course, Ends, Marks, RunAt, OncePlace, Run, GiveUp, check_of, course_act}
+use Names.{course_of, ended, in_look, in_run, is_forced, is_run, marked, once_next, started, word_after}
+use Names.{in_give_up, Once, act_of, once_does, once_goes, State, after, go_of, runs_closure, step_outcome}
+use Names.{lock_state, site_of, Rests}
 use Rattle.std.specs.Prelude.{◌&&◌, not}
-use Rattle.core_base.specs.declared.ops.Op.{Op}
 use Rattle.core_base.specs.declared.ops.Op.TheVariants as op
-use Rattle.core_base.specs.declared.wants.Waiter.{Waiter}
-use Rattle.core_base.specs.Words.{apply}
-use Rattle.spec_locks.specs.declared.calls.OnceCall.{OnceCall}
-use Rattle.spec_locks.specs.declared.calls.OnceCall.TheVariants.{CallOnce, Wait, WaitTimed}
-use Rattle.spec_locks.specs.declared.outcomes.Outcome.{Outcome}
+use Rattle.spec_locks.specs.declared.calls.OnceCall.TheVariants.{CallOnce, Wait}
 use Rattle.spec_locks.specs.declared.outcomes.Outcome.TheVariants as outcome
 use Rattle.spec_locks.specs.declared.outcomes.Answer.TheVariants as answer
 use Rattle.steps_base.specs.declared.acts.Act.TheVariants as act
 use Rattle.steps_base.specs.declared.acts.Next.TheVariants as next
-use Rattle.steps_base.specs.declared.acts.Reply.TheVariants.{Value}
-use Rattle.steps_base.specs.declared.acts.Wakes.TheVariants.{Nobody}
 use Rattle.steps_base.specs.declared.acts.Whom.TheVariants as whom
-use Rattle.core_base.specs.declared.notes.Note.TheVariants.{Normal}
-use Rattle.steps_base.specs.Acts.{holds, outcome_of, wakes_taken}
-use Rattle.spec_locks.specs.Codes.{is_marked, is_poisoned}
-use Rattle.spec_locks.specs.Onces.{Phase, New, Poisoned, InProgress, Done as IsDone}
-use Rattle.spec_locks.specs.Sites.{Line, Main}
-use Rattle.steps_once.specs.declared.give_up.GiveUpAt.{GiveUpAt}
+use Rattle.spec_locks.specs.Onces.{Done as IsDone}
 use Rattle.steps_once.specs.declared.give_up.GiveUpAt.TheVariants as give_up
 use Rattle.steps_once.specs.declared.places.TheConstants.{NOT_PARKED}
-use Rattle.steps_once.specs.declared.look.LookAt.{LookAt}
 use Rattle.steps_once.specs.declared.look.LookAt.TheVariants as look
-use Rattle.steps_once.specs.declared.look.Course.{Course}
-use Rattle.steps_once.specs.declared.look.Course.TheVariants.{Ends, Runs, Marks, Parks}
-use Rattle.steps_once.specs.declared.run.RunAt.{RunAt}
+use Rattle.steps_once.specs.declared.look.Course.TheVariants.{Runs, Parks}
 use Rattle.steps_once.specs.declared.run.RunAt.TheVariants as run
-use Rattle.steps_once.specs.declared.places.OncePlace.{OncePlace}
-use Rattle.steps_once.specs.declared.places.OncePlace.TheVariants.{Look, Run, GiveUp}
-use Rattle.steps_once.specs.OnceSteps.{check_of, course_act, course_of, ended, in_look, in_run, is_forced}
-use Rattle.steps_once.specs.OnceSteps.{is_mark, is_run, looked, marked, once_next, started, want_of}
-use Rattle.steps_once.specs.OnceSteps.{word_after, in_give_up}
-use Rattle.lot_steps.specs.declared.places.Place.TheVariants.{Once}
-use Rattle.lot_steps.specs.Steps.{act_of, once_does, once_goes}
-use Rattle.lot_machine.specs.Machine.{State, after, go_of, runs_closure, step_outcome}
-use Rattle.lot_laws.specs.Refinement.{lock_state}
-use Rattle.lot_laws.specs.SitesOf.{site_of}
-use Rattle.lot_laws.specs.Solo.{Rests}
+use Rattle.steps_once.specs.declared.places.OncePlace.TheVariants.{Look}
+use Rattle.steps_once.specs.OnceSteps.{is_mark, looked, want_of}
 use Rattle.lot_laws.proofs.alone.TwoLines.{Comes, StepsAlone, leads_into, leave_comes, park_comes}
 use Rattle.lot_laws.proofs.alone.TwoLines.{remove_comes, take_comes, word_comes}
 use Rattle.lot_laws.proofs.alone.OnceEnds.{Ended, Looked, decides, loads, looks, told_by_word}

@@ -1,43 +1,26 @@
 -- A call of a `Once` that steps alone from its beginning, and to what it comes.
-use Rattle.std.proofs.Common.{ℕ, Bool, true, false, Some, if◌then◌else◌, ◌≡◌, ◌+◌, ◌*◌, ◌≤◌, ◌⊎◌, ◌++◌, ◌∷◌}
-use Rattle.std.proofs.Common.{[], List, map, refl, sym, ◌∙◌, ap, subst, arith}
+use Rattle.lot_laws.proofs.Names
+use Names.{ℕ, Bool, true, false, Some, if◌then◌else◌, ◌≡◌, ◌+◌, ◌*◌, ◌≤◌, ◌⊎◌, ◌++◌, ◌∷◌, [], List, map, refl}
+use Names.{sym, ◌∙◌, ap, subst, arith, One, Waiter, waiter, apply, OnceCall, WaitTimed, Answer, Outcome, Next}
+use Names.{Value, Nobody, holds, outcome_of, Phase, New, Poisoned, InProgress, queued_of, once_purpose, Line}
+use Names.{Main, Runs as Running, idle, OncePlace, Run, once_profile, check_of, in_look, is_forced, once_act}
+use Names.{once_first, once_next, state_before, when_done, Once, once_does, once_goes, State, after, go_of}
+use Names.{queue_at, solo, word_at, lock_state, FitsItsLock, key_of, rules_in, site_of, EndsAlone, IsBarred}
+use Names.{role_on}
 use Rattle.std.specs.Prelude.{◌&&◌, not}
-use Rattle.core_base.specs.declared.keys.Keys.TheVariants.{One}
 use Rattle.core_base.specs.declared.ops.Op.TheVariants as op
-use Rattle.core_base.specs.declared.wants.Waiter.{Waiter}
-use Rattle.core_base.specs.Lines.{waiter}
-use Rattle.core_base.specs.Words.{apply}
-use Rattle.spec_locks.specs.declared.calls.OnceCall.{OnceCall}
-use Rattle.spec_locks.specs.declared.calls.OnceCall.TheVariants.{CallOnce, Wait, WaitTimed}
-use Rattle.spec_locks.specs.declared.outcomes.Answer.{Answer}
+use Rattle.spec_locks.specs.declared.calls.OnceCall.TheVariants.{CallOnce, Wait}
 use Rattle.spec_locks.specs.declared.outcomes.Answer.TheVariants as answer
-use Rattle.spec_locks.specs.declared.outcomes.Outcome.{Outcome}
 use Rattle.spec_locks.specs.declared.outcomes.Outcome.TheVariants as outcome
 use Rattle.steps_base.specs.declared.acts.Act.TheVariants as act
-use Rattle.steps_base.specs.declared.acts.Next.{Next}
 use Rattle.steps_base.specs.declared.acts.Next.TheVariants as next
-use Rattle.steps_base.specs.declared.acts.Reply.TheVariants.{Value}
-use Rattle.steps_base.specs.declared.acts.Wakes.TheVariants.{Nobody}
-use Rattle.steps_base.specs.Acts.{holds, outcome_of}
-use Rattle.spec_locks.specs.Onces.{Phase, New, Poisoned, InProgress, Done as IsDone}
-use Rattle.spec_locks.specs.Picks.{queued_of}
-use Rattle.spec_locks.specs.Purposes.{once_purpose}
-use Rattle.spec_locks.specs.Sites.{Line, Main, Runs as Running, idle}
+use Rattle.spec_locks.specs.Onces.{Done as IsDone}
 use Rattle.steps_once.specs.declared.look.LookAt.TheVariants as look
 use Rattle.steps_once.specs.declared.run.RunAt.TheVariants as run
-use Rattle.steps_once.specs.declared.places.OncePlace.{OncePlace}
-use Rattle.steps_once.specs.declared.places.OncePlace.TheVariants.{Look, Run}
-use Rattle.steps_once.specs.OnceProfiles.{once_profile}
-use Rattle.steps_once.specs.OnceSteps.{check_of, in_look, is_forced, looked, once_act, once_first, once_next}
-use Rattle.steps_once.specs.OnceSteps.{state_before, want_of, when_done}
+use Rattle.steps_once.specs.declared.places.OncePlace.TheVariants.{Look}
+use Rattle.steps_once.specs.OnceSteps.{looked}
+use Rattle.steps_once.specs.OnceSteps.{want_of}
 use Rattle.steps_once.proofs.OnceWords as words
-use Rattle.lot_steps.specs.declared.places.Place.TheVariants.{Once}
-use Rattle.lot_steps.specs.Steps.{once_does, once_goes}
-use Rattle.lot_machine.specs.Machine.{State, after, go_of, queue_at, solo, word_at}
-use Rattle.lot_laws.specs.Refinement.{lock_state}
-use Rattle.lot_laws.specs.SitesOf.{FitsItsLock, key_of, rules_in, site_of}
-use Rattle.lot_laws.specs.Solo.{EndsAlone, IsBarred}
-use Rattle.lot_laws.specs.Locations.{role_on}
 use Rattle.lot_laws.proofs.machine.Parts.{same}
 use Rattle.lot_laws.proofs.alone.TwoLines.{Comes, StepsAlone, leads_into, leave_comes, park_comes, parks_last}
 use Rattle.lot_laws.proofs.alone.TwoLines.{word_comes}

@@ -1,32 +1,18 @@
 -- A wait that locks its mutex again, whose thread steps alone: from each place it ends, or sleeps.
-use Rattle.std.proofs.Common.{ℕ, Bool, true, false, if◌then◌else◌, ◌==◌, ◌&&◌, ◌≡◌, ◌≢◌, ◌+◌, ◌*◌, not}
-use Rattle.std.proofs.Common.{is_none, inl, inr, refl, sym, ◌∙◌, ap, subst, arith}
-use Rattle.std.proofs.lemmas.Bool.{cases_eq, eqb-true}
-use Rattle.core_base.specs.declared.keys.Keys.TheVariants.{One}
-use Rattle.core_base.specs.declared.ops.Op.{Op}
+use Rattle.lot_laws.proofs.Names
+use Names.{ℕ, Bool, true, false, if◌then◌else◌, ◌==◌, ◌&&◌, ◌≡◌, ◌≢◌, ◌+◌, ◌*◌, not, is_none, inl, inr, refl}
+use Names.{sym, ◌∙◌, ap, subst, arith, cases_eq, eqb-true, One, Op, apply, Reply, Value, Parked, outcome_of}
+use Names.{LockAt, is_locked, lock_act, CondvarPlace, Wait, IsLockOf, condvar_next, Condvar, State, after}
+use Names.{can_do, go_of, place_at, reply_to, state_after_act, word_at, IsMutexWord, owner_at, EntersSection}
+use Names.{Rests}
 use Rattle.core_base.specs.declared.ops.Op.TheVariants as op
-use Rattle.core_base.specs.Words.{apply}
 use Rattle.spec_locks.specs.declared.outcomes.Outcome.TheVariants as outcome
 use Rattle.steps_base.specs.declared.acts.Act.TheVariants as act
-use Rattle.steps_base.specs.declared.acts.Reply.{Reply}
-use Rattle.steps_base.specs.declared.acts.Reply.TheVariants.{Value, Parked}
-use Rattle.steps_base.specs.Acts.{outcome_of}
 use Rattle.steps_mutex.specs.declared.lock.Entry.TheVariants as entry
-use Rattle.steps_mutex.specs.declared.lock.LockAt.{LockAt}
 use Rattle.steps_mutex.specs.declared.lock.LockAt.TheVariants as lock
 use Rattle.steps_mutex.specs.declared.places.MutexPlace.TheVariants as mutex
-use Rattle.steps_mutex.specs.MutexSteps.{decided, is_locked, lock_act}
-use Rattle.steps_condvar.specs.declared.places.CondvarPlace.{CondvarPlace}
-use Rattle.steps_condvar.specs.declared.places.CondvarPlace.TheVariants.{Wait}
+use Rattle.steps_mutex.specs.MutexSteps.{decided}
 use Rattle.steps_condvar.specs.declared.wait.WaitAt.TheVariants as wait
-use Rattle.steps_condvar.specs.CondvarCalls.{IsLockOf}
-use Rattle.steps_condvar.specs.CondvarSteps.{condvar_next}
-use Rattle.lot_steps.specs.declared.places.Place.TheVariants.{Condvar}
-use Rattle.lot_machine.specs.Machine.{State, after, can_do, go_of, place_at, reply_to, state_after_act}
-use Rattle.lot_machine.specs.Machine.{word_at}
-use Rattle.lot_laws.specs.MutexPromises.{IsMutexWord}
-use Rattle.lot_laws.specs.Refinement.{owner_at}
-use Rattle.lot_laws.specs.Solo.{EntersSection, Rests}
 use Rattle.lot_laws.proofs.machine.AtPlaces.{coded}
 use Rattle.lot_laws.proofs.alone.Condvar.{Afterwards, GoesAlone, Keeps, free_beside, leads_afterwards}
 use Rattle.lot_laws.proofs.alone.Condvar.{reached}

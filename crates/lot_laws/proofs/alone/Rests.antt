@@ -1,59 +1,32 @@
 -- A call whose thread steps alone: from each place, where it ends or falls asleep.
-use Rattle.std.proofs.Common.{ℕ, Bool, true, false, Option, Some, None, if◌then◌else◌, ◌≡◌, ◌≢◌, ◌*◌, ◌≤◌}
-use Rattle.std.proofs.Common.{◌<◌, ◌⊎◌, inl, inr, List, [], ◌∷◌, length, drop, map, refl, sym, ◌∙◌, ap, subst}
-use Rattle.std.proofs.Common.{arith}
-use Rattle.core_base.specs.declared.wants.Waiter.{Waiter}
-use Rattle.core_base.specs.declared.wants.Want.TheVariants.{Exclusive}
-use Rattle.core_base.specs.Lines.{times, first_of}
+use Rattle.lot_laws.proofs.Names
+use Names.{ℕ, Bool, true, false, Option, Some, None, if◌then◌else◌, ◌≡◌, ◌≢◌, ◌*◌, ◌≤◌, ◌<◌, ◌⊎◌, inl, inr}
+use Names.{List, [], ◌∷◌, length, drop, map, refl, sym, ◌∙◌, ap, subst, arith, Waiter, Exclusive, times}
+use Names.{first_of, Call, MutexCall, Kind, Outcome, Entry, Lock, TryLock, Unlock, UnlockFair, CondvarCall}
+use Names.{OnceCall, condvar_first, once_first, Place, Idle, Mutex, RwLock, Once, Condvar, Semaphore}
+use Names.{SemaphorePlace, SemaphoreCall, semaphore_first, mutex_first, is_locked, is_fair, lock_in, act_of}
+use Names.{first_place, State, place_at, word_at, kind_at, queue_at, section_at, go_of, after, runs_closure}
+use Names.{solo, IsWellFormed, PlaceFits, Main, has_readers, location, location_at, AreCondvars, AreCounted}
+use Names.{IsInductive, IsSettled, IsWorld, key_of, FitsItsLock, is_mutex, rules_in, readers, Rules, MayEnter}
+use Names.{IsBlocked, Bumps, Purpose, Releases, mutex_purpose, purpose_of, rules_of, rwlock_purpose, Patience}
+use Names.{Patient, Timed, Try, IsFull, rules_at, purpose_at, queued_of, lock_state, locks_of, owner_at}
+use Names.{BumpsAlone, EndsAlone, EntersAlone, IsUnobstructed, HasWhatItReads, IsBarred, IsOnly, IsUnderWay}
+use Names.{OnlyTries, Rests, successor, MutexPlace, RwLockCall, Admission, admission_of_kind, RwLockCallPlace}
+use Names.{call_first}
 use Rattle.steps_base.specs.declared.acts.Act as act
 use Rattle.spec_locks.specs.declared.outcomes.Answer as answer
-use Rattle.spec_locks.specs.declared.calls.Call.{Call}
 use Rattle.spec_locks.specs.declared.calls.Call as call
-use Rattle.spec_locks.specs.declared.calls.MutexCall.{MutexCall}
 use Rattle.spec_locks.specs.declared.calls.MutexCall as mutex_call
-use Rattle.spec_locks.specs.declared.kinds.Kind.{Kind}
 use Rattle.spec_locks.specs.declared.kinds.Kind.TheVariants as kinds
-use Rattle.spec_locks.specs.declared.outcomes.Outcome.{Outcome}
 use Rattle.spec_locks.specs.declared.outcomes.Outcome as outcome
-use Rattle.steps_mutex.specs.declared.lock.Entry.{Entry}
 use Rattle.steps_mutex.specs.declared.lock.Entry.TheVariants as entries
-use Rattle.steps_mutex.specs.declared.places.MutexPlace.TheVariants.{Lock, TryLock, Unlock, UnlockFair, Bump}
+use Rattle.steps_mutex.specs.declared.places.MutexPlace.TheVariants.{Bump}
 use Rattle.steps_mutex.specs.declared.places.MutexPlace.TheVariants.{HandOff}
-use Rattle.spec_locks.specs.declared.calls.CondvarCall.{CondvarCall}
-use Rattle.spec_locks.specs.declared.calls.OnceCall.{OnceCall}
-use Rattle.steps_condvar.specs.CondvarSteps.{condvar_first}
-use Rattle.steps_once.specs.OnceSteps.{once_first}
 use Rattle.lot_laws.proofs.alone.OnceEnds.{once_alone}
 use Rattle.lot_laws.proofs.alone.Once.{once_rests}
-use Rattle.lot_steps.specs.declared.places.Place.{Place}
-use Rattle.lot_steps.specs.declared.places.Place.TheVariants.{Idle, Mutex, RwLock, Once, Condvar, Semaphore}
-use Rattle.steps_semaphore.specs.declared.places.SemaphorePlace.{SemaphorePlace}
-use Rattle.spec_locks.specs.declared.calls.SemaphoreCall.{SemaphoreCall}
-use Rattle.steps_semaphore.specs.SemaphoreSteps.{semaphore_first}
 use Rattle.lot_laws.proofs.alone.SemaphoreEnds.{semaphore_alone}
 use Rattle.lot_laws.proofs.alone.Semaphore.{semaphore_rests}
-use Rattle.steps_mutex.specs.MutexSteps.{mutex_first, is_locked}
-use Rattle.spec_locks.specs.Kinds.{is_fair}
-use Rattle.spec_locks.specs.Calls.{lock_in}
-use Rattle.lot_steps.specs.Steps.{act_of, first_place}
-use Rattle.lot_machine.specs.Machine.{State, place_at, word_at, kind_at, queue_at, section_at, go_of, after}
-use Rattle.lot_machine.specs.Machine.{runs_closure, solo}
-use Rattle.lot_machine.specs.Fits.{IsWellFormed, PlaceFits}
-use Rattle.spec_locks.specs.Sites.{Main, has_readers}
-use Rattle.lot_laws.specs.Locations.{location, location_at}
-use Rattle.lot_laws.specs.SitesOf.{AreCondvars, AreCounted, IsInductive, IsSettled, IsWorld, key_of}
-use Rattle.lot_laws.specs.SitesOf.{FitsItsLock, is_mutex, rules_in}
-use Rattle.spec_locks.specs.Locks.{readers, Rules, MayEnter, IsBlocked}
 use Rattle.spec_locks.specs.Locks as locks
-use Rattle.spec_locks.specs.Purposes.{Bumps, Purpose, Releases, mutex_purpose, purpose_of, rules_of}
-use Rattle.spec_locks.specs.Purposes.{rwlock_purpose}
-use Rattle.spec_locks.specs.declared.calls.Patience.{Patience}
-use Rattle.spec_locks.specs.declared.calls.Patience.TheVariants.{Patient, Timed, Try}
-use Rattle.spec_locks.specs.Runs.{IsFull, rules_at, purpose_at}
-use Rattle.spec_locks.specs.Picks.{queued_of}
-use Rattle.lot_laws.specs.Refinement.{lock_state, locks_of, owner_at}
-use Rattle.lot_laws.specs.Solo.{BumpsAlone, EndsAlone, EntersAlone, IsUnobstructed, HasWhatItReads, IsBarred}
-use Rattle.lot_laws.specs.Solo.{IsOnly, IsUnderWay, OnlyTries, Rests, successor}
 use Rattle.lot_laws.proofs.alone.Mutex.{LockEnds, UnlockEnds, bump_leads, bump_rests, first_leads}
 use Rattle.lot_laws.proofs.alone.Mutex.{hand_off_rests, lock_rests, subtract_leads, try_leads}
 use Rattle.lot_laws.proofs.alone.Mutex.{unlock_fair_leads, unlock_fair_rests, unlock_rests}
@@ -65,19 +38,13 @@ use Rattle.lot_laws.proofs.calls.Tries.{first_busy, stands_there}
 use Rattle.lot_laws.proofs.calls.Begins.{purpose_is}
 use Rattle.lot_laws.proofs.hands.Counts.{first_times}
 use Rattle.lot_laws.proofs.machine.Parts.{IsSingle, nothing_at}
-use Rattle.steps_mutex.specs.declared.places.MutexPlace.{MutexPlace}
 use Rattle.lot_laws.proofs.sites.SitesKept.{mutex_unshared}
-use Rattle.spec_locks.specs.declared.calls.RwLockCall.{RwLockCall}
-use Rattle.steps_rwlock.specs.declared.places.Admission.{Admission}
 use Rattle.lot_laws.proofs.alone.TwoLines.{StepsAlone}
 use Rattle.lot_laws.proofs.alone.Bump.{call_rests}
 use Rattle.lot_laws.proofs.alone.RwLock.{word_small}
 use Rattle.lot_laws.proofs.alone.BumpEnds.{rwlock_alone}
 use Rattle.lot_laws.proofs.alone.CondvarEnds.{condvar_alone, condvar_rests}
 use Rattle.lot_laws.proofs.alone.WorldRuns.{runs_alone, world_after}
-use Rattle.steps_rwlock.specs.RwLockBegins.{admission_of_kind}
-use Rattle.steps_rwlock_fair.specs.declared.places.RwLockCallPlace.{RwLockCallPlace}
-use Rattle.steps_rwlock_fair.specs.FairBegins.{call_first}
 use Rattle.lot_laws.proofs.rwlock.Kept.{admits_by}
 use Rattle.lot_laws.proofs.machine.AtPlaces.{coded as words_coded, coded_for, absent}
 use Rattle.lot_laws.proofs.alone.Leads.{Leads, OrBarred, leads_more, leads_so, or_so}

@@ -1,64 +1,37 @@
 -- A call of a reader-writer lock whose thread steps alone: from each place, where it ends or falls asleep.
-use Rattle.std.proofs.Common.{ℕ, Bool, true, false, Option, Some, None, if◌then◌else◌, ◌==◌, ◌&&◌, not, ◌≡◌}
-use Rattle.std.proofs.Common.{◌≢◌, ◌+◌, ◌-◌, ◌*◌, ◌%◌, ◌≤◌, ◌<◌, ◌^◌, nat_le, length, drop, List, [], ◌∷◌}
-use Rattle.std.proofs.Common.{◌++◌, refl, sym, ◌∙◌, ap, subst, arith}
-use Rattle.std.proofs.lemmas.Bool.{eqb-true}
-use Rattle.core_base.specs.declared.keys.Keys.TheVariants.{One}
+use Rattle.lot_laws.proofs.Names
+use Names.{ℕ, Bool, true, false, Option, Some, None, if◌then◌else◌, ◌==◌, ◌&&◌, not, ◌≡◌, ◌≢◌, ◌+◌, ◌-◌, ◌*◌}
+use Names.{◌%◌, ◌≤◌, ◌<◌, ◌^◌, length, drop, List, [], ◌∷◌, ◌++◌, refl, sym, ◌∙◌, ap, subst, arith, eqb-true}
+use Names.{One, Waiter, Want, apply, Access, Downgrade, Patience, Patient, Timed, Try, Answer, Outcome, Next}
+use Names.{At, Value, holds, outcome_of, waiter, first_of, Admission, RwLockPlace, RwLockPurpose, RwLockAt}
+use Names.{Decision, ParkAt, WakeAt, act_at, park_act, wanted, access_of, patience_of, want_at, start_of}
+use Names.{ends_with, entered, is_counted, decision, decided, decided_for, decided_act, exchanged_next}
+use Names.{decision_blocked, park_or_mark, exchange, plus, word_taken, rwlock_act, rwlock_next, park_check}
+use Names.{unparked, whom, after_count, looked_by, came_in, gave_way, parks_at, missed, clears, rollback_op}
+use Names.{give_op, bit, code, code_of, rw_code, writers, count_in, has_aside, has_parked, is_blocked, bars}
+use Names.{leaves_readers, Site, IsSite, has_readers, Line, Main, Second, Idle, RwLock, Plain, act_of, State}
+use Names.{word_at, queue_at, queues_without_first, state_after_taking, after, go_of, IsNoRefusal, MayStand}
+use Names.{StandsAt, IsDecided, decides_to_park, aside_set, IsInductive, key_of, rules_in, site_of, Rules}
+use Names.{Sort, Recursive, count, one_if_some, Rests}
+use Rattle.std.proofs.Common.{nat_le}
 use Rattle.core_base.specs.declared.ops.Op.TheVariants as op
-use Rattle.core_base.specs.declared.wants.Waiter.{Waiter}
-use Rattle.core_base.specs.declared.wants.Want.{Want}
-use Rattle.core_base.specs.Words.{apply}
-use Rattle.spec_locks.specs.declared.calls.Access.{Access}
 use Rattle.spec_locks.specs.declared.calls.Access.TheVariants as access
-use Rattle.spec_locks.specs.declared.calls.Downgrade.{Downgrade}
-use Rattle.spec_locks.specs.declared.calls.Patience.{Patience}
-use Rattle.spec_locks.specs.declared.calls.Patience.TheVariants.{Patient, Timed, Try}
-use Rattle.spec_locks.specs.declared.outcomes.Answer.{Answer}
 use Rattle.spec_locks.specs.declared.outcomes.Answer.TheVariants as answer
-use Rattle.spec_locks.specs.declared.outcomes.Outcome.{Outcome}
 use Rattle.spec_locks.specs.declared.outcomes.Outcome.TheVariants as outcome
 use Rattle.steps_base.specs.declared.acts.Act.TheVariants as act
-use Rattle.steps_base.specs.declared.acts.Next.{Next}
-use Rattle.steps_base.specs.declared.acts.Next.TheVariants.{At, End}
-use Rattle.steps_base.specs.declared.acts.Reply.TheVariants.{Value}
+use Rattle.steps_base.specs.declared.acts.Next.TheVariants.{End}
 use Rattle.steps_base.specs.declared.acts.Wakes.TheVariants as wakes
-use Rattle.steps_base.specs.Acts.{holds, outcome_of}
 use Rattle.steps_base.specs.declared.acts.Whom.TheVariants as whoms
-use Rattle.core_base.specs.Lines.{waiter, first_of}
-use Rattle.steps_rwlock.specs.declared.places.Admission.{Admission}
-use Rattle.steps_rwlock.specs.declared.places.RwLockPlace.{RwLockPlace}
-use Rattle.steps_rwlock.specs.declared.purposes.RwLockPurpose.{RwLockPurpose}
 use Rattle.steps_rwlock.specs.declared.purposes.RwLockPurpose.TheVariants as purpose
-use Rattle.steps_rwlock.specs.declared.places.RwLockAt.{RwLockAt}
 use Rattle.steps_rwlock.specs.declared.places.RwLockAt.TheVariants as at
-use Rattle.steps_rwlock.specs.declared.enter.Decision.{Decision}
 use Rattle.steps_rwlock.specs.declared.enter.Decision.TheVariants as decisions
-use Rattle.steps_rwlock.specs.declared.park.ParkAt.{ParkAt}
 use Rattle.steps_rwlock.specs.declared.park.ParkAt.TheVariants as parking
-use Rattle.steps_rwlock.specs.declared.release.WakeAt.{WakeAt}
 use Rattle.steps_rwlock.specs.declared.release.WakeAt.TheVariants as waking
-use Rattle.steps_rwlock.specs.RwLockSteps.{act_at, park_act, wanted, access_of, patience_of, want_at}
-use Rattle.steps_rwlock.specs.RwLockSteps.{start_of, ends_with, entered, is_counted, decision, decided}
-use Rattle.steps_rwlock.specs.RwLockSteps.{decided_for, decided_act, exchanged_next, decision_blocked}
-use Rattle.steps_rwlock.specs.RwLockSteps.{park_or_mark, exchange, plus, word_taken, rwlock_act, rwlock_next}
-use Rattle.steps_rwlock.specs.RwLockSteps.{park_check, unparked, whom, after_count, looked, looked_by}
-use Rattle.steps_rwlock.specs.RwLockSteps.{came_in, gave_way, parks_at, missed, took, clears, rollback_op}
-use Rattle.steps_rwlock.specs.RwLockSteps.{give_op}
-use Rattle.spec_locks.specs.Codes.{bit, code, code_of, rw_code, writers, count_in, has_aside, has_parked}
-use Rattle.spec_locks.specs.Codes.{is_blocked, bars, leaves_readers}
-use Rattle.spec_locks.specs.Sites.{Site, IsSite, has_readers, Line, Main, Second}
-use Rattle.lot_steps.specs.declared.places.Place.TheVariants.{Idle, RwLock}
-use Rattle.steps_rwlock_fair.specs.declared.places.RwLockCallPlace.TheVariants.{Plain}
-use Rattle.lot_steps.specs.Steps.{act_of}
+use Rattle.steps_rwlock.specs.RwLockSteps.{looked}
+use Rattle.steps_rwlock.specs.RwLockSteps.{took}
 use Rattle.lot_laws.proofs.calls.PlainCalls.{plain_goes, plain_does}
-use Rattle.lot_machine.specs.Machine.{State, word_at, queue_at, queues_without_first, state_after_taking}
-use Rattle.lot_machine.specs.Machine.{after, go_of}
-use Rattle.steps_rwlock.specs.RwLockCalls.{IsNoRefusal, MayStand, StandsAt, IsDecided}
-use Rattle.steps_rwlock.proofs.RwLockStands.{decides_to_park, aside_set}
-use Rattle.lot_laws.specs.SitesOf.{IsInductive, key_of, rules_in, site_of}
-use Rattle.spec_locks.specs.Locks.{Rules, Sort, Mutex, Normal, Recursive, Semaphore, Once, count, one_if_some}
+use Rattle.spec_locks.specs.Locks.{Mutex, Normal, Semaphore, Once}
 use Rattle.spec_locks.specs.Locks.{Condvar}
-use Rattle.lot_laws.specs.Solo.{Rests}
 use Rattle.lot_laws.proofs.machine.Parts.{same}
 use Rattle.lot_laws.proofs.alone.Leads.{Leads, leads_rest, leads_step, leads_more, leads_so}
 use Rattle.lot_laws.proofs.alone.TwoLines.{StepsAlone, Comes, leads_into, word_comes, leave_comes, park_comes}

@@ -1,60 +1,33 @@
 -- Each call of a reader-writer lock that steps alone from its beginning, and to what it comes.
-use Rattle.std.proofs.Common.{ℕ, Bool, true, false, Option, Some, None, if◌then◌else◌, ◌==◌, ◌&&◌, ◌||◌, ◌≡◌}
-use Rattle.std.proofs.Common.{◌≢◌, ◌+◌, ◌*◌, ◌/◌, ◌%◌, ◌≤◌, ◌<◌, ◌⊎◌, ◌^◌, nat_le, List, [], ◌∷◌, ◌++◌, map}
-use Rattle.std.proofs.Common.{length, replicate, refl, sym, ◌∙◌, ap, subst, arith}
-use Rattle.std.proofs.lemmas.Bool.{eqb-true}
-use Rattle.std.proofs.lemmas.Bool.Decides.{nat_tests}
-use Rattle.core_base.specs.declared.wants.Waiter.{Waiter}
-use Rattle.core_base.specs.declared.wants.Want.{Want}
-use Rattle.core_base.specs.declared.wants.Want.TheVariants.{Exclusive, Upgradable, Shared}
-use Rattle.core_base.specs.Lines.{waiter, first_of}
-use Rattle.spec_locks.specs.declared.calls.Access.{Access}
+use Rattle.lot_laws.proofs.Names
+use Names.{ℕ, Bool, true, false, Option, Some, None, if◌then◌else◌, ◌==◌, ◌&&◌, ◌||◌, ◌≡◌, ◌≢◌, ◌+◌, ◌*◌, ◌/◌}
+use Names.{◌%◌, ◌≤◌, ◌<◌, ◌⊎◌, ◌^◌, List, [], ◌∷◌, ◌++◌, map, length, replicate, refl, sym, ◌∙◌, ap, subst}
+use Names.{arith, eqb-true, nat_tests, Waiter, Want, Exclusive, Upgradable, Shared, waiter, first_of, Access}
+use Names.{Patience, Patient, Timed, Try, Answer, Outcome, Admission, RwLockPlace, RwLockPurpose, RwLockAt}
+use Names.{Decision, wanted, to_of, decision, decided, decision_blocked, entered, plus, is_counted, Downgrade}
+use Names.{before, purpose_by, apply, RwLockCallPlace, Plain, HandOver, call_profile, call_first, Admits}
+use Names.{role_at, rwlock_role, LockState, Pending, Rights, with_right, one_if_thread, Sort, Recursive}
+use Names.{Rules, NoWriter, IsFreeAt, IsSomePending, one_if_some, IsFree, IsBlocked, MayEnter, Owns}
+use Names.{is_recursive, count, readers, rights_of, code, count_in, has_parked, is_blocked, TellsTrue}
+use Names.{queued_of, Enters, Releases, Converts, IsFull, AnswerHolds, CallState, one_more_at, Has, idle}
+use Names.{Line, Second, has_readers, words_tell_true, RwLock, State, go_of, place_at, word_at, queue_at}
+use Names.{solo, lock_state, locks_of, call_at, call_state, IsInductive, key_of, rules_in, site_of, role_on}
+use Names.{EntersAlone, ReleasesAlone, ConvertsAlone, MayEnterAtOnce, WaitsAlone, WaitsForReaders}
+use Names.{entered_answer, IsBarred}
+use Rattle.std.proofs.Common.{nat_le}
 use Rattle.spec_locks.specs.declared.calls.Access.TheVariants as access
-use Rattle.spec_locks.specs.declared.calls.Patience.{Patience}
-use Rattle.spec_locks.specs.declared.calls.Patience.TheVariants.{Patient, Timed, Try}
-use Rattle.spec_locks.specs.declared.outcomes.Answer.{Answer}
 use Rattle.spec_locks.specs.declared.outcomes.Answer.TheVariants as answer
-use Rattle.spec_locks.specs.declared.outcomes.Outcome.{Outcome}
 use Rattle.spec_locks.specs.declared.outcomes.Outcome.TheVariants as outcome
-use Rattle.steps_rwlock.specs.declared.places.Admission.{Admission}
-use Rattle.steps_rwlock.specs.declared.places.RwLockPlace.{RwLockPlace}
-use Rattle.steps_rwlock.specs.declared.purposes.RwLockPurpose.{RwLockPurpose}
 use Rattle.steps_rwlock.specs.declared.purposes.RwLockPurpose.TheVariants as purpose
-use Rattle.steps_rwlock.specs.declared.places.RwLockAt.{RwLockAt}
 use Rattle.steps_rwlock.specs.declared.places.RwLockAt.TheVariants as at
-use Rattle.steps_rwlock.specs.declared.enter.Decision.{Decision}
 use Rattle.steps_rwlock.specs.declared.enter.Decision.TheVariants as decisions
-use Rattle.steps_rwlock.specs.RwLockSteps.{wanted, to_of, decision, decided, decision_blocked, entered, plus}
-use Rattle.steps_rwlock.specs.RwLockSteps.{is_counted}
-use Rattle.spec_locks.specs.declared.calls.Downgrade.{Downgrade}
 use Rattle.spec_locks.specs.declared.calls.Downgrade.TheVariants as downgrade
-use Rattle.steps_rwlock.specs.RwLockProfiles.{before, purpose_by}
 use Rattle.core_base.specs.declared.ops.Op.TheVariants as op
-use Rattle.core_base.specs.Words.{apply}
 use Rattle.spec_locks.specs.declared.calls.RwLockCall.TheVariants as call
-use Rattle.steps_rwlock_fair.specs.declared.places.RwLockCallPlace.{RwLockCallPlace}
-use Rattle.steps_rwlock_fair.specs.declared.places.RwLockCallPlace.TheVariants.{Plain, HandOver}
 use Rattle.steps_rwlock_fair.specs.declared.hand_over.HandOverAt.TheVariants as handing
-use Rattle.steps_rwlock_fair.specs.FairProfiles.{call_profile}
-use Rattle.steps_rwlock_fair.specs.FairBegins.{call_first}
-use Rattle.steps_rwlock.specs.RwLockDeeds.{Admits, role_at, rwlock_role}
-use Rattle.spec_locks.specs.Locks.{LockState, Pending, Rights, with_right, one_if_thread, Sort, Mutex, Normal}
-use Rattle.spec_locks.specs.Locks.{Recursive, Semaphore, Once, Rules, NoWriter, IsFreeAt, IsSomePending}
-use Rattle.spec_locks.specs.Locks.{one_if_some, IsFree, IsBlocked, MayEnter, Owns, is_recursive, count}
-use Rattle.spec_locks.specs.Locks.{readers, rights_of, Condvar}
-use Rattle.spec_locks.specs.Codes.{code, count_in, has_parked, is_blocked, TellsTrue}
-use Rattle.spec_locks.specs.Picks.{queued_of}
-use Rattle.spec_locks.specs.Purposes.{Enters, Releases, Converts}
-use Rattle.spec_locks.specs.Runs.{IsFull, AnswerHolds, CallState, one_more_at}
-use Rattle.spec_locks.specs.Sites.{Has, idle, Line, Second, has_readers}
-use Rattle.spec_locks.proofs.CodeLaws.{words_tell_true}
-use Rattle.lot_steps.specs.declared.places.Place.TheVariants.{RwLock}
-use Rattle.lot_machine.specs.Machine.{State, go_of, place_at, word_at, queue_at, solo}
-use Rattle.lot_laws.specs.Refinement.{lock_state, locks_of, call_at, call_state}
-use Rattle.lot_laws.specs.SitesOf.{IsInductive, key_of, rules_in, site_of}
-use Rattle.lot_laws.specs.Locations.{role_on}
-use Rattle.lot_laws.specs.Solo.{EntersAlone, ReleasesAlone, ConvertsAlone, MayEnterAtOnce, WaitsAlone}
-use Rattle.lot_laws.specs.Solo.{WaitsForReaders, entered_answer, IsBarred}
+use Rattle.spec_locks.specs.Locks.{Mutex, Normal}
+use Rattle.spec_locks.specs.Locks.{Semaphore, Once}
+use Rattle.spec_locks.specs.Locks.{Condvar}
 use Rattle.lot_laws.proofs.machine.Parts.{put_here, same}
 use Rattle.lot_laws.proofs.sites.OneStep.{queued_after}
 use Rattle.lot_laws.proofs.alone.TwoLines.{StepsAlone}

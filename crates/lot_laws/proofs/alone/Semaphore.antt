@@ -1,39 +1,22 @@
 -- A call of a semaphore whose thread steps alone ends or sleeps.
-use Rattle.std.proofs.lemmas.Bool.{eqb-true}
-use Rattle.std.proofs.Common.{ℕ, Bool, true, false, if◌then◌else◌, ◌==◌, ◌≡◌, ◌≢◌, ◌+◌, ◌-◌, ◌*◌, ◌≤◌, List}
-use Rattle.std.proofs.Common.{refl, sym, ◌∙◌, ap, subst, arith}
+use Rattle.lot_laws.proofs.Names
+use Names.{eqb-true, ℕ, Bool, true, false, if◌then◌else◌, ◌==◌, ◌≡◌, ◌≢◌, ◌+◌, ◌-◌, ◌*◌, ◌≤◌, List, refl, sym}
+use Names.{◌∙◌, ap, subst, arith, Op, Waiter, Shared, apply, Outcome, Answer, WordIs, Value, Nobody}
+use Names.{outcome_of, Line, Main, AcquireAt, TryAt, ReleaseAt, SemaphorePlace, Acquire, Release, acquired}
+use Names.{in_acquire, in_try, is_free, semaphore_next, Semaphore, act_of, semaphore_does, semaphore_goes}
+use Names.{State, after, go_of, step_outcome, Rests}
 use Rattle.std.specs.Prelude.{◌&&◌, not}
-use Rattle.core_base.specs.declared.ops.Op.{Op}
 use Rattle.core_base.specs.declared.ops.Op.TheVariants as op
-use Rattle.core_base.specs.declared.wants.Waiter.{Waiter}
-use Rattle.core_base.specs.declared.wants.Want.TheVariants.{Shared}
-use Rattle.core_base.specs.Words.{apply}
-use Rattle.spec_locks.specs.declared.outcomes.Outcome.{Outcome}
 use Rattle.spec_locks.specs.declared.outcomes.Outcome.TheVariants as outcome
-use Rattle.spec_locks.specs.declared.outcomes.Answer.{Answer}
 use Rattle.spec_locks.specs.declared.outcomes.Answer.TheVariants as answer
 use Rattle.steps_base.specs.declared.acts.Act.TheVariants as act
-use Rattle.steps_base.specs.declared.acts.Check.TheVariants.{WordIs}
 use Rattle.steps_base.specs.declared.acts.Next.TheVariants as next
-use Rattle.steps_base.specs.declared.acts.Reply.TheVariants.{Value}
-use Rattle.steps_base.specs.declared.acts.Wakes.TheVariants.{Nobody}
-use Rattle.steps_base.specs.Acts.{outcome_of}
-use Rattle.spec_locks.specs.Sites.{Line, Main}
 use Rattle.steps_semaphore.specs.declared.places.TheConstants.{NOT_PARKED}
-use Rattle.steps_semaphore.specs.declared.acquire.AcquireAt.{AcquireAt}
 use Rattle.steps_semaphore.specs.declared.acquire.AcquireAt.TheVariants as acquire
-use Rattle.steps_semaphore.specs.declared.tries.TryAt.{TryAt}
 use Rattle.steps_semaphore.specs.declared.tries.TryAt.TheVariants as tries
-use Rattle.steps_semaphore.specs.declared.release.ReleaseAt.{ReleaseAt}
 use Rattle.steps_semaphore.specs.declared.release.ReleaseAt.TheVariants as release
-use Rattle.steps_semaphore.specs.declared.places.SemaphorePlace.{SemaphorePlace}
-use Rattle.steps_semaphore.specs.declared.places.SemaphorePlace.TheVariants.{Acquire, Try, Release}
-use Rattle.steps_semaphore.specs.SemaphoreSteps.{acquired, in_acquire, in_try, is_free, looked}
-use Rattle.steps_semaphore.specs.SemaphoreSteps.{semaphore_next}
-use Rattle.lot_steps.specs.declared.places.Place.TheVariants.{Semaphore}
-use Rattle.lot_steps.specs.Steps.{act_of, semaphore_does, semaphore_goes}
-use Rattle.lot_machine.specs.Machine.{State, after, go_of, step_outcome}
-use Rattle.lot_laws.specs.Solo.{Rests}
+use Rattle.steps_semaphore.specs.declared.places.SemaphorePlace.TheVariants.{Try}
+use Rattle.steps_semaphore.specs.SemaphoreSteps.{looked}
 use Rattle.lot_laws.proofs.alone.TwoLines.{Comes, StepsAlone, leads_into, leave_comes, park_comes}
 use Rattle.lot_laws.proofs.alone.TwoLines.{remove_comes, word_comes}
 use Rattle.lot_laws.proofs.alone.SemaphoreEnds.{Answers, Ended, decides, goes_inside, loads, release_adds}

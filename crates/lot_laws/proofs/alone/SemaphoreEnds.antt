@@ -1,57 +1,33 @@
 -- A call of a semaphore that steps alone from its beginning, and to what it comes.
-use Rattle.std.proofs.lemmas.Bool.Decides.{nat_tests}
-use Rattle.std.proofs.Common.{ℕ, zero, suc, Bool, true, false, Option, Some, None, if◌then◌else◌, ◌==◌, ◌≡◌}
-use Rattle.std.proofs.Common.{◌+◌, ◌-◌, ◌*◌, ◌<◌, ◌≤◌, ◌⊎◌, ◌++◌, ◌∷◌, [], List, length, map, replicate, refl}
-use Rattle.std.proofs.Common.{sym, ◌∙◌, ap, subst, arith}
+use Rattle.lot_laws.proofs.Names
+use Names.{nat_tests, ℕ, zero, suc, Bool, true, false, Option, Some, None, if◌then◌else◌, ◌==◌, ◌≡◌, ◌+◌, ◌-◌}
+use Names.{◌*◌, ◌<◌, ◌≤◌, ◌⊎◌, ◌++◌, ◌∷◌, [], List, length, map, replicate, refl, sym, ◌∙◌, ap, subst, arith}
+use Names.{One, Normal, Waiter, Shared, Upgradable, first_of, waiter, apply, Patience, Patient, Timed}
+use Names.{Try as OnlyTry, SemaphoreCall, Answer, Outcome, WordIs, Next, Value, Nobody, outcome_of}
+use Names.{wakes_taken, has_parked, IsBlocked, IsFree, IsFreeAt, Knows, LockState, Owns, one_if_some, readers}
+use Names.{rights_of, with_right, queued_of, Enters, semaphore_purpose, IsFull, Line, Main, has_readers}
+use Names.{SemaphorePlace, Acquire, Release, acquired, in_acquire, in_release, in_try, is_free, semaphore_act}
+use Names.{semaphore_first, semaphore_next, semaphore_profile, Semaphore, semaphore_does, semaphore_goes}
+use Names.{State, after, go_of, place_at, queue_at, queues_without_first, solo, state_after_taking, word_at}
+use Names.{call_at, call_state, lock_state, locks_of, IsInductive, key_of, rules_in, site_of, EndsAlone}
+use Names.{EntersAlone, IsBarred, ReleasesAlone, SleepsLast, WaitsAlone, entered_answer}
 use Rattle.std.specs.Prelude.{◌&&◌, not}
-use Rattle.core_base.specs.declared.keys.Keys.TheVariants.{One}
 use Rattle.core_base.specs.declared.ops.Op.TheVariants as op
-use Rattle.core_base.specs.declared.notes.Note.TheVariants.{Normal}
-use Rattle.core_base.specs.declared.wants.Waiter.{Waiter}
-use Rattle.core_base.specs.declared.wants.Want.TheVariants.{Shared, Upgradable}
-use Rattle.core_base.specs.Lines.{first_of, waiter}
-use Rattle.core_base.specs.Words.{apply}
-use Rattle.spec_locks.specs.declared.calls.Patience.{Patience}
-use Rattle.spec_locks.specs.declared.calls.Patience.TheVariants.{Patient, Timed, Try as OnlyTry}
-use Rattle.spec_locks.specs.declared.calls.SemaphoreCall.{SemaphoreCall}
 use Rattle.spec_locks.specs.declared.calls.SemaphoreCall.TheVariants as call
-use Rattle.spec_locks.specs.declared.outcomes.Answer.{Answer}
 use Rattle.spec_locks.specs.declared.outcomes.Answer.TheVariants as answer
-use Rattle.spec_locks.specs.declared.outcomes.Outcome.{Outcome}
 use Rattle.spec_locks.specs.declared.outcomes.Outcome.TheVariants as outcome
 use Rattle.steps_base.specs.declared.acts.Act.TheVariants as act
-use Rattle.steps_base.specs.declared.acts.Check.TheVariants.{WordIs}
-use Rattle.steps_base.specs.declared.acts.Next.{Next}
 use Rattle.steps_base.specs.declared.acts.Next.TheVariants as next
-use Rattle.steps_base.specs.declared.acts.Reply.TheVariants.{Value}
-use Rattle.steps_base.specs.declared.acts.Wakes.TheVariants.{Nobody}
 use Rattle.steps_base.specs.declared.acts.Whom.TheVariants as whom
-use Rattle.steps_base.specs.Acts.{outcome_of, wakes_taken}
-use Rattle.spec_locks.specs.Codes.{has_parked}
-use Rattle.spec_locks.specs.Locks.{IsBlocked, IsFree, IsFreeAt, Knows, LockState, Owns}
-use Rattle.spec_locks.specs.Locks.{Semaphore as OfSemaphores, one_if_some, readers, rights_of, with_right}
-use Rattle.spec_locks.specs.Picks.{queued_of}
-use Rattle.spec_locks.specs.Purposes.{Enters, semaphore_purpose}
-use Rattle.spec_locks.specs.Runs.{IsFull}
-use Rattle.spec_locks.specs.Sites.{Line, Main, has_readers}
+use Rattle.spec_locks.specs.Locks.{Semaphore as OfSemaphores}
 use Rattle.steps_semaphore.specs.declared.places.TheConstants.{NOT_PARKED}
 use Rattle.steps_semaphore.specs.declared.acquire.AcquireAt.TheVariants as acquire
 use Rattle.steps_semaphore.specs.declared.tries.TryAt.TheVariants as tries
 use Rattle.steps_semaphore.specs.declared.release.ReleaseAt.TheVariants as release
-use Rattle.steps_semaphore.specs.declared.places.SemaphorePlace.{SemaphorePlace}
-use Rattle.steps_semaphore.specs.declared.places.SemaphorePlace.TheVariants.{Acquire, Try, Release}
-use Rattle.steps_semaphore.specs.SemaphoreSteps.{acquired, decided, in_acquire, in_release, in_try, is_free}
-use Rattle.steps_semaphore.specs.SemaphoreSteps.{looked, semaphore_act, semaphore_first, semaphore_next}
-use Rattle.steps_semaphore.specs.SemaphoreProfiles.{semaphore_profile}
+use Rattle.steps_semaphore.specs.declared.places.SemaphorePlace.TheVariants.{Try}
+use Rattle.steps_semaphore.specs.SemaphoreSteps.{decided}
+use Rattle.steps_semaphore.specs.SemaphoreSteps.{looked}
 use Rattle.steps_semaphore.proofs.SemaphoreWords as words
-use Rattle.lot_steps.specs.declared.places.Place.TheVariants.{Semaphore}
-use Rattle.lot_steps.specs.Steps.{semaphore_does, semaphore_goes}
-use Rattle.lot_machine.specs.Machine.{State, after, go_of, place_at, queue_at, queues_without_first, solo}
-use Rattle.lot_machine.specs.Machine.{state_after_taking, word_at}
-use Rattle.lot_laws.specs.Refinement.{call_at, call_state, lock_state, locks_of}
-use Rattle.lot_laws.specs.SitesOf.{IsInductive, key_of, rules_in, site_of}
-use Rattle.lot_laws.specs.Solo.{EndsAlone, EntersAlone, IsBarred, ReleasesAlone, SleepsLast, WaitsAlone}
-use Rattle.lot_laws.specs.Solo.{entered_answer}
 use Rattle.lot_laws.proofs.machine.Parts.{put_here, same}
 use Rattle.lot_laws.proofs.alone.TwoLines.{Comes, StepsAlone, leads_into, leave_comes, park_comes, parks_last}
 use Rattle.lot_laws.proofs.alone.TwoLines.{take_comes, word_comes}

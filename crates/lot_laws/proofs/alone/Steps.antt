@@ -1,20 +1,13 @@
 -- Steps of a thread alone, one after another.
-use Rattle.std.proofs.Common.{◌≡◌, ◌≢◌, ℕ, zero, suc, ◌+◌, ◌-◌, ◌<◌, Bool, true, false, Option, Some, None}
-use Rattle.std.proofs.Common.{is_some, nat_lt, length, if◌then◌else◌, refl, ap, sym, ◌∙◌, arith}
-use Rattle.steps_base.specs.declared.acts.Act.{Act}
-use Rattle.steps_base.specs.declared.acts.Act.TheVariants.{Sleep, Closure, End}
-use Rattle.spec_locks.specs.declared.calls.Step.{Step}
-use Rattle.spec_locks.specs.declared.calls.Turn.{Turn}
+use Rattle.lot_laws.proofs.Names
+use Names.{◌≡◌, ◌≢◌, ℕ, zero, suc, ◌+◌, ◌-◌, ◌<◌, Bool, true, false, Option, Some, None, is_some, nat_lt}
+use Names.{length, if◌then◌else◌, refl, ap, sym, ◌∙◌, arith, Act, Sleep, Closure, Step, Turn, Outcome}
+use Names.{outcome_of, act_of, next_act, looking, State, SoloEnd, alone_after, solo, after, step_outcome}
+use Names.{is_possible, state_after_turn, turn_outcome, go_of, reply_to, closed_place, place_at, put}
+use Names.{can_turn, going_outcome, look_outcome, state_after_act, Place, both}
+use Rattle.steps_base.specs.declared.acts.Act.TheVariants.{End}
 use Rattle.spec_locks.specs.declared.calls.Turn as turn
-use Rattle.spec_locks.specs.declared.outcomes.Outcome.{Outcome}
 use Rattle.spec_locks.specs.declared.outcomes.Outcome as outcome
-use Rattle.steps_base.specs.Acts.{outcome_of}
-use Rattle.lot_steps.specs.Steps.{act_of, next_act, looking}
-use Rattle.lot_machine.specs.Machine.{State, SoloEnd, alone_after, solo, after, step_outcome, is_possible}
-use Rattle.lot_machine.specs.Machine.{state_after_turn, turn_outcome, go_of, reply_to, closed_place, place_at}
-use Rattle.lot_machine.specs.Machine.{put, can_turn, going_outcome, look_outcome, state_after_act}
-use Rattle.lot_steps.specs.declared.places.Place.{Place}
-use Rattle.lot_machine.proofs.Shape.{both}
 
 -- a step that was possible doesn't answer that it wasn't
 outcome_possible : (act : Act) → outcome_of act ≢ outcome.TheVariants.NotNow

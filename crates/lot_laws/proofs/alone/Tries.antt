@@ -1,40 +1,23 @@
 -- A call that only tries enters no section, so a thread that is inside one doesn't bar it.
-use Rattle.std.proofs.Common.{ℕ, zero, suc, Bool, true, false, Some, None, ◌≢◌, ◌⊎◌, inl, inr, if◌then◌else◌}
-use Rattle.std.proofs.Common.{◌≡◌, refl, sym, ◌∙◌, ap, subst}
+use Rattle.lot_laws.proofs.Names
+use Names.{ℕ, zero, suc, Bool, true, false, Some, None, ◌≢◌, ◌⊎◌, inl, inr, if◌then◌else◌, ◌≡◌, refl, sym}
+use Names.{◌∙◌, ap, subst, Call, CondvarCall, MutexCall, OnceCall, Try, RwLockCall, SemaphoreCall, Kind}
+use Names.{Outcome, lock_in, Act, Place, Idle, Mutex, RwLock, Once, Condvar, Semaphore, act_of, first_place}
+use Names.{mutex_purpose, purpose_of, rwlock_purpose, Rights, CallState, Event, GoesOn, IsStep, LocksState}
+use Names.{going_on, purpose_at, rights_in, unless_ended, woken, State, after, alone_after, go_of, kind_at}
+use Names.{place_at, solo, step_outcome, IsTry, call_state, keys_entered, locks_of, IsWorld, key_of}
+use Names.{EntersSection, HasWhatItReads, IsBarred, OnlyTries}
 use Rattle.spec_locks.specs.declared.calls.Access.TheVariants as access
-use Rattle.spec_locks.specs.declared.calls.Call.{Call}
 use Rattle.spec_locks.specs.declared.calls.Call.TheVariants as call
-use Rattle.spec_locks.specs.declared.calls.CondvarCall.{CondvarCall}
 use Rattle.spec_locks.specs.declared.calls.CondvarCall.TheVariants as condvar_call
-use Rattle.spec_locks.specs.declared.calls.MutexCall.{MutexCall}
 use Rattle.spec_locks.specs.declared.calls.MutexCall.TheVariants as mutex_call
-use Rattle.spec_locks.specs.declared.calls.OnceCall.{OnceCall}
 use Rattle.spec_locks.specs.declared.calls.OnceCall.TheVariants as once_call
-use Rattle.spec_locks.specs.declared.calls.Patience.TheVariants.{Try}
-use Rattle.spec_locks.specs.declared.calls.RwLockCall.{RwLockCall}
 use Rattle.spec_locks.specs.declared.calls.RwLockCall.TheVariants as rwlock_call
-use Rattle.spec_locks.specs.declared.calls.SemaphoreCall.{SemaphoreCall}
 use Rattle.spec_locks.specs.declared.calls.SemaphoreCall.TheVariants as semaphore_call
-use Rattle.spec_locks.specs.declared.kinds.Kind.{Kind}
 use Rattle.spec_locks.specs.declared.kinds.Kind.TheVariants as kinds
-use Rattle.spec_locks.specs.declared.outcomes.Outcome.{Outcome}
 use Rattle.spec_locks.specs.declared.outcomes.Outcome.TheVariants as outcome
-use Rattle.spec_locks.specs.Calls.{lock_in}
-use Rattle.steps_base.specs.declared.acts.Act.{Act}
 use Rattle.steps_base.specs.declared.acts.Act.TheVariants as act
-use Rattle.lot_steps.specs.declared.places.Place.{Place}
-use Rattle.lot_steps.specs.declared.places.Place.TheVariants.{Idle, Mutex, RwLock, Once, Condvar, Semaphore}
-use Rattle.lot_steps.specs.Steps.{act_of, first_place}
-use Rattle.spec_locks.specs.Purposes.{mutex_purpose, purpose_of, rwlock_purpose}
-use Rattle.spec_locks.specs.Locks.{Rights}
-use Rattle.spec_locks.specs.Runs.{CallState, Event, GoesOn, IsStep, LocksState, going_on, purpose_at}
-use Rattle.spec_locks.specs.Runs.{rights_in, unless_ended, woken}
 use Rattle.steps_condvar.specs.declared.places.CondvarPlace.TheVariants as condvar
-use Rattle.lot_machine.specs.Machine.{State, after, alone_after, go_of, kind_at, place_at, solo, step_outcome}
-use Rattle.lot_laws.specs.Promises.{IsTry}
-use Rattle.lot_laws.specs.Refinement.{call_state, keys_entered, locks_of}
-use Rattle.lot_laws.specs.SitesOf.{IsWorld, key_of}
-use Rattle.lot_laws.specs.Solo.{EntersSection, HasWhatItReads, IsBarred, OnlyTries}
 use Rattle.lot_laws.proofs.machine.Parts.{same}
 use Rattle.lot_laws.proofs.calls.TriesPass.{tries_go}
 use Rattle.lot_laws.proofs.alone.Answers.{gone, purpose_stays, woken_purpose}

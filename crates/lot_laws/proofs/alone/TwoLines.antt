@@ -1,43 +1,21 @@
 -- A thread that steps alone at a lock of two lines: what each of its acts leads to.
-use Rattle.std.proofs.Common.{ℕ, true, false, Bool, Option, Some, None, if◌then◌else◌, ◌≡◌, ◌+◌, ◌*◌, ◌<◌}
-use Rattle.std.proofs.Common.{◌⊎◌, inl, inr, List, [], ◌∷◌, ◌++◌, length, get_or, map, refl, sym, ◌∙◌, ap}
-use Rattle.std.proofs.Common.{arith, get_or-set_same, subst}
-use Rattle.std.proofs.lemmas.Bool.{lt-ltb}
-use Rattle.std.proofs.lemmas.List.{length-map}
-use Rattle.std.proofs.Math.ListN.{get_or-map}
-use Rattle.core_base.specs.declared.keys.Keys.TheVariants.{One}
-use Rattle.core_base.specs.declared.ops.Op.{Op}
-use Rattle.core_base.specs.declared.wants.Waiter.{Waiter}
-use Rattle.core_base.specs.declared.wants.Want.{Want}
-use Rattle.core_base.specs.Words.{apply}
-use Rattle.core_base.specs.Lines.{waiter, without, times}
+use Rattle.lot_laws.proofs.Names
+use Names.{ℕ, true, false, Bool, Option, Some, None, if◌then◌else◌, ◌≡◌, ◌+◌, ◌*◌, ◌<◌, ◌⊎◌, inl, inr, List}
+use Names.{[], ◌∷◌, ◌++◌, length, get_or, map, refl, sym, ◌∙◌, ap, arith, get_or-set_same, subst, lt-ltb}
+use Names.{length-map, get_or-map, One, Op, Waiter, Want, apply, waiter, without, times, Outcome, Check}
+use Names.{Reply, Done, Value, Parked, Wakes, Whom, holds, outcome_of, takes_effect, Place, Idle, act_of}
+use Names.{next_place, next_act, Line, Main, Second, State, unlocked, place_at, word_at, section_at, queue_at}
+use Names.{put, state_after_hand_over_by, state_after_operation, state_with_sections, queues_with_last}
+use Names.{state_after_act, state_after_take, state_after_wake, state_after_go, go_outcome, reply_to, can_do}
+use Names.{is_possible, after, step_outcome, go_of, going_outcome, state_after_going, IsWellFormed, SameSize}
+use Names.{after_well_formed, after_size, main_key_there, performed_counts, AreCondvars, AreCounted}
+use Names.{IsInductive, IsSettled, key_of, stood_in, EntersSection, IsBarred, location, location_at}
 use Rattle.spec_locks.specs.declared.kinds.Kind.TheVariants as kind
-use Rattle.spec_locks.specs.declared.outcomes.Outcome.{Outcome}
 use Rattle.spec_locks.specs.declared.outcomes.Outcome.TheVariants as outcome
 use Rattle.steps_base.specs.declared.acts.Act.TheVariants as act
-use Rattle.steps_base.specs.declared.acts.Check.{Check}
-use Rattle.steps_base.specs.declared.acts.Reply.{Reply}
-use Rattle.steps_base.specs.declared.acts.Reply.TheVariants.{Done, Value, Parked}
-use Rattle.steps_base.specs.declared.acts.Wakes.{Wakes}
 use Rattle.steps_base.specs.declared.acts.Wakes.TheVariants as notes
-use Rattle.steps_base.specs.declared.acts.Whom.{Whom}
-use Rattle.steps_base.specs.Acts.{holds, outcome_of, takes_effect}
-use Rattle.lot_steps.specs.declared.places.Place.{Place}
-use Rattle.lot_steps.specs.declared.places.Place.TheVariants.{Idle}
-use Rattle.lot_steps.specs.Steps.{act_of, next_place, next_act}
-use Rattle.spec_locks.specs.Sites.{Line, Main, Second}
-use Rattle.lot_machine.specs.Machine.{State, unlocked, place_at, word_at, section_at, queue_at, put}
-use Rattle.lot_machine.specs.Machine.{state_after_hand_over_by, state_after_operation, state_with_sections}
-use Rattle.lot_machine.specs.Machine.{queues_with_last, state_after_act, state_after_take, state_after_wake}
-use Rattle.lot_machine.specs.Machine.{state_after_go, go_outcome, reply_to, can_do, is_possible, after}
-use Rattle.lot_machine.specs.Machine.{step_outcome, go_of, going_outcome, state_after_going}
-use Rattle.lot_machine.specs.Fits.{IsWellFormed, SameSize}
-use Rattle.lot_machine.proofs.Shape.{after_well_formed, after_size, main_key_there, performed_counts}
 use Rattle.lot_laws.proofs.calls.OwnPlace.{goes_from_there, told_from_there}
-use Rattle.lot_laws.specs.SitesOf.{AreCondvars, AreCounted, IsInductive, IsSettled, key_of, stood_in}
 use Rattle.lot_laws.proofs.mutex.FairMutexes.{settled_after}
-use Rattle.lot_laws.specs.Solo.{EntersSection, IsBarred}
-use Rattle.lot_laws.specs.Locations.{location, location_at}
 use Rattle.lot_laws.proofs.alone.Leads.{Leads, leads_barred, leads_step}
 use Rattle.lot_laws.proofs.machine.Parts.{nothing_at, next_single, IsSingle}
 use Rattle.lot_laws.proofs.hands.Counts.{without_absent}

@@ -1,38 +1,22 @@
 -- A wait whose thread steps alone: from each place where it is awake it ends, or sleeps.
-use Rattle.std.proofs.Common.{ℕ, Bool, true, false, if◌then◌else◌, ◌==◌, ◌||◌, ◌≡◌, ◌≢◌, ◌⊎◌, ◌+◌, ◌*◌}
-use Rattle.std.proofs.Common.{length, drop, is_none, inl, inr, refl, sym, ap, subst, arith}
+use Rattle.lot_laws.proofs.Names
+use Names.{ℕ, Bool, true, false, if◌then◌else◌, ◌==◌, ◌||◌, ◌≡◌, ◌≢◌, ◌⊎◌, ◌+◌, ◌*◌, length, drop, is_none}
+use Names.{inl, inr, refl, sym, ap, subst, arith, without, Outcome, Reply, Value, Took, Removed, TakenBy}
+use Names.{MovedTo, HandedBy, Woken, outcome_of, UnlockAt, in_unlock, is_parked, unlock_act, Wait, Stands}
+use Names.{WaitAt, IsReached, stands_after, past_release, condvar_next, first_lock, in_wait, is_shown}
+use Names.{released, wait_act, Place, Condvar, next_place, State, after, can_do, go_of, place_at, queue_at}
+use Names.{reply_to, state_after_act, word_at, Befalls, acted_keeps, Rests}
 use Rattle.core_base.specs.declared.notes.Note.TheVariants as note
-use Rattle.core_base.specs.Lines.{without}
 use Rattle.spec_locks.specs.declared.outcomes.Answer.TheVariants as answer
-use Rattle.spec_locks.specs.declared.outcomes.Outcome.{Outcome}
 use Rattle.spec_locks.specs.declared.outcomes.Outcome.TheVariants as outcome
 use Rattle.steps_base.specs.declared.acts.Act.TheVariants as act
 use Rattle.steps_base.specs.declared.acts.Next.TheVariants as next
-use Rattle.steps_base.specs.declared.acts.Reply.{Reply}
-use Rattle.steps_base.specs.declared.acts.Reply.TheVariants.{Value, Took, Removed, TakenBy, MovedTo, HandedBy}
-use Rattle.steps_base.specs.declared.acts.Reply.TheVariants.{Woken}
-use Rattle.steps_base.specs.Acts.{outcome_of}
 use Rattle.steps_mutex.specs.declared.lock.Entry.TheVariants as entry
 use Rattle.steps_mutex.specs.declared.lock.LockAt.TheVariants as lock
 use Rattle.steps_mutex.specs.declared.places.MutexPlace.TheVariants as mutex
-use Rattle.steps_mutex.specs.declared.unlock.UnlockAt.{UnlockAt}
 use Rattle.steps_mutex.specs.declared.unlock.UnlockAt.TheVariants as unlock
-use Rattle.steps_mutex.specs.MutexSteps.{in_unlock, is_parked, unlock_act}
-use Rattle.steps_condvar.specs.declared.places.CondvarPlace.TheVariants.{Wait}
-use Rattle.steps_condvar.specs.declared.wait.Stands.{Stands}
 use Rattle.steps_condvar.specs.declared.wait.Stands.TheVariants as stands
-use Rattle.steps_condvar.specs.declared.wait.WaitAt.{WaitAt}
 use Rattle.steps_condvar.specs.declared.wait.WaitAt.TheVariants as wait
-use Rattle.steps_condvar.specs.CondvarCalls.{IsReached}
-use Rattle.steps_condvar.specs.CondvarSteps.{stands_after, past_release, condvar_next, first_lock, in_wait}
-use Rattle.steps_condvar.specs.CondvarSteps.{is_shown, released, wait_act}
-use Rattle.lot_steps.specs.declared.places.Place.{Place}
-use Rattle.lot_steps.specs.declared.places.Place.TheVariants.{Condvar}
-use Rattle.lot_steps.specs.Steps.{next_place}
-use Rattle.lot_machine.specs.Machine.{State, after, can_do, go_of, place_at, queue_at, reply_to}
-use Rattle.lot_machine.specs.Machine.{state_after_act, word_at}
-use Rattle.lot_machine.proofs.Acted.{Befalls, acted_keeps}
-use Rattle.lot_laws.specs.Solo.{Rests}
 use Rattle.lot_laws.proofs.alone.Condvar.{Afterwards, GoesAlone, Keeps, free_beside, free_here}
 use Rattle.lot_laws.proofs.alone.Condvar.{leads_afterwards}
 use Rattle.lot_laws.proofs.alone.Condvar.{reached}

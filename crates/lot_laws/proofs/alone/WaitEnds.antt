@@ -1,37 +1,23 @@
 -- A wait from its beginning, whose thread steps alone: it ends where another mutex is shown, and else sleeps
 -- as the last, its mutex let go.
-use Rattle.std.proofs.Common.{ℕ, Bool, true, false, Option, Some, None, if◌then◌else◌, ◌==◌, ◌||◌, ◌≡◌, ◌≢◌}
-use Rattle.std.proofs.Common.{◌⊎◌, ◌*◌, ◌≤◌, ◌<◌, List, [], ◌∷◌, ◌++◌, length, inl, inr, refl, sym, ◌∙◌, ap}
-use Rattle.std.proofs.Common.{subst, arith, get_or-set_same}
-use Rattle.std.proofs.lemmas.Bool.Decides.{nat_tests}
+use Rattle.lot_laws.proofs.Names
+use Names.{ℕ, Bool, true, false, Option, Some, None, if◌then◌else◌, ◌==◌, ◌||◌, ◌≡◌, ◌≢◌, ◌⊎◌, ◌*◌, ◌≤◌, ◌<◌}
+use Names.{List, [], ◌∷◌, ◌++◌, length, inl, inr, refl, sym, ◌∙◌, ap, subst, arith, get_or-set_same}
+use Names.{nat_tests, first_of, Outcome, outcome_of, UnlockAt, unlock_act, Wait, Stands, WaitAt, IsListed}
+use Names.{after_condvar_deeds, condvar_deeds, word_showing, wait_row, past_release, in_wait, is_shown}
+use Names.{shown_as, wait_act, Condvar, SeeOther, Show, Queued, State, after, can_do, go_of, queue_at}
+use Names.{queues_without_first, reply_to, state_after_act, state_after_taking, unlocked, word_at, lock_state}
+use Names.{locks_of, owner_at, condvar_of, CondvarWaitsAlone}
 use Rattle.core_base.specs.declared.notes.Note.TheVariants as note
 use Rattle.core_base.specs.declared.wants.Want.TheVariants.{Wait as WaitHere}
-use Rattle.core_base.specs.Lines.{first_of}
 use Rattle.spec_locks.specs.declared.kinds.Kind.TheVariants as kind
 use Rattle.spec_locks.specs.declared.outcomes.Answer.TheVariants as answer
-use Rattle.spec_locks.specs.declared.outcomes.Outcome.{Outcome}
 use Rattle.spec_locks.specs.declared.outcomes.Outcome.TheVariants as outcome
 use Rattle.steps_base.specs.declared.acts.Next.TheVariants as next
-use Rattle.steps_base.specs.Acts.{outcome_of}
-use Rattle.steps_mutex.specs.declared.unlock.UnlockAt.{UnlockAt}
 use Rattle.steps_mutex.specs.declared.unlock.UnlockAt.TheVariants as unlock
-use Rattle.steps_mutex.specs.MutexSteps.{unlock_act}
-use Rattle.steps_condvar.specs.declared.places.CondvarPlace.TheVariants.{Wait}
-use Rattle.steps_condvar.specs.declared.wait.Stands.{Stands}
 use Rattle.steps_condvar.specs.declared.wait.Stands.TheVariants as stands
-use Rattle.steps_condvar.specs.declared.wait.WaitAt.{WaitAt}
 use Rattle.steps_condvar.specs.declared.wait.WaitAt.TheVariants as wait
-use Rattle.steps_condvar.specs.CondvarDeeds.{IsListed, after_condvar_deeds, condvar_deeds, word_showing}
-use Rattle.steps_condvar.specs.CondvarProfiles.{wait_row}
-use Rattle.steps_condvar.specs.CondvarSteps.{past_release, in_wait, is_shown, shown_as, wait_act}
-use Rattle.lot_steps.specs.declared.places.Place.TheVariants.{Condvar}
-use Rattle.spec_locks.specs.Condvars.{SeeOther, Show}
-use Rattle.spec_locks.specs.Locks.{Queued, times}
-use Rattle.lot_machine.specs.Machine.{State, after, can_do, go_of, queue_at, queues_without_first, reply_to}
-use Rattle.lot_machine.specs.Machine.{state_after_act, state_after_taking, unlocked, word_at}
-use Rattle.lot_laws.specs.Refinement.{lock_state, locks_of, owner_at}
-use Rattle.lot_laws.specs.SitesOf.{condvar_of}
-use Rattle.lot_laws.specs.Solo.{CondvarWaitsAlone}
+use Rattle.spec_locks.specs.Locks.{times}
 use Rattle.lot_laws.proofs.alone.Condvar.{Afterwards, GoesAlone, Keeps, mutex_there, queue_then, so_then}
 use Rattle.lot_laws.proofs.condvar.Replies.{at_it, word_is}
 use Rattle.lot_laws.proofs.alone.Leads.{Leads, leads_more, leads_so}

@@ -1,45 +1,22 @@
 -- A thread that steps alone and has its way keeps it, and is never barred.
-use Rattle.std.proofs.Common.{ℕ, zero, suc, Bool, true, false, Option, Some, None, if◌then◌else◌, ◌==◌, ◌≡◌}
-use Rattle.std.proofs.Common.{◌⊎◌, ◌<◌, List, [], ◌∷◌, length, nat_lt, get_or, set, get_or-set_same, inl, inr}
-use Rattle.std.proofs.Common.{refl, sym, ◌∙◌, ap, subst}
-use Rattle.std.proofs.lemmas.Bool.{ltb-true}
-use Rattle.core_base.specs.declared.keys.Keys.{Keys}
-use Rattle.core_base.specs.declared.keys.Keys.TheVariants.{One, Two}
-use Rattle.core_base.specs.Lines.{first_of}
-use Rattle.spec_locks.specs.declared.outcomes.Outcome.{Outcome}
+use Rattle.lot_laws.proofs.Names
+use Names.{ℕ, zero, suc, Bool, true, false, Option, Some, None, if◌then◌else◌, ◌==◌, ◌≡◌, ◌⊎◌, ◌<◌, List, []}
+use Names.{◌∷◌, length, nat_lt, get_or, set, get_or-set_same, inl, inr, refl, sym, ◌∙◌, ap, subst, ltb-true}
+use Names.{Keys, One, Two, first_of, Outcome, Act, Next, Reply, holds, takes_effect, MutexPlace, OncePlace}
+use Names.{SemaphorePlace, RwLockCallPlace, Wait, Look, Notify, NotifyAt, WaitAt, word_showing, in_notify}
+use Names.{in_wait, look_next, mutex_shown, notified, shown_as, Place, Idle, Mutex, RwLock, Once, Condvar}
+use Names.{Semaphore, act_of, beside_of, condvar_goes, called_lock, mutex_goes, next_place, once_goes}
+use Names.{rwlock_goes, semaphore_goes, rules_of, State, after, alone_after, can_go, go_of, is_possible}
+use Names.{place_at, put, queue_at, queues_with_last, queues_without_first, reply_to, section_at, solo}
+use Names.{state_after_act, state_after_go, state_after_hand_over_by, state_after_taking, state_with_sections}
+use Names.{step_outcome, word_at, acted_keeps, both, performed_counts, lock_state, IsWorld, key_of}
+use Names.{IsUnobstructed, HasLine, IsBarred, IsOnly, MayEnterOf, mutex_to_come}
 use Rattle.spec_locks.specs.declared.outcomes.Outcome.TheVariants as outcome
-use Rattle.steps_base.specs.declared.acts.Act.{Act}
 use Rattle.steps_base.specs.declared.acts.Act.TheVariants as act
-use Rattle.steps_base.specs.declared.acts.Next.{Next}
 use Rattle.steps_base.specs.declared.acts.Next.TheVariants as next
-use Rattle.steps_base.specs.declared.acts.Reply.{Reply}
 use Rattle.steps_base.specs.declared.acts.Wakes.TheVariants as wakes
 use Rattle.steps_base.specs.declared.acts.Whom.TheVariants as whoms
-use Rattle.steps_base.specs.Acts.{holds, takes_effect}
-use Rattle.steps_mutex.specs.declared.places.MutexPlace.{MutexPlace}
-use Rattle.steps_once.specs.declared.places.OncePlace.{OncePlace}
-use Rattle.steps_semaphore.specs.declared.places.SemaphorePlace.{SemaphorePlace}
-use Rattle.steps_rwlock_fair.specs.declared.places.RwLockCallPlace.{RwLockCallPlace}
-use Rattle.steps_condvar.specs.declared.places.CondvarPlace.TheVariants.{Wait, Look, Notify}
-use Rattle.steps_condvar.specs.declared.notify.NotifyAt.{NotifyAt}
 use Rattle.steps_condvar.specs.declared.notify.NotifyAt.TheVariants as notifies
-use Rattle.steps_condvar.specs.declared.wait.WaitAt.{WaitAt}
-use Rattle.steps_condvar.specs.CondvarDeeds.{word_showing}
-use Rattle.steps_condvar.specs.CondvarSteps.{in_notify, in_wait, look_next, mutex_shown, notified, shown_as}
-use Rattle.lot_steps.specs.declared.places.Place.{Place}
-use Rattle.lot_steps.specs.declared.places.Place.TheVariants.{Idle, Mutex, RwLock, Once, Condvar, Semaphore}
-use Rattle.lot_steps.specs.Steps.{act_of, beside_of, condvar_goes, called_lock, mutex_goes, next_place}
-use Rattle.lot_steps.specs.Steps.{once_goes, rwlock_goes, semaphore_goes}
-use Rattle.spec_locks.specs.Purposes.{rules_of}
-use Rattle.lot_machine.specs.Machine.{State, after, alone_after, can_go, go_of, is_possible, place_at, put}
-use Rattle.lot_machine.specs.Machine.{queue_at, queues_with_last, queues_without_first, reply_to, section_at}
-use Rattle.lot_machine.specs.Machine.{solo, state_after_act, state_after_go, state_after_hand_over_by}
-use Rattle.lot_machine.specs.Machine.{state_after_taking, state_with_sections, step_outcome, word_at}
-use Rattle.lot_machine.proofs.Acted.{acted_keeps}
-use Rattle.lot_machine.proofs.Shape.{both, performed_counts}
-use Rattle.lot_laws.specs.Refinement.{lock_state}
-use Rattle.lot_laws.specs.SitesOf.{IsWorld, key_of}
-use Rattle.lot_laws.specs.Solo.{IsUnobstructed, HasLine, IsBarred, IsOnly, MayEnterOf, mutex_to_come}
 use Rattle.lot_laws.proofs.condvar.Replies.{word_is}
 use Rattle.lot_laws.proofs.machine.EntersOwn.{enters_own}
 use Rattle.lot_laws.proofs.machine.KindsStay.{after_kinds}
@@ -105,8 +82,8 @@ module _ (w : State) (t k : ℕ) (only : IsOnly t (section_at w k)) where
 -- ---------------------------------------------------------------- the locks that a place names
 
 -- the lock that it calls, or the mutex beside
-abbrev Names : Place → ℕ → Type 0
-Names p k = (called_lock p ≡ Some k) ⊎ (beside_of p ≡ Some k)
+abbrev NamesLock : Place → ℕ → Type 0
+NamesLock p k = (called_lock p ≡ Some k) ⊎ (beside_of p ≡ Some k)
 
 abbrev IsLook : Place → Type 0
 IsLook (Condvar c (Look all)) = Unit {0}
@@ -118,9 +95,9 @@ looks_to_come w p k e = let f : ◌≡◌ {A = Option ℕ} None (Some k) = e in 
 
 -- it names such locks alone, and is to look for no mutex
 abbrev NamesOnly : (ℕ → Type 0) → Place → Type 0
-NamesOnly Named p = ((k : ℕ) → Names p k → Named k) × (IsLook p → ⊥)
+NamesOnly Named p = ((k : ℕ) → NamesLock p k → Named k) × (IsLook p → ⊥)
 
-nothing_named : (k : ℕ) → Names Idle k → ⊥
+nothing_named : (k : ℕ) → NamesLock Idle k → ⊥
 nothing_named k (inl e) = cc
 nothing_named k (inr e) = cc
 
@@ -267,7 +244,7 @@ module _ (w : State) (t : ℕ) (world : IsWorld w) (way : IsUnobstructed w t) wh
   unbarred_now b = let own = enters_own w t world b
       in b.another (way b.lock b.other b.line (may own.0) own.1 b.inside)
     where
-      may : Names (place_at w t) b.lock → Named b.lock
+      may : NamesLock (place_at w t) b.lock → Named b.lock
       may (inl own) = inl own
       may (inr beside) = inr (inl beside)
 

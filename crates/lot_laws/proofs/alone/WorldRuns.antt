@@ -1,17 +1,10 @@
 -- Steps one after another, and steps of a thread alone, are a run of the world.
-use Rattle.std.proofs.Common.{ℕ, zero, suc, ◌≡◌, ◌≤◌, List, [], ◌∷◌, ◌++◌, length, replicate, refl, sym, ap}
-use Rattle.std.proofs.Common.{◌∙◌, subst, arith}
-use Rattle.spec_locks.specs.declared.calls.Step.{Step}
-use Rattle.spec_locks.specs.declared.outcomes.Outcome.{Outcome}
+use Rattle.lot_laws.proofs.Names
+use Names.{ℕ, zero, suc, ◌≡◌, ◌≤◌, List, [], ◌∷◌, ◌++◌, length, replicate, refl, sym, ap, ◌∙◌, subst, arith}
+use Names.{Step, Outcome, IsRun, IsStep, LocksState, OfEachStep, State, after, step_outcome, after_steps}
+use Names.{step_outcomes, alone_after, go_of, solo, IsKept, locks_of, IsWorldStep, IsWorldRun, Tells}
+use Names.{IsSoloRun, GoesOnUntil, last_told, IsWorld, after_well_formed}
 use Rattle.spec_locks.specs.declared.outcomes.Outcome as outcome
-use Rattle.spec_locks.specs.Runs.{IsRun, IsStep, LocksState}
-use Rattle.spec_locks.specs.UserLaws.{OfEachStep}
-use Rattle.lot_machine.specs.Machine.{State, after, step_outcome, after_steps, step_outcomes, alone_after}
-use Rattle.lot_machine.specs.Machine.{go_of, solo}
-use Rattle.lot_laws.specs.Promises.{IsKept}
-use Rattle.lot_laws.specs.Refinement.{locks_of}
-use Rattle.lot_laws.specs.WorldRuns.{IsWorldStep, IsWorldRun, Tells}
-use Rattle.lot_laws.specs.Solo.{IsSoloRun, GoesOnUntil, last_told}
 use Rattle.lot_laws.proofs.condvar.StepsKeep.{after_condvars}
 use Rattle.lot_laws.proofs.hands.CountsKept.{counted_after}
 use Rattle.lot_laws.proofs.promises.Owing.{owes_since}
@@ -19,11 +12,9 @@ use Rattle.lot_laws.proofs.promises.Fair.{is_fair}
 use Rattle.lot_laws.proofs.machine.Filled.{filled_after}
 use Rattle.lot_laws.proofs.calls.LockSteps.{after_step}
 use Rattle.lot_laws.proofs.machine.OneChange.{one_thing, touches}
-use Rattle.lot_laws.specs.SitesOf.{IsWorld}
 use Rattle.lot_laws.proofs.promises.LeavesOthers.{leaves_others}
 use Rattle.lot_laws.proofs.promises.Promises.{kept}
 use Rattle.lot_laws.proofs.mutex.FairMutexes.{settled_after}
-use Rattle.lot_machine.proofs.Shape.{after_well_formed}
 use Rattle.lot_laws.proofs.machine.Sleepers.{sleepers_stay}
 use Rattle.lot_laws.proofs.calls.Marked.{looks_no_more}
 use Rattle.lot_laws.proofs.calls.Tries.{tries_at_once}

@@ -1,50 +1,29 @@
 -- How calls begin: a thread that may begin one can, and its call is then the one that it has begun.
-use Rattle.std.proofs.Common.{ℕ, Bool, true, false, Some, None, ◌&&◌, ◌==◌, not, ◌≡◌, ◌<◌, ◌≤◌, length, refl}
-use Rattle.std.proofs.Common.{sym, ◌∙◌, subst, nat_lt, arith}
-use Rattle.spec_locks.specs.Purposes.{rules_of}
+use Rattle.lot_laws.proofs.Names
+use Names.{ℕ, Bool, true, false, Some, None, ◌&&◌, ◌==◌, not, ◌≡◌, ◌<◌, ◌≤◌, length, refl, sym, ◌∙◌, subst}
+use Names.{nat_lt, arith, rules_of, OnceCall, once_first, SemaphoreCall, Patient, Timed, Try, semaphore_first}
+use Names.{semaphore_right, nat_tests, has_readers, ltb-true, lt-ltb, Kind, Call, MutexCall, has_call}
+use Names.{is_fair, Lock, TryLock, Unlock, UnlockFair, Place, Idle, Mutex, RwLock, Once, Condvar, Semaphore}
+use Names.{mutex_first, mutex_right, is_idle, has_right, State, place_at, owners_at, kind_at}
+use Names.{state_after_begin, can_begin, is_open_to, share_at, IsWellFormed, both, IsInductive, is_mutex}
+use Names.{rules_in, Rights, LocksState, Stays, MayBegin, HasRight, purpose_at, new_call, purpose_of}
+use Names.{mutex_purpose, rwlock_purpose, once_purpose, semaphore_purpose, owner_at, taken_at, call_state}
+use Names.{locks_of, admission_of_kind, call_first, call_right}
 use Rattle.spec_locks.specs.Locks as locks
 use Rattle.spec_locks.specs.declared.calls.OnceCall.TheVariants as once_call
-use Rattle.spec_locks.specs.declared.calls.OnceCall.{OnceCall}
-use Rattle.steps_once.specs.OnceSteps.{once_first}
 use Rattle.spec_locks.specs.declared.calls.SemaphoreCall.TheVariants as semaphore_call
-use Rattle.spec_locks.specs.declared.calls.SemaphoreCall.{SemaphoreCall}
-use Rattle.spec_locks.specs.declared.calls.Patience.TheVariants.{Patient, Timed, Try}
-use Rattle.steps_semaphore.specs.SemaphoreSteps.{semaphore_first, semaphore_right}
 use Rattle.steps_semaphore.specs.declared.places.SemaphorePlace.TheVariants as semaphores
-use Rattle.std.proofs.lemmas.Bool.Decides.{nat_tests}
-use Rattle.spec_locks.specs.Sites.{has_readers}
-use Rattle.std.proofs.lemmas.Bool.{ltb-true, lt-ltb}
-use Rattle.spec_locks.specs.declared.kinds.Kind.{Kind}
 use Rattle.spec_locks.specs.declared.kinds.Kind as kind
-use Rattle.spec_locks.specs.declared.calls.Call.{Call}
 use Rattle.spec_locks.specs.declared.calls.Call as call
-use Rattle.spec_locks.specs.declared.calls.MutexCall.{MutexCall}
 use Rattle.spec_locks.specs.declared.calls.MutexCall as mutex_call
-use Rattle.spec_locks.specs.Kinds.{has_call, is_fair}
 use Rattle.spec_locks.specs.declared.outcomes.Outcome as outcome
-use Rattle.steps_mutex.specs.declared.places.MutexPlace.TheVariants.{Lock, TryLock, Unlock, UnlockFair, Bump}
+use Rattle.steps_mutex.specs.declared.places.MutexPlace.TheVariants.{Bump}
 use Rattle.steps_mutex.specs.declared.places.MutexPlace.TheVariants.{HandOff}
-use Rattle.lot_steps.specs.declared.places.Place.{Place}
-use Rattle.lot_steps.specs.declared.places.Place.TheVariants.{Idle, Mutex, RwLock, Once, Condvar, Semaphore}
-use Rattle.steps_mutex.specs.MutexSteps.{mutex_first, mutex_right}
-use Rattle.lot_steps.specs.Steps.{is_idle, has_right}
-use Rattle.lot_machine.specs.Machine.{State, place_at, owners_at, kind_at, state_after_begin, can_begin}
-use Rattle.lot_machine.specs.Machine.{is_open_to, share_at}
-use Rattle.lot_machine.specs.Fits.{IsWellFormed}
-use Rattle.lot_machine.proofs.Shape.{both}
-use Rattle.lot_laws.specs.SitesOf.{IsInductive, is_mutex, rules_in}
-use Rattle.spec_locks.specs.Locks.{Rights}
-use Rattle.spec_locks.specs.Runs.{LocksState, Stays, MayBegin, HasRight, purpose_at, new_call}
-use Rattle.spec_locks.specs.Purposes.{purpose_of, mutex_purpose, rwlock_purpose, once_purpose}
-use Rattle.spec_locks.specs.Purposes.{semaphore_purpose}
-use Rattle.lot_laws.specs.Refinement.{owner_at, taken_at, call_state, locks_of}
 use Rattle.lot_laws.proofs.machine.KindsStay.{calls_mutex, calls_readers, calls_once, calls_semaphore}
 use Rattle.lot_laws.proofs.condvar.Begins.{condvar_begun, condvar_may}
 use Rattle.lot_laws.proofs.machine.PlacesAlone.{placed}
 use Rattle.lot_laws.proofs.rwlock.Events.{rwlock_begins_with, rwlock_purpose_is, rwlock_right_held}
 use Rattle.lot_laws.proofs.rwlock.Events.{rwlock_right_needed, rwlock_untaken_first}
-use Rattle.steps_rwlock.specs.RwLockBegins.{admission_of_kind}
-use Rattle.steps_rwlock_fair.specs.FairBegins.{call_first, call_right}
 use Rattle.steps_condvar.specs.declared.places.CondvarPlace.TheVariants as condvars
 use Rattle.lot_laws.proofs.machine.Parts.{is_owner, thread_is}
 use Rattle.lot_laws.proofs.sites.TurnsKept.{idle_is}

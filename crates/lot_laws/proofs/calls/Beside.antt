@@ -1,23 +1,12 @@
 -- From where a thread looks at a word once more, its place says the same of the lock beside.
-use Rattle.std.proofs.Common.{ℕ, Bool, true, false, Option, Some, None, if◌then◌else◌, ◌≡◌, refl, subst}
-use Rattle.steps_condvar.specs.declared.places.CondvarPlace.{CondvarPlace}
-use Rattle.steps_condvar.specs.declared.places.CondvarPlace.TheVariants.{Wait}
+use Rattle.lot_laws.proofs.Names
+use Names.{ℕ, Bool, true, false, Option, Some, None, if◌then◌else◌, ◌≡◌, refl, subst, CondvarPlace, Wait}
+use Names.{condvar_looking, in_lock, MutexPlace, Lock, mutex_looking, OncePlace, once_looking}
+use Names.{RwLockCallPlace, SemaphorePlace, semaphore_looking, call_looking, Place, Idle, Mutex, RwLock, Once}
+use Names.{Condvar, Semaphore, beside_of, in_condvar, in_mutex, in_once, in_rwlock, in_semaphore, looking}
+use Names.{profile_beside}
 use Rattle.steps_condvar.specs.declared.wait.WaitAt.TheVariants as wait
-use Rattle.steps_condvar.specs.CondvarSteps.{condvar_looking, in_lock}
 use Rattle.steps_mutex.specs.declared.lock.LockAt.TheVariants as lock
-use Rattle.steps_mutex.specs.declared.places.MutexPlace.{MutexPlace}
-use Rattle.steps_mutex.specs.declared.places.MutexPlace.TheVariants.{Lock}
-use Rattle.steps_mutex.specs.MutexSteps.{mutex_looking}
-use Rattle.steps_once.specs.declared.places.OncePlace.{OncePlace}
-use Rattle.steps_once.specs.OnceSteps.{once_looking}
-use Rattle.steps_rwlock_fair.specs.declared.places.RwLockCallPlace.{RwLockCallPlace}
-use Rattle.steps_semaphore.specs.declared.places.SemaphorePlace.{SemaphorePlace}
-use Rattle.steps_semaphore.specs.SemaphoreSteps.{semaphore_looking}
-use Rattle.steps_rwlock_fair.specs.FairProfiles.{call_looking}
-use Rattle.lot_steps.specs.declared.places.Place.{Place}
-use Rattle.lot_steps.specs.declared.places.Place.TheVariants.{Idle, Mutex, RwLock, Once, Condvar, Semaphore}
-use Rattle.lot_steps.specs.Steps.{beside_of, in_condvar, in_mutex, in_once, in_rwlock, in_semaphore, looking}
-use Rattle.lot_steps.specs.Steps.{profile_beside}
 
 abbrev pub SameBeside : Place → Place → Type 0
 SameBeside p q = (beside_of q ≡ beside_of p) × (profile_beside q ≡ profile_beside p)

@@ -1,18 +1,10 @@
 -- A closure has answered: its thread goes on from after it, as from any other place of its call.
-use Rattle.std.proofs.Common.{ℕ, Bool, true, ◌≡◌, ◌<◌, length, length-set, refl, ◌∙◌, ap}
-use Rattle.lot_machine.specs.Machine.{held_by}
-use Rattle.steps_base.specs.declared.acts.Reply.TheVariants.{Closed}
-use Rattle.steps_base.specs.Profiles.{hand_owner}
-use Rattle.steps_once.specs.declared.places.OncePlace.TheVariants.{Run}
+use Rattle.lot_laws.proofs.Names
+use Names.{ℕ, Bool, true, ◌≡◌, ◌<◌, length, length-set, refl, ◌∙◌, ap, held_by, Closed, hand_owner, Run}
+use Names.{Place, Once, next_place, or_else, State, can_go, close_outcome, closed_place, going_outcome}
+use Names.{place_at, put, state_after_close, state_after_going, IsWellFormed, closed_fits, put_well_formed}
+use Names.{AreCounted}
 use Rattle.steps_once.specs.declared.run.RunAt.TheVariants as run
-use Rattle.lot_steps.specs.declared.places.Place.{Place}
-use Rattle.lot_steps.specs.declared.places.Place.TheVariants.{Once}
-use Rattle.lot_steps.specs.Steps.{next_place, or_else}
-use Rattle.lot_machine.specs.Machine.{State, can_go, close_outcome, closed_place, going_outcome, place_at}
-use Rattle.lot_machine.specs.Machine.{put, state_after_close, state_after_going}
-use Rattle.lot_machine.specs.Fits.{IsWellFormed}
-use Rattle.lot_machine.proofs.Shape.{closed_fits, put_well_formed}
-use Rattle.lot_laws.specs.SitesOf.{AreCounted}
 use Rattle.lot_laws.proofs.calls.Closures.{RunsOne}
 use Rattle.lot_laws.proofs.hands.CountsPut.{put_counted}
 use Rattle.lot_laws.proofs.hands.Counting.{counted_on}

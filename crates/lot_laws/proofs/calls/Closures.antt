@@ -1,12 +1,8 @@
 -- A thread that may end its closure runs one, and is told so.
-use Rattle.std.proofs.Common.{ℕ, Bool, true, ◌≡◌, refl}
-use Rattle.spec_locks.specs.Runs.{is_closure}
-use Rattle.steps_base.specs.Acts.{outcome_of}
+use Rattle.lot_laws.proofs.Names
+use Names.{ℕ, Bool, true, ◌≡◌, refl, is_closure, outcome_of, Act, act_of, State, place_at, runs_closure}
+use Names.{can_close, can_do, closed_place, both}
 use Rattle.steps_base.specs.declared.acts.Act as act
-use Rattle.steps_base.specs.declared.acts.Act.{Act}
-use Rattle.lot_steps.specs.Steps.{act_of}
-use Rattle.lot_machine.specs.Machine.{State, place_at, runs_closure, can_close, can_do, closed_place}
-use Rattle.lot_machine.proofs.Shape.{both}
 pub use Rattle.lot_machine.proofs.Closures.{RunsOne, runs_one, call_runs_none, course_runs_none}
 pub use Rattle.lot_machine.proofs.Closures.{mutex_runs_none, condvar_runs_none, semaphore_runs_none}
 

@@ -1,17 +1,13 @@
 -- A property of each lock holds after a step of the abstract locks, where it holds after each case, and
 -- after each move of a notification.
-use Rattle.std.proofs.Common.{ℕ, Bool, true, false, Option, Some, if◌then◌else◌, ◌==◌, ◌≡◌, ◌⊎◌, List, []}
-use Rattle.std.proofs.Common.{◌∷◌, inl, inr, eqb-true, refl, sym, ◌∙◌, ap, subst}
-use Rattle.spec_locks.specs.declared.calls.Turn.{Turn}
+use Rattle.lot_laws.proofs.Names
+use Names.{ℕ, Bool, true, false, Option, Some, if◌then◌else◌, ◌==◌, ◌≡◌, ◌⊎◌, List, [], ◌∷◌, inl, inr, refl}
+use Names.{sym, ◌∙◌, ap, subst, Turn, Outcome, moved_of, taken_of, LockCase, LockState, Needs, Queued, Taken}
+use Names.{left_after, taking, AtLock, CallState, Does, Event, GoesOn, LocksState, MayHappen, MayMove, Moves}
+use Names.{Nothing, Stays, Turned, joined_by, locks_after, rules_at, has_readers, needs_of}
+use Rattle.std.proofs.Common.{eqb-true}
 use Rattle.spec_locks.specs.declared.calls.Turn as turn
-use Rattle.spec_locks.specs.declared.outcomes.Outcome.{Outcome}
-use Rattle.spec_locks.specs.Condvars.{moved_of, taken_of}
 use Rattle.spec_locks.specs.Locks as locks
-use Rattle.spec_locks.specs.Locks.{LockCase, LockState, Needs, Queued, Taken, left_after, taking}
-use Rattle.spec_locks.specs.Runs.{AtLock, CallState, Does, Event, GoesOn, LocksState, MayHappen, MayMove}
-use Rattle.spec_locks.specs.Runs.{Moves, Nothing, Stays, Turned, joined_by, locks_after, rules_at}
-use Rattle.spec_locks.specs.Sites.{has_readers}
-use Rattle.spec_locks.proofs.Runs.{needs_of}
 use Rattle.lot_laws.proofs.promises.RowPromises.{CallsOneLock}
 
 -- ---------------------------------------------------------------- a move

@@ -1,46 +1,25 @@
 -- A step of a thread is one event of the abstract locks, whatever lock it calls and wherever it stands: the
 -- one case of its deeds. Its call comes to what its rows say.
-use Rattle.std.proofs.Common.{ℕ, Bool, true, false, Option, Some, None, if◌then◌else◌, ◌==◌, ◌≡◌, ◌≢◌, ◌⊎◌}
-use Rattle.std.proofs.Common.{◌≤◌, List, [], ◌∷◌, ◌++◌, inl, inr, refl, sym, ◌∙◌, ap, subst, arith}
-use Rattle.spec_locks.specs.Condvars.{line_of, moved_of, taken_of}
-use Rattle.spec_locks.specs.Runs.{Nothing, Moves, gives_up, joined_by}
-use Rattle.steps_base.specs.Rows.{KnowsRights}
-use Rattle.spec_locks.specs.Locks.{Once, OfOnce, Sort, CondvarCase, Look, Show, Hide}
-use Rattle.spec_locks.specs.Purposes.{Enters, Releases, Converts, Bumps, CallsOnce, Awaits, lock_for, Recall}
-use Rattle.spec_locks.specs.Purposes.{Blank, Saw, SawOwner, HasMoved, WasMoved, WasNotified, Waits, Notifies}
-use Rattle.spec_locks.specs.Runs.{is_closure}
-use Rattle.spec_locks.specs.Runs.{Begins}
-use Rattle.std.proofs.lemmas.Bool.{cases_eq, eqb-true}
-use Rattle.std.proofs.lemmas.Bool.Decides.{nat_tests}
-use Rattle.core_base.specs.declared.wants.Want.{Want}
-use Rattle.spec_locks.specs.declared.outcomes.Answer.{Answer}
-use Rattle.spec_locks.specs.declared.outcomes.Outcome.{Outcome}
+use Rattle.lot_laws.proofs.Names
+use Names.{ℕ, Bool, true, false, Option, Some, None, if◌then◌else◌, ◌==◌, ◌≡◌, ◌≢◌, ◌⊎◌, ◌≤◌, List, [], ◌∷◌}
+use Names.{◌++◌, inl, inr, refl, sym, ◌∙◌, ap, subst, arith, line_of, moved_of, taken_of, Nothing, Moves}
+use Names.{gives_up, joined_by, KnowsRights, OfOnce, Sort, CondvarCase, Hide, Enters, Releases, Converts}
+use Names.{Bumps, CallsOnce, Awaits, lock_for, Recall, Blank, Saw, SawOwner, HasMoved, WasMoved, WasNotified}
+use Names.{Waits, Notifies, is_closure, Begins, cases_eq, eqb-true, nat_tests, Want, Answer, Outcome, Next}
+use Names.{Profile, call_by, MayCome, ComesTo, rights_where, called_lock, profile, Place, Idle, Purpose}
+use Names.{IsMadeOf, rules_of, InProgress, OnceCase, Start, Finish, Fail, Rest, TakeAll, OnceState, LockState}
+use Names.{Rules, Rights, LockCase, HandOff, HasTakenNobody, Queued, Needs, left_after, putting, rights_of}
+use Names.{standing, LocksState, IsTimely, rules_at as locks_rules, CallState, Event, AtLock, MayHappen}
+use Names.{Agrees, AnswerHolds, GoesOn, locks_after, going_on, woken, unless_ended, Site, Deed, Begin, Bring}
+use Names.{Send, after_deed, AreOneCase, case_of, event_by, event_of, EventNeeds, after_event, deeds_lead}
+use Names.{deeds_need, others_keep, State, place_at, kind_at, lock_state, call_at, call_state, locks_of, acts}
+use Names.{FollowAll, IsInductive, Goes, ActsNeeded, rules_in, after_acts, site_of}
+use Rattle.spec_locks.specs.Locks.{Once, Look, Show}
 use Rattle.spec_locks.specs.declared.outcomes.Outcome as outcome
-use Rattle.steps_base.specs.declared.acts.Next.{Next}
 use Rattle.steps_base.specs.declared.acts.Next.TheVariants as next
-use Rattle.steps_base.specs.Profiles.{Profile}
-use Rattle.steps_base.specs.Calls.{call_by, MayCome, ComesTo, rights_where}
-use Rattle.lot_steps.specs.Steps.{called_lock, profile}
-use Rattle.lot_steps.specs.declared.places.Place.{Place}
-use Rattle.lot_steps.specs.declared.places.Place.TheVariants.{Idle}
-use Rattle.spec_locks.specs.Purposes.{Purpose, IsMadeOf, rules_of}
-use Rattle.spec_locks.specs.Onces.{InProgress, OnceCase, Start, Finish, Fail, Rest, TakeAll}
-use Rattle.spec_locks.specs.declared.outcomes.OnceState.{OnceState}
 use Rattle.spec_locks.specs.Locks as locks
-use Rattle.spec_locks.specs.Locks.{LockState, Rules, Rights, LockCase, HandOff, HasTakenNobody, Queued, Needs}
-use Rattle.spec_locks.specs.Locks.{left_after, putting, rights_of, standing}
-use Rattle.spec_locks.specs.Runs.{LocksState, IsTimely, rules_at as locks_rules, CallState, Event, AtLock}
-use Rattle.spec_locks.specs.Runs.{MayHappen, Agrees, AnswerHolds, GoesOn, locks_after, going_on, woken}
-use Rattle.spec_locks.specs.Runs.{unless_ended}
-use Rattle.spec_locks.specs.Sites.{Site, Deed, Begin, Bring, Send, after_deed}
-use Rattle.spec_locks.specs.Deeds.{AreOneCase, case_of, event_by, event_of, EventNeeds, after_event}
 use Rattle.spec_locks.specs.Deeds as deeds
-use Rattle.spec_locks.proofs.Deeds.{deeds_lead, deeds_need}
-use Rattle.spec_locks.proofs.Rights.{others_keep}
-use Rattle.lot_machine.specs.Machine.{State, place_at, kind_at}
-use Rattle.lot_laws.specs.Refinement.{lock_state, call_at, call_state, locks_of}
-use Rattle.lot_laws.specs.ThreadDeeds.{Act, acts}
-use Rattle.lot_laws.specs.SitesOf.{FollowAll, IsInductive, Goes, ActsNeeded, rules_in, after_acts, site_of}
+use Rattle.lot_laws.specs.ThreadDeeds.{Act}
 use Rattle.lot_laws.proofs.sites.ActsKept.{goes_inductive}
 use Rattle.lot_laws.proofs.machine.AtPlaces.{taken_nobody}
 use Rattle.lot_laws.proofs.machine.Parts.{IsSingle, put_here, put_other}

@@ -1,44 +1,22 @@
 -- The calls of the threads in a hand, as they are let go: they try again, or were handed the lock.
-use Rattle.std.proofs.Common.{ℕ, Bool, true, false, Option, Some, None, if◌then◌else◌, ◌==◌, ◌≡◌, ◌≢◌, ◌+◌}
-use Rattle.std.proofs.Common.{◌-◌, ◌⊎◌, inl, inr, refl, sym, ◌∙◌, ap, arith}
-use Rattle.steps_base.specs.Profiles.{Hand, Of, hand, taken_from}
-use Rattle.core_base.specs.declared.wants.Want.{Want}
-use Rattle.std.proofs.lemmas.Bool.{cases_eq, eqb-true}
-use Rattle.core_base.specs.declared.notes.Note.TheVariants.{Normal}
-use Rattle.core_base.specs.declared.wants.Want.{Want}
-use Rattle.core_base.specs.declared.wants.Want.TheVariants.{Exclusive, Shared}
-use Rattle.steps_base.specs.declared.acts.Reply.{Reply}
-use Rattle.steps_base.specs.declared.acts.Reply.TheVariants.{TakenBy, HandedBy, Woken}
-use Rattle.steps_mutex.specs.declared.places.MutexPlace.TheVariants.{Lock}
-use Rattle.steps_mutex.specs.declared.lock.LockAt.TheVariants.{First, Taken}
-use Rattle.lot_steps.specs.Steps.{next_place, profile, calls}
-use Rattle.lot_steps.specs.declared.places.Place.{Place}
-use Rattle.lot_steps.specs.declared.places.Place.TheVariants.{Idle, Mutex, RwLock, Once, Condvar, Semaphore}
-use Rattle.spec_locks.specs.Locks.{LockState, Queued, Taken as LockTaken, Rights, Wake, HandOff as HandsOff}
-use Rattle.spec_locks.specs.Locks.{IsTaken, IsLockState, Knows, rights_of, with_right, without_right}
-use Rattle.spec_locks.specs.Locks.{one_if_thread, putting}
+use Rattle.lot_laws.proofs.Names
+use Names.{ℕ, Bool, true, false, Option, Some, None, if◌then◌else◌, ◌==◌, ◌≡◌, ◌≢◌, ◌+◌, ◌-◌, ◌⊎◌, inl, inr}
+use Names.{refl, sym, ◌∙◌, ap, arith, Hand, Of, hand, taken_from, Want, cases_eq, eqb-true, Normal, Exclusive}
+use Names.{Shared, Reply, TakenBy, HandedBy, Woken, Lock, First, next_place, profile, calls, Place, Idle}
+use Names.{Mutex, RwLock, Once, Condvar, Semaphore, LockState, Queued, Taken as LockTaken, Rights, Wake}
+use Names.{HandOff as HandsOff, IsTaken, IsLockState, Knows, rights_of, with_right, without_right}
+use Names.{one_if_thread, putting, Blank, CallState, after_wake, is_taken_by, AtLock, one_more_at}
+use Names.{one_less_at, State, place_at, owner_at, lock_state, taken_at, is_bump, before_entry}
+use Names.{mutex_call_state, call_state, queued, rules_in, FitsItsLock, subst, Role, Has, role_on}
+use Names.{CondvarPlace, mutex_side, heir, got, neither}
+use Rattle.steps_mutex.specs.declared.lock.LockAt.TheVariants.{Taken}
 use Rattle.spec_locks.specs.Locks as locks
-use Rattle.spec_locks.specs.Purposes.{Blank}
-use Rattle.spec_locks.specs.Runs.{CallState, after_wake, is_taken_by, AtLock, one_more_at, one_less_at}
-use Rattle.lot_machine.specs.Machine.{State, place_at}
-use Rattle.lot_laws.specs.Refinement.{owner_at, lock_state, taken_at, is_bump, before_entry, mutex_call_state}
-use Rattle.lot_laws.specs.Refinement.{call_state}
-use Rattle.lot_laws.specs.ThreadDeeds.{queued}
-use Rattle.lot_laws.specs.SitesOf.{rules_in}
-use Rattle.lot_laws.specs.SitesOf.{FitsItsLock}
-use Rattle.std.proofs.Common.{subst}
-use Rattle.spec_locks.specs.Sites.{Role, Has}
-use Rattle.lot_laws.specs.Locations.{role_on}
 use Rattle.lot_laws.proofs.condvar.WaiterCalls.{waiter_claims, waiter_does, waiter_handed, waiter_woken}
 use Rattle.lot_laws.proofs.mutex.Waiters.{calls_mutex_at}
-use Rattle.steps_condvar.specs.declared.places.CondvarPlace.{CondvarPlace}
-use Rattle.steps_condvar.specs.CondvarProfiles.{mutex_side}
 use Rattle.lot_laws.proofs.machine.Hearing.{TriesAgain, call_hears, mutex_hears, once_hears, semaphore_hears}
 use Rattle.lot_laws.proofs.machine.PlaceTest.{call_facts, mutex_row_facts, once_facts, semaphore_facts}
 use Rattle.lot_laws.proofs.machine.Parts.{IsTakenAt, put_same, same, IsMutexCall, taken_elsewhere, IsSingle}
 use Rattle.lot_laws.proofs.machine.Parts.{single_taken}
-use Rattle.steps_mutex.specs.MutexLaws.{heir}
-use Rattle.steps_mutex.proofs.HandOffRights.{got, neither}
 use Rattle.lot_laws.proofs.machine.Parts.{mutex}
 use Rattle.lot_laws.proofs.calls.Events.{put_is, rights, rights_led, led_here, led_elsewhere, Happens, Others}
 use Rattle.lot_laws.proofs.calls.Events.{OthersFollow}

@@ -1,101 +1,66 @@
 -- Each turn of a thread is a step of the abstract locks.
-use Rattle.std.proofs.Common.{ℕ, Bool, true, false, Option, Some, None, if◌then◌else◌, ◌&&◌, ◌≡◌, ◌≢◌, ◌*◌}
-use Rattle.std.proofs.Common.{◌<◌, ◌↔◌, inl, inr, length, refl, sym, ◌∙◌, ap, subst, get_or-set_same}
-use Rattle.std.proofs.Common.{length-set, nat_lt, is_some}
+use Rattle.lot_laws.proofs.Names
+use Names.{ℕ, Bool, true, false, Option, Some, None, if◌then◌else◌, ◌&&◌, ◌≡◌, ◌≢◌, ◌*◌, ◌<◌, ◌↔◌, inl, inr}
+use Names.{length, refl, sym, ◌∙◌, ap, subst, get_or-set_same, length-set, nat_lt, is_some, AtLock, is_marked}
+use Names.{OfOnce, can_close, close_outcome, closed_place, runs_closure, state_after_close, state_after_going}
+use Names.{can_go, run_ending, Closes, Rules, once_promises, Purpose, lock_for, semaphore_promises}
+use Names.{is_closure, Run, OncePlace, once_profile, SemaphorePlace, Acquire, semaphore_profile, taken_from}
+use Names.{has_readers, ltb-true, lt-ltb, One, Value, Parked, HandedBy, Woken, Turn, Step, lock_in, Outcome}
+use Names.{Lock, TryLock, Unlock, UnlockFair, First, Load, Asleep, Place, Idle, Mutex, RwLock, Once, Condvar}
+use Names.{Semaphore, outcome_of, act_of, next_place, next_act, looking, late_key, first_place, rwlock_goes}
+use Names.{key_in, calls, State, place_at, word_at, kind_at, section_at, put, state_after_act, go_reply}
+use Names.{state_with_sections, reply_to, can_do, state_after_look, look_outcome, state_after_go, go_outcome}
+use Names.{going_outcome, state_after_late_on, is_free_under, can_turn, state_after_turn, turn_outcome}
+use Names.{is_possible, after, step_outcome, IsWellFormed, SameSize, PlaceFits, looking_well_formed}
+use Names.{after_size, both, performed_counts, mutex_looks, AreCondvars, AreCounted, FitsCondvar, IsInductive}
+use Names.{FitsItsLock, rules_in, Main, LockCase, Wake, Leave as GivesBack, HandOff as HandsOff, Rights}
+use Names.{rights_of, standing, GoesOn, KeepsOrder, LocksState, Stays, Looks, IsOfMutex, Does, SectionChanges}
+use Names.{MayTurn, Turned, taken_at, call_state, locks_of, sleeps, RwLockCallPlace, CallStands, call_profile}
+use Names.{fair_sleepers_hear, MutexPlace, CondvarPlace}
 use Rattle.lot_laws.proofs.calls.Begins.{begin_goes, begin_possible}
 use Rattle.lot_laws.proofs.rwlock.Late.{call_late, late_row}
 use Rattle.lot_laws.proofs.machine.Possible.{begins_outside, closure_gone, late_outside}
-use Rattle.spec_locks.specs.Runs.{AtLock}
-use Rattle.spec_locks.specs.Codes.{is_marked}
-use Rattle.lot_laws.proofs.once.Steps.{closes_event, step_event}
+use Rattle.lot_laws.proofs.book.Kept.{Book}
+use Rattle.lot_laws.proofs.book.Pages.{booked, semaphore_timed}
+use Rattle.lot_laws.proofs.once.Page.{keeps_all as once_keeps}
+use Rattle.lot_laws.proofs.semaphore.Page.{keeps_all as semaphore_keeps}
+use Rattle.lot_laws.proofs.book.Steps.{step, step_event}
+use Rattle.lot_laws.proofs.once.Page.{closes_event}
 use Rattle.lot_laws.proofs.calls.Looking.{alike_event, closing_here, closing_inductive, like}
 use Rattle.lot_laws.proofs.calls.Closings.{closing_well_formed, closing_there, goes_there, is_after}
 use Rattle.lot_laws.proofs.calls.Closings.{told_there}
 use Rattle.lot_laws.proofs.calls.OwnPlace.{gone, gone_told, goes_from_there, told_from_there}
-use Rattle.spec_locks.specs.Locks.{OfOnce}
 use Rattle.lot_laws.proofs.calls.Closures.{RunsOne}
 use Rattle.lot_laws.proofs.calls.Closings.{closing}
-use Rattle.lot_machine.specs.Machine.{can_close, close_outcome, closed_place, runs_closure, state_after_close}
-use Rattle.lot_machine.specs.Machine.{state_after_going, can_go}
 use Rattle.steps_once.specs.declared.run.RunAt.TheVariants as run
-use Rattle.steps_once.specs.OnceDeeds.{run_ending}
-use Rattle.spec_locks.specs.Runs.{Closes}
-use Rattle.spec_locks.specs.Locks.{Rules}
 use Rattle.spec_locks.specs.Locks as locks
-use Rattle.steps_once.proofs.OnceRowCheck.{once_promises}
-use Rattle.spec_locks.specs.Purposes.{Purpose, lock_for}
-use Rattle.steps_semaphore.proofs.SemaphoreRowCheck.{semaphore_promises}
 use Rattle.lot_laws.proofs.rwlock.CallRows.{call_promises}
-use Rattle.spec_locks.specs.Runs.{is_closure}
 use Rattle.spec_locks.specs.declared.calls.OnceCall.TheVariants as once_call
 use Rattle.steps_once.specs.declared.look.LookAt.TheVariants as look_at
-use Rattle.steps_once.specs.declared.places.OncePlace.TheVariants.{Look, Run}
-use Rattle.steps_once.specs.declared.places.OncePlace.{OncePlace}
-use Rattle.steps_once.specs.OnceProfiles.{once_profile}
+use Rattle.steps_once.specs.declared.places.OncePlace.TheVariants.{Look}
 use Rattle.lot_laws.proofs.once.Owing.{late_place}
-use Rattle.lot_laws.proofs.once.Steps.{once_step}
-use Rattle.lot_laws.proofs.semaphore.Steps.{semaphore_step}
 use Rattle.lot_laws.proofs.semaphore.Owing.{late_place as semaphore_late_place}
 use Rattle.steps_semaphore.specs.declared.acquire.AcquireAt.TheVariants as acquire
-use Rattle.steps_semaphore.specs.declared.places.SemaphorePlace.{SemaphorePlace}
-use Rattle.steps_semaphore.specs.declared.places.SemaphorePlace.TheVariants.{Acquire}
-use Rattle.steps_semaphore.specs.SemaphoreProfiles.{semaphore_profile}
-use Rattle.steps_base.specs.Profiles.{taken_from}
 use Rattle.core_base.specs.Keys.{key_of}
 use Rattle.core_base.specs.declared.keys.Line.{Line}
-use Rattle.spec_locks.specs.Sites.{has_readers}
-use Rattle.std.proofs.lemmas.Bool.{ltb-true, lt-ltb}
-use Rattle.core_base.specs.declared.keys.Keys.TheVariants.{One}
-use Rattle.steps_base.specs.declared.acts.Reply.TheVariants.{Value, Parked, HandedBy, Woken}
 use Rattle.steps_base.specs.declared.acts.Reply.TheVariants as reply
-use Rattle.spec_locks.specs.declared.calls.Turn.{Turn}
 use Rattle.spec_locks.specs.declared.calls.Turn as turn
-use Rattle.spec_locks.specs.declared.calls.Step.{Step}
-use Rattle.spec_locks.specs.Calls.{lock_in}
-use Rattle.spec_locks.specs.declared.outcomes.Outcome.{Outcome}
 use Rattle.spec_locks.specs.declared.outcomes.Outcome as outcome
 use Rattle.steps_mutex.specs.declared.lock.Entry.TheVariants as entries
-use Rattle.steps_mutex.specs.declared.places.MutexPlace.TheVariants.{Lock, TryLock, Unlock, UnlockFair, Bump}
+use Rattle.steps_mutex.specs.declared.places.MutexPlace.TheVariants.{Bump}
 use Rattle.steps_mutex.specs.declared.places.MutexPlace.TheVariants.{HandOff}
-use Rattle.steps_mutex.specs.declared.lock.LockAt.TheVariants.{First, Load, Asleep}
-use Rattle.lot_steps.specs.declared.places.Place.{Place}
-use Rattle.lot_steps.specs.declared.places.Place.TheVariants.{Idle, Mutex, RwLock, Once, Condvar, Semaphore}
-use Rattle.steps_base.specs.Acts.{outcome_of}
-use Rattle.lot_steps.specs.Steps.{act_of, next_place, next_act, looking, late_key, first_place, rwlock_goes}
-use Rattle.lot_steps.specs.Steps.{key_in, calls}
-use Rattle.lot_machine.specs.Machine.{State, place_at, word_at, kind_at, section_at, put, state_after_act}
-use Rattle.lot_machine.specs.Machine.{go_reply, state_with_sections, reply_to, can_do, state_after_look}
-use Rattle.lot_machine.specs.Machine.{look_outcome, state_after_go, state_after_going, go_outcome}
-use Rattle.lot_machine.specs.Machine.{going_outcome, state_after_late_on, is_free_under, can_turn}
-use Rattle.lot_machine.specs.Machine.{state_after_turn, turn_outcome, is_possible, after, step_outcome}
-use Rattle.lot_machine.specs.Fits.{IsWellFormed, SameSize, PlaceFits}
-use Rattle.lot_machine.proofs.Shape.{looking_well_formed, after_size, both, performed_counts}
 use Rattle.lot_laws.proofs.machine.Possible.{may_go, go_possible, may_be_late, late_possible, told_gone}
 use Rattle.lot_laws.proofs.machine.Possible.{told_step, begins_awake, turner_there, gone_sections}
 use Rattle.lot_laws.proofs.machine.Possible.{late_sections, late_awake}
-use Rattle.lot_machine.proofs.Looks.{mutex_looks}
 use Rattle.lot_laws.proofs.hands.CountsPut.{looking_counted}
 use Rattle.lot_laws.proofs.calls.Looking.{here, looks_now, looking_inductive, goes_as_before, stays_as_before}
 use Rattle.lot_laws.proofs.calls.Closures.{closes_one, runs_one}
-use Rattle.lot_laws.specs.SitesOf.{AreCondvars, AreCounted, FitsCondvar, IsInductive, FitsItsLock, rules_in}
-use Rattle.spec_locks.specs.Sites.{Main}
-use Rattle.spec_locks.specs.Locks.{LockCase, Wake, Leave as GivesBack, HandOff as HandsOff, Rights, rights_of}
-use Rattle.spec_locks.specs.Locks.{standing}
-use Rattle.spec_locks.specs.Runs.{GoesOn, KeepsOrder, LocksState, Stays, Looks, IsOfMutex, Does}
-use Rattle.spec_locks.specs.Runs.{SectionChanges, MayTurn, Turned}
-use Rattle.lot_laws.specs.Refinement.{taken_at, call_state, locks_of, sleeps}
 use Rattle.lot_laws.proofs.machine.KindsStay.{after_kinds}
 use Rattle.lot_laws.proofs.condvar.Begins.{condvar_is_late}
 use Rattle.lot_laws.proofs.machine.PlacesAlone.{placed}
 use Rattle.lot_laws.proofs.rwlock.Events.{rwlock_step}
-use Rattle.steps_rwlock_fair.specs.declared.places.RwLockCallPlace.{RwLockCallPlace}
-use Rattle.steps_rwlock_fair.specs.FairCalls.{CallStands}
-use Rattle.steps_rwlock_fair.specs.FairProfiles.{call_profile}
-use Rattle.steps_rwlock_fair.proofs.FairSleepers.{fair_sleepers_hear}
-use Rattle.steps_mutex.specs.declared.places.MutexPlace.{MutexPlace}
-use Rattle.steps_condvar.specs.declared.places.CondvarPlace.{CondvarPlace}
 use Rattle.steps_condvar.specs.declared.places.CondvarPlace.TheVariants as condvars
-use Rattle.lot_laws.proofs.machine.Parts.{IsSingle, single_or_two}
+use Rattle.lot_laws.proofs.machine.Parts.{IsSingle, same, single_or_two}
 use Rattle.lot_laws.proofs.condvar.ActsRefine.{condvar_on}
 use Rattle.lot_laws.proofs.condvar.SameCondvars.{looking_condvars}
 use Rattle.lot_laws.proofs.sites.SitesKept.{go_by}
@@ -114,11 +79,12 @@ module _ (w : State) (t : ℕ) (shape : IsWellFormed w) (inductive : IsInductive
         (locks_of (go_by w t p (act_of p)))
     go_goes counted Idle is single fits of can = absurd cc
     go_goes counted (Condvar l at) is single fits of can = absurd single
-    go_goes counted (Once l at) is single fits of can = once_step w t l at inductive shape there fits is can
-    go_goes counted (Semaphore l at) is single fits of can = semaphore_step w t l at inductive shape there
+    go_goes counted (Once l at) is single fits of can = step w t l (Once l at) inductive shape there fits is
+        (booked w t l (Once l at) inductive is tt (same l)) (same l) (once_keeps l at) can
+    go_goes counted (Semaphore l at) is single fits of can = step w t l (Semaphore l at) inductive shape there
         fits
-        is
-        can
+        is (booked w t l (Semaphore l at) inductive is tt (same l)) (same l) (semaphore_keeps l at
+        (semaphore_timed w l at of)) can
     go_goes counted (RwLock l a c) is single fits of can = rwlock_step w t l a c inductive shape there fits is
         counted can
     go_goes counted (Mutex l at) is single fits of can = mutex_step w t l at inductive shape there fits.0 is
@@ -363,8 +329,10 @@ module _ (w : State) (t : ℕ) (shape : IsWellFormed w) (inductive : IsInductive
             (sym (told_there w t there succeeded one ∙ told_from_there v t (Once one.lock at) is_v tt))
             (alike_event w t there (closed_place w t succeeded) (like w t there succeeded one) _ _
             (AtLock one.lock (OfOnce (run_ending succeeded))) (
-              once_step v t one.lock at inductive_v shape_v there_v lt is_v refl,
-              step_event v t one.lock at inductive_v shape_v there_v lt is_v refl
+              step v t one.lock (Once one.lock at) inductive_v shape_v there_v lt is_v book_v (same one.lock)
+                  (once_keeps one.lock at) refl,
+              step_event v t one.lock (Once one.lock at) inductive_v shape_v
+                  there_v lt is_v book_v (same one.lock) (once_keeps one.lock at) refl
                   ∙ closes_event one.lock succeeded (is_marked (word_at v one.lock)),
             )))
           where
@@ -382,6 +350,9 @@ module _ (w : State) (t : ℕ) (shape : IsWellFormed w) (inductive : IsInductive
 
             lt : one.lock < length v.locks
             lt = subst (PlaceFits (length v.locks)) is_v (shape_v.places t)
+
+            book_v : Book v one.lock
+            book_v = booked v t one.lock (Once one.lock at) inductive_v is_v tt (same one.lock)
 
     turned_does : AreCounted w → AreCondvars w → (x : Turn) → can_turn w t x ≡ true
         → MayTurn (locks_of w) t x × Does (locks_of w) t x (turn_outcome w t x)

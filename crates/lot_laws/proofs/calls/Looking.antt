@@ -1,55 +1,25 @@
 -- A thread that looks at the word once more goes on from another place of its call. Standing there changes
 -- nothing that locks and calls see.
-use Rattle.std.proofs.Common.{false, ◌==◌, ◌&&◌, not, ℕ, zero, suc, List, set, true, Option, Some, None}
-use Rattle.std.proofs.Common.{if◌then◌else◌, ◌≡◌, ◌<◌, inl, inr, [], ◌∷◌, length, replicate, refl, sym, ◌∙◌}
-use Rattle.std.proofs.Common.{ap, subst, get_or-set_other, get_or-set_same, length-set, get_or}
-use Rattle.spec_locks.specs.Runs.{Event, Status, MayHappen, Nothing, AtLock, Moves}
-use Rattle.std.proofs.Common.{Bool}
-use Rattle.steps_condvar.specs.declared.places.CondvarPlace.{CondvarPlace}
-use Rattle.steps_condvar.specs.declared.places.CondvarPlace.TheVariants.{Wait}
+use Rattle.lot_laws.proofs.Names
+use Names.{false, ◌==◌, ◌&&◌, not, ℕ, zero, suc, List, set, true, Option, Some, None, if◌then◌else◌, ◌≡◌, ◌<◌}
+use Names.{inl, inr, [], ◌∷◌, length, replicate, refl, sym, ◌∙◌, ap, subst, get_or-set_other, get_or-set_same}
+use Names.{length-set, get_or, Event, Status, MayHappen, Nothing, AtLock, Moves, Bool, CondvarPlace, Wait}
+use Names.{IsReached, IsRelock, condvar_looking, in_lock, mutex_beside, Entry, in_condvar, closed_place}
+use Names.{next_place, beside_of, profile_beside, is_lock, Closed, in_once, once_looking, OncePlace}
+use Names.{SemaphorePlace, semaphore_looking, RwLockCallPlace, fair_looks_stand, call_looking, in_rwlock}
+use Names.{cases_eq, Act, Word, Outcome, taken_from, MutexPlace, Place, Idle, Mutex, RwLock, Once, Condvar}
+use Names.{Semaphore, act_of, looking, called_lock, profile, in_mutex, in_semaphore, mutex_looking, State}
+use Names.{unlocked, place_at, put, can_go, state_after_act, state_after_go, IsLook, look, Profile, Rights}
+use Names.{rights_of, LocksState, GoesOn, Stays, idle, lock_state, locks_of, call_on_both, stance_of, nowhere}
+use Names.{KeepsWordsAndQueues, FitsCondvar, FitsItsLock, Goes, IsInductive, rules_in}
 use Rattle.steps_condvar.specs.declared.wait.WaitAt.TheVariants as wait
-use Rattle.steps_condvar.specs.CondvarCalls.{IsReached, IsRelock}
-use Rattle.steps_condvar.specs.CondvarSteps.{condvar_looking, in_lock, mutex_beside}
-use Rattle.steps_mutex.specs.declared.lock.Entry.{Entry}
 use Rattle.steps_mutex.specs.declared.lock.Entry.TheVariants as entry
 use Rattle.steps_mutex.specs.declared.lock.LockAt.TheVariants as lock
 use Rattle.steps_mutex.specs.declared.places.MutexPlace.TheVariants as mutex
-use Rattle.lot_steps.specs.Steps.{in_condvar}
 use Rattle.lot_laws.proofs.calls.Closures.{RunsOne}
-use Rattle.lot_machine.specs.Machine.{closed_place}
-use Rattle.lot_steps.specs.Steps.{next_place, beside_of, profile_beside, is_lock}
-use Rattle.steps_base.specs.declared.acts.Reply.TheVariants.{Closed}
-use Rattle.lot_steps.specs.Steps.{in_once}
-use Rattle.steps_once.specs.OnceSteps.{once_looking}
-use Rattle.steps_once.specs.declared.places.OncePlace.{OncePlace}
-use Rattle.steps_semaphore.specs.declared.places.SemaphorePlace.{SemaphorePlace}
-use Rattle.steps_semaphore.specs.SemaphoreSteps.{semaphore_looking}
-use Rattle.steps_rwlock_fair.specs.declared.places.RwLockCallPlace.{RwLockCallPlace}
-use Rattle.steps_rwlock_fair.proofs.FairSleepers.{fair_looks_stand}
-use Rattle.steps_rwlock_fair.specs.FairProfiles.{call_looking}
-use Rattle.lot_steps.specs.Steps.{in_rwlock}
-use Rattle.std.proofs.lemmas.Bool.{cases_eq}
 use Rattle.core_base.specs.declared.ops.Op.TheVariants.{Load}
 use Rattle.spec_locks.specs.declared.kinds.Kind as kind
-use Rattle.steps_base.specs.declared.acts.Act.{Act}
-use Rattle.steps_base.specs.declared.acts.Act.TheVariants.{Word}
-use Rattle.spec_locks.specs.declared.outcomes.Outcome.{Outcome}
-use Rattle.steps_base.specs.Profiles.{taken_from}
-use Rattle.steps_mutex.specs.declared.places.MutexPlace.{MutexPlace}
-use Rattle.lot_steps.specs.declared.places.Place.{Place}
-use Rattle.lot_steps.specs.declared.places.Place.TheVariants.{Idle, Mutex, RwLock, Once, Condvar, Semaphore}
-use Rattle.lot_steps.specs.Steps.{act_of, looking, called_lock, profile, in_mutex, is_lock, in_semaphore}
-use Rattle.steps_mutex.specs.MutexSteps.{mutex_looking}
-use Rattle.lot_machine.specs.Machine.{State, unlocked, place_at, put, can_go, state_after_act, state_after_go}
-use Rattle.lot_machine.proofs.Looks.{IsLook, look}
-use Rattle.steps_base.specs.Profiles.{Profile}
-use Rattle.spec_locks.specs.Locks.{Rights, rights_of}
-use Rattle.spec_locks.specs.Runs.{LocksState, GoesOn, Stays}
-use Rattle.spec_locks.specs.Sites.{idle}
-use Rattle.lot_laws.specs.Refinement.{lock_state, locks_of, call_on_both, stance_of}
-use Rattle.lot_laws.specs.Locations.{nowhere, location_by}
-use Rattle.lot_laws.specs.WorldRuns.{KeepsWordsAndQueues}
-use Rattle.lot_laws.specs.SitesOf.{FitsCondvar, FitsItsLock, Goes, IsInductive, rules_in}
+use Rattle.lot_laws.specs.Locations.{location_by}
 use Rattle.lot_laws.proofs.calls.Beside.{looks_beside}
 use Rattle.lot_laws.proofs.machine.Parts.{parts_at}
 use Rattle.lot_laws.proofs.sites.OneStep.{steps_by}

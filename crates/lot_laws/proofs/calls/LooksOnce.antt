@@ -1,48 +1,28 @@
 -- A thread may look at a word once more only in place of an act that leads to sleep.
-use Rattle.std.proofs.Common.{ℕ, Bool, true, false, Option, Some, None, if◌then◌else◌, ◌==◌, ◌&&◌, not, ◌≡◌}
-use Rattle.std.proofs.Common.{◌+◌, ◌*◌, ◌⊎◌, is_some, inl, inr, refl, sym, ap, subst}
-use Rattle.std.proofs.lemmas.Bool.{eqb-true}
-use Rattle.spec_locks.specs.Codes.{has_aside, is_running}
-use Rattle.spec_locks.specs.Locks.{Rules, Sort}
+use Rattle.lot_laws.proofs.Names
+use Names.{ℕ, Bool, true, false, Option, Some, None, if◌then◌else◌, ◌==◌, ◌&&◌, not, ◌≡◌, ◌+◌, ◌*◌, ◌⊎◌}
+use Names.{is_some, inl, inr, refl, sym, ap, subst, eqb-true, has_aside, is_running, Rules, Sort, has_readers}
+use Names.{semaphore_act, One, Act, MutexPlace, mutex_act, mutex_looking, OncePlace, Course, course_act}
+use Names.{course_of, Admission, RwLockPlace, RwLockAt, Decision, act_at, count_act, decided as decides}
+use Names.{decided_act, exchange, plus, gone_to, is_mark, looking_at, in_call, in_lock, Place, Idle, Mutex}
+use Names.{RwLock, Once, Condvar, Semaphore, act_of, in_condvar, in_mutex, in_once, in_rwlock, looking}
+use Names.{in_semaphore, State, place_at, kind_at, FitsItsLock, IsInductive, sort_at, LeadsToSleep, SetsBit}
 use Rattle.spec_locks.specs.Locks as locks
-use Rattle.spec_locks.specs.Sites.{has_readers}
 use Rattle.steps_semaphore.specs.declared.places.SemaphorePlace.TheVariants as semaphore
 use Rattle.steps_semaphore.specs.declared.acquire.AcquireAt.TheVariants as acquire
-use Rattle.steps_semaphore.specs.SemaphoreSteps.{semaphore_act}
-use Rattle.core_base.specs.declared.keys.Keys.TheVariants.{One}
-use Rattle.steps_base.specs.declared.acts.Act.{Act}
 use Rattle.steps_base.specs.declared.acts.Act.TheVariants as act
-use Rattle.steps_mutex.specs.declared.places.MutexPlace.{MutexPlace}
 use Rattle.steps_mutex.specs.declared.places.MutexPlace.TheVariants as mutex
 use Rattle.steps_mutex.specs.declared.lock.LockAt.TheVariants as lock
-use Rattle.steps_mutex.specs.MutexSteps.{decided, mutex_act, mutex_looking}
-use Rattle.steps_once.specs.declared.places.OncePlace.{OncePlace}
+use Rattle.steps_mutex.specs.MutexSteps.{decided}
 use Rattle.steps_once.specs.declared.places.OncePlace.TheVariants as once
-use Rattle.steps_once.specs.declared.look.Course.{Course}
 use Rattle.steps_once.specs.declared.look.Course.TheVariants as course
 use Rattle.steps_once.specs.declared.look.LookAt.TheVariants as look
-use Rattle.steps_once.specs.OnceSteps.{course_act, course_of}
 use Rattle.steps_once.specs.OnceSteps as steps
-use Rattle.steps_rwlock.specs.declared.places.Admission.{Admission}
-use Rattle.steps_rwlock.specs.declared.places.RwLockPlace.{RwLockPlace}
-use Rattle.steps_rwlock.specs.declared.places.RwLockAt.{RwLockAt}
 use Rattle.steps_rwlock.specs.declared.places.RwLockAt.TheVariants as at
-use Rattle.steps_rwlock.specs.declared.enter.Decision.{Decision}
 use Rattle.steps_rwlock.specs.declared.enter.Decision.TheVariants as decisions
-use Rattle.steps_rwlock.specs.RwLockSteps.{act_at, count_act, decided as decides, decided_act, exchange, plus}
-use Rattle.steps_rwlock.specs.RwLockProfiles.{gone_to, is_mark, looking_at}
-use Rattle.steps_rwlock_fair.specs.FairProfiles.{in_call}
-use Rattle.steps_condvar.specs.CondvarSteps.{in_lock}
 use Rattle.steps_rwlock_fair.specs.declared.places.RwLockCallPlace.TheVariants as fair
 use Rattle.steps_condvar.specs.declared.places.CondvarPlace.TheVariants as condvar
 use Rattle.steps_condvar.specs.declared.wait.WaitAt.TheVariants as wait
-use Rattle.lot_steps.specs.declared.places.Place.{Place}
-use Rattle.lot_steps.specs.declared.places.Place.TheVariants.{Idle, Mutex, RwLock, Once, Condvar, Semaphore}
-use Rattle.lot_steps.specs.Steps.{act_of, in_condvar, in_mutex, in_once, in_rwlock, looking, in_semaphore}
-use Rattle.lot_machine.specs.Machine.{State, place_at, kind_at}
-use Rattle.lot_laws.specs.SitesOf.{FitsItsLock, IsInductive}
-use Rattle.lot_laws.specs.Owing.{sort_at}
-use Rattle.lot_laws.specs.Promises.{LeadsToSleep, SetsBit}
 use Rattle.lot_laws.proofs.machine.Parts.{plain_rules}
 use Rattle.lot_laws.proofs.sites.StandsMoved.{mutex_rules}
 

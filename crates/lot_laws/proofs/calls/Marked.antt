@@ -1,70 +1,39 @@
 -- After its own exchange that set a bit a waiting thread looks at the word no more before it goes into the
 -- section.
-use Rattle.std.proofs.Common.{ℕ, Bool, true, false, Option, Some, None, if◌then◌else◌, ◌==◌, ◌&&◌, not, ◌≡◌}
-use Rattle.std.proofs.Common.{◌≢◌, ◌<◌, ◌≤◌, ◌+◌, ◌*◌, ◌/◌, ◌%◌, ◌^◌, ◌⊎◌, get_or-set_same, is_some, inl, inr}
-use Rattle.std.proofs.Common.{length, refl, sym, ◌∙◌, ap, subst, arith}
-use Rattle.std.proofs.lemmas.Bool.{cases_lt, eqb-true, lt-ltb}
-use Rattle.core_base.specs.declared.keys.Keys.TheVariants.{One}
-use Rattle.core_base.specs.declared.ops.Op.{Op}
+use Rattle.lot_laws.proofs.Names
+use Names.{ℕ, Bool, true, false, Option, Some, None, if◌then◌else◌, ◌==◌, ◌&&◌, not, ◌≡◌, ◌≢◌, ◌<◌, ◌≤◌, ◌+◌}
+use Names.{◌*◌, ◌/◌, ◌%◌, ◌^◌, ◌⊎◌, get_or-set_same, is_some, inl, inr, length, refl, sym, ◌∙◌, ap, subst}
+use Names.{arith, cases_lt, eqb-true, lt-ltb, One, Op, OnceCall, Patience, Patient, Timed, Try, count_in}
+use Names.{has_aside, has_parked, is_done, is_marked, is_poisoned, is_running, Act, Next, Value, MutexPlace}
+use Names.{mutex_looking, mutex_next, Course, course_of, Decision, Admission, RwLockPurpose, decided_for}
+use Names.{decision_blocked, park_or_mark, plus, is_mark, Step, mutex_act, OncePlace, course_act, once_act}
+use Names.{once_looking, once_next, RwLockAt, RwLockPlace, act_at, after_count, count_next, decided}
+use Names.{decided_act, exchange, exchanged_next, next_at, gone_to, looking_at, RwLockCallPlace, call_looking}
+use Names.{in_call, bump_next, call_act, call_next, plain_next, condvar_next, in_lock, SemaphorePlace}
+use Names.{semaphore_act, semaphore_looking, semaphore_next, Place, Idle, Mutex, RwLock, Once, Condvar}
+use Names.{Semaphore, act_of, condvar_goes, in_condvar, in_mutex, in_once, in_rwlock, in_semaphore, looking}
+use Names.{mutex_goes, next_place, once_goes, rwlock_goes, semaphore_goes, State, after, can_do, is_possible}
+use Names.{place_at, put, reply_to, state_after_act, state_after_go, state_after_turn, word_at, LooksNoMore}
 use Rattle.core_base.specs.declared.ops.Op.TheVariants as op
-use Rattle.spec_locks.specs.declared.calls.OnceCall.{OnceCall}
-use Rattle.spec_locks.specs.declared.calls.Patience.{Patience}
-use Rattle.spec_locks.specs.declared.calls.Patience.TheVariants.{Patient, Timed, Try}
 use Rattle.spec_locks.specs.declared.outcomes.Answer.TheVariants as answer
-use Rattle.spec_locks.specs.Codes.{count_in, has_aside, has_parked, is_done, is_marked, is_poisoned}
-use Rattle.spec_locks.specs.Codes.{is_running}
-use Rattle.steps_base.specs.declared.acts.Act.{Act}
 use Rattle.steps_base.specs.declared.acts.Act.TheVariants as act
-use Rattle.steps_base.specs.declared.acts.Next.{Next}
 use Rattle.steps_base.specs.declared.acts.Next.TheVariants as next
-use Rattle.steps_base.specs.declared.acts.Reply.TheVariants.{Value}
 use Rattle.steps_mutex.specs.declared.lock.LockAt.TheVariants as lock
-use Rattle.steps_mutex.specs.declared.places.MutexPlace.{MutexPlace}
 use Rattle.steps_mutex.specs.declared.places.MutexPlace.TheVariants as mutex
-use Rattle.steps_mutex.specs.MutexSteps.{mutex_looking, mutex_next}
-use Rattle.steps_once.specs.declared.look.Course.{Course}
 use Rattle.steps_once.specs.declared.look.Course.TheVariants as course
-use Rattle.steps_once.specs.OnceSteps.{course_of}
 use Rattle.steps_once.specs.OnceSteps as steps
-use Rattle.steps_rwlock.specs.declared.enter.Decision.{Decision}
 use Rattle.steps_rwlock.specs.declared.enter.Decision.TheVariants as decisions
-use Rattle.steps_rwlock.specs.declared.places.Admission.{Admission}
-use Rattle.steps_rwlock.specs.declared.purposes.RwLockPurpose.{RwLockPurpose}
 use Rattle.steps_rwlock.specs.declared.purposes.RwLockPurpose.TheVariants as purpose
-use Rattle.steps_rwlock.specs.RwLockSteps.{decided_for, decision_blocked, park_or_mark, plus}
-use Rattle.steps_rwlock.specs.RwLockProfiles.{is_mark}
-use Rattle.spec_locks.specs.declared.calls.Step.{Step}
 use Rattle.spec_locks.specs.declared.calls.Turn as turn
-use Rattle.steps_mutex.specs.MutexSteps.{mutex_act}
 use Rattle.steps_once.specs.declared.look.LookAt.TheVariants as look
-use Rattle.steps_once.specs.declared.places.OncePlace.{OncePlace}
 use Rattle.steps_once.specs.declared.places.OncePlace.TheVariants as once
-use Rattle.steps_once.specs.OnceSteps.{course_act, once_act, once_looking, once_next}
-use Rattle.steps_rwlock.specs.declared.places.RwLockAt.{RwLockAt}
 use Rattle.steps_rwlock.specs.declared.places.RwLockAt.TheVariants as at
-use Rattle.steps_rwlock.specs.declared.places.RwLockPlace.{RwLockPlace}
-use Rattle.steps_rwlock.specs.RwLockSteps.{act_at, after_count, count_next, decided, decided_act, exchange}
-use Rattle.steps_rwlock.specs.RwLockSteps.{exchanged_next, looked, next_at}
-use Rattle.steps_rwlock.specs.RwLockProfiles.{gone_to, looking_at}
-use Rattle.steps_rwlock_fair.specs.declared.places.RwLockCallPlace.{RwLockCallPlace}
+use Rattle.steps_rwlock.specs.RwLockSteps.{looked}
 use Rattle.steps_rwlock_fair.specs.declared.places.RwLockCallPlace.TheVariants as fair
-use Rattle.steps_rwlock_fair.specs.FairProfiles.{call_looking, in_call}
-use Rattle.steps_rwlock_fair.specs.FairSteps.{bump_next, call_act, call_next, plain_next}
 use Rattle.steps_condvar.specs.declared.places.CondvarPlace.TheVariants as condvar
 use Rattle.steps_condvar.specs.declared.wait.WaitAt.TheVariants as wait
-use Rattle.steps_condvar.specs.CondvarSteps.{condvar_next, in_lock}
 use Rattle.steps_semaphore.specs.declared.acquire.AcquireAt.TheVariants as acquire
-use Rattle.steps_semaphore.specs.declared.places.SemaphorePlace.{SemaphorePlace}
 use Rattle.steps_semaphore.specs.declared.places.SemaphorePlace.TheVariants as semaphore
-use Rattle.steps_semaphore.specs.SemaphoreSteps.{semaphore_act, semaphore_looking, semaphore_next}
-use Rattle.lot_steps.specs.declared.places.Place.{Place}
-use Rattle.lot_steps.specs.declared.places.Place.TheVariants.{Idle, Mutex, RwLock, Once, Condvar, Semaphore}
-use Rattle.lot_steps.specs.Steps.{act_of, condvar_goes, in_condvar, in_mutex, in_once, in_rwlock}
-use Rattle.lot_steps.specs.Steps.{in_semaphore, looking, mutex_goes, next_place, once_goes, rwlock_goes}
-use Rattle.lot_steps.specs.Steps.{semaphore_goes}
-use Rattle.lot_machine.specs.Machine.{State, after, can_do, is_possible, place_at, put, reply_to}
-use Rattle.lot_machine.specs.Machine.{state_after_act, state_after_go, state_after_turn, word_at}
-use Rattle.lot_laws.specs.WorldRuns.{LooksNoMore}
 use Rattle.lot_laws.proofs.machine.Parts.{past_all, same as same_number}
 
 -- ---------------------------------------------------------------- words

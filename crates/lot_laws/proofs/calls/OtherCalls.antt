@@ -1,58 +1,27 @@
 -- An act of one thread makes nothing of the calls of the others, but where it wakes those in its hand or
 -- hands them the lock.
-use Rattle.std.proofs.Common.{ℕ, Bool, true, false, Option, Some, None, if◌then◌else◌, ◌≡◌, ◌≢◌, ◌⊎◌, inl}
-use Rattle.std.proofs.Common.{inr, List, [], ◌∷◌, get_or, refl, sym, ◌∙◌, ap, subst, get_or-set_other, ◌==◌}
-use Rattle.steps_once.proofs.OnceActs.{once_sleepers_move}
-use Rattle.steps_once.specs.OnceProfiles.{once_profile}
-use Rattle.steps_semaphore.specs.SemaphoreProfiles.{semaphore_profile}
+use Rattle.lot_laws.proofs.Names
+use Names.{ℕ, Bool, true, false, Option, Some, None, if◌then◌else◌, ◌≡◌, ◌≢◌, ◌⊎◌, inl, inr, List, [], ◌∷◌}
+use Names.{get_or, refl, sym, ◌∙◌, ap, subst, get_or-set_other, ◌==◌, once_sleepers_move, once_profile}
+use Names.{semaphore_profile, taken_from, get_or-map, Keys, One, Two, Waiter, threads_of, lock_picked, Act}
+use Names.{Whom, Reply, TakenBy, Woken, is_thread, hand, next_place, taker, Place, Idle, RwLock, Mutex, Once}
+use Names.{Condvar, Semaphore, RwLockCallPlace, Plain, Glance, HandOver, Bump, Handed, CallStands}
+use Names.{call_profile, handed_woken, fair_sleepers_move, fair_sleepers_hear, never_given, Rights, LockCase}
+use Names.{Wake, HandOff, AtLock, is_taken_by, event_by, State, queue_at, place_at, put, state_after_act}
+use Names.{state_after_telling, state_after_taking, state_with_sections, places_told, place_after_telling}
+use Names.{call_state, taken_at, location, nowhere, IsInductive, carried_at, hand_at, FitsItsLock, ◌+◌, ◌≤◌}
+use Names.{arith, lock_picker, without_lock_picked, Line, Main, Second, queues_without_first}
+use Names.{state_after_take, location_at, key_of, rules_in, locations_of, stood_in}
 use Rattle.lot_laws.proofs.semaphore.Moves.{semaphore_sleepers_move}
-use Rattle.steps_base.specs.Profiles.{taken_from}
-use Rattle.std.proofs.Math.ListN.{get_or-map}
-use Rattle.core_base.specs.declared.keys.Keys.{Keys}
-use Rattle.core_base.specs.declared.keys.Keys.TheVariants.{One, Two}
 use Rattle.core_base.specs.declared.notes.Note.TheVariants as note
-use Rattle.core_base.specs.declared.wants.Waiter.{Waiter}
-use Rattle.core_base.specs.Lines.{threads_of}
-use Rattle.core_base.specs.Picks.{lock_picked}
-use Rattle.steps_base.specs.declared.acts.Act.{Act}
 use Rattle.steps_base.specs.declared.acts.Act.TheVariants as act
-use Rattle.steps_base.specs.declared.acts.Whom.{Whom}
 use Rattle.steps_base.specs.declared.acts.Whom.TheVariants as whom
 use Rattle.steps_base.specs.declared.acts.Wakes.TheVariants as wakes
-use Rattle.steps_base.specs.declared.acts.Reply.{Reply}
-use Rattle.steps_base.specs.declared.acts.Reply.TheVariants.{TakenBy, Woken}
-use Rattle.steps_base.specs.Owners.{is_thread}
-use Rattle.steps_base.specs.Profiles.{hand}
-use Rattle.lot_steps.specs.Steps.{next_place, taker}
-use Rattle.lot_steps.specs.declared.places.Place.{Place}
-use Rattle.lot_steps.specs.declared.places.Place.TheVariants.{Idle, RwLock, Mutex, Once, Condvar, Semaphore}
-use Rattle.steps_rwlock_fair.specs.declared.places.RwLockCallPlace.{RwLockCallPlace}
-use Rattle.steps_rwlock_fair.specs.declared.places.RwLockCallPlace.TheVariants.{Plain, Glance, HandOver, Bump}
-use Rattle.steps_rwlock_fair.specs.declared.places.RwLockCallPlace.TheVariants.{Handed}
 use Rattle.steps_rwlock_fair.specs.declared.handed.HandedAt.TheVariants as handed
-use Rattle.steps_rwlock_fair.specs.FairCalls.{CallStands}
-use Rattle.steps_rwlock_fair.specs.FairProfiles.{call_profile}
-use Rattle.steps_rwlock_fair.specs.FairSteps.{handed_woken}
-use Rattle.steps_rwlock_fair.proofs.FairActs.{fair_sleepers_move}
-use Rattle.steps_rwlock_fair.proofs.FairSleepers.{fair_sleepers_hear, never_given}
-use Rattle.spec_locks.specs.Locks.{Rights, LockCase, Wake, HandOff}
-use Rattle.spec_locks.specs.Runs.{AtLock, is_taken_by}
-use Rattle.spec_locks.specs.Deeds.{event_by}
-use Rattle.lot_machine.specs.Machine.{State, queue_at, place_at, put, state_after_act, state_after_telling}
-use Rattle.lot_machine.specs.Machine.{state_after_taking, state_with_sections, places_told}
-use Rattle.lot_machine.specs.Machine.{place_after_telling}
-use Rattle.lot_laws.specs.Refinement.{call_state, taken_at}
-use Rattle.lot_laws.specs.Locations.{hand, location, nowhere}
-use Rattle.lot_laws.specs.SitesOf.{IsInductive, carried_at, hand_at, FitsItsLock}
+use Rattle.lot_laws.specs.Locations.{hand}
 use Rattle.lot_laws.proofs.machine.AtPlaces.{unless_held}
-use Rattle.std.proofs.Common.{◌+◌, ◌≤◌, arith}
 use Rattle.core_base.specs.Lines as Lines
-use Rattle.core_base.specs.Picks.{lock_picker, without_lock_picked}
 use Rattle.spec_locks.specs.Locks as locks
-use Rattle.spec_locks.specs.Sites.{Line, Main, Second}
-use Rattle.lot_machine.specs.Machine.{queues_without_first, state_after_take}
-use Rattle.lot_laws.specs.Locations.{location_at}
-use Rattle.lot_laws.specs.SitesOf.{key_of, rules_in, locations_of, stood_in}
 use Rattle.lot_laws.proofs.promises.LineActs.{TakesHere}
 use Rattle.lot_laws.proofs.sites.PicksKept.{picked_counts, under_of}
 use Rattle.lot_laws.proofs.sites.TakesAt.{at_most_one, member, member_times, told_once, told_places}

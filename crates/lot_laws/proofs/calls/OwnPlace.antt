@@ -1,17 +1,12 @@
 -- In a call of one lock a thread that tells others something hears nothing of it: its act leaves it where it
 -- stands.
-use Rattle.std.proofs.Common.{ℕ, true, ◌≡◌, ◌<◌, length, get_or-set_same, refl, ap, ◌∙◌}
-use Rattle.steps_base.specs.Acts.{outcome_of}
-use Rattle.steps_base.specs.declared.acts.Reply.{Reply}
-use Rattle.lot_steps.specs.declared.places.Place.{Place}
-use Rattle.lot_steps.specs.declared.places.Place.TheVariants.{Idle, Mutex, RwLock, Once, Condvar, Semaphore}
-use Rattle.lot_steps.specs.Steps.{act_of, next_act, next_place}
-use Rattle.lot_machine.specs.Machine.{State, go_outcome, go_reply, going_outcome, place_at, put, reply_to}
-use Rattle.lot_machine.specs.Machine.{state_after_act, state_after_go, state_after_going}
-use Rattle.lot_machine.proofs.Acted.{Befalls, acted_keeps, tells}
+use Rattle.lot_laws.proofs.Names
+use Names.{ℕ, true, ◌≡◌, ◌<◌, length, get_or-set_same, refl, ap, ◌∙◌, outcome_of, Reply, Place, Idle, Mutex}
+use Names.{RwLock, Once, Condvar, Semaphore, act_of, next_act, next_place, State, go_outcome, go_reply}
+use Names.{going_outcome, place_at, put, reply_to, state_after_act, state_after_go, state_after_going}
+use Names.{Befalls, acted_keeps, tells, performed_counts}
 use Rattle.lot_laws.proofs.machine.Hearing.{call_hears, mutex_hears, once_hears, semaphore_hears}
 use Rattle.lot_laws.proofs.machine.Parts.{IsSingle}
-use Rattle.lot_machine.proofs.Shape.{performed_counts}
 
 deaf : (p : Place) → IsSingle p → tells (act_of p) ≡ true → (r : Reply) → Befalls r → next_place p r ≡ p
 deaf Idle single loud r h = refl

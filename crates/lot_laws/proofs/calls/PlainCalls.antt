@@ -1,21 +1,11 @@
 -- A thread in a call of a reader-writer lock that hands nothing over, and is handed nothing, goes where its
 -- call does.
-use Rattle.std.proofs.Common.{ℕ, Bool, false, Option, None, ◌≡◌, refl, ap}
-use Rattle.steps_base.specs.declared.acts.Act.{Act}
+use Rattle.lot_laws.proofs.Names
+use Names.{ℕ, Bool, false, Option, None, ◌≡◌, refl, ap, Act, Next, Reply, Admission, RwLockPlace, rwlock_next}
+use Names.{RwLockCallPlace, Plain, given, plain_next, unless_given, Place, RwLock, State, reply_to, next_act}
+use Names.{next_place, rwlock_does, rwlock_goes}
 use Rattle.steps_base.specs.declared.acts.Act.TheVariants as act
 use Rattle.steps_base.specs.declared.acts.Whom.TheVariants as whom
-use Rattle.steps_base.specs.declared.acts.Next.{Next}
-use Rattle.steps_base.specs.declared.acts.Reply.{Reply}
-use Rattle.steps_rwlock.specs.declared.places.Admission.{Admission}
-use Rattle.steps_rwlock.specs.declared.places.RwLockPlace.{RwLockPlace}
-use Rattle.steps_rwlock.specs.RwLockSteps.{rwlock_next}
-use Rattle.steps_rwlock_fair.specs.declared.places.RwLockCallPlace.{RwLockCallPlace}
-use Rattle.steps_rwlock_fair.specs.declared.places.RwLockCallPlace.TheVariants.{Plain}
-use Rattle.steps_rwlock_fair.specs.FairSteps.{given, plain_next, unless_given}
-use Rattle.lot_steps.specs.declared.places.Place.{Place}
-use Rattle.lot_steps.specs.declared.places.Place.TheVariants.{RwLock}
-use Rattle.lot_machine.specs.Machine.{State, reply_to}
-use Rattle.lot_steps.specs.Steps.{next_act, next_place, rwlock_does, rwlock_goes}
 
 abbrev pub plain_goes : ℕ → Admission → Next RwLockPlace → Place
 plain_goes l a n = rwlock_goes l a (plain_next n)

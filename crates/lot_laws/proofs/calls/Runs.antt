@@ -1,8 +1,7 @@
 -- A run by one step more.
-use Rattle.std.proofs.Common.{◌≡◌, List, [], ◌∷◌, ◌++◌, refl, ap, sym, ◌∙◌, append_assoc}
-use Rattle.spec_locks.specs.declared.calls.Step.{Step}
-use Rattle.spec_locks.specs.declared.outcomes.Outcome.{Outcome}
-use Rattle.lot_machine.specs.Machine.{State, after, step_outcome, after_steps, step_outcomes}
+use Rattle.lot_laws.proofs.Names
+use Names.{◌≡◌, List, [], ◌∷◌, ◌++◌, refl, ap, sym, ◌∙◌, append_assoc, Step, Outcome, State, after}
+use Names.{step_outcome, after_steps, step_outcomes}
 
 after_more : (w : State) (ss : List Step) (s : Step) → after_steps w (ss ++ s ∷ []) ≡ after (after_steps w ss)
     s

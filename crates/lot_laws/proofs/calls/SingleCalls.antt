@@ -1,10 +1,8 @@
 -- The call of a place of one lock, by that lock and the row there alone.
-use Rattle.std.proofs.Common.{ℕ, Some, None, ◌≡◌, ◌∙◌, ap}
-use Rattle.spec_locks.specs.Locks.{Rights}
-use Rattle.spec_locks.specs.Runs.{no_call}
-use Rattle.lot_steps.specs.declared.places.Place.{Place}
-use Rattle.lot_steps.specs.Steps.{called_lock, profile, profile_beside}
-use Rattle.lot_laws.specs.Refinement.{call_by, call_on, call_on_both, call_state}
+use Rattle.lot_laws.proofs.Names
+use Names.{ℕ, Some, None, ◌≡◌, ◌∙◌, ap, Rights, no_call, Place, called_lock, profile, profile_beside, call_on}
+use Names.{call_on_both, call_state}
+use Rattle.lot_laws.specs.Refinement.{call_by}
 use Rattle.lot_laws.proofs.machine.Parts.{IsSingle, calls_none, none_beside}
 
 pub single_call : (p : Place) → IsSingle p → (r : ℕ → Rights) → call_state p r ≡ call_on (called_lock p)

@@ -1,79 +1,48 @@
 -- In place of each exchange by which a waiting call sets a bit its thread may look at the word once more.
-use Rattle.std.proofs.Common.{ℕ, Bool, true, false, Option, Some, None, if◌then◌else◌, ◌==◌, ◌&&◌, not, ◌≡◌}
-use Rattle.std.proofs.Common.{◌≢◌, ◌+◌, ◌-◌, ◌*◌, ◌%◌, ◌^◌, ◌⊎◌, is_some, inl, inr, refl, sym, ◌∙◌, ap, subst}
-use Rattle.std.proofs.Common.{arith}
-use Rattle.core_base.specs.declared.keys.Keys.TheVariants.{One}
+use Rattle.lot_laws.proofs.Names
+use Names.{ℕ, Bool, true, false, Option, Some, None, if◌then◌else◌, ◌==◌, ◌&&◌, not, ◌≡◌, ◌≢◌, ◌+◌, ◌-◌, ◌*◌}
+use Names.{◌%◌, ◌^◌, ◌⊎◌, is_some, inl, inr, refl, sym, ◌∙◌, ap, subst, arith, One, Access, has_aside}
+use Names.{is_done, is_marked, is_poisoned, is_running, is_plain_mutex, OnceCall, Rights, Rules, Sort}
+use Names.{rights_of, Line, Main, Second, has_readers, Act, SemaphorePlace, is_free, semaphore_act}
+use Names.{semaphore_looking, MutexPlace, Entry, is_locked, mutex_act, mutex_looking, OncePlace, Course}
+use Names.{course_act, course_of, once_act, once_looking, Admission, RwLockPlace, RwLockAt, ParkAt, WakeAt}
+use Names.{RwLockPurpose, Decision, act_at, decided as decides, decided_act, give_op, park_act, plus}
+use Names.{rollback_op, wake_act, want_at, word_taken, gone_to, is_mark, looking_at, RwLockCallPlace}
+use Names.{HandOverAt, call_looking, in_call, accept_act, call_act, hand_over_act, WaitAt, IsReached}
+use Names.{condvar_act, in_lock, Place, Idle, Mutex, RwLock, Once, Condvar, Semaphore, act_of, in_condvar}
+use Names.{in_mutex, in_once, in_rwlock, in_semaphore, looking, State, kind_at, place_at, sort_at}
+use Names.{IsWaitingCall, SetsBit, IsOwn, call_own, course_own, semaphore_own, call_at, call_state}
+use Names.{lock_state, FitsItsLock, IsInductive}
 use Rattle.core_base.specs.declared.ops.Op.TheVariants as op
-use Rattle.spec_locks.specs.declared.calls.Access.{Access}
 use Rattle.spec_locks.specs.declared.calls.Access.TheVariants as access
 use Rattle.spec_locks.specs.declared.calls.Downgrade.TheVariants as downgrade
-use Rattle.spec_locks.specs.Codes.{has_aside, is_done, is_marked, is_poisoned, is_running}
-use Rattle.spec_locks.specs.Kinds.{is_plain_mutex}
-use Rattle.spec_locks.specs.declared.calls.OnceCall.{OnceCall}
 use Rattle.spec_locks.specs.declared.outcomes.Answer.TheVariants as answer
-use Rattle.spec_locks.specs.Locks.{Rights, Rules, Sort, rights_of}
 use Rattle.spec_locks.specs.Locks as locks
-use Rattle.spec_locks.specs.Sites.{Line, Main, Second, has_readers}
-use Rattle.steps_base.specs.declared.acts.Act.{Act}
 use Rattle.steps_base.specs.declared.acts.Act.TheVariants as act
-use Rattle.steps_semaphore.specs.declared.places.SemaphorePlace.{SemaphorePlace}
 use Rattle.steps_semaphore.specs.declared.places.SemaphorePlace.TheVariants as semaphore
 use Rattle.steps_semaphore.specs.declared.acquire.AcquireAt.TheVariants as acquire
 use Rattle.steps_semaphore.specs.declared.tries.TryAt.TheVariants as tries
 use Rattle.steps_semaphore.specs.declared.release.ReleaseAt.TheVariants as release
-use Rattle.steps_semaphore.specs.SemaphoreSteps.{is_free, semaphore_act, semaphore_looking}
-use Rattle.steps_mutex.specs.declared.places.MutexPlace.{MutexPlace}
 use Rattle.steps_mutex.specs.declared.places.MutexPlace.TheVariants as mutex
-use Rattle.steps_mutex.specs.declared.lock.Entry.{Entry}
 use Rattle.steps_mutex.specs.declared.lock.LockAt.TheVariants as lock
 use Rattle.steps_mutex.specs.declared.unlock.UnlockAt.TheVariants as unlock
 use Rattle.steps_mutex.specs.declared.hand_off.HandOffAt.TheVariants as hand_off
-use Rattle.steps_mutex.specs.MutexSteps.{is_locked, mutex_act, mutex_looking}
-use Rattle.steps_once.specs.declared.places.OncePlace.{OncePlace}
 use Rattle.steps_once.specs.declared.places.OncePlace.TheVariants as once
 use Rattle.steps_once.specs.declared.give_up.GiveUpAt.TheVariants as give_up
-use Rattle.steps_once.specs.declared.look.Course.{Course}
 use Rattle.steps_once.specs.declared.look.Course.TheVariants as course
 use Rattle.steps_once.specs.declared.look.LookAt.TheVariants as look
 use Rattle.steps_once.specs.declared.run.RunAt.TheVariants as run
-use Rattle.steps_once.specs.OnceSteps.{course_act, course_of, once_act, once_looking}
 use Rattle.steps_once.specs.OnceSteps as steps
-use Rattle.steps_rwlock.specs.declared.places.Admission.{Admission}
-use Rattle.steps_rwlock.specs.declared.places.RwLockPlace.{RwLockPlace}
-use Rattle.steps_rwlock.specs.declared.places.RwLockAt.{RwLockAt}
 use Rattle.steps_rwlock.specs.declared.places.RwLockAt.TheVariants as at
-use Rattle.steps_rwlock.specs.declared.park.ParkAt.{ParkAt}
 use Rattle.steps_rwlock.specs.declared.park.ParkAt.TheVariants as parking
-use Rattle.steps_rwlock.specs.declared.release.WakeAt.{WakeAt}
 use Rattle.steps_rwlock.specs.declared.release.WakeAt.TheVariants as waking
-use Rattle.steps_rwlock.specs.declared.purposes.RwLockPurpose.{RwLockPurpose}
 use Rattle.steps_rwlock.specs.declared.purposes.RwLockPurpose.TheVariants as purpose
-use Rattle.steps_rwlock.specs.declared.enter.Decision.{Decision}
 use Rattle.steps_rwlock.specs.declared.enter.Decision.TheVariants as decisions
-use Rattle.steps_rwlock.specs.RwLockSteps.{act_at, decided as decides, decided_act, give_op, park_act, plus}
-use Rattle.steps_rwlock.specs.RwLockSteps.{rollback_op, wake_act, want_at, word_taken}
-use Rattle.steps_rwlock.specs.RwLockProfiles.{gone_to, is_mark, looking_at}
-use Rattle.steps_rwlock_fair.specs.declared.places.RwLockCallPlace.{RwLockCallPlace}
 use Rattle.steps_rwlock_fair.specs.declared.places.RwLockCallPlace.TheVariants as fair
-use Rattle.steps_rwlock_fair.specs.declared.hand_over.HandOverAt.{HandOverAt}
 use Rattle.steps_rwlock_fair.specs.declared.hand_over.HandOverAt.TheVariants as handing
 use Rattle.steps_rwlock_fair.specs.declared.handed.HandedAt.TheVariants as handed
-use Rattle.steps_rwlock_fair.specs.FairProfiles.{call_looking, in_call}
-use Rattle.steps_rwlock_fair.specs.FairSteps.{accept_act, call_act, hand_over_act}
 use Rattle.steps_condvar.specs.declared.places.CondvarPlace.TheVariants as condvar
-use Rattle.steps_condvar.specs.declared.wait.WaitAt.{WaitAt}
 use Rattle.steps_condvar.specs.declared.wait.WaitAt.TheVariants as wait
-use Rattle.steps_condvar.specs.CondvarCalls.{IsReached}
-use Rattle.steps_condvar.specs.CondvarSteps.{condvar_act, in_lock}
-use Rattle.lot_steps.specs.declared.places.Place.{Place}
-use Rattle.lot_steps.specs.declared.places.Place.TheVariants.{Idle, Mutex, RwLock, Once, Condvar, Semaphore}
-use Rattle.lot_steps.specs.Steps.{act_of, in_condvar, in_mutex, in_once, in_rwlock, in_semaphore, looking}
-use Rattle.lot_machine.specs.Machine.{State, kind_at, place_at}
-use Rattle.lot_laws.specs.Owing.{sort_at}
-use Rattle.lot_laws.specs.Promises.{IsWaitingCall, SetsBit}
-use Rattle.lot_machine.proofs.Closures.{IsOwn, call_own, course_own, semaphore_own}
-use Rattle.lot_laws.specs.Refinement.{call_at, call_state, lock_state}
-use Rattle.lot_laws.specs.SitesOf.{FitsItsLock, IsInductive}
 use Rattle.lot_laws.proofs.machine.Parts.{plain_rules}
 use Rattle.lot_laws.proofs.sites.StandsMoved.{mutex_rules}
 

@@ -1,30 +1,17 @@
 -- A try to lock a mutex, or to write, is one step, and answers by the word that it finds.
-use Rattle.std.proofs.Common.{ℕ, zero, suc, Bool, true, false, Option, Some, None, List, [], ◌∷◌}
-use Rattle.std.proofs.Common.{if◌then◌else◌, ◌==◌, ◌≡◌, ◌≢◌, ◌<◌, length, get_or, is_none, refl, sym, ◌∙◌, ap}
-use Rattle.std.proofs.Common.{subst, arith}
-use Rattle.std.proofs.lemmas.Bool.{lt-ltb}
+use Rattle.lot_laws.proofs.Names
+use Names.{ℕ, zero, suc, Bool, true, false, Option, Some, None, List, [], ◌∷◌, if◌then◌else◌, ◌==◌, ◌≡◌, ◌≢◌}
+use Names.{◌<◌, length, get_or, is_none, refl, sym, ◌∙◌, ap, subst, arith, lt-ltb, Call, Kind, Try, Step}
+use Names.{outcome_of, is_locked, Place, Idle, Mutex, act_of, first_place, next_act, State, place_at, kind_at}
+use Names.{word_at, can_do, reply_to, go_of, go_outcome, going_outcome, is_possible, step_outcome, lock_state}
+use Names.{owner_at, IsMutexWord, IsInductive, TriesAtOnce, tried}
 use Rattle.spec_locks.specs.declared.calls.Access.TheVariants.{Exclusive}
-use Rattle.spec_locks.specs.declared.calls.Call.{Call}
 use Rattle.spec_locks.specs.declared.calls.Call.TheVariants as call
-use Rattle.spec_locks.specs.declared.kinds.Kind.{Kind}
 use Rattle.spec_locks.specs.declared.calls.MutexCall.TheVariants.{TryLock}
-use Rattle.spec_locks.specs.declared.calls.Patience.TheVariants.{Try}
 use Rattle.spec_locks.specs.declared.calls.RwLockCall.TheVariants.{Enter}
-use Rattle.spec_locks.specs.declared.calls.Step.{Step}
 use Rattle.spec_locks.specs.declared.calls.Turn.TheVariants as turn
 use Rattle.spec_locks.specs.declared.outcomes.Outcome.TheVariants as outcome
-use Rattle.steps_base.specs.Acts.{outcome_of}
 use Rattle.steps_mutex.specs.declared.places.MutexPlace.TheVariants as mutex
-use Rattle.steps_mutex.specs.MutexSteps.{is_locked}
-use Rattle.lot_steps.specs.declared.places.Place.{Place}
-use Rattle.lot_steps.specs.declared.places.Place.TheVariants.{Idle, Mutex}
-use Rattle.lot_steps.specs.Steps.{act_of, first_place, next_act}
-use Rattle.lot_machine.specs.Machine.{State, place_at, kind_at, word_at, can_do, reply_to, go_of, go_outcome}
-use Rattle.lot_machine.specs.Machine.{going_outcome, is_possible, step_outcome}
-use Rattle.lot_laws.specs.Refinement.{lock_state, owner_at}
-use Rattle.lot_laws.specs.MutexPromises.{IsMutexWord}
-use Rattle.lot_laws.specs.SitesOf.{IsInductive}
-use Rattle.lot_laws.specs.WorldRuns.{TriesAtOnce, tried}
 use Rattle.lot_laws.proofs.machine.AtPlaces.{coded_for}
 use Rattle.lot_laws.proofs.machine.Parts.{IsSingle}
 use Rattle.lot_laws.proofs.mutex.Words.{free_word, owned_word}

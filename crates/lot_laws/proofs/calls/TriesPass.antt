@@ -1,34 +1,19 @@
 -- A try neither sleeps nor enters a section.
-use Rattle.std.proofs.Common.{ℕ, Bool, true, false, if◌then◌else◌, ◌&&◌, nat_le, ◌==◌, ◌≡◌, refl}
-use Rattle.spec_locks.specs.declared.calls.Access.{Access}
+use Rattle.lot_laws.proofs.Names
+use Names.{ℕ, Bool, true, false, if◌then◌else◌, ◌&&◌, ◌==◌, ◌≡◌, refl, Access, Patience, Patient, Timed, Try}
+use Names.{Admission, RwLockAt, Decision, RwLockPurpose, decided_act, decided_for, is_counted, wanted}
+use Names.{IsDecided, IsNoRefusal, StandsAt, count_in, is_blocked, Rights, RwLockCallPlace, CallStands}
+use Names.{WaitsWithPatience, HandedAt, Place, Idle, Mutex, RwLock, Once, Condvar, Semaphore, act_of, State}
+use Names.{place_at, call_at, call_state, FitsItsLock, IsInductive, IsTry}
+use Rattle.std.proofs.Common.{nat_le}
 use Rattle.spec_locks.specs.declared.calls.Access.TheVariants as access
-use Rattle.spec_locks.specs.declared.calls.Patience.{Patience}
-use Rattle.spec_locks.specs.declared.calls.Patience.TheVariants.{Patient, Timed, Try}
 use Rattle.spec_locks.specs.declared.outcomes.Answer.TheVariants as answer
-use Rattle.steps_rwlock.specs.declared.places.Admission.{Admission}
-use Rattle.steps_rwlock.specs.declared.places.RwLockAt.{RwLockAt}
 use Rattle.steps_rwlock.specs.declared.places.RwLockAt.TheVariants as at
-use Rattle.steps_rwlock.specs.declared.enter.Decision.{Decision}
 use Rattle.steps_rwlock.specs.declared.enter.Decision.TheVariants as decisions
-use Rattle.steps_rwlock.specs.declared.purposes.RwLockPurpose.{RwLockPurpose}
 use Rattle.steps_rwlock.specs.declared.purposes.RwLockPurpose.TheVariants as purpose
 use Rattle.core_base.specs.declared.keys.Line.TheVariants.{Main, Second}
-use Rattle.steps_rwlock.specs.RwLockSteps.{decided_act, decided_for, is_counted, wanted}
-use Rattle.steps_rwlock.specs.RwLockCalls.{IsDecided, IsNoRefusal, StandsAt}
-use Rattle.spec_locks.specs.Codes.{count_in, is_blocked}
-use Rattle.spec_locks.specs.Locks.{Rights}
-use Rattle.steps_rwlock_fair.specs.declared.places.RwLockCallPlace.{RwLockCallPlace}
 use Rattle.steps_rwlock_fair.specs.declared.places.RwLockCallPlace.TheVariants as fair
-use Rattle.steps_rwlock_fair.specs.FairCalls.{CallStands, WaitsWithPatience}
-use Rattle.steps_rwlock_fair.specs.declared.handed.HandedAt.{HandedAt}
 use Rattle.steps_condvar.specs.declared.places.CondvarPlace.TheVariants as condvar
-use Rattle.lot_steps.specs.declared.places.Place.{Place}
-use Rattle.lot_steps.specs.declared.places.Place.TheVariants.{Idle, Mutex, RwLock, Once, Condvar, Semaphore}
-use Rattle.lot_steps.specs.Steps.{act_of}
-use Rattle.lot_machine.specs.Machine.{State, place_at}
-use Rattle.lot_laws.specs.Refinement.{call_at, call_state}
-use Rattle.lot_laws.specs.SitesOf.{FitsItsLock, IsInductive}
-use Rattle.lot_laws.specs.Promises.{IsTry}
 use Rattle.lot_laws.proofs.machine.PlaceTest.{IsFree, mutex_row_facts, once_facts, semaphore_facts}
 use Rattle.lot_laws.proofs.rwlock.Rows.{parks_wait}
 

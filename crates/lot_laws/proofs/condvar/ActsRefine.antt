@@ -1,60 +1,32 @@
 -- A thread goes on in a call of a condition variable, and does so in the abstract locks: each act of a wait
 -- and of a notification.
-use Rattle.std.proofs.Common.{ℕ, Bool, true, false, Some, None, if◌then◌else◌, ◌==◌, ◌&&◌, ◌≡◌, ◌≢◌, ◌<◌}
-use Rattle.std.proofs.Common.{List, [], length, not, inl, inr, get_or-set_same, refl, sym, ◌∙◌, ap, subst}
-use Rattle.std.proofs.Common.{arith}
+use Rattle.lot_laws.proofs.Names
+use Names.{ℕ, Bool, true, false, Some, None, if◌then◌else◌, ◌==◌, ◌&&◌, ◌≡◌, ◌≢◌, ◌<◌, List, [], length, not}
+use Names.{inl, inr, get_or-set_same, refl, sym, ◌∙◌, ap, subst, arith, is_plain_mutex, outcome_of, is_thread}
+use Names.{taken_from, Act, Next, At, Reply, Done, Late, Took, Value, UnlockAt, unlock_act, Place, Condvar}
+use Names.{Idle, condvar_does, condvar_goes, is_lock, next_act, next_place, NotifyAt, CondvarPlace, Look}
+use Names.{Notify, Wait, Stands, WaitAt, IsReachedNext, condvar_call_by, look_event, notify_event}
+use Names.{notify_deeds, wait_deeds, beside_deeds, condvar_profile, hand_of, taker_of, wants_beside}
+use Names.{condvar_act, condvar_next, first_lock, in_notify, in_wait, mutex_beside, mutex_shown, next_notify}
+use Names.{next_wait, notified, notify_act, wait_act, waiter_deeds, condvar_places_reached, WaitsAside}
+use Names.{OfCondvar, Rights, Rules, AtLock, CallState, GoesOn, Nothing, after_wake, going_on, is_taken_by}
+use Names.{woken, Main, IsOfItsKind, IsWellFormed, IsThere, PlaceFits, ShowsPlainMutex, State, can_do}
+use Names.{going_outcome, kind_at, place_at, put, reply_to, state_after_act, state_after_going, word_at}
+use Names.{performed_counts, acts, locks_of, taken_at, AreCondvars, FitsCondvar, FitsItsLock, Goes as GoesAt}
+use Names.{GoesAll, IsInductive, condvar_of, key_of, rules_in, site_of}
 use Rattle.core_base.specs.declared.notes.Note.TheVariants as note
 use Rattle.core_base.specs.declared.ops.Op.TheVariants as op
-use Rattle.spec_locks.specs.Kinds.{is_plain_mutex}
-use Rattle.steps_base.specs.Acts.{outcome_of}
-use Rattle.steps_base.specs.Owners.{is_thread}
-use Rattle.steps_base.specs.Profiles.{taken_from}
-use Rattle.steps_base.specs.declared.acts.Act.{Act}
 use Rattle.steps_base.specs.declared.acts.Act.TheVariants as act
-use Rattle.steps_base.specs.declared.acts.Next.{Next}
-use Rattle.steps_base.specs.declared.acts.Next.TheVariants.{At, End as Over}
-use Rattle.steps_base.specs.declared.acts.Reply.{Reply}
-use Rattle.steps_base.specs.declared.acts.Reply.TheVariants.{Done, Late, Took, Value}
+use Rattle.steps_base.specs.declared.acts.Next.TheVariants.{End as Over}
 use Rattle.steps_base.specs.declared.acts.Whom.TheVariants as whom
 use Rattle.steps_mutex.specs.declared.places.MutexPlace.TheVariants as mutex
-use Rattle.steps_mutex.specs.declared.unlock.UnlockAt.{UnlockAt}
 use Rattle.steps_mutex.specs.declared.unlock.UnlockAt.TheVariants as unlock
-use Rattle.steps_mutex.specs.MutexSteps.{unlock_act}
-use Rattle.lot_steps.specs.declared.places.Place.{Place}
-use Rattle.lot_steps.specs.declared.places.Place.TheVariants.{Condvar, Idle}
-use Rattle.lot_steps.specs.Steps.{condvar_does, condvar_goes, is_lock, next_act, next_place}
-use Rattle.steps_condvar.specs.declared.notify.NotifyAt.{NotifyAt}
 use Rattle.steps_condvar.specs.declared.notify.NotifyAt.TheVariants as notify
-use Rattle.steps_condvar.specs.declared.places.CondvarPlace.{CondvarPlace}
-use Rattle.steps_condvar.specs.declared.places.CondvarPlace.TheVariants.{Look, Notify, Wait}
-use Rattle.steps_condvar.specs.declared.wait.Stands.{Stands}
 use Rattle.steps_condvar.specs.declared.wait.Stands.TheVariants as stands
-use Rattle.steps_condvar.specs.declared.wait.WaitAt.{WaitAt}
 use Rattle.steps_condvar.specs.declared.wait.WaitAt.TheVariants as wait
-use Rattle.steps_condvar.specs.CondvarCalls.{IsReachedNext, condvar_call_by, look_event, notify_event}
-use Rattle.steps_condvar.specs.CondvarDeeds.{notify_deeds, wait_deeds}
-use Rattle.steps_condvar.specs.CondvarMutex.{beside_deeds}
-use Rattle.steps_condvar.specs.CondvarProfiles.{condvar_profile, hand_of, taker_of, want_of, wants_beside}
-use Rattle.steps_condvar.specs.CondvarSteps.{condvar_act, condvar_next, first_lock, in_notify, in_wait}
-use Rattle.steps_condvar.specs.CondvarSteps.{mutex_beside, mutex_shown, next_notify, next_wait, notified}
-use Rattle.steps_condvar.specs.CondvarSteps.{notify_act, wait_act}
-use Rattle.steps_condvar.specs.CondvarWaits.{waiter_deeds}
-use Rattle.steps_condvar.proofs.NotifyTells.{condvar_places_reached}
-use Rattle.spec_locks.specs.Condvars.{WaitsAside}
+use Rattle.steps_condvar.specs.CondvarProfiles.{want_of}
 use Rattle.spec_locks.specs.Locks as locks
-use Rattle.spec_locks.specs.Locks.{OfCondvar, Rights, Rules}
-use Rattle.spec_locks.specs.Runs.{AtLock, CallState, GoesOn, Nothing, after_wake, going_on, is_taken_by}
-use Rattle.spec_locks.specs.Runs.{woken}
-use Rattle.spec_locks.specs.Sites.{Main}
-use Rattle.lot_machine.specs.Fits.{IsOfItsKind, IsWellFormed, IsThere, PlaceFits, ShowsPlainMutex}
-use Rattle.lot_machine.specs.Machine.{State, can_do, going_outcome, kind_at, place_at, put, reply_to}
-use Rattle.lot_machine.specs.Machine.{state_after_act, state_after_going, word_at}
-use Rattle.lot_machine.proofs.Shape.{performed_counts}
-use Rattle.lot_laws.specs.ThreadDeeds.{acts}
 use Rattle.lot_laws.specs.ThreadDeeds as deeds
-use Rattle.lot_laws.specs.Refinement.{locks_of, taken_at}
-use Rattle.lot_laws.specs.SitesOf.{AreCondvars, FitsCondvar, FitsItsLock, Goes as GoesAt, GoesAll}
-use Rattle.lot_laws.specs.SitesOf.{IsInductive, condvar_of, key_of, rules_in, site_of}
 use Rattle.lot_laws.proofs.calls.Events.{Happens, OthersFollow}
 use Rattle.lot_laws.proofs.condvar.StepEvents.{NamesStill}
 use Rattle.lot_laws.proofs.condvar.Replies.{apart, at_it, fits_here, may_hear, taken_by_wait, word_is}

@@ -1,33 +1,19 @@
 -- A sleeper in a call of a condition variable stands in the queue of one of its locks, is in a hand, or was
 -- handed its mutex. Such a call hands over no lock itself.
-use Rattle.std.proofs.Common.{ℕ, Bool, true, false, Option, Some, None, if◌then◌else◌, ◌==◌, ◌≡◌, ◌≢◌, ◌⊎◌}
-use Rattle.std.proofs.Common.{inl, inr, refl, sym, ◌∙◌}
-use Rattle.core_base.specs.declared.wants.Want.TheVariants.{Exclusive}
-use Rattle.steps_base.specs.declared.acts.Act.TheVariants.{Sleep}
-use Rattle.steps_base.specs.Profiles.{hand, in_hand}
-use Rattle.lot_steps.specs.declared.places.Place.TheVariants.{Condvar}
-use Rattle.lot_steps.specs.Steps.{is_lock}
-use Rattle.steps_condvar.specs.declared.notify.NotifyAt.{NotifyAt}
+use Rattle.lot_laws.proofs.Names
+use Names.{ℕ, Bool, true, false, Option, Some, None, if◌then◌else◌, ◌==◌, ◌≡◌, ◌≢◌, ◌⊎◌, inl, inr, refl, sym}
+use Names.{◌∙◌, Exclusive, Sleep, hand, in_hand, Condvar, is_lock, NotifyAt, CondvarPlace, Wait, Look, Notify}
+use Names.{WaitAt, is_locked, condvar_act, move_act, mutex_beside, notify_act, IsReached, carries_beside}
+use Names.{condvar_place_purpose, mutex_side, Taken, MayWait, Has, Line, Main, want_of, taken_at, nowhere}
+use Names.{location, location_at}
 use Rattle.steps_condvar.specs.declared.notify.NotifyAt.TheVariants as notify
-use Rattle.steps_condvar.specs.declared.places.CondvarPlace.{CondvarPlace}
-use Rattle.steps_condvar.specs.declared.places.CondvarPlace.TheVariants.{Wait, Look, Notify}
 use Rattle.steps_condvar.specs.declared.wait.Stands.TheVariants as stands
-use Rattle.steps_condvar.specs.declared.wait.WaitAt.{WaitAt}
 use Rattle.steps_condvar.specs.declared.wait.WaitAt.TheVariants as wait
 use Rattle.steps_mutex.specs.declared.lock.Entry.TheVariants as entry
 use Rattle.steps_mutex.specs.declared.lock.LockAt.TheVariants as lock
 use Rattle.steps_mutex.specs.declared.places.MutexPlace.TheVariants as mutex
 use Rattle.steps_mutex.specs.declared.unlock.UnlockAt.TheVariants as unlock
-use Rattle.steps_mutex.specs.MutexSteps.{is_locked}
-use Rattle.steps_condvar.specs.CondvarSteps.{condvar_act, move_act, mutex_beside, notify_act}
-use Rattle.steps_condvar.specs.CondvarCalls.{IsReached}
-use Rattle.steps_condvar.specs.CondvarProfiles.{carries_beside, condvar_place_purpose, mutex_side}
-use Rattle.spec_locks.specs.Locks.{Taken}
-use Rattle.spec_locks.specs.Purposes.{MayWait}
-use Rattle.spec_locks.specs.Sites.{Has, Line, Main}
-use Rattle.lot_laws.specs.Promises.{want_of}
-use Rattle.lot_laws.specs.Refinement.{taken_at}
-use Rattle.lot_laws.specs.Locations.{nowhere, location, location_at, location_by}
+use Rattle.lot_laws.specs.Locations.{location_by}
 use Rattle.lot_laws.proofs.condvar.Promises.{StandsAt, stands_at}
 use Rattle.lot_laws.proofs.machine.Parts.{differ, same}
 use Rattle.lot_laws.proofs.mutex.Rows.{decided_awake, unlock_awake}

@@ -1,38 +1,21 @@
 -- A call of a condition variable begins where it may, and is late where it sleeps with a deadline: its place
 -- alone changes, and its call.
-use Rattle.std.proofs.Common.{ℕ, Bool, true, false, Option, Some, None, if◌then◌else◌, ◌&&◌, ◌≡◌, ◌<◌, length}
-use Rattle.std.proofs.Common.{nat_lt, ltb-true, lt-ltb, inl, inr, refl, sym, ◌∙◌, ap, subst}
-use Rattle.std.proofs.lemmas.Bool.{cases_lt}
-use Rattle.std.proofs.lemmas.List.{get_or_past}
-use Rattle.core_base.specs.declared.keys.Keys.TheVariants.{One}
-use Rattle.spec_locks.specs.declared.kinds.Kind.{Kind}
+use Rattle.lot_laws.proofs.Names
+use Names.{ℕ, Bool, true, false, Option, Some, None, if◌then◌else◌, ◌&&◌, ◌≡◌, ◌<◌, length, nat_lt, inl, inr}
+use Names.{refl, sym, ◌∙◌, ap, subst, cases_lt, get_or_past, One, Kind, Call, CondvarCall, mutex_named}
+use Names.{has_call, is_plain_mutex, Late, CondvarPlace, Look, Notify, Wait, condvar_first, Condvar, Idle}
+use Names.{is_idle, late_key, next_place, Rights, Taken, condvar_purpose, purpose_of, rules_of, HasRight}
+use Names.{MayBegin, Stays, new_call, purpose_at, Main, State, can_begin, names_mutex_there, holds_right}
+use Names.{is_free_under, is_open_to, kind_at, owners_at, place_at, state_after_begin, state_after_late_on}
+use Names.{state_with_sections, unlocked, both, call_state, locks_of, taken_at, key_of}
+use Rattle.std.proofs.Common.{ltb-true, lt-ltb}
 use Rattle.spec_locks.specs.declared.kinds.Kind.TheVariants as kind
-use Rattle.spec_locks.specs.declared.calls.Call.{Call}
 use Rattle.spec_locks.specs.declared.calls.Call.TheVariants as call
-use Rattle.spec_locks.specs.declared.calls.CondvarCall.{CondvarCall}
 use Rattle.spec_locks.specs.declared.calls.CondvarCall.TheVariants as condvar_call
 use Rattle.spec_locks.specs.declared.outcomes.Outcome.TheVariants as outcome
-use Rattle.spec_locks.specs.Calls.{mutex_named}
-use Rattle.spec_locks.specs.Kinds.{has_call, is_plain_mutex}
-use Rattle.steps_base.specs.declared.acts.Reply.TheVariants.{Late}
-use Rattle.steps_condvar.specs.declared.places.CondvarPlace.{CondvarPlace}
-use Rattle.steps_condvar.specs.declared.places.CondvarPlace.TheVariants.{Look, Notify, Wait}
 use Rattle.steps_condvar.specs.declared.wait.Stands.TheVariants as stands
 use Rattle.steps_condvar.specs.declared.wait.WaitAt.TheVariants as wait
-use Rattle.steps_condvar.specs.CondvarSteps.{condvar_first}
-use Rattle.lot_steps.specs.declared.places.Place.TheVariants.{Condvar, Idle}
-use Rattle.lot_steps.specs.Steps.{is_idle, late_key, next_place}
 use Rattle.spec_locks.specs.Locks as locks
-use Rattle.spec_locks.specs.Locks.{Rights, Taken}
-use Rattle.spec_locks.specs.Purposes.{condvar_purpose, purpose_of, rules_of}
-use Rattle.spec_locks.specs.Runs.{HasRight, MayBegin, Stays, new_call, purpose_at}
-use Rattle.spec_locks.specs.Sites.{Main}
-use Rattle.lot_machine.specs.Machine.{State, can_begin, names_mutex_there, holds_right, is_free_under}
-use Rattle.lot_machine.specs.Machine.{is_open_to, kind_at, owners_at, place_at, state_after_begin}
-use Rattle.lot_machine.specs.Machine.{state_after_late_on, state_with_sections, unlocked}
-use Rattle.lot_machine.proofs.Shape.{both}
-use Rattle.lot_laws.specs.Refinement.{call_state, locks_of, taken_at}
-use Rattle.lot_laws.specs.SitesOf.{key_of}
 use Rattle.lot_laws.proofs.calls.Events.{rights}
 use Rattle.lot_laws.proofs.machine.Parts.{is_owner, thread_is}
 use Rattle.lot_laws.proofs.machine.KindsStay.{calls_condvar}

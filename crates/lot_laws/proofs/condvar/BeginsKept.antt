@@ -1,39 +1,23 @@
 -- Where a call of a condition variable begins, and where its time is up: every lock is a site again.
-use Rattle.std.proofs.Common.{ℕ, Bool, true, false, Some, None, ◌&&◌, nat_lt, ◌≡◌, ◌≢◌, ◌<◌, inl, inr, List}
-use Rattle.std.proofs.Common.{[], ◌∷◌, length, refl, sym, ◌∙◌, ap, subst}
-use Rattle.std.proofs.lemmas.Bool.{cases_eq}
-use Rattle.core_base.specs.declared.keys.Keys.TheVariants.{One}
-use Rattle.core_base.specs.declared.wants.Want.TheVariants.{Exclusive}
-use Rattle.spec_locks.specs.Kinds.{has_call, is_condvar, is_plain_mutex}
+use Rattle.lot_laws.proofs.Names
+use Names.{ℕ, Bool, true, false, Some, None, ◌&&◌, nat_lt, ◌≡◌, ◌≢◌, ◌<◌, inl, inr, List, [], ◌∷◌, length}
+use Names.{refl, sym, ◌∙◌, ap, subst, cases_eq, One, Exclusive, has_call, is_condvar, is_plain_mutex}
+use Names.{CondvarCall, Kind, At, Late, Location, Place, Condvar, Idle, late_key, next_place, CondvarPlace}
+use Names.{Wait, Look, Notify, mutex_beside, rules_of, Begin, Deed, Role, Has, In, Main, idle, State}
+use Names.{names_mutex_there, holds_right, is_free_under, is_open_to, kind_at, owners_at, place_at, put}
+use Names.{section_at, state_after_begin, state_after_late_on, state_with_sections, Suits, call_suits}
+use Names.{IsWellFormed, PlaceFits, taken_at, acts, role_on, location_at, FitsCondvar, FitsItsLock, Goes}
+use Names.{IsInductive, key_of, rules_in}
 use Rattle.spec_locks.specs.declared.calls.Call.TheVariants as call
-use Rattle.spec_locks.specs.declared.calls.CondvarCall.{CondvarCall}
 use Rattle.spec_locks.specs.declared.calls.CondvarCall.TheVariants as condvar_call
-use Rattle.spec_locks.specs.declared.kinds.Kind.{Kind}
 use Rattle.spec_locks.specs.declared.kinds.Kind.TheVariants as kind
 use Rattle.spec_locks.specs.declared.outcomes.Answer.TheVariants as answer
-use Rattle.steps_base.specs.declared.acts.Next.TheVariants.{At, End as Over}
-use Rattle.steps_base.specs.declared.acts.Reply.TheVariants.{Late}
-use Rattle.steps_base.specs.Locations.{Location, nowhere}
-use Rattle.lot_steps.specs.declared.places.Place.{Place}
-use Rattle.lot_steps.specs.declared.places.Place.TheVariants.{Condvar, Idle}
-use Rattle.lot_steps.specs.Steps.{late_key, next_place}
-use Rattle.steps_condvar.specs.declared.places.CondvarPlace.{CondvarPlace}
-use Rattle.steps_condvar.specs.declared.places.CondvarPlace.TheVariants.{Wait, Look, Notify}
+use Rattle.steps_base.specs.declared.acts.Next.TheVariants.{End as Over}
+use Rattle.steps_base.specs.Locations.{nowhere}
 use Rattle.steps_condvar.specs.declared.wait.Stands.TheVariants as stands
 use Rattle.steps_condvar.specs.declared.wait.WaitAt.TheVariants as wait
-use Rattle.steps_condvar.specs.CondvarSteps.{mutex_beside}
 use Rattle.spec_locks.specs.Locks as locks
-use Rattle.spec_locks.specs.Purposes.{rules_of}
-use Rattle.spec_locks.specs.Sites.{Begin, Deed, Role, Has, In, Main, idle}
-use Rattle.lot_machine.specs.Machine.{State, names_mutex_there, holds_right, is_free_under, is_open_to}
-use Rattle.lot_machine.specs.Machine.{kind_at, owners_at, place_at, put, section_at, state_after_begin}
-use Rattle.lot_machine.specs.Machine.{state_after_late_on, state_with_sections}
-use Rattle.lot_machine.proofs.Suits.{Suits, both, call_suits}
-use Rattle.lot_machine.specs.Fits.{IsWellFormed, PlaceFits}
-use Rattle.lot_laws.specs.Refinement.{taken_at}
-use Rattle.lot_laws.specs.ThreadDeeds.{acts}
-use Rattle.lot_laws.specs.Locations.{role_on, location_at}
-use Rattle.lot_laws.specs.SitesOf.{FitsCondvar, FitsItsLock, Goes, IsInductive, key_of, rules_in}
+use Rattle.lot_machine.proofs.Suits.{both}
 use Rattle.lot_laws.proofs.machine.Parts.{differ, parts_at, put_here, same, thread_is}
 use Rattle.lot_laws.proofs.sites.OneStep.{steps_by}
 use Rattle.lot_laws.proofs.sites.StandsKept.{Alike, AlikeBeside}

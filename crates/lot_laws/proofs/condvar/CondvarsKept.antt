@@ -1,36 +1,20 @@
 -- Each step keeps what holds of condition variables: those that its call is not of are as they were.
-use Rattle.std.proofs.Common.{ℕ, Bool, true, false, Option, Some, None, if◌then◌else◌, ◌==◌, ◌≡◌, ◌≢◌, ◌⊎◌}
-use Rattle.std.proofs.Common.{inl, inr, refl, sym, ◌∙◌, ap, subst}
-use Rattle.std.proofs.lemmas.Bool.{cases_eq, eqb-true}
-use Rattle.spec_locks.specs.declared.calls.Step.{Step}
-use Rattle.spec_locks.specs.declared.calls.Turn.{Turn}
+use Rattle.lot_laws.proofs.Names
+use Names.{ℕ, Bool, true, false, Option, Some, None, if◌then◌else◌, ◌==◌, ◌≡◌, ◌≢◌, ◌⊎◌, inl, inr, refl, sym}
+use Names.{◌∙◌, ap, subst, cases_eq, eqb-true, Step, Turn, Outcome, Location, location_by, CondvarPlace, Wait}
+use Names.{Look, Notify, condvar_profile, condvar_row, mutex_side, mutex_beside, Place, Idle, Mutex, RwLock}
+use Names.{Once, Condvar, Semaphore, is_lock, called_lock, profile, moved_of, LockCase, LockState, Rules}
+use Names.{SeeOwner, Wake, after_case, left_after, Purpose, Enters, Releases, Converts, Bumps, CallsOnce}
+use Names.{Awaits, Waits, Notifies, IsMadeOf, NotifiesBeside, Recall, lock_for, rules_of, AtLock, CallState}
+use Names.{Event, GoesOn, LocksState, MayDo, MayHappen, MayTurn, Does, Moves, Nothing, SectionChanges}
+use Names.{going_on, joined_by, locks_after, rules_at, unless_ended, woken, Main, IsWellFormed, State, after}
+use Names.{kind_at, place_at, section_at, step_outcome, KnowsRights, call_at, call_state, lock_state}
+use Names.{locks_of, location_at, AreCondvars, AreCounted, FitsCondvar, FitsItsLock, IsInductive, condvar_of}
+use Names.{key_of, rules_in}
 use Rattle.spec_locks.specs.declared.calls.Turn as turn
-use Rattle.spec_locks.specs.declared.outcomes.Outcome.{Outcome}
 use Rattle.spec_locks.specs.declared.outcomes.Outcome as outcome
-use Rattle.steps_base.specs.Locations.{Location, nowhere, location_by}
-use Rattle.steps_condvar.specs.declared.places.CondvarPlace.{CondvarPlace}
-use Rattle.steps_condvar.specs.declared.places.CondvarPlace.TheVariants.{Wait, Look, Notify}
-use Rattle.steps_condvar.specs.CondvarProfiles.{condvar_profile, condvar_row, mutex_side}
-use Rattle.steps_condvar.specs.CondvarSteps.{mutex_beside}
-use Rattle.lot_steps.specs.declared.places.Place.{Place}
-use Rattle.lot_steps.specs.declared.places.Place.TheVariants.{Idle, Mutex, RwLock, Once, Condvar, Semaphore}
-use Rattle.lot_steps.specs.Steps.{is_lock, called_lock, profile}
-use Rattle.spec_locks.specs.Condvars.{moved_of}
+use Rattle.steps_base.specs.Locations.{nowhere}
 use Rattle.spec_locks.specs.Locks as locks
-use Rattle.spec_locks.specs.Locks.{LockCase, LockState, Rules, SeeOwner, Wake, after_case, left_after}
-use Rattle.spec_locks.specs.Purposes.{Purpose, Enters, Releases, Converts, Bumps, CallsOnce, Awaits, Waits}
-use Rattle.spec_locks.specs.Purposes.{Notifies, IsMadeOf, NotifiesBeside, Recall, lock_for, rules_of}
-use Rattle.spec_locks.specs.Runs.{AtLock, CallState, Event, GoesOn, LocksState, MayDo, MayHappen, MayTurn}
-use Rattle.spec_locks.specs.Runs.{Does, Moves, Nothing, SectionChanges, going_on, joined_by, locks_after}
-use Rattle.spec_locks.specs.Runs.{rules_at, unless_ended, woken}
-use Rattle.spec_locks.specs.Sites.{Main}
-use Rattle.lot_machine.specs.Fits.{IsWellFormed}
-use Rattle.lot_machine.specs.Machine.{State, after, kind_at, place_at, section_at, step_outcome}
-use Rattle.steps_base.specs.Rows.{KnowsRights}
-use Rattle.lot_laws.specs.Refinement.{call_at, call_state, lock_state, locks_of}
-use Rattle.lot_laws.specs.Locations.{location_at}
-use Rattle.lot_laws.specs.SitesOf.{AreCondvars, AreCounted, FitsCondvar, FitsItsLock, IsInductive, condvar_of}
-use Rattle.lot_laws.specs.SitesOf.{key_of, rules_in}
 use Rattle.lot_laws.proofs.machine.Befallen.{others_keep_it}
 use Rattle.lot_laws.proofs.calls.Events.{rights}
 use Rattle.lot_laws.proofs.condvar.Rows.{names_of, names_unmoved, stage_of, stage_unmoved}

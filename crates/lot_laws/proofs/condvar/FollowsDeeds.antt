@@ -1,29 +1,15 @@
 -- A thread that goes on in a call of a condition variable leads it where its deeds do.
-use Rattle.std.proofs.Common.{ℕ, Option, Some, None, ◌≡◌, ◌≢◌, ◌↔◌, List, [], ◌∷◌, inl, inr, refl, sym, ◌∙◌}
-use Rattle.std.proofs.Common.{ap, subst}
-use Rattle.std.proofs.lemmas.Bool.{cases_eq}
-use Rattle.steps_base.specs.declared.acts.Next.{Next}
+use Rattle.lot_laws.proofs.Names
+use Names.{ℕ, Option, Some, None, ◌≡◌, ◌≢◌, ◌↔◌, List, [], ◌∷◌, inl, inr, refl, sym, ◌∙◌, ap, subst, cases_eq}
+use Names.{Next, Reply, CondvarPlace, condvar_row, condvar_next, AllCondvarNeeded, Follows, IsAtNext}
+use Names.{IsAtStage, MayHear, after_condvar_deeds, condvar_deeds, condvar_steps_follow, Idle, Condvar}
+use Names.{condvar_goes, profile_at, CondvarDeed, BeginsWait, EndsWait, GoIn, GoOut, Show, SeeOther}
+use Names.{StandLast, SeeAgain, MissIt, HideAndTakeAll, MoveFirst, MoveAll, LeaveList, ShowNone}
+use Names.{CondvarNeeded, CondvarSite, Inside, IsCondvar, IsInsideNot, MayGoOut, CondvarStage, condvar_leads}
+use Names.{SectionChanges, Line, Main, condvar_deed_keeps, State, place_at, section_at, lock_state}
+use Names.{location_at, condvar_of, inside_as, key_of, stage_or}
 use Rattle.steps_base.specs.declared.acts.Next.TheVariants as next
-use Rattle.steps_base.specs.declared.acts.Reply.{Reply}
-use Rattle.steps_condvar.specs.declared.places.CondvarPlace.{CondvarPlace}
-use Rattle.steps_condvar.specs.CondvarProfiles.{condvar_row}
-use Rattle.steps_condvar.specs.CondvarSteps.{condvar_next}
-use Rattle.steps_condvar.specs.CondvarDeeds.{AllCondvarNeeded, Follows, IsAtNext, IsAtStage, MayHear}
-use Rattle.steps_condvar.specs.CondvarDeeds.{after_condvar_deeds, condvar_deeds}
-use Rattle.steps_condvar.proofs.CondvarFit.{condvar_steps_follow}
-use Rattle.lot_steps.specs.declared.places.Place.TheVariants.{Idle, Condvar}
-use Rattle.lot_steps.specs.Steps.{condvar_goes, profile_at}
-use Rattle.spec_locks.specs.Condvars.{CondvarDeed, BeginsWait, EndsWait, GoIn, GoOut, Show, SeeOther}
-use Rattle.spec_locks.specs.Condvars.{StandLast, SeeAgain, MissIt, HideAndTakeAll, MoveFirst, MoveAll}
-use Rattle.spec_locks.specs.Condvars.{LeaveList, ShowNone, CondvarNeeded, CondvarSite, Inside, IsCondvar}
-use Rattle.spec_locks.specs.Condvars.{IsInsideNot, MayGoOut, CondvarStage, condvar_leads}
-use Rattle.spec_locks.specs.Runs.{SectionChanges}
-use Rattle.spec_locks.specs.Sites.{Line, Main}
-use Rattle.spec_locks.proofs.CondvarKeeps.{condvar_deed_keeps}
-use Rattle.lot_machine.specs.Machine.{State, place_at, section_at}
-use Rattle.lot_laws.specs.Refinement.{lock_state}
-use Rattle.lot_laws.specs.Locations.{location_at}
-use Rattle.lot_laws.specs.SitesOf.{Stands, condvar_of, inside_as, key_of, stage_or}
+use Rattle.lot_laws.specs.SitesOf.{Stands}
 use Rattle.lot_laws.proofs.condvar.Rows.{names_of, row_says, stage_of}
 use Rattle.lot_laws.proofs.condvar.Sites.{at_place}
 use Rattle.lot_laws.proofs.machine.Parts.{put_other}

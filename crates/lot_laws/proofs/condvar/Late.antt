@@ -1,33 +1,15 @@
 -- When a call of a condition variable has something to do, and when its time may be up: where it sleeps in a
--- queue, of the condition
--- variable or, moved, of its mutex.
-use Rattle.std.proofs.Common.{ℕ, Bool, true, false, Some, None, if◌then◌else◌, ◌==◌, ◌*◌, ◌<◌, ◌≡◌, ◌≢◌, inl}
-use Rattle.std.proofs.Common.{inr, refl, sym, ◌∙◌, ap}
-use Rattle.steps_base.specs.declared.acts.Act.TheVariants.{Sleep}
-use Rattle.steps_base.specs.declared.acts.Reply.TheVariants.{Late}
-use Rattle.steps_base.specs.Profiles.{in_line}
-use Rattle.lot_steps.specs.declared.places.Place.TheVariants.{Condvar}
-use Rattle.lot_steps.specs.Steps.{act_of, late_key, next_place}
-use Rattle.steps_condvar.specs.declared.notify.NotifyAt.{NotifyAt}
+-- queue, of the condition variable or, moved, of its mutex.
+use Rattle.lot_laws.proofs.Names
+use Names.{ℕ, Bool, true, false, Some, None, if◌then◌else◌, ◌==◌, ◌*◌, ◌<◌, ◌≡◌, ◌≢◌, inl, inr, refl, sym}
+use Names.{◌∙◌, ap, Sleep, Late, in_line, Condvar, act_of, late_key, next_place, NotifyAt, CondvarPlace, Wait}
+use Names.{Look, Notify, Stands, WaitAt, condvar_act, move_act, mutex_beside, notify_act, wait_act, IsReached}
+use Names.{wait_row, Rights, IsTimed, Line, Main, Second, PlaceFits, call_state, key_of, location_at}
 use Rattle.steps_condvar.specs.declared.notify.NotifyAt.TheVariants as notify
-use Rattle.steps_condvar.specs.declared.places.CondvarPlace.{CondvarPlace}
-use Rattle.steps_condvar.specs.declared.places.CondvarPlace.TheVariants.{Wait, Look, Notify}
-use Rattle.steps_condvar.specs.declared.wait.Stands.{Stands}
 use Rattle.steps_condvar.specs.declared.wait.Stands.TheVariants as stands
-use Rattle.steps_condvar.specs.declared.wait.WaitAt.{WaitAt}
 use Rattle.steps_condvar.specs.declared.wait.WaitAt.TheVariants as wait
 use Rattle.steps_mutex.specs.declared.places.MutexPlace.TheVariants as mutex
 use Rattle.steps_mutex.specs.declared.unlock.UnlockAt.TheVariants as unlock
-use Rattle.steps_condvar.specs.CondvarSteps.{condvar_act, move_act, mutex_beside, notify_act, wait_act}
-use Rattle.steps_condvar.specs.CondvarCalls.{IsReached}
-use Rattle.steps_condvar.specs.CondvarProfiles.{wait_row}
-use Rattle.spec_locks.specs.Locks.{Rights}
-use Rattle.spec_locks.specs.Runs.{IsTimed}
-use Rattle.spec_locks.specs.Sites.{Line, Main, Second}
-use Rattle.lot_machine.specs.Fits.{PlaceFits}
-use Rattle.lot_laws.specs.Refinement.{call_state}
-use Rattle.lot_laws.specs.SitesOf.{key_of}
-use Rattle.lot_laws.specs.Locations.{location_at}
 use Rattle.lot_laws.proofs.condvar.Promises.{stands_at, two_stand_main}
 use Rattle.lot_laws.proofs.machine.Parts.{differ, same}
 use Rattle.lot_laws.proofs.mutex.Rows.{mutex_acts}

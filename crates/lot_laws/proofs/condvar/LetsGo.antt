@@ -1,23 +1,11 @@
 -- A wait that sleeps has released its mutex.
-use Rattle.std.proofs.Common.{ℕ, Bool, true, Some, ◌≡◌, inl, inr, refl, sym, ◌∙◌, ap, subst}
-use Rattle.spec_locks.specs.Purposes.{Notifies, Waits}
-use Rattle.spec_locks.specs.Runs.{LetsGo}
-use Rattle.steps_base.specs.declared.acts.Act.{Act}
-use Rattle.steps_base.specs.declared.acts.Act.TheVariants.{Sleep}
-use Rattle.steps_mutex.specs.declared.places.MutexPlace.{MutexPlace}
+use Rattle.lot_laws.proofs.Names
+use Names.{ℕ, Bool, true, Some, ◌≡◌, inl, inr, refl, sym, ◌∙◌, ap, subst, Notifies, Waits, LetsGo, Act, Sleep}
+use Names.{MutexPlace, mutex_act, CondvarPlace, Wait, Look, Notify, WaitAt, condvar_act, wait_act, IsReached}
+use Names.{IsUnlockPlace, condvar_place_purpose, condvar_released, has_released, act_of, State, place_at}
+use Names.{call_at, call_state, locks_of, sleeps, IsInductive}
 use Rattle.steps_mutex.specs.declared.places.MutexPlace.TheVariants as mutex
-use Rattle.steps_mutex.specs.MutexSteps.{mutex_act}
-use Rattle.steps_condvar.specs.declared.places.CondvarPlace.{CondvarPlace}
-use Rattle.steps_condvar.specs.declared.places.CondvarPlace.TheVariants.{Wait, Look, Notify}
-use Rattle.steps_condvar.specs.declared.wait.WaitAt.{WaitAt}
 use Rattle.steps_condvar.specs.declared.wait.WaitAt.TheVariants as wait
-use Rattle.steps_condvar.specs.CondvarSteps.{condvar_act, wait_act}
-use Rattle.steps_condvar.specs.CondvarCalls.{IsReached, IsUnlockPlace}
-use Rattle.steps_condvar.specs.CondvarProfiles.{condvar_place_purpose, condvar_released, has_released}
-use Rattle.lot_steps.specs.Steps.{act_of}
-use Rattle.lot_machine.specs.Machine.{State, place_at}
-use Rattle.lot_laws.specs.Refinement.{call_at, call_state, locks_of, sleeps}
-use Rattle.lot_laws.specs.SitesOf.{IsInductive}
 use Rattle.lot_laws.proofs.calls.Events.{rights}
 use Rattle.lot_laws.proofs.condvar.MutexDebts.{two_released}
 use Rattle.lot_laws.proofs.condvar.Promises.{two_purpose}

@@ -1,28 +1,18 @@
 -- The first step of a notification, which looks at the mutex that is shown, changes no lock, and its call
 -- goes on by what it sees.
-use Rattle.std.proofs.Common.{ℕ, Bool, true, false, Option, Some, None, if◌then◌else◌, ◌==◌, ◌≡◌, ◌+◌, ◌-◌}
-use Rattle.std.proofs.Common.{List, [], inl, refl, sym, ◌∙◌, ap, subst, arith}
-use Rattle.steps_base.specs.Acts.{outcome_of}
-use Rattle.steps_base.specs.Calls.{rights_where}
+use Rattle.lot_laws.proofs.Names
+use Names.{ℕ, Bool, true, false, Option, Some, None, if◌then◌else◌, ◌==◌, ◌≡◌, ◌+◌, ◌-◌, List, [], inl, refl}
+use Names.{sym, ◌∙◌, ap, subst, arith, outcome_of, rights_where, Value, CallOfTwoFollows, look_event}
+use Names.{word_showing, condvar_next, mutex_shown, notified, looks_tell, Condvar, condvar_does, condvar_goes}
+use Names.{LockState, OfCondvar, rights_of, AtLock, Event, GoesOn, Moves, Nothing, is_taken_by, Site, State}
+use Names.{place_at, call_at, call_state, lock_state, locks_of, taken_at, FollowAll, IsInductive, after_acts}
+use Names.{condvar_of, rules_in, site_of}
 use Rattle.steps_base.specs.declared.acts.Next.TheVariants as next
-use Rattle.steps_base.specs.declared.acts.Reply.TheVariants.{Value}
 use Rattle.steps_condvar.specs.declared.notify.NotifyAt.TheVariants as notify
 use Rattle.steps_condvar.specs.declared.places.CondvarPlace.TheVariants as places
 use Rattle.steps_condvar.specs.CondvarCalls as calls
-use Rattle.steps_condvar.specs.CondvarCalls.{CallOfTwoFollows, look_event}
-use Rattle.steps_condvar.specs.CondvarDeeds.{word_showing}
-use Rattle.steps_condvar.specs.CondvarSteps.{condvar_next, mutex_shown, notified}
-use Rattle.steps_condvar.proofs.NotifyTells.{looks_tell}
-use Rattle.lot_steps.specs.declared.places.Place.TheVariants.{Condvar}
-use Rattle.lot_steps.specs.Steps.{condvar_does, condvar_goes}
 use Rattle.spec_locks.specs.Locks as locks
-use Rattle.spec_locks.specs.Locks.{LockState, OfCondvar, rights_of}
-use Rattle.spec_locks.specs.Runs.{AtLock, Event, GoesOn, Moves, Nothing, is_taken_by}
-use Rattle.spec_locks.specs.Sites.{Site}
-use Rattle.lot_machine.specs.Machine.{State, place_at}
 use Rattle.lot_laws.specs.ThreadDeeds as deeds
-use Rattle.lot_laws.specs.Refinement.{call_at, call_state, lock_state, locks_of, taken_at}
-use Rattle.lot_laws.specs.SitesOf.{FollowAll, IsInductive, after_acts, condvar_of, rules_in, site_of}
 use Rattle.lot_laws.proofs.calls.Events.{Happens, OthersFollow, happens_at, put_is, rights}
 use Rattle.lot_laws.proofs.condvar.StepEvents.{NamesStill, ToldSo, begins_two, call_led, condvar_goes_on}
 use Rattle.lot_laws.proofs.condvar.StepEvents.{may_go, no_closure, unwoken}

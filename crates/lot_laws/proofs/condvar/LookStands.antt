@@ -1,33 +1,21 @@
 -- A notification's first look at its condition variable: it stands nowhere, and no lock sees anything of it.
-use Rattle.std.proofs.Common.{ℕ, Bool, true, false, None, ◌==◌, ◌||◌, ◌≡◌, ◌<◌, [], length, refl, sym, ◌∙◌}
-use Rattle.std.proofs.Common.{ap, subst, inl, inr}
-use Rattle.std.proofs.lemmas.Bool.{cases_eq}
-use Rattle.std.proofs.Math.Bool.{or-false}
-use Rattle.std.specs.Prelude.{nat_le, ◌&&◌}
+use Rattle.lot_laws.proofs.Names
+use Names.{ℕ, Bool, true, false, None, ◌==◌, ◌||◌, ◌≡◌, ◌<◌, [], length, refl, sym, ◌∙◌, ap, subst, inl, inr}
+use Names.{cases_eq, or-false, nat_le, Value, Place, Condvar, condvar_goes, Look, Notify, condvar_next}
+use Names.{look_next, mutex_shown, count_in, code, has_readers, idle, State, filled_at, place_at, put}
+use Names.{state_after_act, word_at, acts, taken_at, role_on, location_at, FitsItsLock, Goes, IsInductive}
+use Names.{rules_in, putting}
+use Rattle.std.specs.Prelude.{◌&&◌}
 use Rattle.core_base.specs.declared.ops.Op.TheVariants as op
 use Rattle.steps_base.specs.declared.acts.Act.TheVariants as act
-use Rattle.steps_base.specs.declared.acts.Reply.TheVariants.{Value}
 use Rattle.steps_base.specs.Locations.{nowhere}
-use Rattle.lot_steps.specs.declared.places.Place.{Place}
-use Rattle.lot_steps.specs.declared.places.Place.TheVariants.{Condvar}
-use Rattle.lot_steps.specs.Steps.{condvar_goes}
 use Rattle.steps_condvar.specs.declared.notify.NotifyAt.TheVariants as notify
-use Rattle.steps_condvar.specs.declared.places.CondvarPlace.TheVariants.{Look, Notify}
-use Rattle.steps_condvar.specs.CondvarSteps.{condvar_next, look_next, mutex_shown}
-use Rattle.spec_locks.specs.Codes.{count_in, code}
 use Rattle.spec_locks.specs.Locks as locks
-use Rattle.spec_locks.specs.Sites.{has_readers, idle}
-use Rattle.lot_machine.specs.Machine.{State, filled_at, place_at, put, state_after_act, word_at}
-use Rattle.lot_laws.specs.ThreadDeeds.{acts}
-use Rattle.lot_laws.specs.Refinement.{taken_at}
-use Rattle.lot_laws.specs.Locations.{role_on, location_at}
-use Rattle.lot_laws.specs.SitesOf.{FitsItsLock, Goes, IsInductive, rules_in}
 use Rattle.lot_laws.proofs.machine.Parts.{differ, parts_at, same, seen_in}
 use Rattle.lot_laws.proofs.sites.OneStep.{steps_by, same_word}
 use Rattle.lot_laws.proofs.sites.StandsKept.{Alike}
 use Rattle.lot_laws.proofs.sites.Following.{lock_by, operated}
 use Rattle.lot_laws.proofs.sites.ActsAt as acting
-use Rattle.spec_locks.specs.Locks.{putting}
 
 -- a place at which its thread stands nowhere
 abbrev IsOut : Place → ℕ → Type 0

@@ -1,67 +1,36 @@
 -- An act makes of the machine's condition variable the same as its deeds make of the abstract one: the
 -- mutex that is shown, and the waiters.
-use Rattle.std.proofs.Common.{ℕ, Bool, true, false, Option, Some, None, if◌then◌else◌, ◌==◌, ◌≡◌, ◌≢◌, ◌+◌}
-use Rattle.std.proofs.Common.{◌*◌, ◌<◌, ◌||◌, List, [], ◌∷◌, ◌++◌, drop, get_or, length, map, not, set, refl}
-use Rattle.std.proofs.Common.{sym, ◌∙◌, ap, subst, arith, get_or-set_other, get_or-set_same}
-use Rattle.std.proofs.Math.ListN.{get_or-map}
-use Rattle.std.proofs.lemmas.List.{length-map}
-use Rattle.core_base.specs.declared.keys.Keys.{Keys}
-use Rattle.core_base.specs.declared.keys.Keys.TheVariants.{One, Two}
-use Rattle.core_base.specs.declared.ops.Op.{Op}
+use Rattle.lot_laws.proofs.Names
+use Names.{ℕ, Bool, true, false, Option, Some, None, if◌then◌else◌, ◌==◌, ◌≡◌, ◌≢◌, ◌+◌, ◌*◌, ◌<◌, ◌||◌, List}
+use Names.{[], ◌∷◌, ◌++◌, drop, get_or, length, map, not, set, refl, sym, ◌∙◌, ap, subst, arith}
+use Names.{get_or-set_other, get_or-set_same, get_or-map, length-map, Keys, One, Two, Op, Requeue, Waiter}
+use Names.{Want, Exclusive, first_of, times, waiter, without, Act, Check, Wakes, Next, Value, holds}
+use Names.{wakes_taken, Owners, MutexPlace, NOT_PARKED, LockAt, is_locked, lock_act, mutex_next, NotifyAt}
+use Names.{CondvarPlace, Wait, Look, Notify, WaitAt, IsLockOf, IsReached, IsListed, after_condvar_deeds}
+use Names.{condvar_deeds, relocked_deeds, condvar_row, condvar_act, condvar_owners, is_shown, move_act}
+use Names.{mutex_beside, notify_act, wait_act, condvar_owners_follow, Place, Condvar, CondvarSite, SeeAgain}
+use Names.{SeeOther, MissIt, Show, queued_of, main_line_there, IsWellFormed, State, can_do, kind_at}
+use Names.{left_in_line, owners_at, place_at, queue_at, queues_with_last, queues_without}
+use Names.{queues_without_first, reply_to, state_after_act, state_after_operation, state_after_park}
+use Names.{state_after_requeue, state_after_take_first, state_after_taking, state_after_wake}
+use Names.{state_with_sections, unlocked, word_at, FitsCondvar, IsInductive, condvar_of, rules_in}
 use Rattle.core_base.specs.declared.ops.Op as op
-use Rattle.core_base.specs.declared.requeues.Requeue.{Requeue}
 use Rattle.core_base.specs.declared.requeues.Requeue.TheVariants as requeue
-use Rattle.core_base.specs.declared.wants.Waiter.{Waiter}
-use Rattle.core_base.specs.declared.wants.Want.{Want}
-use Rattle.core_base.specs.declared.wants.Want.TheVariants.{Exclusive, Wait as WaitHere}
-use Rattle.core_base.specs.Lines.{first_of, times, waiter, without}
+use Rattle.core_base.specs.declared.wants.Want.TheVariants.{Wait as WaitHere}
 use Rattle.core_base.specs.declared.notes.Note.TheVariants as note
 use Rattle.spec_locks.specs.declared.kinds.Kind.TheVariants as kind
-use Rattle.steps_base.specs.declared.acts.Act.{Act}
 use Rattle.steps_base.specs.declared.acts.Act.TheVariants as act
-use Rattle.steps_base.specs.declared.acts.Check.{Check}
 use Rattle.steps_base.specs.declared.acts.Check.TheVariants as checks
-use Rattle.steps_base.specs.declared.acts.Wakes.{Wakes}
 use Rattle.steps_base.specs.declared.acts.Wakes.TheVariants as wakes
-use Rattle.steps_base.specs.declared.acts.Next.{Next}
 use Rattle.steps_base.specs.declared.acts.Next.TheVariants as next
-use Rattle.steps_base.specs.declared.acts.Reply.TheVariants.{Value}
-use Rattle.steps_base.specs.Acts.{holds, wakes_taken}
-use Rattle.steps_base.specs.declared.owners.Owners.{Owners}
-use Rattle.steps_mutex.specs.declared.places.MutexPlace.{MutexPlace}
-use Rattle.steps_mutex.specs.declared.places.TheConstants.{NOT_PARKED}
 use Rattle.steps_mutex.specs.declared.places.MutexPlace.TheVariants as mutex
 use Rattle.steps_mutex.specs.declared.lock.Entry.TheVariants as entry
-use Rattle.steps_mutex.specs.declared.lock.LockAt.{LockAt}
 use Rattle.steps_mutex.specs.declared.lock.LockAt.TheVariants as lock
 use Rattle.steps_mutex.specs.declared.unlock.UnlockAt.TheVariants as unlock
-use Rattle.steps_mutex.specs.MutexSteps.{is_locked, lock_act, mutex_next}
-use Rattle.steps_condvar.specs.declared.notify.NotifyAt.{NotifyAt}
 use Rattle.steps_condvar.specs.declared.notify.NotifyAt.TheVariants as notify
-use Rattle.steps_condvar.specs.declared.places.CondvarPlace.{CondvarPlace}
-use Rattle.steps_condvar.specs.declared.places.CondvarPlace.TheVariants.{Wait, Look, Notify}
-use Rattle.steps_condvar.specs.declared.wait.WaitAt.{WaitAt}
 use Rattle.steps_condvar.specs.declared.wait.WaitAt.TheVariants as wait
-use Rattle.steps_condvar.specs.CondvarCalls.{IsLockOf, IsReached}
-use Rattle.steps_condvar.specs.CondvarDeeds.{IsListed, after_condvar_deeds, condvar_deeds, relocked_deeds}
-use Rattle.steps_condvar.specs.CondvarProfiles.{condvar_row}
-use Rattle.steps_condvar.specs.CondvarSteps.{condvar_act, condvar_owners, is_shown, move_act, mutex_beside}
-use Rattle.steps_condvar.specs.CondvarSteps.{notify_act, wait_act}
-use Rattle.steps_condvar.proofs.CondvarFit.{condvar_owners_follow}
-use Rattle.lot_steps.specs.declared.places.Place.{Place}
-use Rattle.lot_steps.specs.declared.places.Place.TheVariants.{Condvar}
-use Rattle.spec_locks.specs.Condvars.{CondvarSite, SeeAgain, SeeOther, MissIt, Show}
 use Rattle.spec_locks.specs.Locks as locks
-use Rattle.spec_locks.specs.Picks.{queued_of}
 use Rattle.lot_machine.specs.declared.locks.Lock.{Lock}
-use Rattle.lot_machine.proofs.Shape.{main_line_there}
-use Rattle.lot_machine.specs.Fits.{IsWellFormed}
-use Rattle.lot_machine.specs.Machine.{State, can_do, kind_at, left_in_line, owners_at, place_at, queue_at}
-use Rattle.lot_machine.specs.Machine.{queues_with_last, queues_without, queues_without_first, reply_to}
-use Rattle.lot_machine.specs.Machine.{state_after_act, state_after_operation, state_after_park}
-use Rattle.lot_machine.specs.Machine.{state_after_requeue, state_after_take_first, state_after_taking}
-use Rattle.lot_machine.specs.Machine.{state_after_wake, state_with_sections, unlocked, word_at}
-use Rattle.lot_laws.specs.SitesOf.{FitsCondvar, IsInductive, condvar_of, rules_in}
 use Rattle.lot_laws.proofs.condvar.Replies.{at_it, fits_here, word_is}
 use Rattle.lot_laws.proofs.hands.Counts.{without_absent}
 use Rattle.lot_laws.proofs.sites.OneStep.{queued_after, queued_times, queued_without}

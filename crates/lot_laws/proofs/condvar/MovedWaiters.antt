@@ -1,34 +1,19 @@
 -- A waiter of a condition variable is taken by a notification, or moved to its mutex: where it goes, at
 -- both locks.
-use Rattle.std.proofs.Common.{ℕ, Bool, true, false, Option, Some, None, ◌≡◌, ◌≢◌, ◌*◌, ◌≤◌, refl, sym, ◌∙◌}
-use Rattle.std.proofs.Common.{ap, subst, arith}
-use Rattle.core_base.specs.declared.wants.Want.TheVariants.{Exclusive}
-use Rattle.core_base.specs.Lines.{times}
-use Rattle.steps_base.specs.declared.acts.Next.TheVariants.{At}
-use Rattle.steps_base.specs.Profiles.{Profile, hand, taken_from}
-use Rattle.steps_base.specs.Locations.{Location, location_by}
-use Rattle.lot_steps.specs.declared.places.Place.TheVariants.{Condvar}
-use Rattle.lot_steps.specs.Steps.{profile_at, next_place}
+use Rattle.lot_laws.proofs.Names
+use Names.{ℕ, Bool, true, false, Option, Some, None, ◌≡◌, ◌≢◌, ◌*◌, ◌≤◌, refl, sym, ◌∙◌, ap, subst, arith}
+use Names.{Exclusive, times, At, Profile, hand, taken_from, Location, location_by, Condvar, profile_at}
+use Names.{next_place, UnlockAt, CondvarPlace, Look, Notify, Wait, WaitAt, IsReached, row_beside, row_there}
+use Names.{condvar_profile, condvar_row, wait_row, AllOf, IsCondvar, moving, Taken, Rights, Main, State}
+use Names.{place_at, queue_at, section_at, lock_state, call_state, location_at, FitsCondvar, FitsItsLock}
+use Names.{IsInductive, condvar_of, key_of, rules_in, Reply, WasMoved, waiters_are_told, Place, MovedTo}
+use Names.{TakenBy}
 use Rattle.steps_mutex.specs.declared.places.MutexPlace.TheVariants as mutex
-use Rattle.steps_mutex.specs.declared.unlock.UnlockAt.{UnlockAt}
 use Rattle.steps_condvar.specs.declared.notify.NotifyAt.TheVariants as notify
-use Rattle.steps_condvar.specs.declared.places.CondvarPlace.{CondvarPlace}
-use Rattle.steps_condvar.specs.declared.places.CondvarPlace.TheVariants.{Look, Notify, Wait}
 use Rattle.steps_condvar.specs.declared.wait.Stands.TheVariants as stands
-use Rattle.steps_condvar.specs.declared.wait.WaitAt.{WaitAt}
 use Rattle.steps_condvar.specs.declared.wait.WaitAt.TheVariants as wait
-use Rattle.steps_condvar.specs.CondvarCalls.{IsReached}
-use Rattle.steps_condvar.specs.CondvarMoves.{row_beside, row_there}
-use Rattle.steps_condvar.specs.CondvarProfiles.{condvar_profile, condvar_row, wait_row}
 use Rattle.spec_locks.specs.Condvars as condvars
-use Rattle.spec_locks.specs.Condvars.{AllOf, IsCondvar, moving}
 use Rattle.spec_locks.specs.Locks as locks
-use Rattle.spec_locks.specs.Locks.{Taken, Rights}
-use Rattle.spec_locks.specs.Sites.{Main}
-use Rattle.lot_machine.specs.Machine.{State, place_at, queue_at, section_at}
-use Rattle.lot_laws.specs.Refinement.{lock_state, call_state}
-use Rattle.lot_laws.specs.Locations.{location_at}
-use Rattle.lot_laws.specs.SitesOf.{FitsCondvar, FitsItsLock, IsInductive, condvar_of, key_of, rules_in}
 use Rattle.lot_laws.proofs.machine.Parts.{same}
 use Rattle.lot_laws.proofs.sites.OneStep.{queued_times}
 use Rattle.lot_laws.proofs.condvar.Moving.{GoesAcross, WaitsAcross}
@@ -37,11 +22,6 @@ use Rattle.lot_laws.proofs.condvar.TwoParts.{location_there, taken_beside, taken
 use Rattle.lot_laws.proofs.condvar.Promises.{unlisted}
 use Rattle.lot_laws.proofs.condvar.Sites.{at_place}
 use Rattle.lot_laws.proofs.condvar.WaitersAside.{waits_there}
-use Rattle.steps_base.specs.declared.acts.Reply.{Reply}
-use Rattle.spec_locks.specs.Purposes.{WasMoved}
-use Rattle.steps_condvar.proofs.WaitTells.{waiters_are_told}
-use Rattle.lot_steps.specs.declared.places.Place.{Place}
-use Rattle.steps_base.specs.declared.acts.Reply.TheVariants.{MovedTo, TakenBy}
 
 module _ (w : State) (l m : ℕ) (apart : m ≢ l) (timed : Bool) where
   abbrev waits : WaitAt → CondvarPlace

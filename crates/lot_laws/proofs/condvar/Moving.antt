@@ -1,24 +1,13 @@
 -- A notification moves waiters of a condition variable to its mutex: some it takes, and the others stand
--- there after the last. Where the threads
--- stand then, in sections, lines and hands.
-use Rattle.std.proofs.Common.{ℕ, Bool, true, false, Option, Some, None, if◌then◌else◌, ◌==◌, ◌&&◌, ◌||◌, ◌≡◌}
-use Rattle.std.proofs.Common.{◌≢◌, ◌+◌, ◌≤◌, ◌⊎◌, List, [], ◌∷◌, ◌++◌, inl, inr, refl, sym, ◌∙◌, ap, subst}
-use Rattle.std.proofs.Common.{arith}
-use Rattle.std.proofs.lemmas.Bool.{cases_eq}
-use Rattle.std.proofs.Math.Bool.{and-true, and-false}
-use Rattle.core_base.specs.declared.wants.Waiter.{Waiter}
-use Rattle.core_base.specs.declared.wants.Want.TheVariants.{Exclusive}
-use Rattle.core_base.specs.Lines.{times}
-use Rattle.steps_base.specs.declared.acts.Reply.TheVariants.{MovedTo, TakenBy}
-use Rattle.lot_steps.specs.declared.places.Place.{Place}
-use Rattle.lot_steps.specs.Steps.{next_place}
-use Rattle.spec_locks.specs.Locks.{Taken, putting}
-use Rattle.spec_locks.specs.Sites.{Line, Main, Second}
-use Rattle.lot_machine.specs.Machine.{State, moved_under, place_at, queue_at, section_at}
-use Rattle.lot_laws.specs.Refinement.{taken_at}
-use Rattle.lot_laws.specs.Locations.{Hand, Location, hand, role_on, location_at}
-use Rattle.lot_laws.specs.SitesOf.{AreWaiting, FitsItsLock, Hands, IsInductive, Lines, Sections, TakesOne}
-use Rattle.lot_laws.specs.SitesOf.{AllAreWaiting, carried_at, hand_at, key_of, locations_of, stood_in}
+-- there after the last. Where the threads stand then, in sections, lines and hands.
+use Rattle.lot_laws.proofs.Names
+use Names.{ℕ, Bool, true, false, Option, Some, None, if◌then◌else◌, ◌==◌, ◌&&◌, ◌||◌, ◌≡◌, ◌≢◌, ◌+◌, ◌≤◌, ◌⊎◌}
+use Names.{List, [], ◌∷◌, ◌++◌, inl, inr, refl, sym, ◌∙◌, ap, subst, arith, cases_eq, and-true, and-false}
+use Names.{Waiter, Exclusive, times, MovedTo, TakenBy, Place, next_place, Taken, putting, Line, Main, Second}
+use Names.{State, moved_under, place_at, queue_at, section_at, taken_at, role_on, location_at, AreWaiting}
+use Names.{FitsItsLock, Hands, IsInductive, Lines, Sections, TakesOne, AllAreWaiting, carried_at, hand_at}
+use Names.{key_of, locations_of, stood_in}
+use Rattle.lot_laws.specs.Locations.{Hand, Location, hand}
 use Rattle.lot_laws.proofs.machine.Parts.{differ, put_here, put_other, same}
 use Rattle.lot_laws.proofs.sites.StandsKept.{Alike, hands_taken, other_key, other_line, sections_same}
 use Rattle.lot_laws.proofs.sites.StandsKept.{waiting_same}

@@ -1,24 +1,14 @@
 -- A notification moves waiters of a condition variable to its mutex: both are sites again, and every other
 -- lock is as it was.
-use Rattle.std.proofs.Common.{◌||◌, ℕ, Bool, true, false, Option, Some, None, if◌then◌else◌, ◌==◌, ◌≡◌, ◌≢◌}
-use Rattle.std.proofs.Common.{◌+◌, ◌<◌, ◌≤◌, ◌⊎◌, List, [], ◌∷◌, ◌++◌, length, map, replicate, get_or, drop}
-use Rattle.std.proofs.Common.{inl, inr, refl, sym, ◌∙◌, ap, subst, arith}
-use Rattle.core_base.specs.declared.wants.Waiter.{Waiter}
-use Rattle.core_base.specs.declared.wants.Want.TheVariants.{Exclusive}
-use Rattle.core_base.specs.Lines.{times}
+use Rattle.lot_laws.proofs.Names
+use Names.{◌||◌, ℕ, Bool, true, false, Option, Some, None, if◌then◌else◌, ◌==◌, ◌≡◌, ◌≢◌, ◌+◌, ◌<◌, ◌≤◌, ◌⊎◌}
+use Names.{List, [], ◌∷◌, ◌++◌, length, map, replicate, get_or, drop, inl, inr, refl, sym, ◌∙◌, ap, subst}
+use Names.{arith, Waiter, Exclusive, times, Place, line_of, moved_of, taken_of, queued_of, Bring, Deed, Main}
+use Names.{Second, Send, Site, has_readers, bringing, code, State, kind_at, moved_under, place_at, queue_at}
+use Names.{unlocked, taken_at, acts, role_on, location_at, TakesOne, stood_in, ActsNeeded, AreWaiting}
+use Names.{FitsItsLock, GoesAll, IsInductive, after_acts, key_of, rules_in, locations_of}
 use Rattle.spec_locks.specs.declared.kinds.Kind as kind
-use Rattle.lot_steps.specs.declared.places.Place.{Place}
-use Rattle.spec_locks.specs.Condvars.{line_of, moved_of, taken_of}
 use Rattle.spec_locks.specs.Locks as locks
-use Rattle.spec_locks.specs.Picks.{queued_of}
-use Rattle.spec_locks.specs.Sites.{Bring, Deed, Main, Second, Send, Site, has_readers, bringing}
-use Rattle.spec_locks.specs.Codes.{code}
-use Rattle.lot_machine.specs.Machine.{State, kind_at, moved_under, place_at, queue_at, unlocked}
-use Rattle.lot_laws.specs.Refinement.{taken_at}
-use Rattle.lot_laws.specs.ThreadDeeds.{acts}
-use Rattle.lot_laws.specs.Locations.{role_on, location_at}
-use Rattle.lot_laws.specs.SitesOf.{TakesOne, stood_in, ActsNeeded, AreWaiting, FitsItsLock, GoesAll}
-use Rattle.lot_laws.specs.SitesOf.{IsInductive, after_acts, key_of, rules_in, locations_of}
 use Rattle.lot_laws.proofs.machine.Parts.{parts_at, put_here, put_other, seen_in}
 use Rattle.lot_laws.proofs.sites.OneStep.{same_word}
 use Rattle.lot_laws.proofs.sites.StandsKept.{Alike, calls_in, other_key, other_line}

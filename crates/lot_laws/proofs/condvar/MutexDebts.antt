@@ -1,41 +1,22 @@
 -- The thread that is to look after the waiters of a mutex, in a call of a condition variable beside it,
 -- does so: a wait that has released it, or was woken to lock it again, and a notification that has taken
 -- one that it wakes.
-use Rattle.std.proofs.Common.{ℕ, Bool, true, false, Option, Some, None, if◌then◌else◌, ◌==◌, ◌≡◌, ◌≢◌, ◌⊎◌}
-use Rattle.std.proofs.Common.{inl, inr, refl, sym, ◌∙◌, ap, subst}
-use Rattle.std.proofs.lemmas.Bool.{eqb-true}
-use Rattle.core_base.specs.declared.wants.Want.TheVariants.{Exclusive}
-use Rattle.steps_base.specs.declared.acts.Act.TheVariants.{Sleep}
-use Rattle.steps_base.specs.Profiles.{in_line}
+use Rattle.lot_laws.proofs.Names
+use Names.{ℕ, Bool, true, false, Option, Some, None, if◌then◌else◌, ◌==◌, ◌≡◌, ◌≢◌, ◌⊎◌, inl, inr, refl, sym}
+use Names.{◌∙◌, ap, subst, eqb-true, Exclusive, Sleep, in_line, LockAt, inside, mutex_profile, is_locked}
+use Names.{NotifyAt, CondvarPlace, Wait, Look, Notify, Stands, WaitAt, IsLockOf, IsReached, condvar_profile}
+use Names.{condvar_place_purpose, condvar_recalls, condvar_released, condvar_row, has_moved, has_mutex}
+use Names.{is_main_line, condvar_act, mutex_beside, Condvar, is_lock, line_owed, or_else, Rights, Sort}
+use Names.{HasMoved, Saw, Role, Has, Line, Main, Second, counts_some, idle, WaitHasReleased, WakesWaiters}
+use Names.{mutex_seen, want_of, call_state, role_on}
 use Rattle.steps_mutex.specs.declared.places.MutexPlace.TheVariants as mutex
 use Rattle.steps_mutex.specs.declared.lock.Entry.TheVariants as entry
-use Rattle.steps_mutex.specs.declared.lock.LockAt.{LockAt}
 use Rattle.steps_mutex.specs.declared.lock.LockAt.TheVariants as lock
 use Rattle.steps_mutex.specs.declared.unlock.UnlockAt.TheVariants as unlock
-use Rattle.steps_mutex.specs.MutexProfiles.{inside, mutex_profile}
-use Rattle.steps_mutex.specs.MutexSteps.{is_locked}
-use Rattle.steps_condvar.specs.declared.notify.NotifyAt.{NotifyAt}
 use Rattle.steps_condvar.specs.declared.notify.NotifyAt.TheVariants as notify
-use Rattle.steps_condvar.specs.declared.places.CondvarPlace.{CondvarPlace}
-use Rattle.steps_condvar.specs.declared.places.CondvarPlace.TheVariants.{Wait, Look, Notify}
-use Rattle.steps_condvar.specs.declared.wait.Stands.{Stands}
 use Rattle.steps_condvar.specs.declared.wait.Stands.TheVariants as stands
-use Rattle.steps_condvar.specs.declared.wait.WaitAt.{WaitAt}
 use Rattle.steps_condvar.specs.declared.wait.WaitAt.TheVariants as wait
-use Rattle.steps_condvar.specs.CondvarCalls.{IsLockOf, IsReached}
-use Rattle.steps_condvar.specs.CondvarProfiles.{condvar_profile, condvar_place_purpose, condvar_recalls}
-use Rattle.steps_condvar.specs.CondvarProfiles.{condvar_released, condvar_row, has_moved, has_mutex}
-use Rattle.steps_condvar.specs.CondvarProfiles.{is_main_line}
-use Rattle.steps_condvar.specs.CondvarSteps.{condvar_act, mutex_beside}
-use Rattle.lot_steps.specs.declared.places.Place.TheVariants.{Condvar}
-use Rattle.lot_steps.specs.Steps.{is_lock, line_owed, or_else}
-use Rattle.spec_locks.specs.Locks.{Rights, Sort}
 use Rattle.spec_locks.specs.Locks as sorts
-use Rattle.spec_locks.specs.Purposes.{HasMoved, Saw}
-use Rattle.spec_locks.specs.Sites.{Role, Has, Line, Main, Second, counts_some, idle}
-use Rattle.lot_laws.specs.Promises.{WaitHasReleased, WakesWaiters, mutex_seen, want_of}
-use Rattle.lot_laws.specs.Refinement.{call_state}
-use Rattle.lot_laws.specs.Locations.{role_on}
 use Rattle.lot_laws.proofs.condvar.Promises.{StandsAt, neither_nowhere, notifier_nowhere}
 use Rattle.lot_laws.proofs.machine.Parts.{same}
 use Rattle.lot_laws.proofs.mutex.Rows.{decided_awake}

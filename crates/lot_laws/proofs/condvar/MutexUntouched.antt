@@ -1,46 +1,25 @@
 -- A thread acts at its condition variable, where at the mutex beside it all is as it was: every lock is a
 -- site again.
-use Rattle.std.proofs.Common.{ℕ, Bool, true, false, Option, Some, None, if◌then◌else◌, ◌||◌, ◌≡◌, ◌≢◌, ◌+◌}
-use Rattle.std.proofs.Common.{◌*◌, ◌≤◌, ◌<◌, List, [], ◌∷◌, length, map, refl, sym, ◌∙◌, ap, subst, arith}
-use Rattle.std.proofs.Common.{inl, inr}
-use Rattle.std.proofs.lemmas.Bool.{cases_eq}
-use Rattle.std.proofs.Math.Bool.{or-false}
-use Rattle.core_base.specs.declared.keys.Keys.TheVariants.{One}
-use Rattle.core_base.specs.declared.ops.Op.{Op}
+use Rattle.lot_laws.proofs.Names
+use Names.{ℕ, Bool, true, false, Option, Some, None, if◌then◌else◌, ◌||◌, ◌≡◌, ◌≢◌, ◌+◌, ◌*◌, ◌≤◌, ◌<◌, List}
+use Names.{[], ◌∷◌, length, map, refl, sym, ◌∙◌, ap, subst, arith, inl, inr, cases_eq, or-false, One, Op}
+use Names.{first_of, times, without, apply, Reply, Value, Owners, Location, inside_of, Place, Condvar}
+use Names.{condvar_goes, CondvarPlace, condvar_act, condvar_next, condvar_owners, mutex_beside, Follows}
+use Names.{condvar_deeds, word_showing, there, there_then, shown_code, word_by, parked_in, aside_in, count_in}
+use Names.{CondvarDeed, CondvarSite, OfCondvar, Rules, Park, putting, standing, keep_from, IsBlocked}
+use Names.{IsFreeAt, one_if_some, Knows, Case, Deed, Role, In, LeaveLine, Line, Main, Out, Second, Send, Site}
+use Names.{IsSite, has_readers, idle, wakened, leaves, StandsIn, State, owners_at, place_at, put, queue_at}
+use Names.{section_at, shares_at, state_after_operation, state_with_sections, queues_with_last}
+use Names.{queues_without, word_at, filled_at, taken_at, lock_seen, acts, role_on, location_at, ActsNeeded}
+use Names.{FitsItsLock, Goes, IsInductive, after_acts, condvar_of, key_of, rules_in, hand_at, carried_at}
+use Names.{stood_in, queued_of, condvar_owners_follow, condvar_steps_code, nat_le}
 use Rattle.core_base.specs.declared.wants.Want.TheVariants.{Wait as WaitHere}
-use Rattle.core_base.specs.Lines.{first_of, times, without}
-use Rattle.core_base.specs.Words.{apply}
 use Rattle.steps_base.specs.declared.acts.Act.TheVariants as act
 use Rattle.steps_base.specs.declared.acts.Next.TheVariants as next
-use Rattle.steps_base.specs.declared.acts.Reply.{Reply}
-use Rattle.steps_base.specs.declared.acts.Reply.TheVariants.{Value}
-use Rattle.steps_base.specs.declared.owners.Owners.{Owners}
-use Rattle.steps_base.specs.Locations.{Location}
-use Rattle.steps_base.specs.Moves.{inside_of}
-use Rattle.lot_steps.specs.declared.places.Place.{Place}
-use Rattle.lot_steps.specs.declared.places.Place.TheVariants.{Condvar}
-use Rattle.lot_steps.specs.Steps.{condvar_goes}
-use Rattle.steps_condvar.specs.declared.places.CondvarPlace.{CondvarPlace}
-use Rattle.steps_condvar.specs.CondvarSteps.{condvar_act, condvar_next, condvar_owners, mutex_beside}
-use Rattle.steps_condvar.specs.CondvarDeeds.{Follows, condvar_deeds, word_showing}
 use Rattle.steps_condvar.specs.CondvarDeeds as condvar
-use Rattle.steps_condvar.specs.CondvarMoves.{there, there_then}
-use Rattle.spec_locks.specs.Codes.{shown_code, word_by, parked_in, aside_in, count_in}
-use Rattle.spec_locks.specs.Condvars.{CondvarDeed, CondvarSite}
 use Rattle.spec_locks.specs.Condvars as condvars
-use Rattle.spec_locks.specs.Locks.{OfCondvar, Rules, Park, putting, standing, keep_from, IsBlocked, IsFreeAt}
-use Rattle.spec_locks.specs.Locks.{one_if_some, Knows}
 use Rattle.spec_locks.specs.Locks as locks
-use Rattle.spec_locks.specs.Sites.{Case, Deed, Role, In, LeaveLine, Line, Main, Out, Second, Send, Site}
-use Rattle.spec_locks.specs.Sites.{IsSite, has_readers, idle, wakened, leaves, StandsIn}
-use Rattle.lot_machine.specs.Machine.{State, owners_at, place_at, put, queue_at, section_at, shares_at}
-use Rattle.lot_machine.specs.Machine.{state_after_operation, state_with_sections, queues_with_last}
-use Rattle.lot_machine.specs.Machine.{queues_without, word_at, filled_at}
-use Rattle.lot_laws.specs.Refinement.{taken_at, lock_seen}
-use Rattle.lot_laws.specs.ThreadDeeds.{acts}
-use Rattle.lot_laws.specs.Locations.{role_on, location_at, hand}
-use Rattle.lot_laws.specs.SitesOf.{ActsNeeded, FitsItsLock, Goes, IsInductive, after_acts, condvar_of, key_of}
-use Rattle.lot_laws.specs.SitesOf.{rules_in, hand_at, carried_at, stood_in}
+use Rattle.lot_laws.specs.Locations.{hand}
 use Rattle.lot_laws.proofs.machine.Parts.{lock_in, parts_at, seen_in, LetGo, stays, put_here, put_other, same}
 use Rattle.lot_laws.proofs.machine.Parts.{inside_is}
 use Rattle.lot_laws.proofs.sites.OneStep.{Steps, steps_by, queued_times, queued_without, AreSingle}
@@ -49,10 +28,8 @@ use Rattle.lot_laws.proofs.sites.StandsKept.{Alike, AlikeBeside}
 use Rattle.lot_laws.proofs.sites.Following.{lock_by, operated, parks, with_line, NoHandOff}
 use Rattle.lot_laws.proofs.sites.ActsAt as acting
 use Rattle.lot_laws.proofs.sites.WakesAt.{leaving_by}
-use Rattle.spec_locks.specs.Picks.{queued_of}
 use Rattle.lot_laws.proofs.machine.Parts as glue
-use Rattle.steps_condvar.proofs.CondvarFit.{condvar_owners_follow, condvar_steps_code}
-use Rattle.std.specs.Prelude.{nat_le, ◌&&◌}
+use Rattle.std.specs.Prelude.{◌&&◌}
 use Rattle.lot_laws.proofs.condvar.TwoParts.{Beside, role_of_row, role_there, nothing_else, location_there}
 use Rattle.lot_laws.proofs.condvar.TwoParts.{taken_there, nothing_there}
 use Rattle.lot_laws.proofs.hands.Counts.{first_out, aside_kept}

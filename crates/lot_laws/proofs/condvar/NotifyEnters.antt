@@ -1,35 +1,17 @@
 -- A notification goes into both its sections, or out of them where it has nobody in hand: both locks are
 -- sites again.
-use Rattle.std.proofs.Common.{ℕ, Bool, true, false, Option, Some, None, if◌then◌else◌, ◌==◌, ◌≡◌, ◌≢◌, ◌*◌}
-use Rattle.std.proofs.Common.{◌<◌, [], ◌∷◌, length, set, refl, sym, ◌∙◌, ap, subst, is_none, inl, inr}
-use Rattle.std.proofs.Common.{length-set, get_or-set_same, get_or-set_other}
-use Rattle.std.proofs.lemmas.Bool.{cases_eq}
-use Rattle.core_base.specs.declared.keys.Keys.TheVariants.{Two}
-use Rattle.steps_base.specs.declared.acts.Next.{Next}
-use Rattle.steps_base.specs.declared.acts.Next.TheVariants.{At, End as Over}
-use Rattle.steps_base.specs.declared.acts.Reply.TheVariants.{Done}
-use Rattle.steps_base.specs.Locations.{Location, location_by}
-use Rattle.lot_steps.specs.declared.places.Place.{Place}
-use Rattle.lot_steps.specs.declared.places.Place.TheVariants.{Condvar, Idle}
-use Rattle.lot_steps.specs.Steps.{condvar_goes}
-use Rattle.steps_condvar.specs.declared.notify.NotifyAt.{NotifyAt}
+use Rattle.lot_laws.proofs.Names
+use Names.{ℕ, Bool, true, false, Option, Some, None, if◌then◌else◌, ◌==◌, ◌≡◌, ◌≢◌, ◌*◌, ◌<◌, [], ◌∷◌, length}
+use Names.{set, refl, sym, ◌∙◌, ap, subst, is_none, inl, inr, length-set, get_or-set_same, get_or-set_other}
+use Names.{cases_eq, Two, Next, At, Done, Location, location_by, Place, Condvar, Idle, condvar_goes, NotifyAt}
+use Names.{CondvarPlace, Notify, row_beside, FollowsBeside, notified, notify_act, notifiers_follow, IsCondvar}
+use Names.{WaitsAside, keep_from, putting, End, In, Main, Out, Site, has_readers, State, can_do, place_at}
+use Names.{put, queue_at, section_at, state_with_sections, acts, taken_at, role_on, location_at, FitsItsLock}
+use Names.{GoesAll, IsInductive, condvar_of, key_of, rules_in, site_of, locations_of, carried_at, hand_at}
+use Names.{has_moved, notify_row, inside, hand}
+use Rattle.steps_base.specs.declared.acts.Next.TheVariants.{End as Over}
 use Rattle.steps_condvar.specs.declared.notify.NotifyAt.TheVariants as notify
-use Rattle.steps_condvar.specs.declared.places.CondvarPlace.{CondvarPlace}
-use Rattle.steps_condvar.specs.declared.places.CondvarPlace.TheVariants.{Notify}
-use Rattle.steps_condvar.specs.CondvarMoves.{row_beside}
-use Rattle.steps_condvar.specs.CondvarMutex.{FollowsBeside}
-use Rattle.steps_condvar.specs.CondvarSteps.{notified, notify_act}
-use Rattle.steps_condvar.proofs.NotifierFit.{notifiers_follow}
-use Rattle.spec_locks.specs.Condvars.{IsCondvar, WaitsAside}
 use Rattle.spec_locks.specs.Locks as locks
-use Rattle.spec_locks.specs.Locks.{keep_from, putting}
-use Rattle.spec_locks.specs.Sites.{End, In, Main, Out, Site, has_readers}
-use Rattle.lot_machine.specs.Machine.{State, can_do, place_at, put, queue_at, section_at, state_with_sections}
-use Rattle.lot_laws.specs.ThreadDeeds.{acts}
-use Rattle.lot_laws.specs.Refinement.{taken_at}
-use Rattle.lot_laws.specs.Locations.{role_on, location_at}
-use Rattle.lot_laws.specs.SitesOf.{FitsItsLock, GoesAll, IsInductive, condvar_of, key_of, rules_in, site_of}
-use Rattle.lot_laws.specs.SitesOf.{locations_of, carried_at, hand_at}
 use Rattle.lot_laws.proofs.machine.Parts.{parts_at, put_here, put_other, LetGo, stays, untaken}
 use Rattle.lot_laws.proofs.sites.OneStep.{Steps, steps_by}
 use Rattle.lot_laws.proofs.sites.StandsKept.{Alike, other_key, both}
@@ -39,11 +21,8 @@ use Rattle.lot_laws.proofs.condvar.TwoParts.{Beside, role_beside, nothing_else, 
 use Rattle.lot_laws.proofs.condvar.Replies as hears
 use Rattle.lot_laws.proofs.condvar.Replies.{notifier_hears, none_so}
 use Rattle.lot_laws.proofs.condvar.MutexUntouched.{in_steps, out_steps, then_is, was}
-use Rattle.steps_condvar.specs.CondvarProfiles.{has_moved, notify_row}
-use Rattle.steps_mutex.specs.MutexProfiles.{inside}
 use Rattle.lot_laws.proofs.sites.LawsKept.{after_same, needed_same}
 use Rattle.lot_laws.proofs.sites.WakesAt.{leaving_by}
-use Rattle.steps_base.specs.Profiles.{hand}
 
 module _ (w : State) (t l m : ℕ) (all : Bool) (inductive : IsInductive w) (is_there : t < length w.places)
     (apart : m ≢ l)

@@ -1,53 +1,27 @@
 -- A step of a notification is one event of its condition variable or of the mutex that it saw, or a move of
--- waiters from the one to the other; and its
--- call goes on by it.
-use Rattle.std.proofs.Common.{ℕ, Bool, true, false, Option, Some, None, if◌then◌else◌, ◌==◌, ◌≡◌, ◌≢◌, ◌⊎◌}
-use Rattle.std.proofs.Common.{◌*◌, ◌≤◌, List, [], ◌∷◌, length, inl, inr, refl, sym, ◌∙◌, ap, subst, arith}
+-- waiters from the one to the other; and its call goes on by it.
+use Rattle.lot_laws.proofs.Names
+use Names.{ℕ, Bool, true, false, Option, Some, None, if◌then◌else◌, ◌==◌, ◌≡◌, ◌≢◌, ◌⊎◌, ◌*◌, ◌≤◌, List, []}
+use Names.{◌∷◌, length, inl, inr, refl, sym, ◌∙◌, ap, subst, arith, cases_eq, eqb-true, nat_tests, outcome_of}
+use Names.{rights_where, Location, blank_row, in_hand, Next, Reply, is_locked, NotifyAt, CondvarPlace, Wait}
+use Names.{Look, Notify, CallOfTwoFollows, IsReached, MayComeOfTwo, marked_event, notify_event, IsListed}
+use Names.{condvar_deeds, notify_deeds, beside_deeds, condvar_profile, condvar_row, mutex_side}
+use Names.{notify_carries, notify_recalls, condvar_next, in_notify, is_shown, move_act, next_notify}
+use Names.{notify_act, notifies_tell, Place, Condvar, condvar_does, condvar_goes, is_lock, profile_at}
+use Names.{IsCondvar, MissIt, MoveFits, SeeAgain, WaitsAside, moved_of, Waits, moved_fewer, KeepLock}
+use Names.{after_all, event_by, HasTakenNobody, LockCase, LockState, OfCondvar, SeeOwner, Wake, rights_of}
+use Names.{MayHappen, is_among, AtLock, Event, GoesOn, MayMove, Moves, Nothing, is_taken_by, Case, Deed, End}
+use Names.{In, Main, MarkBrought, MarkOwned, Out, kept, State, can_do, kind_at, place_at, queue_at, reply_to}
+use Names.{word_at, IsMutexWord, acts, call_at, call_state, lock_state, locks_of, taken_at, FollowAll}
+use Names.{IsInductive, condvar_of, rules_in, site_of}
 use Rattle.std.specs.Prelude.{is_some}
-use Rattle.std.proofs.lemmas.Bool.{cases_eq, eqb-true}
-use Rattle.std.proofs.lemmas.Bool.Decides.{nat_tests}
 use Rattle.spec_locks.specs.declared.outcomes.Outcome as outcome
-use Rattle.steps_base.specs.Acts.{outcome_of}
-use Rattle.steps_base.specs.Calls.{rights_where}
-use Rattle.steps_base.specs.Locations.{Location}
-use Rattle.steps_base.specs.Profiles.{blank_row, in_hand}
-use Rattle.steps_base.specs.declared.acts.Next.{Next}
 use Rattle.steps_base.specs.declared.acts.Next.TheVariants as next
-use Rattle.steps_base.specs.declared.acts.Reply.{Reply}
-use Rattle.steps_mutex.specs.MutexSteps.{is_locked}
-use Rattle.steps_condvar.specs.declared.notify.NotifyAt.{NotifyAt}
 use Rattle.steps_condvar.specs.declared.notify.NotifyAt.TheVariants as notify
-use Rattle.steps_condvar.specs.declared.places.CondvarPlace.{CondvarPlace}
-use Rattle.steps_condvar.specs.declared.places.CondvarPlace.TheVariants.{Wait, Look, Notify}
-use Rattle.steps_condvar.specs.CondvarCalls.{CallOfTwoFollows, IsReached, MayComeOfTwo, marked_event}
-use Rattle.steps_condvar.specs.CondvarCalls.{notify_event, or_else}
-use Rattle.steps_condvar.specs.CondvarDeeds.{IsListed, condvar_deeds, notify_deeds}
+use Rattle.steps_condvar.specs.CondvarCalls.{or_else}
 use Rattle.steps_condvar.specs.CondvarDeeds as condvar
-use Rattle.steps_condvar.specs.CondvarMutex.{beside_deeds}
-use Rattle.steps_condvar.specs.CondvarProfiles.{condvar_profile, condvar_row, mutex_side, notify_carries}
-use Rattle.steps_condvar.specs.CondvarProfiles.{notify_recalls}
-use Rattle.steps_condvar.specs.CondvarSteps.{condvar_next, in_notify, is_shown, move_act, next_notify}
-use Rattle.steps_condvar.specs.CondvarSteps.{notify_act}
-use Rattle.steps_condvar.proofs.NotifyTells.{notifies_tell}
-use Rattle.lot_steps.specs.declared.places.Place.{Place}
-use Rattle.lot_steps.specs.declared.places.Place.TheVariants.{Condvar}
-use Rattle.lot_steps.specs.Steps.{condvar_does, condvar_goes, is_lock, profile_at}
-use Rattle.spec_locks.specs.Condvars.{IsCondvar, MissIt, MoveFits, SeeAgain, WaitsAside, moved_of}
-use Rattle.spec_locks.specs.Purposes.{Waits}
-use Rattle.spec_locks.proofs.CondvarKeeps.{moved_fewer}
-use Rattle.spec_locks.specs.Deeds.{KeepLock, after_all, event_by}
 use Rattle.spec_locks.specs.Locks as locks
-use Rattle.spec_locks.specs.Locks.{HasTakenNobody, LockCase, LockState, OfCondvar, SeeOwner, Wake, rights_of}
-use Rattle.spec_locks.specs.Runs.{MayHappen, is_among, AtLock, Event, GoesOn, MayMove, Moves, Nothing}
-use Rattle.spec_locks.specs.Runs.{is_taken_by}
-use Rattle.spec_locks.specs.Sites.{Case, Deed, End, In, Main, MarkBrought, MarkOwned, Out}
-use Rattle.spec_locks.proofs.Deeds.{kept}
-use Rattle.lot_machine.specs.Machine.{State, can_do, kind_at, place_at, queue_at, reply_to, word_at}
-use Rattle.lot_laws.specs.MutexPromises.{IsMutexWord}
-use Rattle.lot_laws.specs.ThreadDeeds.{acts}
 use Rattle.lot_laws.specs.ThreadDeeds as deeds
-use Rattle.lot_laws.specs.Refinement.{call_at, call_state, lock_state, locks_of, taken_at}
-use Rattle.lot_laws.specs.SitesOf.{FollowAll, IsInductive, condvar_of, rules_in, site_of}
 use Rattle.lot_laws.proofs.machine.AtPlaces.{coded, in_no_hand, taken_nobody}
 use Rattle.lot_laws.proofs.calls.Events.{Happens, happens_sending, OthersFollow, deeds_by, put_is, rights}
 use Rattle.lot_laws.proofs.condvar.StepEvents.{call_named, Led, NamesStill, ToldSo, begins_two, call_led}

@@ -1,25 +1,13 @@
 -- A notification goes on: by each of its acts both its locks are sites again, as the deeds of its place say.
-use Rattle.std.proofs.Common.{ℕ, Bool, true, false, ◌≡◌, ◌≢◌, ◌<◌, List, [], ◌∷◌, length, refl, sym, subst}
-use Rattle.steps_base.specs.declared.acts.Reply.{Reply}
-use Rattle.lot_steps.specs.declared.places.Place.{Place}
-use Rattle.lot_steps.specs.declared.places.Place.TheVariants.{Condvar}
-use Rattle.lot_steps.specs.Steps.{condvar_goes, next_place}
-use Rattle.steps_condvar.specs.declared.notify.NotifyAt.{NotifyAt}
+use Rattle.lot_laws.proofs.Names
+use Names.{ℕ, Bool, true, false, ◌≡◌, ◌≢◌, ◌<◌, List, [], ◌∷◌, length, refl, sym, subst, Reply, Place}
+use Names.{Condvar, condvar_goes, next_place, NotifyAt, CondvarPlace, Notify, IsReached, notify_deeds}
+use Names.{beside_deeds, brings, condvar_next, move_act, notify_act, IsCondvar, WaitsAside, Deed, Main, Send}
+use Names.{State, can_do, place_at, put, reply_to, state_after_act, acts, FitsItsLock, Goes, GoesAll}
+use Names.{IsInductive, condvar_of, key_of, rules_in, site_of}
 use Rattle.steps_condvar.specs.declared.notify.NotifyAt.TheVariants as notify
-use Rattle.steps_condvar.specs.declared.places.CondvarPlace.{CondvarPlace}
-use Rattle.steps_condvar.specs.declared.places.CondvarPlace.TheVariants.{Notify}
-use Rattle.steps_condvar.specs.CondvarCalls.{IsReached}
-use Rattle.steps_condvar.specs.CondvarDeeds.{notify_deeds}
-use Rattle.steps_condvar.specs.CondvarMutex.{beside_deeds, brings}
-use Rattle.steps_condvar.specs.CondvarSteps.{condvar_next, move_act, notify_act}
-use Rattle.spec_locks.specs.Condvars.{IsCondvar, WaitsAside}
 use Rattle.spec_locks.specs.Locks as locks
-use Rattle.spec_locks.specs.Sites.{Deed, Main, Send}
-use Rattle.lot_machine.specs.Machine.{State, can_do, place_at, put, reply_to, state_after_act}
-use Rattle.lot_laws.specs.ThreadDeeds.{acts}
 use Rattle.lot_laws.specs.ThreadDeeds as deeds
-use Rattle.lot_laws.specs.SitesOf.{FitsItsLock, Goes, GoesAll, IsInductive, condvar_of, key_of, rules_in}
-use Rattle.lot_laws.specs.SitesOf.{site_of}
 use Rattle.lot_laws.proofs.machine.Parts as glue
 use Rattle.lot_laws.proofs.sites.TwoLocks.{two_at}
 use Rattle.lot_laws.proofs.condvar.OwnStand.{notifier_still}

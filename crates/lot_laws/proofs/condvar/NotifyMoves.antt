@@ -1,47 +1,24 @@
 -- A notification moves waiters of its condition variable to the mutex, or takes the first of them: both locks
 -- are sites again.
-use Rattle.std.proofs.Common.{ℕ, Bool, true, false, Some, None, if◌then◌else◌, ◌==◌, ◌≡◌, ◌≢◌, ◌+◌, ◌*◌, ◌≤◌}
-use Rattle.std.proofs.Common.{◌<◌, List, [], ◌∷◌, ◌++◌, length, map, drop, take, get_or, set, not, refl, sym}
-use Rattle.std.proofs.Common.{◌∙◌, ap, subst, arith, inl, inr, length-set, get_or-set_same, get_or-set_other}
-use Rattle.std.proofs.lemmas.Bool.Decides.{nat_tests}
-use Rattle.core_base.specs.declared.requeues.Requeue.{Requeue}
+use Rattle.lot_laws.proofs.Names
+use Names.{ℕ, Bool, true, false, Some, None, if◌then◌else◌, ◌==◌, ◌≡◌, ◌≢◌, ◌+◌, ◌*◌, ◌≤◌, ◌<◌, List, [], ◌∷◌}
+use Names.{◌++◌, length, map, drop, take, get_or, set, not, refl, sym, ◌∙◌, ap, subst, arith, inl, inr}
+use Names.{length-set, get_or-set_same, get_or-set_other, nat_tests, Requeue, Waiter, Exclusive, first_of}
+use Names.{threads_of, times, moved_by, taken_by, Next, At, Reply, MovedTo, TakenBy, Took, inside_of, in_hand}
+use Names.{taken_from, Location, Place, Condvar, Idle, condvar_goes, next_place, NotifyAt, CondvarPlace}
+use Names.{Notify, MovesWaiters, row_beside, there, FollowsBeside, MayHearBeside, beside_deeds, role_next}
+use Names.{condvar_next, in_notify, move_act, next_notify, notifiers_follow, IsCondvar, WaitsAside}
+use Names.{wanting_mutex, line_of, moved_of, taken_of, putting, Rights, queued_of, Bring, Deed, Role}
+use Names.{bringing, Main, Send, has_readers, idle, State, left_in_line, listed, moved_threads, moved_under}
+use Names.{place_at, places_told, put, queue_at, state_after_requeue, queues_without_first}
+use Names.{state_after_taking, reply_to, state_after_act, acts, taken_at, call_state, role_on, location_at}
+use Names.{ActsNeeded, AreWaiting, FitsItsLock, GoesAll, IsInductive, condvar_of, key_of, rules_in, site_of}
+use Names.{locations_of, stood_in, told_count, notifies_move, nat_le, WasMoved, if_moved}
 use Rattle.core_base.specs.declared.requeues.Requeue.TheVariants as requeue
-use Rattle.core_base.specs.declared.wants.Waiter.{Waiter}
-use Rattle.core_base.specs.declared.wants.Want.TheVariants.{Exclusive}
-use Rattle.core_base.specs.Lines.{first_of, threads_of, times}
-use Rattle.core_base.specs.Requeues.{moved_by, taken_by}
-use Rattle.steps_base.specs.declared.acts.Next.{Next}
-use Rattle.steps_base.specs.declared.acts.Next.TheVariants.{At, End as Over}
-use Rattle.steps_base.specs.declared.acts.Reply.{Reply}
-use Rattle.steps_base.specs.declared.acts.Reply.TheVariants.{MovedTo, TakenBy, Took}
-use Rattle.steps_base.specs.Moves.{inside_of}
-use Rattle.steps_base.specs.Profiles.{in_hand, taken_from}
-use Rattle.steps_base.specs.Locations.{Location}
-use Rattle.lot_steps.specs.declared.places.Place.{Place}
-use Rattle.lot_steps.specs.declared.places.Place.TheVariants.{Condvar, Idle}
-use Rattle.lot_steps.specs.Steps.{condvar_goes, next_place}
-use Rattle.steps_condvar.specs.declared.notify.NotifyAt.{NotifyAt}
+use Rattle.steps_base.specs.declared.acts.Next.TheVariants.{End as Over}
 use Rattle.steps_condvar.specs.declared.notify.NotifyAt.TheVariants as notify
-use Rattle.steps_condvar.specs.declared.places.CondvarPlace.{CondvarPlace}
-use Rattle.steps_condvar.specs.declared.places.CondvarPlace.TheVariants.{Notify}
-use Rattle.steps_condvar.specs.CondvarMoves.{MovesWaiters, row_beside, there}
-use Rattle.steps_condvar.specs.CondvarMutex.{FollowsBeside, MayHearBeside, beside_deeds, role_next}
-use Rattle.steps_condvar.specs.CondvarSteps.{condvar_next, in_notify, move_act, next_notify}
-use Rattle.steps_condvar.proofs.NotifierFit.{notifiers_follow}
-use Rattle.spec_locks.specs.Condvars.{IsCondvar, WaitsAside, wanting_mutex, line_of, moved_of, taken_of}
 use Rattle.spec_locks.specs.Deeds as laws
 use Rattle.spec_locks.specs.Locks as locks
-use Rattle.spec_locks.specs.Locks.{putting, Rights}
-use Rattle.spec_locks.specs.Picks.{queued_of}
-use Rattle.spec_locks.specs.Sites.{Bring, Deed, Role, bringing, Main, Send, has_readers, idle}
-use Rattle.lot_machine.specs.Machine.{State, left_in_line, listed, moved_threads, moved_under, place_at}
-use Rattle.lot_machine.specs.Machine.{places_told, put, queue_at, state_after_requeue, queues_without_first}
-use Rattle.lot_machine.specs.Machine.{state_after_taking, reply_to, state_after_act}
-use Rattle.lot_laws.specs.ThreadDeeds.{acts}
-use Rattle.lot_laws.specs.Refinement.{taken_at, call_state}
-use Rattle.lot_laws.specs.Locations.{role_on, location_at}
-use Rattle.lot_laws.specs.SitesOf.{ActsNeeded, AreWaiting, FitsItsLock, GoesAll, IsInductive, condvar_of}
-use Rattle.lot_laws.specs.SitesOf.{key_of, rules_in, site_of, locations_of, stood_in}
 use Rattle.lot_laws.proofs.machine.Parts.{put_here, same, put_places, put_other}
 use Rattle.lot_laws.proofs.sites.LawsKept.{needed_same}
 use Rattle.lot_laws.proofs.sites.StandsKept.{Alike, other_key}
@@ -54,12 +31,7 @@ use Rattle.lot_laws.proofs.condvar.MovingKept.{moves_kept}
 use Rattle.lot_laws.proofs.condvar.Moving.{WaitsAcross, places_across, goes}
 use Rattle.lot_laws.proofs.sites.TakesAt.{member, at_most_one, member_times, told_once, told_places}
 use Rattle.lot_laws.proofs.sites.TakesAt.{stranger_times, only_member}
-use Rattle.lot_machine.proofs.QueueLemmas.{told_count}
-use Rattle.steps_condvar.proofs.CondvarActs.{notifies_move}
 use Rattle.lot_laws.proofs.condvar.Replies.{notifier_hears}
-use Rattle.std.specs.Prelude.{nat_le}
-use Rattle.spec_locks.specs.Purposes.{WasMoved}
-use Rattle.spec_locks.specs.Runs.{if_moved}
 use Rattle.lot_laws.proofs.sites.OneStep.{queued_times}
 
 -- ---------------------------------------------------------------- the lists

@@ -1,31 +1,14 @@
 -- By each act of a notification the calls of the other threads become what its event makes of them: each
 -- thread that is moved or taken knows it, and each thread that is woken tries the mutex again.
-use Rattle.std.proofs.Common.{ℕ, Bool, true, false, None, if◌then◌else◌, ◌==◌, ◌≡◌, ◌≢◌, ◌*◌, ◌<◌, length}
-use Rattle.std.proofs.Common.{refl, sym, ◌∙◌, ap, subst, inl, inr}
-use Rattle.std.proofs.lemmas.Bool.{cases_eq}
-use Rattle.core_base.specs.declared.keys.Keys.TheVariants.{Two}
-use Rattle.steps_base.specs.declared.acts.Next.TheVariants.{At}
-use Rattle.steps_base.specs.Locations.{Location}
-use Rattle.lot_steps.specs.declared.places.Place.{Place}
-use Rattle.lot_steps.specs.declared.places.Place.TheVariants.{Condvar}
-use Rattle.lot_steps.specs.Steps.{condvar_goes}
-use Rattle.steps_mutex.specs.MutexSteps.{is_locked}
-use Rattle.steps_condvar.specs.declared.notify.NotifyAt.{NotifyAt}
+use Rattle.lot_laws.proofs.Names
+use Names.{ℕ, Bool, true, false, None, if◌then◌else◌, ◌==◌, ◌≡◌, ◌≢◌, ◌*◌, ◌<◌, length, refl, sym, ◌∙◌, ap}
+use Names.{subst, inl, inr, cases_eq, Two, At, Location, Place, Condvar, condvar_goes, is_locked, NotifyAt}
+use Names.{CondvarPlace, Notify, notify_event, condvar_next, move_act, notify_act, IsCondvar, WaitsAside}
+use Names.{moved_of, Rights, rights_of, LockState, putting, AtLock, Event, Moves, Nothing, if_moved, Main}
+use Names.{State, place_at, put, reply_to, state_after_act, state_with_sections, word_at, call_state}
+use Names.{lock_state, FitsItsLock, IsInductive, carried_at, condvar_of, key_of, rules_in, site_of}
 use Rattle.steps_condvar.specs.declared.notify.NotifyAt.TheVariants as notify
-use Rattle.steps_condvar.specs.declared.places.CondvarPlace.{CondvarPlace}
-use Rattle.steps_condvar.specs.declared.places.CondvarPlace.TheVariants.{Notify}
-use Rattle.steps_condvar.specs.CondvarCalls.{notify_event}
-use Rattle.steps_condvar.specs.CondvarSteps.{condvar_next, move_act, notify_act}
-use Rattle.spec_locks.specs.Condvars.{IsCondvar, WaitsAside, moved_of}
 use Rattle.spec_locks.specs.Locks as locks
-use Rattle.spec_locks.specs.Locks.{Rights, rights_of, LockState, putting}
-use Rattle.spec_locks.specs.Runs.{AtLock, Event, Moves, Nothing, if_moved}
-use Rattle.spec_locks.specs.Sites.{Main}
-use Rattle.lot_machine.specs.Machine.{State, place_at, put, reply_to, state_after_act, state_with_sections}
-use Rattle.lot_machine.specs.Machine.{word_at}
-use Rattle.lot_laws.specs.Refinement.{call_state, lock_state}
-use Rattle.lot_laws.specs.SitesOf.{FitsItsLock, IsInductive, carried_at, condvar_of, key_of, rules_in}
-use Rattle.lot_laws.specs.SitesOf.{site_of}
 use Rattle.lot_laws.proofs.calls.Events.{Happens, OthersFollow, rights}
 use Rattle.lot_laws.proofs.condvar.OtherCalls.{IsCalmEvent, calm_follow, condvar_carries, wake_follows}
 use Rattle.lot_laws.proofs.condvar.TwoParts.{location_beside}

@@ -1,38 +1,18 @@
 -- A notification goes out of both its sections and wakes the threads that it took: both locks are sites
 -- again.
-use Rattle.std.proofs.Common.{ℕ, Bool, true, false, Option, Some, None, if◌then◌else◌, ◌==◌, ◌≡◌, ◌≢◌, ◌<◌}
-use Rattle.std.proofs.Common.{[], ◌∷◌, length, map, get_or, replicate, refl, sym, ◌∙◌, ap, subst, inl, inr}
-use Rattle.std.proofs.Common.{length-set}
-use Rattle.std.proofs.lemmas.Bool.{cases_eq}
-use Rattle.std.proofs.lemmas.List.{length-map}
-use Rattle.core_base.specs.declared.notes.Note.TheVariants.{Normal}
-use Rattle.steps_base.specs.declared.acts.Next.TheVariants.{At, End as Over}
-use Rattle.steps_base.specs.declared.acts.Reply.TheVariants.{Done, Woken}
-use Rattle.steps_base.specs.Owners.{is_thread}
-use Rattle.steps_base.specs.Profiles.{hand, Hand}
-use Rattle.steps_base.specs.Locations.{Location, nowhere, location_by}
-use Rattle.lot_steps.specs.declared.places.Place.{Place}
-use Rattle.lot_steps.specs.declared.places.Place.TheVariants.{Condvar, Idle}
-use Rattle.lot_steps.specs.Steps.{taker}
-use Rattle.steps_condvar.specs.declared.notify.NotifyAt.{NotifyAt}
+use Rattle.lot_laws.proofs.Names
+use Names.{ℕ, Bool, true, false, Option, Some, None, if◌then◌else◌, ◌==◌, ◌≡◌, ◌≢◌, ◌<◌, [], ◌∷◌, length, map}
+use Names.{get_or, replicate, refl, sym, ◌∙◌, ap, subst, inl, inr, length-set, cases_eq, length-map, Normal}
+use Names.{At, Done, Woken, is_thread, hand, Hand, Location, location_by, Place, Condvar, Idle, taker}
+use Names.{NotifyAt, CondvarPlace, Notify, FollowsBeside, condvar_profile, mutex_side, notifiers_follow, code}
+use Names.{IsCondvar, WaitsAside, keep_from, End, Main, Out, Site, has_readers, State, place_after_telling}
+use Names.{place_at, put, queue_at, section_at, state_after_telling, acts, taken_at, role_on, location_at}
+use Names.{GoesAll, IsInductive, Sections, carried_at, condvar_of, hand_at, key_of, rules_in, site_of}
+use Names.{locations_of, notified}
+use Rattle.steps_base.specs.declared.acts.Next.TheVariants.{End as Over}
+use Rattle.steps_base.specs.Locations.{nowhere}
 use Rattle.steps_condvar.specs.declared.notify.NotifyAt.TheVariants as notify
-use Rattle.steps_condvar.specs.declared.places.CondvarPlace.{CondvarPlace}
-use Rattle.steps_condvar.specs.declared.places.CondvarPlace.TheVariants.{Notify}
-use Rattle.steps_condvar.specs.CondvarMutex.{FollowsBeside}
-use Rattle.steps_condvar.specs.CondvarProfiles.{condvar_profile, mutex_side}
-use Rattle.steps_condvar.proofs.NotifierFit.{notifiers_follow}
-use Rattle.spec_locks.specs.Codes.{code}
-use Rattle.spec_locks.specs.Condvars.{IsCondvar, WaitsAside}
 use Rattle.spec_locks.specs.Locks as locks
-use Rattle.spec_locks.specs.Locks.{keep_from}
-use Rattle.spec_locks.specs.Sites.{End, Main, Out, Site, has_readers}
-use Rattle.lot_machine.specs.Machine.{State, place_after_telling, place_at, put, queue_at, section_at}
-use Rattle.lot_machine.specs.Machine.{state_after_telling}
-use Rattle.lot_laws.specs.ThreadDeeds.{acts}
-use Rattle.lot_laws.specs.Refinement.{taken_at}
-use Rattle.lot_laws.specs.Locations.{role_on, location_at}
-use Rattle.lot_laws.specs.SitesOf.{GoesAll, IsInductive, Sections, carried_at, condvar_of, hand_at, key_of}
-use Rattle.lot_laws.specs.SitesOf.{rules_in, site_of, locations_of}
 use Rattle.lot_laws.proofs.machine.Parts as glue
 use Rattle.lot_laws.proofs.machine.Parts.{LetGo, parts_at, put_here, put_other, stays, untaken}
 use Rattle.lot_laws.proofs.hands.Handed.{CarriesAt}
@@ -54,7 +34,6 @@ use Rattle.lot_laws.proofs.condvar.NotifyEnters as both
 use Rattle.lot_laws.proofs.mutex.Waiters.{IsHeldThere, calls_mutex_at, held_there, holds_here}
 use Rattle.lot_laws.proofs.sites.WakesAt as waking
 use Rattle.lot_laws.proofs.sites.WakesAt.{IsWokenAt, leaving_by}
-use Rattle.steps_condvar.specs.CondvarSteps.{notified}
 
 module _ (w : State) (t l m : ℕ) (all : Bool) (inductive : IsInductive w) (is_there : t < length w.places)
     (apart : m ≢ l)

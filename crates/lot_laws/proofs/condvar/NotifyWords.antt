@@ -1,48 +1,21 @@
 -- Each step of a notification on a word, of its condition variable or of the mutex beside it: every lock is a
 -- site again.
-use Rattle.std.proofs.Common.{ℕ, Bool, true, false, None, if◌then◌else◌, ◌==◌, ◌≡◌, ◌≢◌, ◌<◌, List, [], ◌∷◌}
-use Rattle.std.proofs.Common.{length, not, refl, sym, ◌∙◌, ap, subst, inl, inr}
-use Rattle.std.proofs.lemmas.Bool.{cases_eq}
-use Rattle.core_base.specs.declared.ops.Op.{Op}
+use Rattle.lot_laws.proofs.Names
+use Names.{ℕ, Bool, true, false, None, if◌then◌else◌, ◌==◌, ◌≡◌, ◌≢◌, ◌<◌, List, [], ◌∷◌, length, not, refl}
+use Names.{sym, ◌∙◌, ap, subst, inl, inr, cases_eq, Op, apply, Act, Next, At, Value, with_exclusive}
+use Names.{inside_of, taken_from, location_by, Place, Condvar, condvar_goes, is_locked, NotifyAt}
+use Names.{CondvarPlace, Notify, MayHear, condvar_deeds, row_beside, row_there, there, FollowsBeside}
+use Names.{MayHearBeside, beside_deeds, role_next, condvar_next, condvar_owners, in_notify, is_shown, marks}
+use Names.{next_notify, notify_act, condvar_steps_follow, notifiers_code, notifiers_follow, code, IsCondvar}
+use Names.{WaitsAside, Rules, Deed, Main, MarkOwned, Site, State, can_do, owners_at, place_at, put, reply_to}
+use Names.{state_after_act, word_at, acts, taken_at, location_at, FitsItsLock, Goes, IsInductive, condvar_of}
+use Names.{rules_in, site_of}
 use Rattle.core_base.specs.declared.ops.Op.TheVariants as op
-use Rattle.core_base.specs.Words.{apply}
-use Rattle.steps_base.specs.declared.acts.Act.{Act}
 use Rattle.steps_base.specs.declared.acts.Act.TheVariants as act
-use Rattle.steps_base.specs.declared.acts.Next.{Next}
-use Rattle.steps_base.specs.declared.acts.Next.TheVariants.{At}
-use Rattle.steps_base.specs.declared.acts.Reply.TheVariants.{Value}
-use Rattle.steps_base.specs.Owners.{with_exclusive}
-use Rattle.steps_base.specs.Moves.{inside_of}
-use Rattle.steps_base.specs.Profiles.{taken_from}
-use Rattle.steps_base.specs.Locations.{location_by}
-use Rattle.lot_steps.specs.declared.places.Place.{Place}
-use Rattle.lot_steps.specs.declared.places.Place.TheVariants.{Condvar}
-use Rattle.lot_steps.specs.Steps.{condvar_goes}
-use Rattle.steps_mutex.specs.MutexSteps.{is_locked}
-use Rattle.steps_condvar.specs.declared.notify.NotifyAt.{NotifyAt}
 use Rattle.steps_condvar.specs.declared.notify.NotifyAt.TheVariants as notify
-use Rattle.steps_condvar.specs.declared.places.CondvarPlace.{CondvarPlace}
-use Rattle.steps_condvar.specs.declared.places.CondvarPlace.TheVariants.{Notify}
-use Rattle.steps_condvar.specs.CondvarDeeds.{MayHear, condvar_deeds}
-use Rattle.steps_condvar.specs.CondvarMoves.{row_beside, row_there, there}
-use Rattle.steps_condvar.specs.CondvarMutex.{FollowsBeside, MayHearBeside, beside_deeds, role_next}
-use Rattle.steps_condvar.specs.CondvarSteps.{condvar_next, condvar_owners, in_notify, is_shown, marks}
-use Rattle.steps_condvar.specs.CondvarSteps.{next_notify, notify_act}
-use Rattle.steps_condvar.proofs.CondvarFit.{condvar_steps_follow}
-use Rattle.steps_condvar.proofs.NotifierFit.{notifiers_code, notifiers_follow}
-use Rattle.spec_locks.specs.Codes.{code}
 use Rattle.spec_locks.specs.Condvars as condvars
-use Rattle.spec_locks.specs.Condvars.{IsCondvar, WaitsAside}
 use Rattle.spec_locks.specs.Deeds as laws
 use Rattle.spec_locks.specs.Locks as locks
-use Rattle.spec_locks.specs.Locks.{Rules}
-use Rattle.spec_locks.specs.Sites.{Deed, Main, MarkOwned, Site}
-use Rattle.lot_machine.specs.Machine.{State, can_do, owners_at, place_at, put, reply_to, state_after_act}
-use Rattle.lot_machine.specs.Machine.{word_at}
-use Rattle.lot_laws.specs.ThreadDeeds.{acts}
-use Rattle.lot_laws.specs.Refinement.{taken_at}
-use Rattle.lot_laws.specs.Locations.{location_at}
-use Rattle.lot_laws.specs.SitesOf.{FitsItsLock, Goes, IsInductive, condvar_of, rules_in, site_of}
 use Rattle.lot_laws.proofs.machine.Parts.{differ}
 use Rattle.lot_laws.proofs.sites.StandsKept.{Alike, AlikeBeside}
 use Rattle.lot_laws.proofs.condvar.TwoParts.{Beside, SameBeside, alike_beside, alike_there, role_beside}

@@ -1,61 +1,35 @@
 -- By each act of a call of a condition variable the calls of the other threads become what its event makes of
 -- them.
-use Rattle.std.proofs.Common.{ℕ, Bool, true, false, Option, Some, None, if◌then◌else◌, ◌==◌, ◌||◌, ◌≡◌, ◌≢◌}
-use Rattle.std.proofs.Common.{◌*◌, ◌<◌, List, [], ◌∷◌, length, not, refl, sym, ◌∙◌, ap, subst, get_or}
-use Rattle.std.proofs.Common.{get_or-set_other, inl, inr}
-use Rattle.core_base.specs.declared.keys.Keys.TheVariants.{One}
-use Rattle.core_base.specs.declared.wants.Want.TheVariants.{Exclusive}
-use Rattle.steps_base.specs.declared.acts.Next.{Next}
-use Rattle.steps_base.specs.declared.acts.Next.TheVariants.{At, End as Over}
-use Rattle.steps_base.specs.declared.acts.Reply.TheVariants.{Parked, Woken}
+use Rattle.lot_laws.proofs.Names
+use Names.{ℕ, Bool, true, false, Option, Some, None, if◌then◌else◌, ◌==◌, ◌||◌, ◌≡◌, ◌≢◌, ◌*◌, ◌<◌, List, []}
+use Names.{◌∷◌, length, not, refl, sym, ◌∙◌, ap, subst, get_or, get_or-set_other, inl, inr, One, Exclusive}
+use Names.{Next, At, Parked, Woken, Place, Condvar, Idle, LockAt, MutexPlace, enter_deeds}
+use Names.{take_deeds as takes_deeds, lock_deeds, is_locked, is_parked, lock_act, mutex_next, CondvarPlace}
+use Names.{Wait, WaitAt, IsLockOf, IsReached, case_there, wait_event, relocked_deeds, is_shown, wait_act}
+use Names.{mutex_beside, unended, SeeOther, Show, case_of, event_by, Leave, LockCase, Rights, AtLock}
+use Names.{CallState, Event, LocksState, Moves, Nothing, is_taken_by, woken, Case, End, Main, Mark, State}
+use Names.{can_do, place_at, put, reply_to, state_after_act, word_at, place_after_telling}
+use Names.{state_after_telling, state_with_sections, call_state, taken_at, IsInductive, rules_in, carried_at}
+use Names.{hand_at, WordIs, holds, get_or-map, cases_eq, Normal, is_thread, hand, Location, next_place, taker}
+use Names.{Stands}
+use Rattle.steps_base.specs.declared.acts.Next.TheVariants.{End as Over}
 use Rattle.steps_base.specs.declared.acts.Whom.TheVariants.{First}
-use Rattle.lot_steps.specs.declared.places.Place.{Place}
-use Rattle.lot_steps.specs.declared.places.Place.TheVariants.{Condvar, Idle}
 use Rattle.steps_mutex.specs.declared.lock.Entry.TheVariants as entry
-use Rattle.steps_mutex.specs.declared.lock.LockAt.{LockAt}
 use Rattle.steps_mutex.specs.declared.lock.LockAt.TheVariants as lock
-use Rattle.steps_mutex.specs.declared.places.MutexPlace.{MutexPlace}
 use Rattle.steps_mutex.specs.declared.places.MutexPlace.TheVariants as mutex
 use Rattle.steps_mutex.specs.declared.unlock.UnlockAt.TheVariants as unlock
-use Rattle.steps_mutex.specs.MutexDeeds.{enter_deeds, take_deeds as takes_deeds, lock_deeds}
-use Rattle.steps_mutex.specs.MutexSteps.{is_locked, is_parked, lock_act, mutex_next}
-use Rattle.steps_condvar.specs.declared.places.CondvarPlace.{CondvarPlace}
-use Rattle.steps_condvar.specs.declared.places.CondvarPlace.TheVariants.{Wait}
-use Rattle.steps_condvar.specs.declared.wait.WaitAt.{WaitAt}
 use Rattle.steps_condvar.specs.declared.wait.WaitAt.TheVariants as wait
-use Rattle.steps_condvar.specs.CondvarCalls.{IsLockOf, IsReached, case_there, or_else, wait_event}
-use Rattle.steps_condvar.specs.CondvarDeeds.{relocked_deeds}
-use Rattle.steps_condvar.specs.CondvarSteps.{is_shown, wait_act, mutex_beside}
-use Rattle.steps_condvar.specs.CondvarWaits.{unended}
-use Rattle.spec_locks.specs.Condvars.{SeeOther, Show}
-use Rattle.spec_locks.specs.Deeds.{case_of, event_by}
+use Rattle.steps_condvar.specs.CondvarCalls.{or_else}
 use Rattle.spec_locks.specs.Locks as locks
-use Rattle.spec_locks.specs.Locks.{Leave, LockCase, Rights}
-use Rattle.spec_locks.specs.Runs.{AtLock, CallState, Event, LocksState, Moves, Nothing, is_taken_by, woken}
-use Rattle.spec_locks.specs.Sites.{Case, End, Main, Mark}
-use Rattle.lot_machine.specs.Machine.{State, can_do, place_at, put, reply_to, state_after_act, word_at}
-use Rattle.lot_machine.specs.Machine.{place_after_telling, state_after_telling, state_with_sections}
-use Rattle.lot_laws.specs.Refinement.{call_state, taken_at}
-use Rattle.lot_laws.specs.SitesOf.{IsInductive, rules_in, carried_at, hand_at}
 use Rattle.lot_laws.proofs.machine.AtPlaces.{unless_held}
 use Rattle.lot_laws.proofs.calls.Events.{Happens, Others, OthersFollow, others_follow}
 use Rattle.lot_laws.proofs.condvar.Replies.{taken_by_wait, decided_by}
 use Rattle.lot_laws.proofs.calls.OtherCalls.{IsCalm, IsLonely, Stay, lonely, no_hand_off, takes}
 use Rattle.lot_laws.proofs.calls.OtherCalls.{taken_by_hand}
-use Rattle.steps_base.specs.declared.acts.Check.TheVariants.{WordIs}
-use Rattle.steps_base.specs.Acts.{holds}
-use Rattle.std.proofs.Math.ListN.{get_or-map}
-use Rattle.std.proofs.lemmas.Bool.{cases_eq}
-use Rattle.core_base.specs.declared.notes.Note.TheVariants.{Normal}
-use Rattle.steps_base.specs.Owners.{is_thread}
-use Rattle.steps_base.specs.Profiles.{hand}
-use Rattle.steps_base.specs.Locations.{Location}
-use Rattle.lot_steps.specs.Steps.{next_place, taker}
 use Rattle.lot_laws.proofs.machine.Parts.{IsInHandOf, aparts, held_tells, in_hand_where}
 use Rattle.lot_laws.proofs.hands.Handed.{CarriesAt, in_hand_here}
 use Rattle.lot_laws.proofs.condvar.TwoParts.{nothing_there, location_there, location_beside}
 use Rattle.lot_laws.proofs.calls.LockEvents.{Befalls, wakes_others}
-use Rattle.steps_condvar.specs.declared.wait.Stands.{Stands}
 
 -- an event that leaves the calls of the others as they are
 abbrev pub IsCalmEvent : Event → Type 0

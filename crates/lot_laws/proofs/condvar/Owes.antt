@@ -1,49 +1,28 @@
 -- A thread that has gone on in a call of a condition variable owes by the section that it is inside, and on
 -- its mutex where its release has just seen the parked bit.
-use Rattle.std.proofs.Common.{ℕ, Bool, true, false, Option, Some, None, if◌then◌else◌, ◌==◌, ◌≡◌, ◌<◌, ◌⊎◌}
-use Rattle.std.proofs.Common.{◌↔◌, ◌||◌, inl, inr, length, refl, sym, ◌∙◌, ap, subst}
-use Rattle.core_base.specs.declared.keys.Keys.TheVariants.{One}
+use Rattle.lot_laws.proofs.Names
+use Names.{ℕ, Bool, true, false, Option, Some, None, if◌then◌else◌, ◌==◌, ◌≡◌, ◌<◌, ◌⊎◌, ◌↔◌, ◌||◌, inl, inr}
+use Names.{length, refl, sym, ◌∙◌, ap, subst, One, CondvarCall, Outcome, outcome_of, Enter, Next, Late, At}
+use Names.{MutexPlace, in_unlock, is_parked, mutex_act, mutex_next, NotifyAt, CondvarPlace, Wait, Look}
+use Names.{Notify, Stands, WaitAt, IsReached, has_released, past_release, condvar_act, condvar_first}
+use Names.{condvar_next, in_notify, in_wait, is_shown, mutex_beside, mutex_shown, next_notify, notified}
+use Names.{notify_act, released, relocked, Condvar, act_of, condvar_does, condvar_goes, late_key, line_owed}
+use Names.{next_act, Rights, Sort, Waits, CallState, Line, Main, has_readers, State, going_outcome, place_at}
+use Names.{reply_to, state_after_act, state_after_going, word_at, call_at, call_state, FitsCondvar}
+use Names.{IsInductive, key_of, IsInside, IsWait, LetsOthersIn, LooksFirst, OnlyLooks, Owes, SeesWaiters}
+use Names.{line_let_in, sort_at, tells_by, tells_of}
 use Rattle.core_base.specs.declared.notes.Note.TheVariants as note
-use Rattle.spec_locks.specs.declared.calls.CondvarCall.{CondvarCall}
 use Rattle.spec_locks.specs.declared.calls.CondvarCall.TheVariants as call
 use Rattle.spec_locks.specs.declared.outcomes.Answer.TheVariants as answer
-use Rattle.spec_locks.specs.declared.outcomes.Outcome.{Outcome}
 use Rattle.spec_locks.specs.declared.outcomes.Outcome.TheVariants as told
-use Rattle.steps_base.specs.Acts.{outcome_of}
-use Rattle.steps_base.specs.declared.acts.Act.TheVariants.{Enter}
-use Rattle.steps_base.specs.declared.acts.Next.{Next}
-use Rattle.steps_base.specs.declared.acts.Reply.TheVariants.{Late}
-use Rattle.steps_base.specs.declared.acts.Next.TheVariants.{At, End as Over}
-use Rattle.steps_mutex.specs.declared.places.MutexPlace.{MutexPlace}
+use Rattle.steps_base.specs.declared.acts.Next.TheVariants.{End as Over}
 use Rattle.steps_mutex.specs.declared.places.MutexPlace.TheVariants as mutex
 use Rattle.steps_mutex.specs.declared.unlock.UnlockAt.TheVariants as unlock
-use Rattle.steps_mutex.specs.MutexSteps.{in_unlock, is_parked, mutex_act, mutex_next}
-use Rattle.steps_condvar.specs.declared.notify.NotifyAt.{NotifyAt}
 use Rattle.steps_condvar.specs.declared.notify.NotifyAt.TheVariants as notify
-use Rattle.steps_condvar.specs.declared.places.CondvarPlace.{CondvarPlace}
-use Rattle.steps_condvar.specs.declared.places.CondvarPlace.TheVariants.{Wait, Look, Notify}
-use Rattle.steps_condvar.specs.declared.wait.Stands.{Stands}
 use Rattle.steps_condvar.specs.declared.wait.Stands.TheVariants as stands
-use Rattle.steps_condvar.specs.declared.wait.WaitAt.{WaitAt}
 use Rattle.steps_condvar.specs.declared.wait.WaitAt.TheVariants as wait
-use Rattle.steps_condvar.specs.CondvarCalls.{IsReached}
-use Rattle.steps_condvar.specs.CondvarProfiles.{has_given_up, has_released}
-use Rattle.steps_condvar.specs.CondvarSteps.{past_release, condvar_act, condvar_first, condvar_next}
-use Rattle.steps_condvar.specs.CondvarSteps.{in_notify, in_wait, is_shown, mutex_beside, mutex_shown}
-use Rattle.steps_condvar.specs.CondvarSteps.{next_notify, notified, notify_act, released, relocked}
-use Rattle.lot_steps.specs.declared.places.Place.TheVariants.{Condvar}
-use Rattle.lot_steps.specs.Steps.{act_of, condvar_does, condvar_goes, late_key, line_owed, next_act}
+use Rattle.steps_condvar.specs.CondvarProfiles.{has_given_up}
 use Rattle.spec_locks.specs.Locks as locks
-use Rattle.spec_locks.specs.Locks.{Rights, Sort}
-use Rattle.spec_locks.specs.Purposes.{Waits}
-use Rattle.spec_locks.specs.Runs.{CallState}
-use Rattle.spec_locks.specs.Sites.{Line, Main, has_readers}
-use Rattle.lot_machine.specs.Machine.{State, going_outcome, place_at, reply_to, state_after_act}
-use Rattle.lot_machine.specs.Machine.{state_after_going, word_at}
-use Rattle.lot_laws.specs.Refinement.{call_at, call_state}
-use Rattle.lot_laws.specs.SitesOf.{FitsCondvar, IsInductive, key_of}
-use Rattle.lot_laws.specs.Owing.{IsInside, IsWait, LetsOthersIn, LooksFirst, OnlyLooks, Owes, SeesWaiters}
-use Rattle.lot_laws.specs.Owing.{line_let_in, sort_at, tells_by, tells_of}
 use Rattle.lot_laws.proofs.calls.Events.{rights}
 use Rattle.lot_laws.proofs.condvar.Replies.{fits_here, rules_beside}
 use Rattle.lot_laws.proofs.condvar.OwnStand.{IsStill, is_release, own_place, went_is, went_place}

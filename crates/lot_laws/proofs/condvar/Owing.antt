@@ -1,27 +1,14 @@
 -- A thread in a call of a condition variable owes what it owed, whichever event befalls it.
-use Rattle.std.proofs.Common.{ℕ, Bool, true, false, Option, None, if◌then◌else◌, ◌==◌, ◌≡◌, refl, sym, ◌∙◌}
-use Rattle.std.proofs.Common.{ap}
+use Rattle.lot_laws.proofs.Names
+use Names.{ℕ, Bool, true, false, Option, None, if◌then◌else◌, ◌==◌, ◌≡◌, refl, sym, ◌∙◌, ap, in_line, Next}
+use Names.{Reply, TakenBy, MovedTo, HandedBy, Woken, Mutex, Condvar, condvar_goes, line_owed, mutex_goes}
+use Names.{next_place, or_else, profile, mutex_next, MutexPlace, NotifyAt, CondvarPlace, Wait, Look, Notify}
+use Names.{Stands, WaitAt, in_wait, relocked, is_main_line, Main}
 use Rattle.core_base.specs.declared.keys.Line.{Line}
 use Rattle.core_base.specs.declared.notes.Note.TheVariants as note
-use Rattle.steps_base.specs.Profiles.{in_line}
-use Rattle.steps_base.specs.declared.acts.Next.{Next}
 use Rattle.steps_base.specs.declared.acts.Next.TheVariants as next
-use Rattle.steps_base.specs.declared.acts.Reply.{Reply}
-use Rattle.steps_base.specs.declared.acts.Reply.TheVariants.{TakenBy, MovedTo, HandedBy, Woken}
-use Rattle.lot_steps.specs.declared.places.Place.TheVariants.{Mutex, Condvar}
-use Rattle.lot_steps.specs.Steps.{condvar_goes, line_owed, mutex_goes, next_place, or_else, profile}
-use Rattle.steps_mutex.specs.MutexSteps.{mutex_next}
-use Rattle.steps_mutex.specs.declared.places.MutexPlace.{MutexPlace}
-use Rattle.steps_condvar.specs.declared.notify.NotifyAt.{NotifyAt}
 use Rattle.steps_condvar.specs.declared.notify.NotifyAt.TheVariants as notify
-use Rattle.steps_condvar.specs.declared.places.CondvarPlace.{CondvarPlace}
-use Rattle.steps_condvar.specs.declared.places.CondvarPlace.TheVariants.{Wait, Look, Notify}
-use Rattle.steps_condvar.specs.declared.wait.Stands.{Stands}
-use Rattle.steps_condvar.specs.declared.wait.WaitAt.{WaitAt}
 use Rattle.steps_condvar.specs.declared.wait.WaitAt.TheVariants as wait
-use Rattle.steps_condvar.specs.CondvarSteps.{in_wait, relocked}
-use Rattle.steps_condvar.specs.CondvarProfiles.{is_main_line}
-use Rattle.spec_locks.specs.Sites.{Main}
 use Rattle.lot_laws.proofs.machine.Parts.{same}
 use Rattle.lot_laws.proofs.mutex.Owing.{mutex_befallen}
 use Rattle.lot_laws.proofs.promises.RowPromises.{Befalls}

@@ -1,41 +1,24 @@
 -- Where a thread in a call of a condition variable stands once it has acted: where it stood, or where its own
 -- release of its mutex has left it.
-use Rattle.std.proofs.Common.{ℕ, Bool, true, false, None, if◌then◌else◌, ◌==◌, ◌≡◌, ◌*◌, ◌+◌, ◌<◌, length}
-use Rattle.std.proofs.Common.{not, refl, sym, ◌∙◌, ap, subst, get_or-set_same}
-use Rattle.core_base.specs.declared.keys.Keys.TheVariants.{One}
+use Rattle.lot_laws.proofs.Names
+use Names.{ℕ, Bool, true, false, None, if◌then◌else◌, ◌==◌, ◌≡◌, ◌*◌, ◌+◌, ◌<◌, length, not, refl, sym, ◌∙◌}
+use Names.{ap, subst, get_or-set_same, One, Next, Reply, TakenBy, MovedTo, HandedBy, Woken, MutexPlace}
+use Names.{LockAt, is_locked, lock_act, mutex_next, NotifyAt, CondvarPlace, Wait, Look, Notify, Stands}
+use Names.{WaitAt, IsLockOf, IsReached, wait_row, stands_after, comes_from_another, past_release, condvar_act}
+use Names.{condvar_next, release_next, released, Place, Idle, Condvar, condvar_goes, next_place, State}
+use Names.{place_at, reply_to, state_after_act, state_after_going, acted_keeps, tells, performed_counts}
 use Rattle.core_base.specs.declared.notes.Note.TheVariants as note
 use Rattle.core_base.specs.declared.ops.Op as op
 use Rattle.steps_base.specs.declared.acts.Act.TheVariants as act
-use Rattle.steps_base.specs.declared.acts.Next.{Next}
 use Rattle.steps_base.specs.declared.acts.Next.TheVariants as next
-use Rattle.steps_base.specs.declared.acts.Reply.{Reply}
-use Rattle.steps_base.specs.declared.acts.Reply.TheVariants.{TakenBy, MovedTo, HandedBy, Woken}
-use Rattle.steps_mutex.specs.declared.places.MutexPlace.{MutexPlace}
 use Rattle.steps_mutex.specs.declared.places.MutexPlace.TheVariants as mutex
 use Rattle.steps_mutex.specs.declared.lock.Entry.TheVariants as entry
-use Rattle.steps_mutex.specs.declared.lock.LockAt.{LockAt}
 use Rattle.steps_mutex.specs.declared.lock.LockAt.TheVariants as lock
-use Rattle.steps_mutex.specs.MutexSteps.{is_locked, lock_act, mutex_next}
-use Rattle.steps_condvar.specs.declared.notify.NotifyAt.{NotifyAt}
 use Rattle.steps_condvar.specs.declared.notify.NotifyAt.TheVariants as notify
-use Rattle.steps_condvar.specs.declared.places.CondvarPlace.{CondvarPlace}
-use Rattle.steps_condvar.specs.declared.places.CondvarPlace.TheVariants.{Wait, Look, Notify}
-use Rattle.steps_condvar.specs.declared.wait.Stands.{Stands}
 use Rattle.steps_condvar.specs.declared.wait.Stands.TheVariants as stands
-use Rattle.steps_condvar.specs.declared.wait.WaitAt.{WaitAt}
 use Rattle.steps_condvar.specs.declared.wait.WaitAt.TheVariants as wait
-use Rattle.steps_condvar.specs.CondvarCalls.{IsLockOf, IsReached}
-use Rattle.steps_condvar.specs.CondvarProfiles.{wait_row}
-use Rattle.steps_condvar.specs.CondvarSteps.{stands_after, comes_from_another, past_release, condvar_act}
-use Rattle.steps_condvar.specs.CondvarSteps.{condvar_next, release_next, released}
-use Rattle.lot_steps.specs.declared.places.Place.{Place}
-use Rattle.lot_steps.specs.declared.places.Place.TheVariants.{Idle, Condvar}
-use Rattle.lot_steps.specs.Steps.{condvar_goes, next_place}
-use Rattle.lot_machine.specs.Machine.{State, place_at, reply_to, state_after_act, state_after_going}
-use Rattle.lot_machine.proofs.Acted.{acted_keeps, tells}
 use Rattle.lot_laws.proofs.condvar.FollowsDeeds.{Alike}
 use Rattle.lot_laws.proofs.promises.RowPromises.{Befalls}
-use Rattle.lot_machine.proofs.Shape.{performed_counts}
 
 -- for all that befell it while it released its mutex
 abbrev pub IsStill : CondvarPlace → CondvarPlace → Type 0

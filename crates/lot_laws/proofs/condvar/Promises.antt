@@ -1,33 +1,17 @@
 -- The promises of a thread in a call of a condition variable, by its rows at both its locks.
-use Rattle.std.proofs.Common.{ℕ, Bool, true, false, Some, None, if◌then◌else◌, ◌==◌, ◌&&◌, ◌||◌, not, ◌≡◌}
-use Rattle.std.proofs.Common.{◌≢◌, ◌⊎◌, ◌↔◌, inl, inr, refl, sym, ◌∙◌, ap, subst}
-use Rattle.std.proofs.lemmas.Bool.{eqb-true}
-use Rattle.steps_base.specs.Profiles.{in_line, taken_from}
-use Rattle.lot_steps.specs.declared.places.Place.{Place}
-use Rattle.lot_steps.specs.declared.places.Place.TheVariants.{Condvar}
-use Rattle.lot_steps.specs.Steps.{is_lock, line_owed, or_else, retries_on}
-use Rattle.steps_condvar.specs.declared.notify.NotifyAt.{NotifyAt}
-use Rattle.steps_condvar.specs.declared.places.CondvarPlace.{CondvarPlace}
-use Rattle.steps_condvar.specs.declared.places.CondvarPlace.TheVariants.{Wait, Look, Notify}
-use Rattle.steps_condvar.specs.declared.wait.WaitAt.{WaitAt}
-use Rattle.steps_condvar.specs.CondvarSteps.{mutex_beside}
-use Rattle.steps_condvar.specs.CondvarCalls.{IsReached}
+use Rattle.lot_laws.proofs.Names
+use Names.{ℕ, Bool, true, false, Some, None, if◌then◌else◌, ◌==◌, ◌&&◌, ◌||◌, not, ◌≡◌, ◌≢◌, ◌⊎◌, ◌↔◌, inl}
+use Names.{inr, refl, sym, ◌∙◌, ap, subst, eqb-true, in_line, taken_from, Place, Condvar, is_lock, line_owed}
+use Names.{or_else, retries_on, NotifyAt, CondvarPlace, Wait, Look, Notify, WaitAt, mutex_beside, IsReached}
+use Names.{condvar_row, condvar_place_purpose, mutex_side, notify_row, wait_row, Rights, Rules, MayWait, Main}
+use Names.{Second, State, kind_at, call_state, taken_at, nowhere, location, location_at, FitsItsLock, sort_at}
+use Names.{KnowsRights}
 use Rattle.steps_condvar.specs.declared.notify.NotifyAt.TheVariants as notify
 use Rattle.steps_condvar.specs.declared.wait.Stands.TheVariants as stands
 use Rattle.steps_condvar.specs.declared.wait.WaitAt.TheVariants as wait
 use Rattle.steps_mutex.specs.declared.places.MutexPlace.TheVariants as mutex
 use Rattle.steps_mutex.specs.declared.unlock.UnlockAt.TheVariants as unlock
-use Rattle.steps_condvar.specs.CondvarProfiles.{condvar_row, condvar_place_purpose, mutex_side, notify_row}
-use Rattle.steps_condvar.specs.CondvarProfiles.{wait_row}
-use Rattle.spec_locks.specs.Locks.{Rights, Rules}
-use Rattle.spec_locks.specs.Purposes.{MayWait}
-use Rattle.spec_locks.specs.Sites.{Main, Second}
-use Rattle.lot_machine.specs.Machine.{State, kind_at}
-use Rattle.lot_laws.specs.Refinement.{call_state, taken_at}
-use Rattle.lot_laws.specs.Locations.{nowhere, location, location_at, location_by}
-use Rattle.lot_laws.specs.SitesOf.{FitsItsLock}
-use Rattle.lot_laws.specs.Owing.{sort_at}
-use Rattle.steps_base.specs.Rows.{KnowsRights}
+use Rattle.lot_laws.specs.Locations.{location_by}
 use Rattle.lot_laws.proofs.machine.Parts.{condvar_apart, differ, plain_rules, same}
 use Rattle.lot_laws.proofs.mutex.Waiters.{notifier_stands}
 

@@ -1,34 +1,18 @@
 -- Where a wait's own release of its mutex leaves its thread: where it stood, unless it has taken itself from
 -- the queue of the mutex, or wakes itself.
-use Rattle.std.proofs.Common.{ℕ, Bool, true, false, if◌then◌else◌, ◌==◌, ◌≡◌, ◌≢◌, ◌⊎◌, ◌*◌, ◌<◌, List, []}
-use Rattle.std.proofs.Common.{◌∷◌, length, drop, get_or, set, get_or-set_other, get_or-set_same, inl, inr}
-use Rattle.std.proofs.Common.{refl, sym, ◌∙◌, ap, subst}
-use Rattle.std.proofs.Math.ListN.{get_or-map}
-use Rattle.std.proofs.lemmas.Bool.{cases_eq}
+use Rattle.lot_laws.proofs.Names
+use Names.{ℕ, Bool, true, false, if◌then◌else◌, ◌==◌, ◌≡◌, ◌≢◌, ◌⊎◌, ◌*◌, ◌<◌, List, [], ◌∷◌, length, drop}
+use Names.{get_or, set, get_or-set_other, get_or-set_same, inl, inr, refl, sym, ◌∙◌, ap, subst, get_or-map}
+use Names.{cases_eq, Waiter, first_of, TakenBy, Took, Woken, is_thread, UnlockAt, unlock_act, Wait, Stands}
+use Names.{WaitAt, hand, hand_of, taker_of, Place, Condvar, Idle, next_place, Main, State, is_there}
+use Names.{place_after_telling, place_at, queue_at, queues_without_first, reply_to, state_after_act}
+use Names.{state_after_taking, IsInductive, key_of, rules_in}
 use Rattle.core_base.specs.declared.notes.Note.TheVariants as note
-use Rattle.core_base.specs.declared.wants.Waiter.{Waiter}
-use Rattle.core_base.specs.Lines.{first_of}
-use Rattle.steps_base.specs.declared.acts.Reply.TheVariants.{TakenBy, Took, Woken}
-use Rattle.steps_base.specs.Owners.{is_thread}
 use Rattle.steps_mutex.specs.declared.places.MutexPlace.TheVariants as mutex
-use Rattle.steps_mutex.specs.declared.unlock.UnlockAt.{UnlockAt}
 use Rattle.steps_mutex.specs.declared.unlock.UnlockAt.TheVariants as unlock
-use Rattle.steps_mutex.specs.MutexSteps.{unlock_act}
-use Rattle.steps_condvar.specs.declared.places.CondvarPlace.TheVariants.{Wait}
-use Rattle.steps_condvar.specs.declared.wait.Stands.{Stands}
 use Rattle.steps_condvar.specs.declared.wait.Stands.TheVariants as stands
-use Rattle.steps_condvar.specs.declared.wait.WaitAt.{WaitAt}
 use Rattle.steps_condvar.specs.declared.wait.WaitAt.TheVariants as wait
-use Rattle.steps_base.specs.Profiles.{hand}
-use Rattle.steps_condvar.specs.CondvarProfiles.{hand_of, taker_of}
-use Rattle.lot_steps.specs.declared.places.Place.{Place}
-use Rattle.lot_steps.specs.declared.places.Place.TheVariants.{Condvar, Idle}
-use Rattle.lot_steps.specs.Steps.{next_place}
 use Rattle.spec_locks.specs.Locks as locks
-use Rattle.spec_locks.specs.Sites.{Main}
-use Rattle.lot_machine.specs.Machine.{State, is_there, place_after_telling, place_at, queue_at}
-use Rattle.lot_machine.specs.Machine.{queues_without_first, reply_to, state_after_act, state_after_taking}
-use Rattle.lot_laws.specs.SitesOf.{IsInductive, key_of, rules_in}
 use Rattle.lot_laws.proofs.machine.Parts as glue
 use Rattle.lot_laws.proofs.machine.Parts.{differ, same}
 use Rattle.lot_laws.proofs.condvar.WaitTakes.{moved_first}

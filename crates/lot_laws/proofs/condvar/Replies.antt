@@ -1,58 +1,30 @@
 -- A thread that goes on in a call of a condition variable is told its reply as the laws of its places take
 -- it: at the condition variable, and at the mutex beside it.
-use Rattle.std.proofs.Common.{ℕ, suc, Bool, true, false, Option, Some, None, if◌then◌else◌, ◌==◌, ◌≡◌, ◌≢◌}
-use Rattle.std.proofs.Common.{◌+◌, ◌*◌, ◌≤◌, List, [], ◌∷◌, map, drop, length, not, refl, sym, ◌∙◌, ap, subst}
-use Rattle.std.proofs.Common.{arith}
+use Rattle.lot_laws.proofs.Names
+use Names.{ℕ, suc, Bool, true, false, Option, Some, None, if◌then◌else◌, ◌==◌, ◌≡◌, ◌≢◌, ◌+◌, ◌*◌, ◌≤◌, List}
+use Names.{[], ◌∷◌, map, drop, length, not, refl, sym, ◌∙◌, ap, subst, arith, One, Waiter, first_of, times}
+use Names.{without, moved_by, taken_by, Act, taken_from, Location, location_by, LockAt, UnlockAt}
+use Names.{mutex_profile, is_locked, lock_act, unlock_act, Condvar, profile_at, NotifyAt, CondvarPlace, Wait}
+use Names.{Look, Notify, Stands, WaitAt, comes_from_another, condvar_act, move_act, mutex_beside, notify_act}
+use Names.{wait_act, condvar_row, has_mutex, mutex_side, notify_row, IsLockOf, IsReached, IsAt, MayHear}
+use Names.{MayHearNotifying, MayHearWaiting, word_showing, MayHearBeside, MayHearLocking, MayHearReleasing}
+use Names.{MayHearWaiter, TakesFirst, condvar_moves_fit, code, shown_code, word_by, CondvarSite, IsCondvar}
+use Names.{MoveFits, WaitsAside, moved_of, HasTakenNobody, one_if_some, Taken, keep_from, Rules, first_thread}
+use Names.{standing, queued_of, Line, Main, Second, Site, is_empty, IsSectionFree, State, is_there, kind_at}
+use Names.{listed, can_do, section_is_free, place_at, queue_at, reply_to, section_at, word_at, lock_state}
+use Names.{taken_at, location_at, carried_at, FitsCondvar, FitsItsLock, IsInductive, condvar_of, inside_as}
+use Names.{key_of, rules_in, site_of, stood_in}
 use Rattle.std.specs.Prelude.{is_none}
-use Rattle.core_base.specs.declared.keys.Keys.TheVariants.{One}
 use Rattle.core_base.specs.declared.requeues.Requeue.TheVariants as requeue
-use Rattle.core_base.specs.declared.wants.Waiter.{Waiter}
-use Rattle.core_base.specs.Lines.{first_of, times, without}
-use Rattle.core_base.specs.Requeues.{moved_by, taken_by}
-use Rattle.steps_base.specs.declared.acts.Act.{Act}
 use Rattle.steps_base.specs.declared.acts.Act.TheVariants as act
-use Rattle.steps_base.specs.Profiles.{taken_from}
-use Rattle.steps_base.specs.Locations.{Location, location_by}
-use Rattle.steps_mutex.specs.declared.lock.LockAt.{LockAt}
 use Rattle.steps_mutex.specs.declared.lock.LockAt.TheVariants as lock
 use Rattle.steps_mutex.specs.declared.lock.Entry.TheVariants as entry
 use Rattle.steps_mutex.specs.declared.places.MutexPlace.TheVariants as mutex
-use Rattle.steps_mutex.specs.declared.unlock.UnlockAt.{UnlockAt}
 use Rattle.steps_mutex.specs.declared.unlock.UnlockAt.TheVariants as unlock
-use Rattle.steps_mutex.specs.MutexProfiles.{mutex_profile}
-use Rattle.steps_mutex.specs.MutexSteps.{is_locked, lock_act, unlock_act}
 use Rattle.core_base.specs.declared.ops.Op.TheVariants as op
-use Rattle.lot_steps.specs.declared.places.Place.TheVariants.{Condvar}
-use Rattle.lot_steps.specs.Steps.{profile_at}
-use Rattle.steps_condvar.specs.declared.notify.NotifyAt.{NotifyAt}
 use Rattle.steps_condvar.specs.declared.notify.NotifyAt.TheVariants as notify
-use Rattle.steps_condvar.specs.declared.places.CondvarPlace.{CondvarPlace}
-use Rattle.steps_condvar.specs.declared.places.CondvarPlace.TheVariants.{Wait, Look, Notify}
-use Rattle.steps_condvar.specs.declared.wait.Stands.{Stands}
-use Rattle.steps_condvar.specs.declared.wait.WaitAt.{WaitAt}
 use Rattle.steps_condvar.specs.declared.wait.WaitAt.TheVariants as wait
-use Rattle.steps_condvar.specs.CondvarSteps.{comes_from_another, condvar_act, move_act, mutex_beside}
-use Rattle.steps_condvar.specs.CondvarSteps.{notify_act, wait_act}
-use Rattle.steps_condvar.specs.CondvarProfiles.{condvar_row, has_mutex, mutex_side, notify_row}
-use Rattle.steps_condvar.specs.CondvarCalls.{IsLockOf, IsReached}
-use Rattle.steps_condvar.specs.CondvarDeeds.{IsAt, MayHear, MayHearNotifying, MayHearWaiting, word_showing}
-use Rattle.steps_condvar.specs.CondvarMutex.{MayHearBeside}
-use Rattle.steps_condvar.specs.CondvarWaits.{MayHearLocking, MayHearReleasing, MayHearWaiter, TakesFirst}
-use Rattle.steps_condvar.proofs.CondvarFit.{condvar_moves_fit}
-use Rattle.spec_locks.specs.Codes.{code, shown_code, word_by}
-use Rattle.spec_locks.specs.Condvars.{CondvarSite, IsCondvar, MoveFits, WaitsAside, moved_of}
 use Rattle.spec_locks.specs.Locks as locks
-use Rattle.spec_locks.specs.Locks.{HasTakenNobody, one_if_some, Taken, keep_from, Rules, first_thread}
-use Rattle.spec_locks.specs.Locks.{standing}
-use Rattle.spec_locks.specs.Picks.{queued_of}
-use Rattle.spec_locks.specs.Sites.{Line, Main, Second, Site, is_empty}
-use Rattle.steps_base.specs.Moves.{IsSectionFree}
-use Rattle.lot_machine.specs.Machine.{State, is_there, kind_at, listed, can_do, section_is_free, place_at}
-use Rattle.lot_machine.specs.Machine.{queue_at, reply_to, section_at, word_at}
-use Rattle.lot_laws.specs.Refinement.{lock_state, taken_at}
-use Rattle.lot_laws.specs.Locations.{location_at}
-use Rattle.lot_laws.specs.SitesOf.{carried_at, FitsCondvar, FitsItsLock, IsInductive, condvar_of, inside_as}
-use Rattle.lot_laws.specs.SitesOf.{key_of, rules_in, site_of, stood_in}
 use Rattle.lot_laws.proofs.machine.Parts.{differ, inside_is, plain_rules, same, untaken}
 use Rattle.lot_laws.proofs.sites.OneStep.{empty_line, queued_times, queued_without}
 use Rattle.lot_laws.proofs.condvar.Sites.{at_place}

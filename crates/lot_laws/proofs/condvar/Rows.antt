@@ -1,42 +1,23 @@
 -- A place says of its thread at a condition variable: its next act inside, and the mutex that its wait
 -- names. Nothing that befalls the thread changes either.
-use Rattle.std.proofs.Common.{ℕ, Bool, true, false, Option, None, if◌then◌else◌, ◌==◌, ◌≡◌, refl, ◌∙◌, ap}
-use Rattle.steps_semaphore.specs.declared.places.SemaphorePlace.{SemaphorePlace}
-use Rattle.steps_semaphore.specs.SemaphoreSteps.{semaphore_next}
-use Rattle.core_base.specs.declared.notes.Note.{Note}
+use Rattle.lot_laws.proofs.Names
+use Names.{ℕ, Bool, true, false, Option, None, if◌then◌else◌, ◌==◌, ◌≡◌, refl, ◌∙◌, ap, SemaphorePlace}
+use Names.{semaphore_next, Note, Next, Reply, TakenBy, MovedTo, HandedBy, Woken, Profile, blank_row}
+use Names.{MutexPlace, LockAt, UnlockAt, HandOffAt, in_hand_off, in_unlock, mutex_next, next_hand_off}
+use Names.{next_lock, next_unlock, still_retries, RwLockCallPlace, call_next, OncePlace, once_next, NotifyAt}
+use Names.{CondvarPlace, Wait, Look, Notify, WaitAt, condvar_profile, condvar_row, mutex_side, condvar_next}
+use Names.{in_wait, mutex_beside, relocked, Place, Idle, Mutex, RwLock, Once, Condvar, Semaphore}
+use Names.{condvar_goes, is_lock, mutex_goes, profile, next_place, once_goes, profile_at, rwlock_goes}
+use Names.{semaphore_goes, CondvarStage}
 use Rattle.core_base.specs.declared.notes.Note.TheVariants as note
-use Rattle.steps_base.specs.declared.acts.Next.{Next}
 use Rattle.steps_base.specs.declared.acts.Next.TheVariants as next
-use Rattle.steps_base.specs.declared.acts.Reply.{Reply}
-use Rattle.steps_base.specs.declared.acts.Reply.TheVariants.{TakenBy, MovedTo, HandedBy, Woken}
-use Rattle.steps_base.specs.Profiles.{Profile, blank_row}
-use Rattle.steps_mutex.specs.declared.places.MutexPlace.{MutexPlace}
 use Rattle.steps_mutex.specs.declared.places.MutexPlace.TheVariants as mutex
-use Rattle.steps_mutex.specs.declared.lock.LockAt.{LockAt}
 use Rattle.steps_mutex.specs.declared.lock.LockAt.TheVariants as lock
-use Rattle.steps_mutex.specs.declared.unlock.UnlockAt.{UnlockAt}
 use Rattle.steps_mutex.specs.declared.unlock.UnlockAt.TheVariants as unlock
-use Rattle.steps_mutex.specs.declared.hand_off.HandOffAt.{HandOffAt}
 use Rattle.steps_mutex.specs.declared.hand_off.HandOffAt.TheVariants as hand_off
-use Rattle.steps_mutex.specs.MutexSteps.{in_hand_off, in_lock, in_unlock, mutex_next, next_hand_off}
-use Rattle.steps_mutex.specs.MutexSteps.{next_lock, next_unlock, still_retries}
-use Rattle.steps_rwlock_fair.specs.declared.places.RwLockCallPlace.{RwLockCallPlace}
-use Rattle.steps_rwlock_fair.specs.FairSteps.{call_next}
-use Rattle.steps_once.specs.declared.places.OncePlace.{OncePlace}
-use Rattle.steps_once.specs.OnceSteps.{once_next}
-use Rattle.steps_condvar.specs.declared.notify.NotifyAt.{NotifyAt}
+use Rattle.steps_mutex.specs.MutexSteps.{in_lock}
 use Rattle.steps_condvar.specs.declared.notify.NotifyAt.TheVariants as notify
-use Rattle.steps_condvar.specs.declared.places.CondvarPlace.{CondvarPlace}
-use Rattle.steps_condvar.specs.declared.places.CondvarPlace.TheVariants.{Wait, Look, Notify}
-use Rattle.steps_condvar.specs.declared.wait.WaitAt.{WaitAt}
 use Rattle.steps_condvar.specs.declared.wait.WaitAt.TheVariants as wait
-use Rattle.steps_condvar.specs.CondvarProfiles.{condvar_profile, condvar_row, mutex_side}
-use Rattle.steps_condvar.specs.CondvarSteps.{condvar_next, in_wait, mutex_beside, relocked}
-use Rattle.lot_steps.specs.declared.places.Place.{Place}
-use Rattle.lot_steps.specs.declared.places.Place.TheVariants.{Idle, Mutex, RwLock, Once, Condvar, Semaphore}
-use Rattle.lot_steps.specs.Steps.{condvar_goes, is_lock, mutex_goes, profile, next_place, once_goes}
-use Rattle.lot_steps.specs.Steps.{profile_at, rwlock_goes, semaphore_goes}
-use Rattle.spec_locks.specs.Condvars.{CondvarStage}
 use Rattle.lot_laws.proofs.machine.PlaceTest.{IsSilent, call_facts, mutex_row_facts, once_facts}
 use Rattle.lot_laws.proofs.machine.PlaceTest.{semaphore_facts}
 use Rattle.lot_laws.proofs.promises.RowPromises.{Befalls}

@@ -1,30 +1,15 @@
 -- A condition variable is as it was where these are: what it shows, its waiters, the thread inside, and what
 -- places say of it.
-use Rattle.std.proofs.Common.{ℕ, Bool, true, false, Option, Some, None, if◌then◌else◌, ◌==◌, ◌≡◌, ◌<◌, length}
-use Rattle.std.proofs.Common.{get_or-set_other, get_or-set_same, inl, inr, refl, sym, ◌∙◌, ap, subst}
-use Rattle.std.proofs.lemmas.Bool.{cases_eq}
-use Rattle.steps_semaphore.specs.declared.places.SemaphorePlace.{SemaphorePlace}
-use Rattle.steps_semaphore.specs.SemaphoreSteps.{semaphore_looking}
+use Rattle.lot_laws.proofs.Names
+use Names.{ℕ, Bool, true, false, Option, Some, None, if◌then◌else◌, ◌==◌, ◌≡◌, ◌<◌, length, get_or-set_other}
+use Names.{get_or-set_same, inl, inr, refl, sym, ◌∙◌, ap, subst, cases_eq, SemaphorePlace, semaphore_looking}
+use Names.{MutexPlace, mutex_looking, OncePlace, once_looking, RwLockCallPlace, call_looking, Look, Notify}
+use Names.{Wait, in_lock, Place, Condvar, Idle, Mutex, Once, RwLock, Semaphore, in_condvar, in_mutex, in_once}
+use Names.{in_rwlock, looking, profile_at, in_semaphore, IsCondvar, LockState, Main, State, closed_place}
+use Names.{place_at, put, section_at, lock_state, AreCondvars, condvar_of, inside_as, key_of}
 use Rattle.steps_mutex.specs.declared.lock.LockAt.TheVariants as lock
-use Rattle.steps_mutex.specs.declared.places.MutexPlace.{MutexPlace}
 use Rattle.steps_mutex.specs.declared.places.MutexPlace.TheVariants as mutex
-use Rattle.steps_mutex.specs.MutexSteps.{mutex_looking}
-use Rattle.steps_once.specs.declared.places.OncePlace.{OncePlace}
-use Rattle.steps_once.specs.OnceSteps.{once_looking}
-use Rattle.steps_rwlock_fair.specs.declared.places.RwLockCallPlace.{RwLockCallPlace}
-use Rattle.steps_rwlock_fair.specs.FairProfiles.{call_looking}
-use Rattle.steps_condvar.specs.declared.places.CondvarPlace.TheVariants.{Look, Notify, Wait}
 use Rattle.steps_condvar.specs.declared.wait.WaitAt.TheVariants as wait
-use Rattle.steps_condvar.specs.CondvarSteps.{in_lock}
-use Rattle.lot_steps.specs.declared.places.Place.{Place}
-use Rattle.lot_steps.specs.declared.places.Place.TheVariants.{Condvar, Idle, Mutex, Once, RwLock, Semaphore}
-use Rattle.lot_steps.specs.Steps.{in_condvar, in_mutex, in_once, in_rwlock, looking, profile_at, in_semaphore}
-use Rattle.spec_locks.specs.Condvars.{IsCondvar}
-use Rattle.spec_locks.specs.Locks.{LockState}
-use Rattle.spec_locks.specs.Sites.{Main}
-use Rattle.lot_machine.specs.Machine.{State, closed_place, place_at, put, section_at}
-use Rattle.lot_laws.specs.Refinement.{lock_state}
-use Rattle.lot_laws.specs.SitesOf.{AreCondvars, condvar_of, inside_as, key_of}
 use Rattle.lot_laws.proofs.calls.Closings.{closing, is_after}
 use Rattle.lot_laws.proofs.calls.Closures.{RunsOne}
 use Rattle.lot_laws.proofs.condvar.Rows.{names_of, row_says, stage_of}

@@ -1,39 +1,20 @@
 -- An act in a call of a condition variable enters sections of its two locks, and one that leaves sections or
--- touches queues is of those that
--- its thread is inside, as its row says.
-use Rattle.std.proofs.Common.{ℕ, Bool, true, false, Option, Some, None, if◌then◌else◌, ◌==◌, not, ◌+◌, ◌*◌}
-use Rattle.std.proofs.Common.{◌≡◌, ◌≢◌, ◌⊎◌, inl, inr, [], map, get_or, refl, sym, ◌∙◌, ap}
-use Rattle.std.proofs.lemmas.Bool.{cases_eq, eqb-true}
-use Rattle.std.proofs.Math.ListN.{get_or-map}
-use Rattle.core_base.specs.declared.keys.Keys.TheVariants.{One, Two}
+-- touches queues is of those that its thread is inside, as its row says.
+use Rattle.lot_laws.proofs.Names
+use Names.{ℕ, Bool, true, false, Option, Some, None, if◌then◌else◌, ◌==◌, not, ◌+◌, ◌*◌, ◌≡◌, ◌≢◌, ◌⊎◌, inl}
+use Names.{inr, [], map, get_or, refl, sym, ◌∙◌, ap, cases_eq, eqb-true, get_or-map, One, Two, without, times}
+use Names.{Act, in_line, Location, LockAt, is_locked, lock_act, NotifyAt, CondvarPlace, Wait, Look, Notify}
+use Names.{WaitAt, IsLockOf, IsReached, condvar_row, has_moved, section_in, inside, condvar_act, move_act}
+use Names.{mutex_beside, Condvar, is_lock, Line, Main, Second, State, place_at, queue_at, section_at}
+use Names.{location_at, FitsItsLock, IsInductive, key_of, stood_in}
 use Rattle.core_base.specs.declared.ops.Op as op
-use Rattle.core_base.specs.Lines.{without, times}
-use Rattle.steps_base.specs.declared.acts.Act.{Act}
 use Rattle.steps_base.specs.declared.acts.Act.TheVariants as act
-use Rattle.steps_base.specs.Profiles.{in_line}
-use Rattle.steps_base.specs.Locations.{Location}
 use Rattle.steps_mutex.specs.declared.places.MutexPlace.TheVariants as mutex
 use Rattle.steps_mutex.specs.declared.lock.Entry.TheVariants as entry
-use Rattle.steps_mutex.specs.declared.lock.LockAt.{LockAt}
 use Rattle.steps_mutex.specs.declared.lock.LockAt.TheVariants as lock
 use Rattle.steps_mutex.specs.declared.unlock.UnlockAt.TheVariants as unlock
-use Rattle.steps_mutex.specs.MutexSteps.{is_locked, lock_act}
-use Rattle.steps_condvar.specs.declared.notify.NotifyAt.{NotifyAt}
 use Rattle.steps_condvar.specs.declared.notify.NotifyAt.TheVariants as notify
-use Rattle.steps_condvar.specs.declared.places.CondvarPlace.{CondvarPlace}
-use Rattle.steps_condvar.specs.declared.places.CondvarPlace.TheVariants.{Wait, Look, Notify}
-use Rattle.steps_condvar.specs.declared.wait.WaitAt.{WaitAt}
 use Rattle.steps_condvar.specs.declared.wait.WaitAt.TheVariants as wait
-use Rattle.steps_condvar.specs.CondvarCalls.{IsLockOf, IsReached}
-use Rattle.steps_condvar.specs.CondvarProfiles.{condvar_row, has_moved, section_in}
-use Rattle.steps_mutex.specs.MutexProfiles.{inside}
-use Rattle.steps_condvar.specs.CondvarSteps.{condvar_act, move_act, mutex_beside}
-use Rattle.lot_steps.specs.declared.places.Place.TheVariants.{Condvar}
-use Rattle.lot_steps.specs.Steps.{is_lock}
-use Rattle.spec_locks.specs.Sites.{Line, Main, Second}
-use Rattle.lot_machine.specs.Machine.{State, place_at, queue_at, section_at}
-use Rattle.lot_laws.specs.Locations.{location_at}
-use Rattle.lot_laws.specs.SitesOf.{FitsItsLock, IsInductive, key_of, stood_in}
 use Rattle.lot_laws.proofs.condvar.Promises.{stands_at, two_stand_main}
 use Rattle.lot_laws.proofs.condvar.Sites.{location_there}
 use Rattle.lot_laws.proofs.hands.Counts.{without_absent}

@@ -1,27 +1,17 @@
 -- While nobody is inside its section, a condition variable shows a mutex exactly while somebody waits, and
 -- all wait with that one.
-use Rattle.std.proofs.Common.{ℕ, Bool, true, false, Option, Some, None, if◌then◌else◌, ◌==◌, ◌≡◌, ◌≤◌, inl}
-use Rattle.std.proofs.Common.{inr, [], refl, sym, ◌∙◌, ap, subst, eqb-true, arith}
-use Rattle.steps_condvar.specs.declared.places.CondvarPlace.TheVariants.{Look, Notify, Wait}
-use Rattle.steps_condvar.specs.declared.notify.NotifyAt.{NotifyAt}
+use Rattle.lot_laws.proofs.Names
+use Names.{ℕ, Bool, true, false, Option, Some, None, if◌then◌else◌, ◌==◌, ◌≡◌, ◌≤◌, inl, inr, [], refl, sym}
+use Names.{◌∙◌, ap, subst, arith, Look, Notify, Wait, NotifyAt, WaitAt, notify_row, wait_row, Place, Condvar}
+use Names.{Idle, Mutex, Once, RwLock, Semaphore, profile_at, AllOf, Clears, CondvarStage, Inside, IsAsInside}
+use Names.{IsCondvar, IsSettledAt, Misses, NothingToDo, Sees, SeesOther, StageHolds, Takes, ToStandLast}
+use Names.{moving, Rights, ShowsWaiters, Notifies, Waits, Main, State, place_at, section_at, ShowsItsWaiters}
+use Names.{call_state, lock_state, locks_of, condvar_of, inside_as, key_of, stage_or}
+use Rattle.std.proofs.Common.{eqb-true}
 use Rattle.steps_condvar.specs.declared.notify.NotifyAt.TheVariants as notify
-use Rattle.steps_condvar.specs.declared.wait.WaitAt.{WaitAt}
 use Rattle.steps_condvar.specs.declared.wait.WaitAt.TheVariants as wait
-use Rattle.steps_condvar.specs.CondvarProfiles.{notify_row, wait_row}
-use Rattle.lot_steps.specs.declared.places.Place.{Place}
-use Rattle.lot_steps.specs.declared.places.Place.TheVariants.{Condvar, Idle, Mutex, Once, RwLock, Semaphore}
-use Rattle.lot_steps.specs.Steps.{profile_at}
-use Rattle.spec_locks.specs.Condvars.{AllOf, Clears, CondvarStage, Inside, IsAsInside, IsCondvar, IsSettled}
-use Rattle.spec_locks.specs.Condvars.{IsSettledAt, Misses, NothingToDo, Sees, SeesOther, StageHolds, Takes}
-use Rattle.spec_locks.specs.Condvars.{ToStandLast, moving}
-use Rattle.spec_locks.specs.Locks.{Rights, times}
-use Rattle.spec_locks.specs.Runs.{ShowsWaiters}
-use Rattle.spec_locks.specs.Purposes.{Notifies, Waits}
-use Rattle.spec_locks.specs.Sites.{Main}
-use Rattle.lot_machine.specs.Machine.{State, place_at, section_at}
-use Rattle.lot_laws.specs.Promises.{ShowsItsWaiters}
-use Rattle.lot_laws.specs.Refinement.{call_state, lock_state, locks_of}
-use Rattle.lot_laws.specs.SitesOf.{condvar_of, inside_as, key_of, stage_or}
+use Rattle.spec_locks.specs.Condvars.{IsSettled}
+use Rattle.spec_locks.specs.Locks.{times}
 use Rattle.lot_laws.proofs.calls.Events.{rights}
 use Rattle.lot_laws.proofs.condvar.Rows.{names_of, row_says, stage_of}
 

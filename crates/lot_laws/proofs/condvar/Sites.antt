@@ -1,19 +1,11 @@
 -- Condition variables of a world: each thread in a call of one is where the row of its place says, and a
 -- thread that waits stands nowhere at its mutex.
-use Rattle.std.proofs.Common.{ℕ, Bool, true, false, Option, Some, None, if◌then◌else◌, ◌≡◌, ◌*◌, refl, sym}
-use Rattle.std.proofs.Common.{◌∙◌, ap}
-use Rattle.steps_base.specs.Profiles.{Profile}
-use Rattle.steps_base.specs.Locations.{Location, location_by}
-use Rattle.lot_steps.specs.declared.places.Place.TheVariants.{Condvar}
-use Rattle.lot_steps.specs.Steps.{profile_at}
-use Rattle.steps_condvar.specs.declared.places.CondvarPlace.{CondvarPlace}
-use Rattle.steps_condvar.specs.CondvarProfiles.{condvar_profile, condvar_row, section_in}
-use Rattle.steps_condvar.specs.CondvarDeeds.{IsAt, IsAtStage, IsListed}
-use Rattle.spec_locks.specs.Condvars.{IsInsideNot, CondvarStage}
-use Rattle.spec_locks.specs.Sites.{Line, Main}
-use Rattle.lot_machine.specs.Machine.{State, place_at, queue_at, section_at}
-use Rattle.lot_laws.specs.Locations.{location_at}
-use Rattle.lot_laws.specs.SitesOf.{Stands, condvar_of, inside_as, key_of, stage_or, stood_in}
+use Rattle.lot_laws.proofs.Names
+use Names.{ℕ, Bool, true, false, Option, Some, None, if◌then◌else◌, ◌≡◌, ◌*◌, refl, sym, ◌∙◌, ap, Profile}
+use Names.{Location, location_by, Condvar, profile_at, CondvarPlace, condvar_profile, condvar_row, section_in}
+use Names.{IsAt, IsAtStage, IsListed, IsInsideNot, CondvarStage, Line, Main, State, place_at, queue_at}
+use Names.{section_at, location_at, condvar_of, inside_as, key_of, stage_or, stood_in}
+use Rattle.lot_laws.specs.SitesOf.{Stands}
 use Rattle.lot_laws.proofs.machine.Parts.{same}
 use Rattle.lot_laws.proofs.sites.OneStep.{queued_times}
 

@@ -1,31 +1,13 @@
 -- A sleeper that waits to be notified owns what it owned as its call began, but for its mutex.
-use Rattle.std.proofs.Common.{ℕ, Bool, true, false, Option, Some, None, ◌≡◌, inl, inr, refl, sym, ◌∙◌, ap}
-use Rattle.std.proofs.Common.{subst}
-use Rattle.core_base.specs.declared.wants.Want.TheVariants.{Exclusive}
-use Rattle.spec_locks.specs.CallTable.{Trades}
-use Rattle.spec_locks.specs.Locks.{Rights}
-use Rattle.spec_locks.specs.Purposes.{Notifies, Waits}
-use Rattle.spec_locks.specs.Runs.{IsNotified, one_more_at}
-use Rattle.spec_locks.proofs.CallTable.{loses}
-use Rattle.steps_base.specs.declared.acts.Act.{Act}
-use Rattle.steps_base.specs.declared.acts.Act.TheVariants.{Sleep}
-use Rattle.steps_mutex.specs.declared.places.MutexPlace.{MutexPlace}
+use Rattle.lot_laws.proofs.Names
+use Names.{ℕ, Bool, true, false, Option, Some, None, ◌≡◌, inl, inr, refl, sym, ◌∙◌, ap, subst, Exclusive}
+use Names.{Trades, Rights, Notifies, Waits, IsNotified, one_more_at, loses, Act, Sleep, MutexPlace, mutex_act}
+use Names.{CondvarPlace, Wait, Look, Notify, WaitAt, condvar_act, wait_act, IsReached, IsUnlockPlace}
+use Names.{condvar_place_purpose, Place, Condvar, act_of, State, place_at, call_at, call_state, locks_of}
+use Names.{sleeps, IsInductive}
 use Rattle.steps_mutex.specs.declared.places.MutexPlace.TheVariants as mutex
-use Rattle.steps_mutex.specs.MutexSteps.{mutex_act}
-use Rattle.steps_condvar.specs.declared.places.CondvarPlace.{CondvarPlace}
-use Rattle.steps_condvar.specs.declared.places.CondvarPlace.TheVariants.{Wait, Look, Notify}
 use Rattle.steps_condvar.specs.declared.wait.Stands.TheVariants as stands
-use Rattle.steps_condvar.specs.declared.wait.WaitAt.{WaitAt}
 use Rattle.steps_condvar.specs.declared.wait.WaitAt.TheVariants as wait
-use Rattle.steps_condvar.specs.CondvarSteps.{condvar_act, wait_act}
-use Rattle.steps_condvar.specs.CondvarCalls.{IsReached, IsUnlockPlace}
-use Rattle.steps_condvar.specs.CondvarProfiles.{condvar_place_purpose}
-use Rattle.lot_steps.specs.declared.places.Place.{Place}
-use Rattle.lot_steps.specs.declared.places.Place.TheVariants.{Condvar}
-use Rattle.lot_steps.specs.Steps.{act_of}
-use Rattle.lot_machine.specs.Machine.{State, place_at}
-use Rattle.lot_laws.specs.Refinement.{call_at, call_state, locks_of, sleeps}
-use Rattle.lot_laws.specs.SitesOf.{IsInductive}
 use Rattle.lot_laws.proofs.calls.Events.{rights}
 use Rattle.lot_laws.proofs.condvar.Promises.{two_purpose}
 use Rattle.lot_laws.proofs.machine.Parts.{IsOfTwo, fits_two, single_or_two}

@@ -1,41 +1,22 @@
 -- A step in a call of a condition variable is one event of one of its two locks, or a move of waiters
 -- between them. Its call is made of that event, and comes to what the next place says.
-use Rattle.std.proofs.Common.{ℕ, Bool, false, Option, Some, None, if◌then◌else◌, ◌≡◌, ◌≢◌, ◌⊎◌, List, [], ◌∷◌}
-use Rattle.std.proofs.Common.{append-nil, inl, inr, refl, sym, ◌∙◌, ap, subst}
-use Rattle.std.proofs.lemmas.Bool.{cases_eq}
-use Rattle.spec_locks.specs.declared.outcomes.Outcome.{Outcome}
+use Rattle.lot_laws.proofs.Names
+use Names.{ℕ, Bool, false, Option, Some, None, if◌then◌else◌, ◌≡◌, ◌≢◌, ◌⊎◌, List, [], ◌∷◌, append-nil, inl}
+use Names.{inr, refl, sym, ◌∙◌, ap, subst, cases_eq, Outcome, Next, Reply, CondvarPlace, Wait, Look, Notify}
+use Names.{WaitAt, MayComeOfTwo, case_there, heard, wait_event, wait_deeds, condvar_profile, mutex_side}
+use Names.{wait_carries, condvar_act, mutex_beside, waiter_deeds, Condvar, condvar_does, condvar_goes}
+use Names.{rights_where, outcome_of, CondvarDeed, moved_of, AreOneCase, EventNeeds, after_event, case_of}
+use Names.{event_by, Start, WasMoved, HandOff, OfOnce, Wake, HasTakenNobody, LockCase, LockState, AnswerHolds}
+use Names.{AtLock, Begins, LocksState, is_among, is_closure, is_taken_by, CallState, Event, GoesOn, MayHappen}
+use Names.{MayMove, Moves, Nothing, going_on, woken, Deed, Site, deeds_lead, deeds_need, State, kind_at}
+use Names.{place_at, acts, call_at, call_on_both, call_state, lock_state, locks_of, taken_at, ActsNeeded}
+use Names.{FollowAll, IsInductive, after_acts, rules_in, site_of}
 use Rattle.spec_locks.specs.declared.outcomes.Outcome as outcome
-use Rattle.steps_base.specs.declared.acts.Next.{Next}
 use Rattle.steps_base.specs.declared.acts.Next.TheVariants as next
-use Rattle.steps_base.specs.declared.acts.Reply.{Reply}
-use Rattle.steps_condvar.specs.declared.places.CondvarPlace.{CondvarPlace}
-use Rattle.steps_condvar.specs.declared.places.CondvarPlace.TheVariants.{Wait, Look, Notify}
-use Rattle.steps_condvar.specs.declared.wait.WaitAt.{WaitAt}
 use Rattle.steps_condvar.specs.CondvarCalls as calls
-use Rattle.steps_condvar.specs.CondvarCalls.{MayComeOfTwo, case_there, heard, or_else, wait_event}
-use Rattle.steps_condvar.specs.CondvarDeeds.{wait_deeds}
-use Rattle.steps_condvar.specs.CondvarProfiles.{condvar_profile, mutex_side, wait_carries}
-use Rattle.steps_condvar.specs.CondvarSteps.{condvar_act, mutex_beside}
-use Rattle.steps_condvar.specs.CondvarWaits.{waiter_deeds}
-use Rattle.lot_steps.specs.declared.places.Place.TheVariants.{Condvar}
-use Rattle.lot_steps.specs.Steps.{condvar_does, condvar_goes}
-use Rattle.steps_base.specs.Calls.{rights_where}
-use Rattle.steps_base.specs.Acts.{outcome_of}
-use Rattle.spec_locks.specs.Condvars.{CondvarDeed, moved_of}
+use Rattle.steps_condvar.specs.CondvarCalls.{or_else}
 use Rattle.spec_locks.specs.Condvars as condvars
-use Rattle.spec_locks.specs.Deeds.{AreOneCase, EventNeeds, after_event, case_of, event_by}
-use Rattle.spec_locks.specs.Onces.{Start}
-use Rattle.spec_locks.specs.Purposes.{WasMoved}
-use Rattle.spec_locks.specs.Locks.{HandOff, OfOnce, Wake, HasTakenNobody, LockCase, LockState}
-use Rattle.spec_locks.specs.Runs.{AnswerHolds, AtLock, Begins, LocksState, is_among, is_closure, is_taken_by}
-use Rattle.spec_locks.specs.Runs.{CallState, Event, GoesOn, MayHappen, MayMove, Moves, Nothing, going_on}
-use Rattle.spec_locks.specs.Runs.{woken}
-use Rattle.spec_locks.specs.Sites.{Deed, Site}
-use Rattle.spec_locks.proofs.Deeds.{deeds_lead, deeds_need}
-use Rattle.lot_machine.specs.Machine.{State, kind_at, place_at}
-use Rattle.lot_laws.specs.ThreadDeeds.{Act, acts}
-use Rattle.lot_laws.specs.Refinement.{call_at, call_on_both, call_state, lock_state, locks_of, taken_at}
-use Rattle.lot_laws.specs.SitesOf.{ActsNeeded, FollowAll, IsInductive, after_acts, rules_in, site_of}
+use Rattle.lot_laws.specs.ThreadDeeds.{Act}
 use Rattle.lot_laws.proofs.calls.Events.{CallLed, GoesAs, Happens, RunsNothing, never_starts, OthersFollow}
 use Rattle.lot_laws.proofs.calls.Events.{deeds_by, goes_with, happens_at, may_do, needed_then, rights}
 use Rattle.lot_laws.proofs.calls.Closures.{closure_told, condvar_runs_none}

@@ -1,33 +1,17 @@
 -- A thread that goes on in a call of a condition variable does so in the abstract locks, where its step has
--- led both locks as its deeds say, and the
--- others' calls follow.
-use Rattle.std.proofs.Common.{ℕ, Bool, true, false, Option, Some, None, if◌then◌else◌, ◌==◌, ◌&&◌, ◌≡◌, ◌≢◌}
-use Rattle.std.proofs.Common.{◌<◌, List, [], length, not, refl, sym, ◌∙◌, ap, subst}
-use Rattle.steps_base.specs.Acts.{outcome_of}
-use Rattle.steps_base.specs.Profiles.{Hand, taken_from}
+-- led both locks as its deeds say, and the others' calls follow.
+use Rattle.lot_laws.proofs.Names
+use Names.{ℕ, Bool, true, false, Option, Some, None, if◌then◌else◌, ◌==◌, ◌&&◌, ◌≡◌, ◌≢◌, ◌<◌, List, []}
+use Names.{length, not, refl, sym, ◌∙◌, ap, subst, outcome_of, Hand, taken_from, Value, NotifyAt, Wait, Look}
+use Names.{Notify, WaitAt, condvar_call_by, look_event, notify_event, wait_event, notify_deeds, wait_deeds}
+use Names.{word_showing, beside_deeds, condvar_profile, mutex_side, notify_row, condvar_act, condvar_next}
+use Names.{next_wait, notify_act, wait_act, waiter_deeds, Condvar, condvar_does, condvar_goes, is_lock}
+use Names.{IsCondvar, Rights, CallState, Event, GoesOn, going_on, is_taken_by, woken, IsWellFormed, State}
+use Names.{can_do, place_at, reply_to, state_after_going, word_at, acts, lock_state, locks_of, taken_at}
+use Names.{GoesAll, IsInductive, condvar_of}
 use Rattle.steps_base.specs.declared.acts.Next.TheVariants as next
-use Rattle.steps_base.specs.declared.acts.Reply.TheVariants.{Value}
-use Rattle.steps_condvar.specs.declared.notify.NotifyAt.{NotifyAt}
 use Rattle.steps_condvar.specs.declared.notify.NotifyAt.TheVariants as notify
-use Rattle.steps_condvar.specs.declared.places.CondvarPlace.TheVariants.{Wait, Look, Notify}
-use Rattle.steps_condvar.specs.declared.wait.WaitAt.{WaitAt}
-use Rattle.steps_condvar.specs.CondvarCalls.{condvar_call_by, look_event, notify_event, wait_event}
-use Rattle.steps_condvar.specs.CondvarDeeds.{notify_deeds, wait_deeds, word_showing}
-use Rattle.steps_condvar.specs.CondvarMutex.{beside_deeds}
-use Rattle.steps_condvar.specs.CondvarProfiles.{condvar_profile, mutex_side, notify_row}
-use Rattle.steps_condvar.specs.CondvarSteps.{condvar_act, condvar_next, next_wait, notify_act, wait_act}
-use Rattle.steps_condvar.specs.CondvarWaits.{waiter_deeds}
-use Rattle.lot_steps.specs.declared.places.Place.TheVariants.{Condvar}
-use Rattle.lot_steps.specs.Steps.{condvar_does, condvar_goes, is_lock}
-use Rattle.spec_locks.specs.Condvars.{IsCondvar}
-use Rattle.spec_locks.specs.Locks.{Rights}
-use Rattle.spec_locks.specs.Runs.{CallState, Event, GoesOn, going_on, is_taken_by, woken}
-use Rattle.lot_machine.specs.Fits.{IsWellFormed}
-use Rattle.lot_machine.specs.Machine.{State, can_do, place_at, reply_to, state_after_going, word_at}
-use Rattle.lot_laws.specs.ThreadDeeds.{acts}
 use Rattle.lot_laws.specs.ThreadDeeds as deeds
-use Rattle.lot_laws.specs.Refinement.{lock_state, locks_of, taken_at}
-use Rattle.lot_laws.specs.SitesOf.{GoesAll, IsInductive, condvar_of}
 use Rattle.lot_laws.proofs.calls.Events.{OthersFollow, rights}
 use Rattle.lot_laws.proofs.condvar.Replies.{fits_here, taken_by_wait, word_is}
 use Rattle.lot_laws.proofs.condvar.OwnStand.{look_place, notify_place}

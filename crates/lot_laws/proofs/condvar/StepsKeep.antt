@@ -1,47 +1,28 @@
 -- Each step of a thread in a call of a condition variable keeps what holds of it.
-use Rattle.std.proofs.Common.{ℕ, Bool, true, false, Option, Some, None, if◌then◌else◌, ◌==◌, ◌≡◌, ◌≢◌, ◌⊎◌}
-use Rattle.std.proofs.Common.{◌*◌, ◌<◌, length, nat_lt, is_some, inl, inr, refl, sym, ◌∙◌, ap, subst}
-use Rattle.std.proofs.Common.{length-set, get_or-set_other, get_or-set_same}
-use Rattle.std.proofs.lemmas.Bool.{cases_eq, ltb-true}
-use Rattle.spec_locks.specs.declared.calls.CondvarCall.{CondvarCall}
+use Rattle.lot_laws.proofs.Names
+use Names.{ℕ, Bool, true, false, Option, Some, None, if◌then◌else◌, ◌==◌, ◌≡◌, ◌≢◌, ◌⊎◌, ◌*◌, ◌<◌, length}
+use Names.{nat_lt, is_some, inl, inr, refl, sym, ◌∙◌, ap, subst, length-set, get_or-set_other}
+use Names.{get_or-set_same, cases_eq, ltb-true, CondvarCall, lock_in, Call, Step, Turn, Late, CondvarPlace}
+use Names.{Wait, Look, Notify, WaitAt, MayHear, after_condvar_deeds, condvar_deeds, condvar_act}
+use Names.{condvar_first, condvar_next, in_lock, Place, Idle, Mutex, RwLock, Once, Condvar, Semaphore, act_of}
+use Names.{first_place, in_condvar, is_idle, late_key, called_lock, looking, next_place, profile_at}
+use Names.{BeginsWait, IsCondvar, IsInsideNot, condvar_leads, Rules, putting, rules_of, condvar_deed_keeps}
+use Names.{SectionChanges, Line, Main, has_readers, IsWellFormed, PlaceFits, State, after, can_do, can_turn}
+use Names.{is_free_under, is_open_to, is_possible, kind_at, place_at, put, queue_at, reply_to, runs_closure}
+use Names.{section_at, state_after_going, state_after_late_on, state_after_look, state_after_turn}
+use Names.{step_outcome, both, looking_well_formed, lock_state, locks_of, location_at, AreCondvars}
+use Names.{AreCounted, FitsCondvar, FitsItsLock, IsInductive, condvar_of, inside_as, key_of, rules_in}
+use Names.{stood_in}
 use Rattle.spec_locks.specs.declared.calls.CondvarCall.TheVariants as calls
-use Rattle.spec_locks.specs.Calls.{lock_in}
-use Rattle.spec_locks.specs.declared.calls.Call.{Call}
 use Rattle.spec_locks.specs.declared.calls.Call.TheVariants as call
-use Rattle.spec_locks.specs.declared.calls.Step.{Step}
-use Rattle.spec_locks.specs.declared.calls.Turn.{Turn}
 use Rattle.spec_locks.specs.declared.calls.Turn as turn
-use Rattle.steps_base.specs.declared.acts.Reply.TheVariants.{Late}
 use Rattle.steps_mutex.specs.declared.places.MutexPlace.TheVariants as mutex
 use Rattle.steps_mutex.specs.declared.lock.LockAt.TheVariants as lock
-use Rattle.steps_condvar.specs.declared.places.CondvarPlace.{CondvarPlace}
-use Rattle.steps_condvar.specs.declared.places.CondvarPlace.TheVariants.{Wait, Look, Notify}
 use Rattle.steps_condvar.specs.declared.wait.Stands.TheVariants as stands
-use Rattle.steps_condvar.specs.declared.wait.WaitAt.{WaitAt}
 use Rattle.steps_condvar.specs.declared.wait.WaitAt.TheVariants as wait
-use Rattle.steps_condvar.specs.CondvarDeeds.{MayHear, after_condvar_deeds, condvar_deeds}
-use Rattle.steps_condvar.specs.CondvarSteps.{condvar_act, condvar_first, condvar_next, in_lock}
-use Rattle.lot_steps.specs.declared.places.Place.{Place}
-use Rattle.lot_steps.specs.declared.places.Place.TheVariants.{Idle, Mutex, RwLock, Once, Condvar, Semaphore}
-use Rattle.lot_steps.specs.Steps.{act_of, first_place, in_condvar, is_idle, late_key, called_lock, looking}
-use Rattle.lot_steps.specs.Steps.{next_place, profile_at}
-use Rattle.spec_locks.specs.Condvars.{BeginsWait, IsCondvar, IsInsideNot, condvar_leads}
 use Rattle.spec_locks.specs.Locks as locks
-use Rattle.spec_locks.specs.Locks.{Rules, putting, times}
-use Rattle.spec_locks.specs.Purposes.{rules_of}
-use Rattle.spec_locks.proofs.CondvarKeeps.{condvar_deed_keeps}
-use Rattle.spec_locks.specs.Runs.{SectionChanges}
-use Rattle.spec_locks.specs.Sites.{Line, Main, has_readers}
-use Rattle.lot_machine.specs.Fits.{IsWellFormed, PlaceFits}
-use Rattle.lot_machine.specs.Machine.{State, after, can_do, can_turn, is_free_under, is_open_to, is_possible}
-use Rattle.lot_machine.specs.Machine.{kind_at, place_at, put, queue_at, reply_to, runs_closure, section_at}
-use Rattle.lot_machine.specs.Machine.{state_after_going, state_after_late_on, state_after_look}
-use Rattle.lot_machine.specs.Machine.{state_after_turn, step_outcome}
-use Rattle.lot_machine.proofs.Shape.{both, looking_well_formed}
-use Rattle.lot_laws.specs.Refinement.{lock_state, locks_of}
-use Rattle.lot_laws.specs.Locations.{location_at}
-use Rattle.lot_laws.specs.SitesOf.{AreCondvars, AreCounted, FitsCondvar, FitsItsLock, IsInductive, Stands}
-use Rattle.lot_laws.specs.SitesOf.{condvar_of, inside_as, key_of, rules_in, stood_in}
+use Rattle.spec_locks.specs.Locks.{times}
+use Rattle.lot_laws.specs.SitesOf.{Stands}
 use Rattle.lot_laws.proofs.machine.Befallen.{others_keep_it}
 use Rattle.lot_laws.proofs.calls.Closures.{condvar_runs_none}
 use Rattle.lot_laws.proofs.condvar.Replies.{free_inside, may_hear}

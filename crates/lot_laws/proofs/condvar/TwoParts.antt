@@ -1,18 +1,11 @@
 -- Each lock sees of a place in a call of a condition variable, and of the next one, its own part: the row
 -- there, the row beside, or nothing.
-use Rattle.std.proofs.Common.{ℕ, true, false, Some, None, ◌==◌, ◌≡◌, ◌≢◌, refl, sym, ◌∙◌, ap}
-use Rattle.steps_base.specs.declared.acts.Next.{Next}
-use Rattle.steps_base.specs.declared.acts.Next.TheVariants.{At, End as Over}
-use Rattle.steps_base.specs.Profiles.{taken_from}
-use Rattle.steps_base.specs.Locations.{Location, nowhere, location_by}
-use Rattle.lot_steps.specs.declared.places.Place.{Place}
-use Rattle.lot_steps.specs.Steps.{condvar_goes}
-use Rattle.steps_condvar.specs.declared.places.CondvarPlace.{CondvarPlace}
-use Rattle.steps_condvar.specs.CondvarSteps.{mutex_beside}
-use Rattle.steps_condvar.specs.CondvarMoves.{row_beside, row_there}
-use Rattle.spec_locks.specs.Sites.{idle}
-use Rattle.lot_laws.specs.Refinement.{taken_at}
-use Rattle.lot_laws.specs.Locations.{role_on, location_at}
+use Rattle.lot_laws.proofs.Names
+use Names.{ℕ, true, false, Some, None, ◌==◌, ◌≡◌, ◌≢◌, refl, sym, ◌∙◌, ap, Next, At, taken_from, Location}
+use Names.{location_by, Place, condvar_goes, CondvarPlace, mutex_beside, row_beside, row_there, idle}
+use Names.{taken_at, role_on, location_at}
+use Rattle.steps_base.specs.declared.acts.Next.TheVariants.{End as Over}
+use Rattle.steps_base.specs.Locations.{nowhere}
 use Rattle.lot_laws.proofs.machine.Parts.{differ, same}
 use Rattle.lot_laws.proofs.sites.StandsKept.{Alike}
 

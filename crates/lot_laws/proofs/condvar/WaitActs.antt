@@ -1,38 +1,21 @@
 -- Each act in a wait at its condition variable, where it leaves its mutex as it is: every lock is a site
 -- again.
-use Rattle.std.proofs.Common.{ℕ, Bool, true, false, None, if◌then◌else◌, ◌==◌, ◌||◌, ◌≡◌, ◌≢◌, ◌*◌, ◌<◌, []}
-use Rattle.std.proofs.Common.{◌∷◌, length, refl, sym, ◌∙◌, ap, subst}
-use Rattle.steps_base.specs.declared.acts.Next.{Next}
-use Rattle.steps_base.specs.declared.acts.Next.TheVariants.{At}
-use Rattle.steps_base.specs.Moves.{inside_of}
-use Rattle.steps_condvar.specs.CondvarMoves.{row_beside, row_there, there}
-use Rattle.steps_base.specs.declared.acts.Reply.TheVariants.{Done, Value, Removed}
+use Rattle.lot_laws.proofs.Names
+use Names.{ℕ, Bool, true, false, None, if◌then◌else◌, ◌==◌, ◌||◌, ◌≡◌, ◌≢◌, ◌*◌, ◌<◌, [], ◌∷◌, length, refl}
+use Names.{sym, ◌∙◌, ap, subst, Next, At, inside_of, row_beside, row_there, there, Done, Value, Removed}
+use Names.{without, Condvar, condvar_goes, CondvarPlace, Wait, WaitAt, condvar_next, in_wait, is_shown}
+use Names.{shown_as, wait_act, condvar_deeds, condvar_steps_follow, IsCondvar, Main, State, can_do, place_at}
+use Names.{put, queue_at, reply_to, section_at, state_after_act, word_at, acts, location_at, FitsItsLock}
+use Names.{Goes, IsInductive, condvar_of, key_of, rules_in, Location, location_by}
 use Rattle.core_base.specs.declared.ops.Op.TheVariants as op
-use Rattle.core_base.specs.Lines.{without}
-use Rattle.lot_steps.specs.declared.places.Place.TheVariants.{Condvar}
-use Rattle.lot_steps.specs.Steps.{condvar_goes}
-use Rattle.steps_condvar.specs.declared.places.CondvarPlace.{CondvarPlace}
-use Rattle.steps_condvar.specs.declared.places.CondvarPlace.TheVariants.{Wait}
-use Rattle.steps_condvar.specs.declared.wait.WaitAt.{WaitAt}
 use Rattle.steps_condvar.specs.declared.wait.WaitAt.TheVariants as wait
-use Rattle.steps_condvar.specs.CondvarSteps.{condvar_next, in_wait, is_shown, shown_as, wait_act}
-use Rattle.steps_condvar.specs.CondvarDeeds.{condvar_deeds}
-use Rattle.steps_condvar.proofs.CondvarFit.{condvar_steps_follow}
 use Rattle.spec_locks.specs.Condvars as condvars
-use Rattle.spec_locks.specs.Condvars.{IsCondvar}
 use Rattle.spec_locks.specs.Locks as locks
-use Rattle.spec_locks.specs.Sites.{Main}
-use Rattle.lot_machine.specs.Machine.{State, can_do, place_at, put, queue_at, reply_to, section_at}
-use Rattle.lot_machine.specs.Machine.{state_after_act, word_at}
-use Rattle.lot_laws.specs.ThreadDeeds.{acts}
-use Rattle.lot_laws.specs.Locations.{location_at}
-use Rattle.lot_laws.specs.SitesOf.{FitsItsLock, Goes, IsInductive, condvar_of, key_of, rules_in}
 use Rattle.lot_laws.proofs.sites.StandsKept.{Alike}
 use Rattle.lot_laws.proofs.condvar.TwoParts.{Beside, SameBeside, alike_beside, location_beside}
 use Rattle.lot_laws.proofs.condvar.Replies.{at_it, may_hear, word_is, none_so}
 use Rattle.lot_laws.proofs.condvar.MutexUntouched.{IsOfWord, enters_there, leaves_list, leaves_there}
 use Rattle.lot_laws.proofs.condvar.MutexUntouched.{stands_there, there_deeds, works_there}
-use Rattle.steps_base.specs.Locations.{Location, location_by}
 
 -- the places of a wait whose act is at the condition variable alone
 abbrev pub IsAtCondvar : WaitAt → Type 0

@@ -1,51 +1,29 @@
 -- A step of a wait is one event of its condition variable or of its mutex, and its call goes on by it.
-use Rattle.std.proofs.Common.{ℕ, Bool, true, false, Option, Some, None, if◌then◌else◌, ◌==◌, ◌||◌, ◌≡◌, ◌≢◌}
-use Rattle.std.proofs.Common.{◌⊎◌, ◌*◌, ◌+◌, List, [], ◌∷◌, not, inl, inr, refl, sym, ◌∙◌, ap, subst}
-use Rattle.std.proofs.lemmas.Bool.{cases_eq}
-use Rattle.core_base.specs.declared.keys.Keys.TheVariants.{One}
+use Rattle.lot_laws.proofs.Names
+use Names.{ℕ, Bool, true, false, Option, Some, None, if◌then◌else◌, ◌==◌, ◌||◌, ◌≡◌, ◌≢◌, ◌⊎◌, ◌*◌, ◌+◌, List}
+use Names.{[], ◌∷◌, not, inl, inr, refl, sym, ◌∙◌, ap, subst, cases_eq, One, outcome_of, Act, Next, Reply}
+use Names.{Done, Value, Parked, MutexPlace, LockAt, enter_deeds, take_deeds, is_locked, is_parked, lock_act}
+use Names.{mutex_next, Wait, WaitAt, BecomesOfTwo, CallOfTwoFollows, IsLockOf, IsReached, case_there, heard}
+use Names.{wait_event, condvar_deeds, relocked_deeds, wait_deeds, waits_tell, wait_carries, condvar_next}
+use Names.{in_wait, is_shown, next_wait, wait_act, unended, waiter_deeds, CondvarDeed, IsCondvar, SeeOther}
+use Names.{Show, AreOneCase, KeepLock, after_all, case_of, event_by, HasTakenNobody, LockCase, LockState}
+use Names.{Rights, Rules, rights_of, CallState, Event, GoesOn, MayHappen, Moves, going_on, woken, End, Main}
+use Names.{Mark, Site, State, can_do, place_at, reply_to, word_at, rights_where, Location, Condvar}
+use Names.{condvar_does, condvar_goes, acts, call_at, call_state, lock_state, locks_of, FollowAll}
+use Names.{IsInductive, condvar_of, rules_in, site_of}
 use Rattle.core_base.specs.declared.ops.Op as op
-use Rattle.steps_base.specs.Acts.{outcome_of}
-use Rattle.steps_base.specs.declared.acts.Act.{Act}
 use Rattle.steps_base.specs.declared.acts.Act.TheVariants as act
-use Rattle.steps_base.specs.declared.acts.Next.{Next}
 use Rattle.steps_base.specs.declared.acts.Next.TheVariants as next
-use Rattle.steps_base.specs.declared.acts.Reply.{Reply}
-use Rattle.steps_base.specs.declared.acts.Reply.TheVariants.{Done, Value, Parked}
 use Rattle.steps_base.specs.declared.acts.Whom.TheVariants as whoms
-use Rattle.steps_mutex.specs.declared.places.MutexPlace.{MutexPlace}
 use Rattle.steps_mutex.specs.declared.places.MutexPlace.TheVariants as mutex
 use Rattle.steps_mutex.specs.declared.lock.Entry.TheVariants as entry
-use Rattle.steps_mutex.specs.declared.lock.LockAt.{LockAt}
 use Rattle.steps_mutex.specs.declared.lock.LockAt.TheVariants as lock
 use Rattle.steps_mutex.specs.declared.unlock.UnlockAt.TheVariants as unlock
-use Rattle.steps_mutex.specs.MutexDeeds.{enter_deeds, take_deeds}
-use Rattle.steps_mutex.specs.MutexSteps.{is_locked, is_parked, lock_act, mutex_next}
-use Rattle.steps_condvar.specs.declared.places.CondvarPlace.TheVariants.{Wait}
-use Rattle.steps_condvar.specs.declared.wait.WaitAt.{WaitAt}
 use Rattle.steps_condvar.specs.declared.wait.WaitAt.TheVariants as wait
 use Rattle.steps_condvar.specs.CondvarCalls as calls
-use Rattle.steps_condvar.specs.CondvarCalls.{BecomesOfTwo, CallOfTwoFollows, IsLockOf, IsReached, case_there}
-use Rattle.steps_condvar.specs.CondvarCalls.{heard, or_else, wait_event}
-use Rattle.steps_condvar.specs.CondvarDeeds.{condvar_deeds, relocked_deeds, wait_deeds}
+use Rattle.steps_condvar.specs.CondvarCalls.{or_else}
 use Rattle.steps_condvar.specs.CondvarDeeds as condvar
-use Rattle.steps_condvar.proofs.WaitTells.{waits_tell}
-use Rattle.steps_condvar.specs.CondvarProfiles.{wait_carries}
-use Rattle.steps_condvar.specs.CondvarSteps.{condvar_next, in_wait, is_shown, next_wait, wait_act}
-use Rattle.steps_condvar.specs.CondvarWaits.{unended, waiter_deeds}
-use Rattle.spec_locks.specs.Condvars.{CondvarDeed, IsCondvar, SeeOther, Show}
-use Rattle.spec_locks.specs.Deeds.{AreOneCase, KeepLock, after_all, case_of, event_by}
-use Rattle.spec_locks.specs.Locks.{HasTakenNobody, LockCase, LockState, Rights, Rules, rights_of}
-use Rattle.spec_locks.specs.Runs.{CallState, Event, GoesOn, MayHappen, Moves, going_on, woken}
-use Rattle.spec_locks.specs.Sites.{End, Main, Mark, Site}
-use Rattle.lot_machine.specs.Machine.{State, can_do, place_at, reply_to, word_at}
-use Rattle.steps_base.specs.Calls.{rights_where}
-use Rattle.steps_base.specs.Locations.{Location}
-use Rattle.lot_steps.specs.declared.places.Place.TheVariants.{Condvar}
-use Rattle.lot_steps.specs.Steps.{condvar_does, condvar_goes}
-use Rattle.lot_laws.specs.ThreadDeeds.{acts}
 use Rattle.lot_laws.specs.ThreadDeeds as deeds
-use Rattle.lot_laws.specs.Refinement.{call_at, call_state, lock_state, locks_of}
-use Rattle.lot_laws.specs.SitesOf.{FollowAll, IsInductive, condvar_of, rules_in, site_of}
 use Rattle.lot_laws.proofs.machine.AtPlaces.{in_no_hand, taken_nobody}
 use Rattle.lot_laws.proofs.calls.Events.{GoesAs, Happens, OthersFollow, deeds_by, put_is, rights}
 use Rattle.lot_laws.proofs.condvar.StepEvents.{call_named, call_then, NamesStill, ToldSo, begins_two}

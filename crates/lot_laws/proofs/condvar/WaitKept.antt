@@ -1,41 +1,22 @@
 -- A wait goes on: by each of its acts both its locks are sites again, as the deeds of its place say.
-use Rattle.std.proofs.Common.{ℕ, Bool, true, false, None, if◌then◌else◌, ◌==◌, ◌≡◌, ◌≢◌, ◌+◌, ◌*◌, ◌<◌, List}
-use Rattle.std.proofs.Common.{[], length, refl, sym, ◌∙◌, ap, subst}
-use Rattle.std.proofs.lemmas.Bool.{eqb-true}
-use Rattle.core_base.specs.declared.keys.Keys.TheVariants.{One}
+use Rattle.lot_laws.proofs.Names
+use Names.{ℕ, Bool, true, false, None, if◌then◌else◌, ◌==◌, ◌≡◌, ◌≢◌, ◌+◌, ◌*◌, ◌<◌, List, [], length, refl}
+use Names.{sym, ◌∙◌, ap, subst, eqb-true, One, Act, Next, At, Reply, Place, Condvar, condvar_goes, next_place}
+use Names.{LockAt, UnlockAt, is_locked, lock_act, unlock_act, mutex_next, CondvarPlace, Wait, Stands, WaitAt}
+use Names.{IsReached, IsLockOf, wait_deeds, relocked_deeds, wait_act, condvar_next, waiter_deeds, IsCondvar}
+use Names.{Main, State, can_do, place_at, put, reply_to, state_after_act, queues_with_last, word_at, acts}
+use Names.{FitsItsLock, Goes, GoesAll, IsInductive, condvar_of, key_of, rules_in, MutexPlace, WordIs, holds}
+use Names.{Exclusive}
 use Rattle.core_base.specs.declared.ops.Op.TheVariants as op
-use Rattle.steps_base.specs.declared.acts.Act.{Act}
 use Rattle.steps_base.specs.declared.acts.Act.TheVariants as act
-use Rattle.steps_base.specs.declared.acts.Next.{Next}
-use Rattle.steps_base.specs.declared.acts.Next.TheVariants.{At, End as Over}
-use Rattle.steps_base.specs.declared.acts.Reply.{Reply}
-use Rattle.lot_steps.specs.declared.places.Place.{Place}
-use Rattle.lot_steps.specs.declared.places.Place.TheVariants.{Condvar}
-use Rattle.lot_steps.specs.Steps.{condvar_goes, next_place}
+use Rattle.steps_base.specs.declared.acts.Next.TheVariants.{End as Over}
 use Rattle.steps_mutex.specs.declared.lock.Entry.TheVariants as entry
-use Rattle.steps_mutex.specs.declared.lock.LockAt.{LockAt}
 use Rattle.steps_mutex.specs.declared.lock.LockAt.TheVariants as lock
 use Rattle.steps_mutex.specs.declared.places.MutexPlace.TheVariants as mutex
-use Rattle.steps_mutex.specs.declared.unlock.UnlockAt.{UnlockAt}
 use Rattle.steps_mutex.specs.declared.unlock.UnlockAt.TheVariants as unlock
-use Rattle.steps_mutex.specs.MutexSteps.{is_locked, lock_act, unlock_act, mutex_next}
-use Rattle.steps_condvar.specs.declared.places.CondvarPlace.{CondvarPlace}
-use Rattle.steps_condvar.specs.declared.places.CondvarPlace.TheVariants.{Wait}
-use Rattle.steps_condvar.specs.declared.wait.Stands.{Stands}
-use Rattle.steps_condvar.specs.declared.wait.WaitAt.{WaitAt}
 use Rattle.steps_condvar.specs.declared.wait.WaitAt.TheVariants as wait
-use Rattle.steps_condvar.specs.CondvarCalls.{IsReached, IsLockOf}
-use Rattle.steps_condvar.specs.CondvarDeeds.{wait_deeds, relocked_deeds}
-use Rattle.steps_condvar.specs.CondvarSteps.{wait_act, condvar_next}
-use Rattle.steps_condvar.specs.CondvarWaits.{waiter_deeds}
-use Rattle.spec_locks.specs.Condvars.{IsCondvar}
 use Rattle.spec_locks.specs.Locks as locks
-use Rattle.spec_locks.specs.Sites.{Main}
-use Rattle.lot_machine.specs.Machine.{State, can_do, place_at, put, reply_to, state_after_act}
-use Rattle.lot_machine.specs.Machine.{queues_with_last, word_at}
-use Rattle.lot_laws.specs.ThreadDeeds.{acts}
 use Rattle.lot_laws.specs.ThreadDeeds as deeds
-use Rattle.lot_laws.specs.SitesOf.{FitsItsLock, Goes, GoesAll, IsInductive, condvar_of, key_of, rules_in}
 use Rattle.lot_laws.proofs.sites.Following.{goes_all, only_at}
 use Rattle.lot_laws.proofs.machine.Parts as glue
 use Rattle.lot_laws.proofs.sites.TwoLocks.{two_at}
@@ -48,10 +29,6 @@ use Rattle.lot_laws.proofs.condvar.WaitSections.{leaves_line, leaves_parked, par
 use Rattle.lot_laws.proofs.condvar.WaitRefused.{refused}
 use Rattle.lot_laws.proofs.condvar.WaitTakes.{takes}
 use Rattle.lot_laws.proofs.condvar.WaitWakes.{leaves_nobody, leaves_waking}
-use Rattle.steps_mutex.specs.declared.places.MutexPlace.{MutexPlace}
-use Rattle.steps_base.specs.declared.acts.Check.TheVariants.{WordIs}
-use Rattle.steps_base.specs.Acts.{holds}
-use Rattle.core_base.specs.declared.wants.Want.TheVariants.{Exclusive}
 
 -- a step of one of two locks
 module _ (w v : State) (l m : ℕ) (apart : m ≢ l) (inductive : IsInductive w) where

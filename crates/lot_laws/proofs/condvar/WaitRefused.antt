@@ -1,26 +1,16 @@
 -- A wait with another mutex than the one that is shown goes out of the section of its condition variable, and
 -- is over: both locks are sites again.
-use Rattle.std.proofs.Common.{ℕ, Bool, false, None, ◌≡◌, ◌≢◌, ◌<◌, [], ◌∷◌, length, refl, sym, ◌∙◌, ap, subst}
-use Rattle.std.proofs.Common.{inl, inr, get_or-set_same, get_or-set_other}
-use Rattle.std.proofs.lemmas.Bool.{cases_eq}
-use Rattle.core_base.specs.declared.keys.Keys.TheVariants.{One}
-use Rattle.steps_base.specs.declared.acts.Next.TheVariants.{At, End as Over}
-use Rattle.steps_base.specs.declared.acts.Reply.TheVariants.{Done}
-use Rattle.steps_base.specs.Locations.{Location, nowhere}
+use Rattle.lot_laws.proofs.Names
+use Names.{ℕ, Bool, false, None, ◌≡◌, ◌≢◌, ◌<◌, [], ◌∷◌, length, refl, sym, ◌∙◌, ap, subst, inl, inr}
+use Names.{get_or-set_same, get_or-set_other, cases_eq, One, At, Done, Location, Condvar, Idle, CondvarPlace}
+use Names.{Wait, WaiterFollows, putting, End, Main, Out, has_readers, State, place_at, put, queue_at}
+use Names.{section_at, state_with_sections, acts, taken_at, location_at, GoesAll, IsInductive, key_of}
+use Names.{rules_in, site_of, locations_of}
+use Rattle.steps_base.specs.declared.acts.Next.TheVariants.{End as Over}
+use Rattle.steps_base.specs.Locations.{nowhere}
 use Rattle.spec_locks.specs.declared.outcomes.Answer.TheVariants as answer
-use Rattle.lot_steps.specs.declared.places.Place.TheVariants.{Condvar, Idle}
-use Rattle.steps_condvar.specs.declared.places.CondvarPlace.{CondvarPlace}
-use Rattle.steps_condvar.specs.declared.places.CondvarPlace.TheVariants.{Wait}
 use Rattle.steps_condvar.specs.declared.wait.WaitAt.TheVariants as wait
-use Rattle.steps_condvar.specs.CondvarWaits.{WaiterFollows}
 use Rattle.spec_locks.specs.Locks as locks
-use Rattle.spec_locks.specs.Locks.{putting}
-use Rattle.spec_locks.specs.Sites.{End, Main, Out, has_readers}
-use Rattle.lot_machine.specs.Machine.{State, place_at, put, queue_at, section_at, state_with_sections}
-use Rattle.lot_laws.specs.ThreadDeeds.{acts}
-use Rattle.lot_laws.specs.Refinement.{taken_at}
-use Rattle.lot_laws.specs.Locations.{location_at}
-use Rattle.lot_laws.specs.SitesOf.{GoesAll, IsInductive, key_of, rules_in, site_of, locations_of}
 use Rattle.lot_laws.proofs.machine.Parts.{parts_at, put_here, put_other}
 use Rattle.lot_laws.proofs.sites.OneStep.{Steps, steps_by}
 use Rattle.lot_laws.proofs.sites.StandsKept.{Alike}

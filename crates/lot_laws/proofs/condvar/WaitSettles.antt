@@ -1,46 +1,29 @@
 -- A wait's own step never leads it to sleep where it was handed its mutex: each thread that hands it over is
 -- inside the section of the mutex till it has told so.
-use Rattle.std.proofs.Common.{ℕ, Bool, true, false, Some, if◌then◌else◌, ◌==◌, ◌≡◌, ◌≢◌, ◌+◌, ◌*◌, not, refl}
-use Rattle.std.proofs.Common.{sym, ◌∙◌, ap}
-use Rattle.std.proofs.lemmas.Bool.{eqb-true}
-use Rattle.core_base.specs.declared.keys.Keys.TheVariants.{One}
+use Rattle.lot_laws.proofs.Names
+use Names.{ℕ, Bool, true, false, Some, if◌then◌else◌, ◌==◌, ◌≡◌, ◌≢◌, ◌+◌, ◌*◌, not, refl, sym, ◌∙◌, ap}
+use Names.{eqb-true, One, hand, Location, location_by, Next, MutexPlace, LockAt, mutex_profile, in_unlock}
+use Names.{is_locked, is_parked, lock_act, mutex_next, CondvarPlace, Wait, Look, Notify, Stands, WaitAt}
+use Names.{IsLockOf, IsReached, has_mutex, carries_beside, condvar_profile, mutex_side, past_release}
+use Names.{mutex_beside, next_wait, released, relocked, wait_act, Place, Idle, Mutex, RwLock, Once, Condvar}
+use Names.{Semaphore, is_lock, Main, has_readers, State, can_do, place_at, reply_to, section_at, word_at}
+use Names.{location, location_at, FitsItsLock, IsInductive, carried_at, key_of, rules_in}
 use Rattle.core_base.specs.declared.notes.Note.TheVariants as note
 use Rattle.core_base.specs.declared.ops.Op as op
-use Rattle.steps_base.specs.Profiles.{hand}
-use Rattle.steps_base.specs.Locations.{Location, nowhere, location_by}
+use Rattle.steps_base.specs.Locations.{nowhere}
 use Rattle.steps_base.specs.declared.acts.Act.TheVariants as act
 use Rattle.spec_locks.specs.declared.outcomes.Answer.TheVariants as answer
-use Rattle.steps_base.specs.declared.acts.Next.{Next}
 use Rattle.steps_base.specs.declared.acts.Next.TheVariants as next
-use Rattle.steps_mutex.specs.declared.places.MutexPlace.{MutexPlace}
 use Rattle.steps_mutex.specs.declared.places.MutexPlace.TheVariants as mutex
 use Rattle.steps_mutex.specs.declared.hand_off.HandOffAt.TheVariants as hand_off
 use Rattle.steps_mutex.specs.declared.lock.Entry.TheVariants as entry
-use Rattle.steps_mutex.specs.declared.lock.LockAt.{LockAt}
 use Rattle.steps_mutex.specs.declared.lock.LockAt.TheVariants as lock
 use Rattle.steps_mutex.specs.declared.unlock.UnlockAt.TheVariants as unlock
-use Rattle.steps_mutex.specs.MutexProfiles.{mutex_profile}
-use Rattle.steps_mutex.specs.MutexSteps.{entered, in_lock, in_unlock, is_locked, is_parked, lock_act}
-use Rattle.steps_mutex.specs.MutexSteps.{mutex_next}
+use Rattle.steps_mutex.specs.MutexSteps.{entered, in_lock}
 use Rattle.steps_condvar.specs.declared.notify.NotifyAt.TheVariants as notify
-use Rattle.steps_condvar.specs.declared.places.CondvarPlace.{CondvarPlace}
-use Rattle.steps_condvar.specs.declared.places.CondvarPlace.TheVariants.{Wait, Look, Notify}
-use Rattle.steps_condvar.specs.declared.wait.Stands.{Stands}
 use Rattle.steps_condvar.specs.declared.wait.Stands.TheVariants as stands
-use Rattle.steps_condvar.specs.declared.wait.WaitAt.{WaitAt}
 use Rattle.steps_condvar.specs.declared.wait.WaitAt.TheVariants as wait
-use Rattle.steps_condvar.specs.CondvarCalls.{IsLockOf, IsReached}
-use Rattle.steps_condvar.specs.CondvarProfiles.{has_mutex, carries_beside, condvar_profile, mutex_side}
-use Rattle.steps_condvar.specs.CondvarSteps.{past_release, mutex_beside, next_wait, released, relocked}
-use Rattle.steps_condvar.specs.CondvarSteps.{wait_act}
-use Rattle.lot_steps.specs.declared.places.Place.{Place}
-use Rattle.lot_steps.specs.declared.places.Place.TheVariants.{Idle, Mutex, RwLock, Once, Condvar, Semaphore}
-use Rattle.lot_steps.specs.Steps.{is_lock}
 use Rattle.spec_locks.specs.Locks as locks
-use Rattle.spec_locks.specs.Sites.{Main, has_readers}
-use Rattle.lot_machine.specs.Machine.{State, can_do, place_at, reply_to, section_at, word_at}
-use Rattle.lot_laws.specs.Locations.{location, location_at}
-use Rattle.lot_laws.specs.SitesOf.{FitsItsLock, IsInductive, carried_at, key_of, rules_in}
 use Rattle.lot_laws.proofs.condvar.Replies.{rules_beside, location_beside}
 use Rattle.lot_laws.proofs.machine.Parts.{same}
 use Rattle.lot_laws.proofs.condvar.WaitSleeps.{IsSettled, IsSettledNext}

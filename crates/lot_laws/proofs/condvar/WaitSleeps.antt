@@ -1,34 +1,19 @@
 -- A wait that is told to sleep stands in a queue, or is in a hand.
-use Rattle.std.proofs.Common.{ℕ, Bool, true, false, Some, None, if◌then◌else◌, ◌==◌, ◌≡◌, ◌+◌, ◌*◌, ◌≤◌, not}
-use Rattle.std.proofs.Common.{inl, inr, refl, ◌∙◌, ap, arith}
-use Rattle.core_base.specs.declared.keys.Keys.TheVariants.{One}
+use Rattle.lot_laws.proofs.Names
+use Names.{ℕ, Bool, true, false, Some, None, if◌then◌else◌, ◌==◌, ◌≡◌, ◌+◌, ◌*◌, ◌≤◌, not, inl, inr, refl}
+use Names.{◌∙◌, ap, arith, One, outcome_of, Location, Next, is_locked, Wait, WaitAt, IsReached, wait_row}
+use Names.{in_wait, wait_act, Condvar, condvar_does, condvar_goes, one_if_some, standing, Main, State}
+use Names.{place_at, lock_state, taken_at, location_at, IsInductive, stood_in}
 use Rattle.core_base.specs.declared.ops.Op as op
 use Rattle.spec_locks.specs.declared.outcomes.Outcome as outcome
-use Rattle.steps_base.specs.Acts.{outcome_of}
-use Rattle.steps_base.specs.Locations.{Location}
 use Rattle.steps_base.specs.declared.acts.Act.TheVariants as act
-use Rattle.steps_base.specs.declared.acts.Next.{Next}
 use Rattle.steps_base.specs.declared.acts.Next.TheVariants as next
 use Rattle.steps_mutex.specs.declared.places.MutexPlace.TheVariants as mutex
 use Rattle.steps_mutex.specs.declared.lock.Entry.TheVariants as entry
 use Rattle.steps_mutex.specs.declared.lock.LockAt.TheVariants as lock
 use Rattle.steps_mutex.specs.declared.unlock.UnlockAt.TheVariants as unlock
-use Rattle.steps_mutex.specs.MutexSteps.{is_locked}
-use Rattle.steps_condvar.specs.declared.places.CondvarPlace.TheVariants.{Wait}
 use Rattle.steps_condvar.specs.declared.wait.Stands.TheVariants as stands
-use Rattle.steps_condvar.specs.declared.wait.WaitAt.{WaitAt}
 use Rattle.steps_condvar.specs.declared.wait.WaitAt.TheVariants as wait
-use Rattle.steps_condvar.specs.CondvarCalls.{IsReached}
-use Rattle.steps_condvar.specs.CondvarProfiles.{wait_row}
-use Rattle.steps_condvar.specs.CondvarSteps.{in_wait, wait_act}
-use Rattle.lot_steps.specs.declared.places.Place.TheVariants.{Condvar}
-use Rattle.lot_steps.specs.Steps.{condvar_does, condvar_goes}
-use Rattle.spec_locks.specs.Locks.{one_if_some, standing}
-use Rattle.spec_locks.specs.Sites.{Main}
-use Rattle.lot_machine.specs.Machine.{State, place_at}
-use Rattle.lot_laws.specs.Refinement.{lock_state, taken_at}
-use Rattle.lot_laws.specs.Locations.{location_at}
-use Rattle.lot_laws.specs.SitesOf.{IsInductive, stood_in}
 use Rattle.lot_laws.proofs.calls.Events.{GoesAs}
 use Rattle.lot_laws.proofs.condvar.StepEvents.{ToldSo}
 use Rattle.lot_laws.proofs.condvar.Replies.{fits_here, location_beside, taken_beside}

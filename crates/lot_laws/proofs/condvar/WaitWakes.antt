@@ -1,45 +1,22 @@
 -- A wait that releases its mutex goes out of its section and wakes the threads that it has in hand, itself
 -- too where a notification brought it there and it took itself: every lock is a site again.
-use Rattle.std.proofs.Common.{ℕ, Bool, true, false, Option, Some, None, if◌then◌else◌, ◌==◌, ◌≡◌, ◌≢◌, ◌⊎◌}
-use Rattle.std.proofs.Common.{◌*◌, ◌<◌, [], ◌∷◌, length, refl, sym, ◌∙◌, ap, subst, inl, inr}
-use Rattle.std.proofs.lemmas.Bool.{cases_eq}
-use Rattle.std.proofs.Math.ListN.{get_or-map}
-use Rattle.core_base.specs.declared.keys.Keys.TheVariants.{One}
+use Rattle.lot_laws.proofs.Names
+use Names.{ℕ, Bool, true, false, Option, Some, None, if◌then◌else◌, ◌==◌, ◌≡◌, ◌≢◌, ◌⊎◌, ◌*◌, ◌<◌, [], ◌∷◌}
+use Names.{length, refl, sym, ◌∙◌, ap, subst, inl, inr, cases_eq, get_or-map, One, Act, At, Done, Woken}
+use Names.{wakes_taken, is_thread, hand, taken_from, in_hand, Location, location_by, Place, Condvar, Idle}
+use Names.{next_place, taker, CondvarPlace, Wait, Stands, WaitAt, past_release, row_beside, row_there, there}
+use Names.{hand_of, taker_of, wait_row, WaiterFollows, Taken, keep_from, Role, Main, Out, Site, wakened}
+use Names.{State, place_after_telling, place_at, put, state_after_act, state_after_telling}
+use Names.{state_with_sections, acts, taken_at, role_on, location_at, FitsItsLock, Goes, IsInductive}
+use Names.{carried_at, hand_at, key_of, rules_in, site_of}
 use Rattle.core_base.specs.declared.notes.Note.TheVariants as note
-use Rattle.steps_base.specs.declared.acts.Act.{Act}
 use Rattle.steps_base.specs.declared.acts.Act.TheVariants as act
-use Rattle.steps_base.specs.declared.acts.Next.TheVariants.{At}
-use Rattle.steps_base.specs.declared.acts.Reply.TheVariants.{Done, Woken}
-use Rattle.steps_base.specs.Acts.{wakes_taken}
-use Rattle.steps_base.specs.Owners.{is_thread}
-use Rattle.steps_base.specs.Profiles.{hand, taken_from, in_hand}
-use Rattle.steps_base.specs.Locations.{Location, location_by}
-use Rattle.lot_steps.specs.declared.places.Place.{Place}
-use Rattle.lot_steps.specs.declared.places.Place.TheVariants.{Condvar, Idle}
-use Rattle.lot_steps.specs.Steps.{next_place, taker}
 use Rattle.steps_mutex.specs.declared.places.MutexPlace.TheVariants as mutex
 use Rattle.steps_mutex.specs.declared.unlock.UnlockAt.TheVariants as unlock
-use Rattle.steps_condvar.specs.declared.places.CondvarPlace.{CondvarPlace}
-use Rattle.steps_condvar.specs.declared.places.CondvarPlace.TheVariants.{Wait}
-use Rattle.steps_condvar.specs.declared.wait.Stands.{Stands}
 use Rattle.steps_condvar.specs.declared.wait.Stands.TheVariants as stands
-use Rattle.steps_condvar.specs.declared.wait.WaitAt.{WaitAt}
 use Rattle.steps_condvar.specs.declared.wait.WaitAt.TheVariants as wait
-use Rattle.steps_condvar.specs.CondvarSteps.{past_release}
-use Rattle.steps_condvar.specs.CondvarMoves.{row_beside, row_there, there}
-use Rattle.steps_condvar.specs.CondvarProfiles.{hand_of, taker_of, wait_row}
-use Rattle.steps_condvar.specs.CondvarWaits.{WaiterFollows}
 use Rattle.spec_locks.specs.Deeds as laws
 use Rattle.spec_locks.specs.Locks as locks
-use Rattle.spec_locks.specs.Locks.{Taken, keep_from}
-use Rattle.spec_locks.specs.Sites.{Role, Main, Out, Site, wakened}
-use Rattle.lot_machine.specs.Machine.{State, place_after_telling, place_at, put, state_after_act}
-use Rattle.lot_machine.specs.Machine.{state_after_telling, state_with_sections}
-use Rattle.lot_laws.specs.ThreadDeeds.{acts}
-use Rattle.lot_laws.specs.Refinement.{taken_at}
-use Rattle.lot_laws.specs.Locations.{role_on, location_at}
-use Rattle.lot_laws.specs.SitesOf.{FitsItsLock, Goes, IsInductive, carried_at, hand_at, key_of, rules_in}
-use Rattle.lot_laws.specs.SitesOf.{site_of}
 use Rattle.lot_laws.proofs.machine.Parts as glue
 use Rattle.lot_laws.proofs.machine.Parts.{differ, untaken}
 use Rattle.lot_laws.proofs.hands.Handed.{CarriesAt}

@@ -1,63 +1,38 @@
 -- Each step of a wait on the word of its mutex, as it releases it and locks it again: every lock is a site
 -- again.
-use Rattle.std.proofs.Common.{ℕ, Bool, true, false, Option, Some, None, if◌then◌else◌, ◌==◌, ◌&&◌, ◌≡◌, ◌≢◌}
-use Rattle.std.proofs.Common.{◌<◌, List, [], ◌∷◌, length, not, refl, sym, ◌∙◌, ap, subst, inl, inr}
-use Rattle.std.proofs.lemmas.Bool.{cases_eq}
-use Rattle.core_base.specs.declared.ops.Op.{Op}
+use Rattle.lot_laws.proofs.Names
+use Names.{ℕ, Bool, true, false, Option, Some, None, if◌then◌else◌, ◌==◌, ◌&&◌, ◌≡◌, ◌≢◌, ◌<◌, List, [], ◌∷◌}
+use Names.{length, not, refl, sym, ◌∙◌, ap, subst, inl, inr, cases_eq, Op, Exclusive, apply, Next, At, Reply}
+use Names.{Value, Owners, with_exclusive, taken_from, location_by, Condvar, condvar_goes, LockAt, UnlockAt}
+use Names.{enter_deeds, is_locked, is_parked, in_unlock, unlock_act, CondvarPlace, Wait, Stands, WaitAt}
+use Names.{condvar_next, condvar_owners, in_wait, next_wait, relocked, released, wait_act, past_release}
+use Names.{row_beside, row_there, there, LeavesMutex, MayHearWaiter, WaiterFollows, itself_woken, unended}
+use Names.{waiter_deeds, waiter_next, waiters_code, waiters_follow, code, Leave, Rules, Case, Clear, Deed}
+use Names.{Role, End, Main, Mark, MarkBrought, MarkOwned, Site, State, can_do, owners_at, place_at, put}
+use Names.{reply_to, state_after_operation, word_at, state_after_act, acts, taken_at, role_on, location_at}
+use Names.{FitsItsLock, Goes, IsInductive, rules_in, site_of, Act}
 use Rattle.core_base.specs.declared.ops.Op.TheVariants as op
-use Rattle.core_base.specs.declared.wants.Want.TheVariants.{Exclusive}
 use Rattle.core_base.specs.declared.notes.Note.TheVariants as note
-use Rattle.core_base.specs.Words.{apply}
 use Rattle.steps_base.specs.declared.acts.Act.TheVariants as act
-use Rattle.steps_base.specs.declared.acts.Next.{Next}
-use Rattle.steps_base.specs.declared.acts.Next.TheVariants.{At, End as Over}
-use Rattle.steps_base.specs.declared.acts.Reply.{Reply}
-use Rattle.steps_base.specs.declared.acts.Reply.TheVariants.{Value}
-use Rattle.steps_base.specs.declared.owners.Owners.{Owners}
-use Rattle.steps_base.specs.Owners.{with_exclusive}
-use Rattle.steps_base.specs.Profiles.{taken_from}
-use Rattle.steps_base.specs.Locations.{nowhere, location_by}
-use Rattle.lot_steps.specs.declared.places.Place.TheVariants.{Condvar}
-use Rattle.lot_steps.specs.Steps.{condvar_goes}
+use Rattle.steps_base.specs.declared.acts.Next.TheVariants.{End as Over}
+use Rattle.steps_base.specs.Locations.{nowhere}
 use Rattle.steps_mutex.specs.declared.lock.Entry.TheVariants as entry
-use Rattle.steps_mutex.specs.declared.lock.LockAt.{LockAt}
 use Rattle.steps_mutex.specs.declared.lock.LockAt.TheVariants as lock
 use Rattle.steps_mutex.specs.declared.places.MutexPlace.TheVariants as mutex
-use Rattle.steps_mutex.specs.declared.unlock.UnlockAt.{UnlockAt}
 use Rattle.steps_mutex.specs.declared.unlock.UnlockAt.TheVariants as unlock
-use Rattle.steps_mutex.specs.MutexDeeds.{enter_deeds}
-use Rattle.steps_mutex.specs.MutexSteps.{is_locked, is_parked, in_lock, in_unlock, unlock_act}
-use Rattle.steps_condvar.specs.declared.places.CondvarPlace.{CondvarPlace}
-use Rattle.steps_condvar.specs.declared.places.CondvarPlace.TheVariants.{Wait}
-use Rattle.steps_condvar.specs.declared.wait.Stands.{Stands}
+use Rattle.steps_mutex.specs.MutexSteps.{in_lock}
 use Rattle.steps_condvar.specs.declared.wait.Stands.TheVariants as stands
-use Rattle.steps_condvar.specs.declared.wait.WaitAt.{WaitAt}
 use Rattle.steps_condvar.specs.declared.wait.WaitAt.TheVariants as wait
-use Rattle.steps_condvar.specs.CondvarSteps.{condvar_next, condvar_owners, in_wait, next_wait, relocked}
-use Rattle.steps_condvar.specs.CondvarSteps.{released, wait_act, past_release}
-use Rattle.steps_condvar.specs.CondvarMoves.{row_beside, row_there, there}
-use Rattle.steps_condvar.specs.CondvarWaits.{LeavesMutex, MayHearWaiter, WaiterFollows, itself_woken, unended}
-use Rattle.steps_condvar.specs.CondvarWaits.{waiter_deeds, waiter_next}
-use Rattle.steps_condvar.proofs.WaiterFit.{waiters_code, waiters_follow}
 use Rattle.spec_locks.specs.declared.outcomes.Answer.TheVariants as answer
-use Rattle.spec_locks.specs.Codes.{code}
 use Rattle.spec_locks.specs.Deeds as laws
 use Rattle.spec_locks.specs.Locks as locks
-use Rattle.spec_locks.specs.Locks.{Enter, Leave, Rules}
-use Rattle.spec_locks.specs.Sites.{Case, Clear, Deed, Role, End, Main, Mark, MarkBrought, MarkOwned, Site}
-use Rattle.lot_machine.specs.Machine.{State, can_do, owners_at, place_at, put, reply_to}
-use Rattle.lot_machine.specs.Machine.{state_after_operation, word_at, state_after_act}
-use Rattle.lot_laws.specs.ThreadDeeds.{acts}
-use Rattle.lot_laws.specs.Refinement.{taken_at}
-use Rattle.lot_laws.specs.Locations.{role_on, location_at}
-use Rattle.lot_laws.specs.SitesOf.{FitsItsLock, Goes, IsInductive, rules_in, site_of}
+use Rattle.spec_locks.specs.Locks.{Enter}
 use Rattle.lot_laws.proofs.sites.StandsKept.{Alike, AlikeBeside}
 use Rattle.lot_laws.proofs.condvar.TwoParts.{Beside, alike_there, role_beside, nothing_else, location_beside}
 use Rattle.lot_laws.proofs.condvar.TwoParts.{taken_beside}
 use Rattle.lot_laws.proofs.condvar.Replies as hears
 use Rattle.lot_laws.proofs.condvar.Replies.{taken_by_wait, waiter_hears}
 use Rattle.lot_laws.proofs.mutex.Acts.{IsOfWord, owned_by, works_at}
-use Rattle.steps_base.specs.declared.acts.Act.{Act}
 
 module _ (w : State) (t l m : ℕ) (timed : Bool) (inductive : IsInductive w) (is_there : t < length w.places)
     (apart : m ≢ l)

@@ -1,33 +1,18 @@
 -- A waiter of a condition variable at its mutex goes on in its call as the event says: it is taken there,
 -- woken, or handed the mutex.
-use Rattle.std.proofs.Common.{ℕ, Bool, true, false, Option, Some, None, if◌then◌else◌, ◌==◌, ◌&&◌, not, ◌≡◌}
-use Rattle.std.proofs.Common.{◌≢◌, ◌⊎◌, inl, inr, refl, sym, ◌∙◌, ap, subst}
-use Rattle.std.proofs.lemmas.Bool.{eqb-true}
+use Rattle.lot_laws.proofs.Names
+use Names.{ℕ, Bool, true, false, Option, Some, None, if◌then◌else◌, ◌==◌, ◌&&◌, not, ◌≡◌, ◌≢◌, ◌⊎◌, inl, inr}
+use Names.{refl, sym, ◌∙◌, ap, subst, eqb-true, Want, Exclusive, Woken, TakenBy, HandedBy, Hand, Of, hand}
+use Names.{in_line, taken_from, Condvar, is_lock, next_place, Lock, Unlock, CondvarPlace, Wait, Look, Notify}
+use Names.{WaitAt, mutex_beside, condvar_profile, condvar_row, mutex_side, waiters_are_told, Rights}
+use Names.{IsReached, after_wake, is_taken_by, one_more_at, call_state, taken_at, Has, Line, Main, idle}
+use Names.{role_on, nowhere, location, location_at, hand_at}
 use Rattle.core_base.specs.declared.notes.Note.TheVariants as note
-use Rattle.core_base.specs.declared.wants.Want.{Want}
-use Rattle.core_base.specs.declared.wants.Want.TheVariants.{Exclusive}
-use Rattle.steps_base.specs.declared.acts.Reply.TheVariants.{Woken, TakenBy, HandedBy}
-use Rattle.steps_base.specs.Profiles.{Hand, Of, hand, in_line, taken_from}
-use Rattle.lot_steps.specs.declared.places.Place.TheVariants.{Condvar}
-use Rattle.lot_steps.specs.Steps.{is_lock, next_place}
 use Rattle.steps_mutex.specs.declared.lock.LockAt.TheVariants as lock
-use Rattle.steps_mutex.specs.declared.places.MutexPlace.TheVariants.{Lock, Unlock}
-use Rattle.steps_condvar.specs.declared.places.CondvarPlace.{CondvarPlace}
-use Rattle.steps_condvar.specs.declared.places.CondvarPlace.TheVariants.{Wait, Look, Notify}
 use Rattle.steps_condvar.specs.declared.wait.Stands.TheVariants as stands
-use Rattle.steps_condvar.specs.declared.wait.WaitAt.{WaitAt}
 use Rattle.steps_condvar.specs.declared.wait.WaitAt.TheVariants as wait
-use Rattle.steps_condvar.specs.CondvarSteps.{mutex_beside}
-use Rattle.steps_condvar.specs.CondvarProfiles.{condvar_profile, condvar_row, mutex_side}
-use Rattle.steps_condvar.proofs.WaitTells.{waiters_are_told}
-use Rattle.spec_locks.specs.Locks.{Rights}
-use Rattle.steps_condvar.specs.CondvarCalls.{IsReached}
 use Rattle.steps_mutex.specs.declared.unlock.UnlockAt.TheVariants as unlock
-use Rattle.spec_locks.specs.Runs.{after_wake, is_taken_by, one_more_at}
-use Rattle.lot_laws.specs.Refinement.{call_state, taken_at}
-use Rattle.spec_locks.specs.Sites.{Has, Line, Main, idle}
-use Rattle.lot_laws.specs.Locations.{role_on, nowhere, location, location_at, location_by}
-use Rattle.lot_laws.specs.SitesOf.{hand_at}
+use Rattle.lot_laws.specs.Locations.{location_by}
 use Rattle.lot_laws.proofs.machine.Parts.{differ, same}
 use Rattle.lot_laws.proofs.mutex.Waiters.{notifier_stands, side_wanted}
 

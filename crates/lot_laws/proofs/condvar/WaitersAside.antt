@@ -1,30 +1,16 @@
 -- A thread that waits to be notified stands nowhere at its mutex, is in no hand there, and doesn't try it
 -- again.
-use Rattle.std.proofs.Common.{ℕ, Bool, true, false, Option, Some, None, if◌then◌else◌, ◌==◌, ◌≡◌, ◌≢◌, ◌+◌}
-use Rattle.std.proofs.Common.{◌*◌, ◌≤◌, refl, sym, ◌∙◌, ap, subst, arith}
-use Rattle.std.proofs.lemmas.Bool.{eqb-true}
-use Rattle.spec_locks.specs.declared.kinds.Kind.{Kind}
+use Rattle.lot_laws.proofs.Names
+use Names.{ℕ, Bool, true, false, Option, Some, None, if◌then◌else◌, ◌==◌, ◌≡◌, ◌≢◌, ◌+◌, ◌*◌, ◌≤◌, refl, sym}
+use Names.{◌∙◌, ap, subst, arith, eqb-true, Kind, is_plain_mutex, Hand, Profile, taken_from, Location}
+use Names.{location_by, CondvarPlace, Wait, Look, Notify, condvar_profile, condvar_row, mutex_side}
+use Names.{mutex_beside, Place, Idle, Mutex, RwLock, Once, Condvar, Semaphore, is_lock, profile_at}
+use Names.{WaitsAside, Rules, Sort, one_if_some, standing, rules_of, Main, Second, has_readers, State}
+use Names.{kind_at, place_at, queue_at, lock_state, taken_at, role_on, location, location_at, FitsCondvar}
+use Names.{FitsItsLock, IsInductive, condvar_of, rules_in, site_of, stood_in}
 use Rattle.spec_locks.specs.declared.kinds.Kind.TheVariants as kind
-use Rattle.spec_locks.specs.Kinds.{is_plain_mutex}
-use Rattle.steps_base.specs.Profiles.{Hand, Profile, taken_from}
-use Rattle.steps_base.specs.Locations.{Location, nowhere, location_by}
-use Rattle.steps_condvar.specs.declared.places.CondvarPlace.{CondvarPlace}
-use Rattle.steps_condvar.specs.declared.places.CondvarPlace.TheVariants.{Wait, Look, Notify}
-use Rattle.steps_condvar.specs.CondvarProfiles.{condvar_profile, condvar_row, mutex_side}
-use Rattle.steps_condvar.specs.CondvarSteps.{mutex_beside}
-use Rattle.lot_steps.specs.declared.places.Place.{Place}
-use Rattle.lot_steps.specs.declared.places.Place.TheVariants.{Idle, Mutex, RwLock, Once, Condvar, Semaphore}
-use Rattle.lot_steps.specs.Steps.{is_lock, profile_at}
-use Rattle.spec_locks.specs.Condvars.{WaitsAside}
+use Rattle.steps_base.specs.Locations.{nowhere}
 use Rattle.spec_locks.specs.Locks as locks
-use Rattle.spec_locks.specs.Locks.{Rules, Sort, one_if_some, standing}
-use Rattle.spec_locks.specs.Purposes.{rules_of}
-use Rattle.spec_locks.specs.Sites.{Main, Second, has_readers}
-use Rattle.lot_machine.specs.Machine.{State, kind_at, place_at, queue_at}
-use Rattle.lot_laws.specs.Refinement.{lock_state, taken_at}
-use Rattle.lot_laws.specs.Locations.{role_on, location, location_at}
-use Rattle.lot_laws.specs.SitesOf.{FitsCondvar, FitsItsLock, IsInductive, condvar_of, rules_in, site_of}
-use Rattle.lot_laws.specs.SitesOf.{stood_in}
 use Rattle.lot_laws.proofs.machine.Parts.{differ, same}
 use Rattle.lot_laws.proofs.sites.OneStep.{queued_times}
 use Rattle.lot_laws.proofs.condvar.Promises.{IsAside, aside, unlisted}

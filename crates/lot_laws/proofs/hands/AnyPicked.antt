@@ -1,19 +1,12 @@
 -- A take tells how many want to share, and what the one wants that wants more. Whether it has picked anybody
 -- is whether anybody is in the hand of its thread.
-use Rattle.std.proofs.Common.{ℕ, zero, suc, Bool, true, false, Option, Some, None, if◌then◌else◌, ◌==◌, ◌&&◌}
-use Rattle.std.proofs.Common.{◌||◌, not, cond, ◌≡◌, ◌⊎◌, List, [], ◌∷◌, length, get_or, inl, inr, refl, sym}
-use Rattle.std.proofs.Common.{◌∙◌, ap, arith}
-use Rattle.std.proofs.Math.Bool.{or-true}
-use Rattle.core_base.specs.declared.wants.Want.{Want}
-use Rattle.steps_base.specs.Acts.{is_there, any_picked}
-use Rattle.steps_base.specs.Owners.{is_thread}
-use Rattle.lot_steps.specs.declared.places.Place.{Place}
-use Rattle.lot_steps.specs.declared.places.Place.TheVariants.{Idle}
-use Rattle.lot_steps.specs.Steps.{taker, wants}
-use Rattle.spec_locks.specs.Locks.{wants_shared}
-use Rattle.lot_machine.specs.declared.hands.Successor.{Successor}
-use Rattle.lot_machine.specs.Machine.{held, held_by, shares_in_hand, sharers_in_hand, wants_more_in_hand}
-use Rattle.lot_machine.specs.Machine.{successor_or, successor_from, want_of_successor}
+use Rattle.lot_laws.proofs.Names
+use Names.{ℕ, zero, suc, Bool, true, false, Option, Some, None, if◌then◌else◌, ◌==◌, ◌&&◌, ◌||◌, not, cond}
+use Names.{◌≡◌, ◌⊎◌, List, [], ◌∷◌, length, get_or, inl, inr, refl, sym, ◌∙◌, ap, arith, or-true, Want}
+use Names.{any_picked, is_thread, Place, Idle, taker, wants, wants_shared, Successor, held, held_by}
+use Names.{shares_in_hand, sharers_in_hand, wants_more_in_hand, successor_or, successor_from}
+use Names.{want_of_successor}
+use Rattle.steps_base.specs.Acts.{is_there}
 use Rattle.lot_laws.proofs.machine.Parts.{differ}
 
 abbrev pub any_in : ℕ → ℕ → List Place → Bool

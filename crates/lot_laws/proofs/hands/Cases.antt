@@ -1,19 +1,18 @@
 -- The cases of an abstract lock change a hand little: no case of another thread brings anybody into it or
 -- lets anybody go. A thread that has nobody in hand takes one at most that wants more than to share.
-use Rattle.std.proofs.Common.{ℕ, zero, suc, Bool, true, false, Option, Some, None, if◌then◌else◌, ◌==◌, ◌≡◌}
-use Rattle.std.proofs.Common.{◌≢◌, ◌+◌, ◌≤◌, ◌⊎◌, inl, inr, List, [], ◌∷◌, refl, sym, ◌∙◌, ap, arith}
-use Rattle.std.proofs.lemmas.Bool.{eqb-true}
-use Rattle.std.proofs.lemmas.Bool.Decides.{nat_tests}
-use Rattle.core_base.specs.declared.wants.Want.{Want}
-use Rattle.core_base.specs.declared.wants.Want.TheVariants.{Exclusive, Upgradable, Shared, Wait, CallOnce}
-use Rattle.spec_locks.specs.Locks.{LockState, Rules, Queued, Taken, LockCase, Once, OfOnce, Enter, Pend}
-use Rattle.spec_locks.specs.Locks.{Settle, Leave, Convert, Park, Aside, TakeFirst, TakeAside, TakePicked}
-use Rattle.spec_locks.specs.Locks.{Wake, HandOff, Late, Rollback, Needs, HasTakenNobody, IsLockState}
-use Rattle.spec_locks.specs.Locks.{keep_from, one_if_some, picked, putting, standing, taking, times, unpicked}
-use Rattle.spec_locks.specs.Locks.{wants_shared}
-use Rattle.spec_locks.specs.Onces.{OnceCase, Start, Finish, Fail, Rest, TakeAll}
+use Rattle.lot_laws.proofs.Names
+use Names.{ℕ, zero, suc, Bool, true, false, Option, Some, None, if◌then◌else◌, ◌==◌, ◌≡◌, ◌≢◌, ◌+◌, ◌≤◌, ◌⊎◌}
+use Names.{inl, inr, List, [], ◌∷◌, refl, sym, ◌∙◌, ap, arith, eqb-true, nat_tests, Want, Exclusive}
+use Names.{Upgradable, Shared, CallOnce, LockState, Rules, Queued, Taken, LockCase, OfOnce, Pend, Settle}
+use Names.{Leave, Convert, Park, Aside, TakeFirst, TakeAside, TakePicked, Wake, HandOff, Rollback, Needs}
+use Names.{HasTakenNobody, IsLockState, keep_from, one_if_some, picked, putting, standing, taking, unpicked}
+use Names.{wants_shared, OnceCase, Start, Finish, Fail, Rest, TakeAll, is_handed, kept_by, taking_by}
+use Names.{taking_others, times_picked}
+use Rattle.core_base.specs.declared.wants.Want.TheVariants.{Wait}
+use Rattle.spec_locks.specs.Locks.{Once, Enter}
+use Rattle.spec_locks.specs.Locks.{Late}
+use Rattle.spec_locks.specs.Locks.{times}
 use Rattle.spec_locks.specs.Locks as locks
-use Rattle.spec_locks.proofs.Hands.{is_handed, kept_by, taking_by, taking_others, times_picked}
 use Rattle.lot_laws.proofs.machine.Parts.{differ}
 use Rattle.lot_laws.proofs.hands.InHand.{wanted_of}
 

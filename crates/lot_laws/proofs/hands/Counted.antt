@@ -1,36 +1,22 @@
 -- A place's counts of the threads in hand, made anew from where all threads stand: these are handed the
 -- lock.
-use Rattle.std.proofs.Common.{ℕ, zero, suc, Bool, true, false, Option, Some, None, if◌then◌else◌, ◌==◌, ◌&&◌}
-use Rattle.std.proofs.Common.{not, ◌≡◌, ◌≢◌, ◌+◌, ◌<◌, ◌≤◌, List, [], ◌∷◌, length, get_or, cond, refl, sym}
-use Rattle.std.proofs.Common.{◌∙◌, ap, subst, arith}
-use Rattle.std.specs.List.{filter}
-use Rattle.std.proofs.lemmas.Bool.{eqb-true}
-use Rattle.core_base.specs.declared.wants.Want.{Want}
-use Rattle.core_base.specs.declared.wants.Want.TheVariants.{Exclusive, Upgradable, Shared, Wait, CallOnce}
-use Rattle.steps_base.specs.Moves.{heir_of}
-use Rattle.steps_base.specs.Owners.{is_thread}
-use Rattle.steps_base.specs.Profiles.{Hand, Of, hand, hand_owner, in_hand, taken_from}
+use Rattle.lot_laws.proofs.Names
+use Names.{ℕ, zero, suc, Bool, true, false, Option, Some, None, if◌then◌else◌, ◌==◌, ◌&&◌, not, ◌≡◌, ◌≢◌, ◌+◌}
+use Names.{◌<◌, ◌≤◌, List, [], ◌∷◌, length, get_or, cond, refl, sym, ◌∙◌, ap, subst, arith, filter, eqb-true}
+use Names.{Want, Exclusive, Upgradable, Shared, CallOnce, heir_of, is_thread, Hand, Of, hand, hand_owner}
+use Names.{in_hand, taken_from, HasInHand, IsNamed, Place, Idle, Mutex, RwLock, Once, Condvar, Semaphore}
+use Names.{calls, is_lock, or_else, profile, taker, IsSuccessor, Queued, Taken, readers, shares_handed}
+use Names.{sharing_handed, wants_shared, Successor, State, held, held_by, place_at, shares_at, shares_in_hand}
+use Names.{sharers_in_hand, successor_from, successor_or, want_of_successor, wants_more_in_hand, lock_state}
+use Names.{taken_at, nowhere, location, IsCountOfHand, IsInductive, carried_at, hand_at, CondvarPlace}
+use Names.{mutex_beside, condvar_profile, mutex_side}
+use Rattle.core_base.specs.declared.wants.Want.TheVariants.{Wait}
 use Rattle.steps_rwlock_fair.specs.declared.hand_over.Taken.{Taken as Counted}
-use Rattle.steps_rwlock_fair.specs.FairCalls.{HasInHand, IsNamed}
-use Rattle.lot_steps.specs.declared.places.Place.{Place}
-use Rattle.lot_steps.specs.declared.places.Place.TheVariants.{Idle, Mutex, RwLock, Once, Condvar, Semaphore}
-use Rattle.lot_steps.specs.Steps.{calls, is_lock, or_else, profile, taker}
-use Rattle.spec_locks.specs.Locks.{IsSuccessor, Queued, Taken, readers, shares_handed, sharing_handed}
-use Rattle.spec_locks.specs.Locks.{wants_shared}
-use Rattle.lot_machine.specs.declared.hands.Successor.{Successor}
-use Rattle.lot_machine.specs.Machine.{State, held, held_by, place_at, shares_at, shares_in_hand}
-use Rattle.lot_machine.specs.Machine.{sharers_in_hand, successor_from, successor_or, want_of_successor}
-use Rattle.lot_machine.specs.Machine.{wants_more_in_hand}
-use Rattle.lot_laws.specs.Refinement.{lock_state, taken_at}
-use Rattle.lot_laws.specs.Locations.{Location, nowhere, location, location_by}
-use Rattle.lot_laws.specs.SitesOf.{IsCountOfHand, IsInductive, carried_at, hand_at}
+use Rattle.lot_laws.specs.Locations.{Location, location_by}
 use Rattle.lot_laws.proofs.machine.Parts.{IsOf, same, IsSingle, single_held, single_location, single_taken}
 use Rattle.lot_laws.proofs.machine.Parts.{single_taker, taken_out, IsInHandOf, in_hand_where, aparts}
 use Rattle.lot_laws.proofs.hands.Handed.{in_hand_here, of_carries}
 use Rattle.lot_laws.proofs.mutex.Waiters.{side_wanted}
-use Rattle.steps_condvar.specs.declared.places.CondvarPlace.{CondvarPlace}
-use Rattle.steps_condvar.specs.CondvarSteps.{mutex_beside}
-use Rattle.steps_condvar.specs.CondvarProfiles.{condvar_profile, mutex_side}
 use Rattle.lot_laws.proofs.hands.Moved.{thread_of}
 use Rattle.lot_laws.proofs.hands.InHand.{counted, heir_wants, is_wanted, shared_by, sharers_from}
 use Rattle.lot_laws.proofs.hands.InHand.{sharers_same, wanted_is, wanted_of, wants_heir}

@@ -1,62 +1,30 @@
 -- The places whose call has counted those that its thread has in hand: a thread comes to one by its own step
 -- alone, and none of them is in a hand.
-use Rattle.std.proofs.Common.{ℕ, Bool, true, false, Option, Some, None, if◌then◌else◌, ◌==◌, ◌≡◌, refl, sym}
-use Rattle.std.proofs.Common.{◌∙◌, ap, subst}
-use Rattle.std.proofs.lemmas.Bool.{eqb-true}
-use Rattle.steps_semaphore.specs.declared.places.SemaphorePlace.{SemaphorePlace}
-use Rattle.steps_semaphore.specs.SemaphoreSteps.{semaphore_looking, semaphore_next}
+use Rattle.lot_laws.proofs.Names
+use Names.{ℕ, Bool, true, false, Option, Some, None, if◌then◌else◌, ◌==◌, ◌≡◌, refl, sym, ◌∙◌, ap, subst}
+use Names.{eqb-true, SemaphorePlace, semaphore_looking, semaphore_next, Access, Call, RwLockCall, Patience}
+use Names.{Kind, Next, Reply, in_hand, MutexPlace, mutex_looking, mutex_next, Admission, RwLockPlace}
+use Names.{RwLockAt, RwLockPurpose, rwlock_next, rwlock_looking, RwLockCallPlace, Plain, Glance, HandOver}
+use Names.{Bump, Handed, HandOverAt, HandedAt, call_first, release_first, in_hand_of, in_call, any_taken}
+use Names.{bump_ended, bump_next, call_next, entering, given, gives_up_at, gives_way, glances, hand_over_next}
+use Names.{handed_by, handed_next, handed_woken, plain_next, unless_given, woken_with, OncePlace}
+use Names.{once_looking, once_next, CondvarPlace, condvar_next, condvar_looking, Place, Idle, Mutex, RwLock}
+use Names.{Once, Condvar, Semaphore, first_place, in_mutex, in_once, in_rwlock, late_key, looking, mutex_goes}
+use Names.{next_place, once_goes, rwlock_goes, condvar_goes, in_condvar, in_semaphore, semaphore_goes, State}
+use Names.{held, place_at, AreCounted, IsCountOfHand, carried_at, nowhere, location}
 use Rattle.core_base.specs.declared.notes.Note as note
-use Rattle.spec_locks.specs.declared.calls.Access.{Access}
 use Rattle.spec_locks.specs.declared.calls.Access.TheVariants as access
-use Rattle.spec_locks.specs.declared.calls.Call.{Call}
 use Rattle.spec_locks.specs.declared.calls.Call as call
-use Rattle.spec_locks.specs.declared.calls.RwLockCall.{RwLockCall}
 use Rattle.spec_locks.specs.declared.calls.RwLockCall as rwlock_call
-use Rattle.spec_locks.specs.declared.calls.Patience.{Patience}
-use Rattle.spec_locks.specs.declared.kinds.Kind.{Kind}
 use Rattle.spec_locks.specs.declared.outcomes.Answer as answer
-use Rattle.steps_base.specs.declared.acts.Next.{Next}
 use Rattle.steps_base.specs.declared.acts.Next.TheVariants as next
-use Rattle.steps_base.specs.declared.acts.Reply.{Reply}
 use Rattle.steps_base.specs.declared.acts.Reply.TheVariants as reply
-use Rattle.steps_base.specs.Profiles.{in_hand}
-use Rattle.steps_mutex.specs.declared.places.MutexPlace.{MutexPlace}
-use Rattle.steps_mutex.specs.MutexSteps.{mutex_looking, mutex_next}
-use Rattle.steps_rwlock.specs.declared.places.Admission.{Admission}
-use Rattle.steps_rwlock.specs.declared.places.RwLockPlace.{RwLockPlace}
-use Rattle.steps_rwlock.specs.declared.places.RwLockAt.{RwLockAt}
 use Rattle.steps_rwlock.specs.declared.places.RwLockAt.TheVariants as at
 use Rattle.steps_rwlock.specs.declared.park.ParkAt.TheVariants as parking
-use Rattle.steps_rwlock.specs.declared.purposes.RwLockPurpose.{RwLockPurpose}
 use Rattle.steps_rwlock.specs.declared.purposes.RwLockPurpose.TheVariants as purpose
-use Rattle.steps_rwlock.specs.RwLockSteps.{rwlock_next}
-use Rattle.steps_rwlock.specs.RwLockProfiles.{rwlock_looking}
-use Rattle.steps_rwlock_fair.specs.declared.places.RwLockCallPlace.{RwLockCallPlace}
-use Rattle.steps_rwlock_fair.specs.declared.places.RwLockCallPlace.TheVariants.{Plain, Glance, HandOver, Bump}
-use Rattle.steps_rwlock_fair.specs.declared.places.RwLockCallPlace.TheVariants.{Handed}
 use Rattle.steps_rwlock_fair.specs.declared.hand_over.Taken.{Taken as Counted}
-use Rattle.steps_rwlock_fair.specs.declared.hand_over.HandOverAt.{HandOverAt}
 use Rattle.steps_rwlock_fair.specs.declared.hand_over.HandOverAt.TheVariants as handing
-use Rattle.steps_rwlock_fair.specs.declared.handed.HandedAt.{HandedAt}
 use Rattle.steps_rwlock_fair.specs.declared.handed.HandedAt.TheVariants as handed
-use Rattle.steps_rwlock_fair.specs.FairBegins.{call_first, release_first}
-use Rattle.steps_rwlock_fair.specs.FairCalls.{in_hand_of}
-use Rattle.steps_rwlock_fair.specs.FairProfiles.{in_call}
-use Rattle.steps_rwlock_fair.specs.FairSteps.{any_taken, bump_ended, bump_next, call_next, entering, given}
-use Rattle.steps_rwlock_fair.specs.FairSteps.{gives_up_at, gives_way, glances, hand_over_next, handed_by}
-use Rattle.steps_rwlock_fair.specs.FairSteps.{handed_next, handed_woken, plain_next, unless_given, woken_with}
-use Rattle.steps_once.specs.declared.places.OncePlace.{OncePlace}
-use Rattle.steps_once.specs.OnceSteps.{once_looking, once_next}
-use Rattle.steps_condvar.specs.declared.places.CondvarPlace.{CondvarPlace}
-use Rattle.steps_condvar.specs.CondvarSteps.{condvar_next, condvar_looking}
-use Rattle.lot_steps.specs.declared.places.Place.{Place}
-use Rattle.lot_steps.specs.declared.places.Place.TheVariants.{Idle, Mutex, RwLock, Once, Condvar, Semaphore}
-use Rattle.lot_steps.specs.Steps.{first_place, in_mutex, in_once, in_rwlock, late_key, looking, mutex_goes}
-use Rattle.lot_steps.specs.Steps.{next_place, once_goes, rwlock_goes, condvar_goes, in_condvar, in_semaphore}
-use Rattle.lot_steps.specs.Steps.{semaphore_goes}
-use Rattle.lot_machine.specs.Machine.{State, held, place_at}
-use Rattle.lot_laws.specs.SitesOf.{AreCounted, IsCountOfHand, carried_at}
-use Rattle.lot_laws.specs.Locations.{nowhere, location}
 use Rattle.lot_laws.proofs.machine.Parts.{IsOf, same}
 use Rattle.lot_laws.proofs.promises.RowPromises.{Befalls}
 

@@ -1,63 +1,33 @@
 -- The counts that a call has made of the threads in its hand stay true, whatever any thread does. As long
 -- as it hasn't handed the lock over, no other thread brings anybody into its hand or lets anybody go.
-use Rattle.std.proofs.Common.{ℕ, Bool, true, false, Option, Some, None, if◌then◌else◌, ◌==◌, ◌≡◌, ◌≢◌, ◌<◌}
-use Rattle.std.proofs.Common.{inl, inr, length, nat_lt, refl, sym, ◌∙◌, ap, subst, get_or, get_or-set_same}
-use Rattle.std.proofs.Common.{length-set, set}
-use Rattle.steps_semaphore.specs.SemaphoreSteps.{semaphore_act, semaphore_next}
+use Rattle.lot_laws.proofs.Names
+use Names.{ℕ, Bool, true, false, Option, Some, None, if◌then◌else◌, ◌==◌, ◌≡◌, ◌≢◌, ◌<◌, inl, inr, length}
+use Names.{nat_lt, refl, sym, ◌∙◌, ap, subst, get_or, get_or-set_same, length-set, set, semaphore_act}
+use Names.{semaphore_next, once_next, Run, reply_to, state_after_close, state_after_go, state_after_going}
+use Names.{has_readers, cases_eq, ltb-true, Op, lock_in, Access, Turn, Step, Outcome, Act, Next, Reply, Late}
+use Names.{mutex_act, mutex_next, Admission, RwLockCallPlace, Plain, Glance, HandOver, Bump, Handed}
+use Names.{HandOverAt, in_hand_of, any_taken, call_act, call_next, freed_next, has_room, hand_over_act}
+use Names.{hand_over_next, looked, parked_as, with_taken, word_without, has_parked, once_act, condvar_act}
+use Names.{condvar_next, Place, Idle, Mutex, RwLock, Once, Condvar, Semaphore, act_of, first_place, late_key}
+use Names.{looking, next_place, rwlock_goes, LockState, Turned, State, after, can_turn, go_reply, held}
+use Names.{is_possible, kind_at, place_at, put, state_after_act, state_after_hand_over_by}
+use Names.{state_after_late_on, state_after_look, state_after_operation, state_after_turn, step_outcome}
+use Names.{word_at, IsWellFormed, after_size, both, lock_state, locks_of, AreCondvars, AreCounted}
+use Names.{FitsItsLock, IsCountOfHand, IsInductive, rules_in}
 use Rattle.lot_laws.proofs.machine.Parts.{IsOfTwo, IsSingle, fits_two, single_or_two}
 use Rattle.lot_laws.proofs.hands.Counting.{once_counted, condvar_counted}
-use Rattle.steps_once.specs.OnceSteps.{once_next}
 use Rattle.steps_once.specs.declared.run.RunAt.TheVariants as run
-use Rattle.steps_once.specs.declared.places.OncePlace.TheVariants.{Run}
-use Rattle.lot_machine.specs.Machine.{reply_to, state_after_close, state_after_go, state_after_going}
-use Rattle.spec_locks.specs.Sites.{has_readers}
 use Rattle.lot_laws.proofs.calls.Closures.{RunsOne, closes_one}
 use Rattle.lot_laws.proofs.calls.Closings.{closing, closing_there, is_after}
 use Rattle.lot_laws.proofs.calls.OwnPlace.{gone, gone_place}
-use Rattle.std.proofs.lemmas.Bool.{cases_eq, ltb-true}
-use Rattle.core_base.specs.declared.ops.Op.{Op}
 use Rattle.core_base.specs.declared.ops.Op.TheVariants as operation
-use Rattle.spec_locks.specs.Calls.{lock_in}
-use Rattle.spec_locks.specs.declared.calls.Access.{Access}
 use Rattle.spec_locks.specs.declared.calls.Access.TheVariants as access
-use Rattle.spec_locks.specs.declared.calls.Turn.{Turn}
 use Rattle.spec_locks.specs.declared.calls.Turn as turn
-use Rattle.spec_locks.specs.declared.calls.Step.{Step}
-use Rattle.spec_locks.specs.declared.outcomes.Outcome.{Outcome}
-use Rattle.steps_base.specs.declared.acts.Act.{Act}
 use Rattle.steps_base.specs.declared.acts.Act.TheVariants as act
-use Rattle.steps_base.specs.declared.acts.Next.{Next}
 use Rattle.steps_base.specs.declared.acts.Next.TheVariants as next
-use Rattle.steps_base.specs.declared.acts.Reply.{Reply}
-use Rattle.steps_base.specs.declared.acts.Reply.TheVariants.{Late}
-use Rattle.steps_mutex.specs.MutexSteps.{mutex_act, mutex_next}
-use Rattle.steps_rwlock.specs.declared.places.Admission.{Admission}
-use Rattle.steps_rwlock_fair.specs.declared.places.RwLockCallPlace.{RwLockCallPlace}
-use Rattle.steps_rwlock_fair.specs.declared.places.RwLockCallPlace.TheVariants.{Plain, Glance, HandOver, Bump}
-use Rattle.steps_rwlock_fair.specs.declared.places.RwLockCallPlace.TheVariants.{Handed}
 use Rattle.steps_rwlock_fair.specs.declared.hand_over.Taken.{Taken as Counted}
-use Rattle.steps_rwlock_fair.specs.declared.hand_over.HandOverAt.{HandOverAt}
 use Rattle.steps_rwlock_fair.specs.declared.hand_over.HandOverAt.TheVariants as handing
-use Rattle.steps_rwlock_fair.specs.FairCalls.{in_hand_of}
-use Rattle.steps_rwlock_fair.specs.FairSteps.{any_taken, call_act, call_next, freed_next, has_room}
-use Rattle.steps_rwlock_fair.specs.FairSteps.{hand_over_act, hand_over_next, looked, parked_as, released}
-use Rattle.steps_rwlock_fair.specs.FairSteps.{with_taken, word_without}
-use Rattle.spec_locks.specs.Codes.{has_parked}
-use Rattle.steps_once.specs.OnceSteps.{once_act, once_next}
-use Rattle.steps_condvar.specs.CondvarSteps.{condvar_act, condvar_next}
-use Rattle.lot_steps.specs.declared.places.Place.{Place}
-use Rattle.lot_steps.specs.declared.places.Place.TheVariants.{Idle, Mutex, RwLock, Once, Condvar, Semaphore}
-use Rattle.lot_steps.specs.Steps.{act_of, first_place, late_key, looking, next_place, rwlock_goes}
-use Rattle.spec_locks.specs.Locks.{LockState}
-use Rattle.spec_locks.specs.Runs.{Turned}
-use Rattle.lot_machine.specs.Machine.{State, after, can_turn, go_reply, held, is_possible, kind_at, place_at}
-use Rattle.lot_machine.specs.Machine.{put, state_after_act, state_after_hand_over_by, state_after_late_on}
-use Rattle.lot_machine.specs.Machine.{state_after_look, state_after_operation, state_after_turn, step_outcome}
-use Rattle.lot_machine.specs.Machine.{word_at}
-use Rattle.lot_machine.specs.Fits.{IsWellFormed}
-use Rattle.lot_machine.proofs.Shape.{after_size, both}
-use Rattle.lot_laws.specs.Refinement.{lock_state, locks_of}
-use Rattle.lot_laws.specs.SitesOf.{AreCondvars, AreCounted, FitsItsLock, IsCountOfHand, IsInductive, rules_in}
+use Rattle.steps_rwlock_fair.specs.FairSteps.{released}
 use Rattle.lot_laws.proofs.machine.Befallen.{others_keep_it}
 use Rattle.lot_laws.proofs.hands.Counting.{HasCounted, IsHandOver, are_counted, begins_bare, counted_befallen}
 use Rattle.lot_laws.proofs.hands.Counting.{counted_next, counted_on, counting, counting_row, counts_there}

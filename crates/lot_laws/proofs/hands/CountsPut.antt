@@ -1,17 +1,9 @@
 -- A thread stands elsewhere in its call: a thread that counted the threads that it has in hand has counted
 -- them still.
-use Rattle.std.proofs.Common.{ℕ, Some, None, ◌≡◌, ◌<◌, List, inl, inr, length, length-set, get_or-set_other}
-use Rattle.std.proofs.Common.{get_or-set_same, sym, ◌∙◌, ap}
-use Rattle.std.proofs.lemmas.Bool.{cases_eq}
-use Rattle.spec_locks.specs.declared.kinds.Kind.{Kind}
-use Rattle.steps_base.specs.Profiles.{hand_owner}
-use Rattle.lot_steps.specs.declared.places.Place.{Place}
-use Rattle.lot_steps.specs.declared.places.Place.TheVariants.{Idle}
-use Rattle.lot_steps.specs.Steps.{looking, or_else}
-use Rattle.lot_machine.specs.Machine.{State, held, held_by, opening, place_at, put}
-use Rattle.lot_machine.proofs.Opening.{idle_at}
-use Rattle.lot_machine.proofs.Looks.{look}
-use Rattle.lot_laws.specs.SitesOf.{AreCounted}
+use Rattle.lot_laws.proofs.Names
+use Names.{ℕ, Some, None, ◌≡◌, ◌<◌, List, inl, inr, length, length-set, get_or-set_other, get_or-set_same}
+use Names.{sym, ◌∙◌, ap, cases_eq, Kind, hand_owner, Place, Idle, looking, or_else, State, held, held_by}
+use Names.{opening, place_at, put, idle_at, look, AreCounted}
 use Rattle.lot_laws.proofs.hands.Counting.{are_counted, counted_on, counts_there, looks_bare, none_is}
 use Rattle.lot_laws.proofs.calls.Beside.{looks_beside}
 use Rattle.lot_laws.proofs.hands.Counted.{counted_stays}

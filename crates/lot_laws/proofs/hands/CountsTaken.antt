@@ -1,49 +1,27 @@
 -- A thread that hands its lock over counts those that it takes: what its place says of them then is so.
-use Rattle.std.proofs.Common.{ℕ, Bool, true, false, Option, Some, None, if◌then◌else◌, ◌==◌, ◌≡◌, ◌≢◌, ◌+◌}
-use Rattle.std.proofs.Common.{◌*◌, ◌<◌, ◌≤◌, inl, inr, List, [], ◌∷◌, length, set, get_or, map, refl, sym}
-use Rattle.std.proofs.Common.{◌∙◌, ap, subst, arith, get_or-set_same, get_or-set_other, length-set}
-use Rattle.std.proofs.lemmas.Bool.{cases_eq, cases_lt}
-use Rattle.std.proofs.lemmas.List.{set_past}
-use Rattle.core_base.specs.declared.wants.Waiter.{Waiter}
-use Rattle.core_base.specs.declared.wants.Want.{Want}
-use Rattle.core_base.specs.Lines.{threads_of}
-use Rattle.core_base.specs.Picks.{lock_picked, without_lock_picked}
-use Rattle.spec_locks.specs.declared.calls.Access.{Access}
+use Rattle.lot_laws.proofs.Names
+use Names.{ℕ, Bool, true, false, Option, Some, None, if◌then◌else◌, ◌==◌, ◌≡◌, ◌≢◌, ◌+◌, ◌*◌, ◌<◌, ◌≤◌, inl}
+use Names.{inr, List, [], ◌∷◌, length, set, get_or, map, refl, sym, ◌∙◌, ap, subst, arith, get_or-set_same}
+use Names.{get_or-set_other, length-set, cases_eq, cases_lt, set_past, Waiter, Want, threads_of, lock_picked}
+use Names.{without_lock_picked, Access, Turn, Outcome, Reply, TakenBy, Admission, HandOver, in_hand_of, took}
+use Names.{Place, Idle, RwLock, next_place, HasTakenNobody, LockState, is_recursive, picked, wants_shared}
+use Names.{queued_of, Turned, Main, has_readers, State, held, place_at, places_told, put, queue_at}
+use Names.{sharers_in_hand, state_after_take, successor_from, want_of_successor, wants_more_in_hand}
+use Names.{told_count, lock_state, locks_of, locations_of, FitsItsLock, IsCountOfHand, IsInductive}
+use Names.{carried_at, rules_in, nowhere, location, one_more_picked}
 use Rattle.spec_locks.specs.declared.calls.Access.TheVariants as access
-use Rattle.spec_locks.specs.declared.calls.Turn.{Turn}
-use Rattle.spec_locks.specs.declared.outcomes.Outcome.{Outcome}
-use Rattle.steps_base.specs.declared.acts.Reply.{Reply}
-use Rattle.steps_base.specs.declared.acts.Reply.TheVariants.{TakenBy}
 use Rattle.steps_base.specs.declared.acts.Whom.TheVariants as whom
-use Rattle.steps_rwlock.specs.declared.places.Admission.{Admission}
-use Rattle.steps_rwlock_fair.specs.declared.places.RwLockCallPlace.TheVariants.{HandOver}
 use Rattle.steps_rwlock_fair.specs.declared.hand_over.Taken.{Taken as Counted}
 use Rattle.steps_rwlock_fair.specs.declared.hand_over.HandOverAt.TheVariants as handing
-use Rattle.steps_rwlock_fair.specs.FairCalls.{in_hand_of}
-use Rattle.steps_rwlock_fair.specs.FairSteps.{took}
-use Rattle.lot_steps.specs.declared.places.Place.{Place}
-use Rattle.lot_steps.specs.declared.places.Place.TheVariants.{Idle, RwLock}
-use Rattle.lot_steps.specs.Steps.{next_place}
-use Rattle.spec_locks.specs.Locks.{HasTakenNobody, LockState, Once, is_recursive, picked, wants_shared}
-use Rattle.spec_locks.specs.Picks.{queued_of}
-use Rattle.spec_locks.specs.Runs.{Turned}
-use Rattle.spec_locks.specs.Sites.{Main, has_readers}
-use Rattle.lot_machine.specs.Machine.{State, held, place_at, places_told, put, queue_at, sharers_in_hand}
-use Rattle.lot_machine.specs.Machine.{state_after_take, successor_from, want_of_successor, wants_more_in_hand}
-use Rattle.lot_machine.proofs.QueueLemmas.{told_count}
+use Rattle.spec_locks.specs.Locks.{Once}
 use Rattle.lot_laws.proofs.calls.EachLock.{moves_nobody, turned_so}
 use Rattle.lot_laws.proofs.machine.Parts.{IsSingle}
 use Rattle.lot_laws.proofs.promises.PlacePromises.{calls_one_lock}
-use Rattle.lot_laws.specs.Refinement.{lock_state, locks_of}
-use Rattle.lot_laws.specs.SitesOf.{locations_of, FitsItsLock, IsCountOfHand, IsInductive, carried_at}
-use Rattle.lot_laws.specs.SitesOf.{rules_in}
-use Rattle.lot_laws.specs.Locations.{nowhere, location}
 use Rattle.lot_laws.proofs.machine.AtPlaces.{in_no_hand}
 use Rattle.lot_laws.proofs.hands.Counting.{HasCounted, counting_row, counted_on}
 use Rattle.lot_laws.proofs.machine.Parts.{same}
 use Rattle.lot_laws.proofs.hands.Cases.{OneMore, nobody_more, takes_one_more, wanting_more}
 use Rattle.lot_laws.proofs.hands.Counted.{is_more, same_hand, same_sharers, same_successor}
-use Rattle.spec_locks.proofs.HandsTaken.{one_more_picked}
 use Rattle.spec_locks.proofs.HandsTaken as hands
 use Rattle.lot_laws.proofs.hands.InHand.{is_wanted, wanted_of}
 use Rattle.lot_laws.proofs.calls.Looking.{set_keeps}

@@ -1,22 +1,12 @@
 -- A right is handed over to many at once: it is one case of the lock, and the calls of all that were handed
 -- it go on with what they wanted.
-use Rattle.std.proofs.Common.{ℕ, zero, suc, Bool, true, false, Option, Some, None, if◌then◌else◌, ◌==◌, ◌≡◌}
-use Rattle.std.proofs.Common.{◌<◌, List, [], ◌∷◌, ◌++◌, length, inl, inr, refl, sym, ◌∙◌, ap, arith}
-use Rattle.std.proofs.lemmas.Bool.{cases_lt, eqb-true}
-use Rattle.core_base.specs.declared.wants.Want.{Want}
-use Rattle.steps_base.specs.Moves.{claim_handed}
-use Rattle.spec_locks.specs.Sites.{Begin}
-use Rattle.steps_base.specs.declared.acts.Reply.TheVariants.{HandedBy}
-use Rattle.lot_steps.specs.declared.places.Place.{Place}
-use Rattle.lot_steps.specs.declared.places.Place.TheVariants.{Idle}
-use Rattle.lot_steps.specs.Steps.{next_place}
-use Rattle.spec_locks.specs.Locks.{Queued, Rights, Taken, HandOff, IsTaken, handed, putting, readers}
-use Rattle.spec_locks.specs.Locks.{rights_of}
-use Rattle.spec_locks.specs.Runs.{AtLock, after_wake, is_taken_by}
-use Rattle.lot_machine.specs.Machine.{State, place_at}
-use Rattle.lot_laws.specs.Refinement.{call_state, lock_state, taken_at}
+use Rattle.lot_laws.proofs.Names
+use Names.{ℕ, zero, suc, Bool, true, false, Option, Some, None, if◌then◌else◌, ◌==◌, ◌≡◌, ◌<◌, List, [], ◌∷◌}
+use Names.{◌++◌, length, inl, inr, refl, sym, ◌∙◌, ap, arith, cases_lt, eqb-true, Want, claim_handed, Begin}
+use Names.{HandedBy, Place, Idle, next_place, Queued, Rights, Taken, HandOff, IsTaken, handed, putting}
+use Names.{readers, rights_of, AtLock, after_wake, is_taken_by, State, place_at, call_state, lock_state}
+use Names.{taken_at, rules_in}
 use Rattle.lot_laws.specs.ThreadDeeds.{Act}
-use Rattle.lot_laws.specs.SitesOf.{rules_in}
 use Rattle.lot_laws.proofs.machine.Parts.{past_all, put_same, same, IsSingle}
 use Rattle.lot_laws.proofs.calls.Events.{AreClaims, Happens, OthersFollow, rights, rights_led}
 use Rattle.lot_laws.proofs.hands.Rights.{given, given_right, handed_have, others_have}

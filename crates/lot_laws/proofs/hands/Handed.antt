@@ -1,27 +1,14 @@
 -- A thread that has somebody in hand at one lock alone: each thread in its hand is so there, and one at
 -- most where that lock lets one go at a time. Its leaving and its hand-over empty the hand.
-use Rattle.std.proofs.Common.{ℕ, Bool, true, false, Option, Some, None, if◌then◌else◌, ◌==◌, ◌≡◌, ◌≢◌, ◌+◌}
-use Rattle.std.proofs.Common.{List, inl, inr, refl, ◌∙◌, ap, subst, arith}
-use Rattle.spec_locks.proofs.LockKeeps.{sharing_same}
-use Rattle.spec_locks.specs.Locks.{IsLockState}
-use Rattle.std.proofs.lemmas.Bool.{cases_eq}
-use Rattle.core_base.specs.declared.wants.Waiter.{Waiter}
-use Rattle.core_base.specs.declared.wants.Want.TheVariants.{Exclusive}
-use Rattle.steps_base.specs.declared.owners.Owners.{Owners}
-use Rattle.lot_steps.specs.declared.places.Place.{Place}
-use Rattle.steps_base.specs.declared.acts.Reply.{Reply}
-use Rattle.lot_steps.specs.Steps.{taker}
-use Rattle.spec_locks.specs.Locks.{let_go, putting}
-use Rattle.std.specs.Prelude.{sum}
-use Rattle.steps_base.specs.Owners.{is_thread, with_exclusive}
+use Rattle.lot_laws.proofs.Names
+use Names.{ℕ, Bool, true, false, Option, Some, None, if◌then◌else◌, ◌==◌, ◌≡◌, ◌≢◌, ◌+◌, List, inl, inr, refl}
+use Names.{◌∙◌, ap, subst, arith, sharing_same, IsLockState, cases_eq, Waiter, Exclusive, Owners, Place}
+use Names.{Reply, taker, let_go, putting, sum, is_thread, with_exclusive, State, place_at, shares_at}
+use Names.{state_after_telling, held, owners_with_pending, owners_of_successor, shares_handed_over}
+use Names.{owners_handed_over, state_after_reply, lock_seen, taken_at, carried_at, hand_at, Hands}
 use Rattle.spec_locks.specs.Locks as locks
-use Rattle.lot_machine.specs.Machine.{State, place_at, shares_at, state_after_telling, held}
-use Rattle.lot_machine.specs.Machine.{owners_with_pending, owners_of_successor, shares_handed_over}
-use Rattle.lot_machine.specs.Machine.{owners_handed_over, state_after_reply}
-use Rattle.lot_laws.specs.Refinement.{lock_seen, taken_at}
 pub use Rattle.steps_mutex.specs.MutexLaws.{heir}
 use Rattle.lot_laws.specs.Locations.{Location, hand}
-use Rattle.lot_laws.specs.SitesOf.{carried_at, hand_at, Hands}
 use Rattle.lot_laws.proofs.machine.Parts.{mutex, put_other, stays, untaken, IsOf, location_elsewhere}
 use Rattle.lot_laws.proofs.machine.Parts.{WantsAlone, none_given, IsApart, held_tells, in_hand_where, Base}
 use Rattle.lot_laws.proofs.machine.Parts.{LetGo, IsInHandOf, successor_in, successor_is, told_in}

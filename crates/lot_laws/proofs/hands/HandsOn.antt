@@ -1,70 +1,35 @@
 -- A thread in a call of a reader-writer lock hands its right over: where its operation takes effect, all that
 -- it has in hand own.
-use Rattle.std.proofs.Common.{◌+◌, ◌*◌, ◌-◌, ℕ, Bool, true, false, Option, Some, None, if◌then◌else◌, ◌==◌}
-use Rattle.std.proofs.Common.{◌≡◌, ◌≢◌, ◌^◌, ◌<◌, ◌≤◌, ◌⊎◌, inl, inr, List, [], ◌∷◌, ◌++◌, length, refl, sym}
-use Rattle.std.proofs.Common.{◌∙◌, ap, subst, arith}
+use Rattle.lot_laws.proofs.Names
+use Names.{◌+◌, ◌*◌, ◌-◌, ℕ, Bool, true, false, Option, Some, None, if◌then◌else◌, ◌==◌, ◌≡◌, ◌≢◌, ◌^◌, ◌<◌}
+use Names.{◌≤◌, ◌⊎◌, inl, inr, List, [], ◌∷◌, ◌++◌, length, refl, sym, ◌∙◌, ap, subst, arith, eqb-true, Op}
+use Names.{Want, Exclusive, Upgradable, Shared, Waiter, apply, HandedBy, Value, Owners, takes_effect}
+use Names.{HandsOver, bit_left, claim_handed, heir_of, shares_then, Profile, hand, in_hand, Location}
+use Names.{location_by, Admission, RwLockPlace, RwLockAt, role_at, parked_hand as place_hand, RwLockCallPlace}
+use Names.{Plain, Glance, HandOver, Bump, Handed, CallStands, in_hand_of, call_deeds, handing_deeds}
+use Names.{CallTells, StandsToHandOver as Hands, call_move, call_profile, call_act, call_next, call_owners}
+use Names.{call_shares, has_room, parked_as, tokens, with_taken, word_without, fair_sleepers_move}
+use Names.{hand_overs_move, handed_move, givers_keep, fair_calls_stand, hand_overs_tell, hand_overs_code}
+use Names.{hand_overs_follow, Place, Idle, Mutex, RwLock, Once, Condvar, Semaphore, next_place, profile}
+use Names.{LockState, Rules, Taken, HandOff, IsLockState, Owns, Queued, without_owner, Case, Role, Pends}
+use Names.{Site, has_readers, HasLimit, code, State, owners_at, place_at, put, queue_at, share_at, shares_at}
+use Names.{sharers_in_hand, state_after_act, successor_from, unshared_then, word_at, IsWellFormed, taken_at}
+use Names.{acts, FitsItsLock, Goes, LimitHasRoom, IsCountOfHand, IsInductive, carried_at, hand_at, rules_in}
+use Names.{role_on, location, Hand}
 use Rattle.lot_laws.proofs.rwlock.Kept.{beside_no_call, of_no_once}
-use Rattle.std.proofs.lemmas.Bool.{eqb-true}
-use Rattle.core_base.specs.declared.ops.Op.{Op}
 use Rattle.core_base.specs.declared.ops.Op.TheVariants as operation
-use Rattle.core_base.specs.declared.wants.Want.{Want}
-use Rattle.core_base.specs.declared.wants.Want.TheVariants.{Exclusive, Upgradable, Shared}
-use Rattle.core_base.specs.declared.wants.Waiter.{Waiter}
-use Rattle.core_base.specs.Words.{apply}
 use Rattle.spec_locks.specs.declared.calls.Access.TheVariants as access
 use Rattle.steps_base.specs.declared.acts.Act.TheVariants as act
-use Rattle.steps_base.specs.declared.acts.Reply.TheVariants.{HandedBy, Value}
-use Rattle.steps_base.specs.declared.owners.Owners.{Owners}
-use Rattle.steps_base.specs.Acts.{takes_effect}
-use Rattle.steps_base.specs.Moves.{HandsOver, bit_left, claim_handed, heir_of}
-use Rattle.steps_base.specs.Owners.{lock_seen, shares_then}
-use Rattle.steps_base.specs.Profiles.{Profile, hand, in_hand}
-use Rattle.steps_base.specs.Locations.{Location, nowhere, location_by}
-use Rattle.steps_rwlock.specs.declared.places.Admission.{Admission}
-use Rattle.steps_rwlock.specs.declared.places.RwLockPlace.{RwLockPlace}
-use Rattle.steps_rwlock.specs.declared.places.RwLockAt.{RwLockAt}
+use Rattle.steps_base.specs.Owners.{lock_seen}
+use Rattle.steps_base.specs.Locations.{nowhere}
 use Rattle.steps_rwlock.specs.declared.places.RwLockAt.TheVariants as at
 use Rattle.steps_rwlock.specs.declared.park.ParkAt.TheVariants as parking
-use Rattle.steps_rwlock.specs.RwLockDeeds.{role_at, retried_want}
-use Rattle.steps_rwlock.specs.RwLockProfiles.{parked_hand as place_hand}
-use Rattle.steps_rwlock_fair.specs.declared.places.RwLockCallPlace.{RwLockCallPlace}
-use Rattle.steps_rwlock_fair.specs.declared.places.RwLockCallPlace.TheVariants.{Plain, Glance, HandOver, Bump}
-use Rattle.steps_rwlock_fair.specs.declared.places.RwLockCallPlace.TheVariants.{Handed}
+use Rattle.steps_rwlock.specs.RwLockDeeds.{retried_want}
 use Rattle.steps_rwlock_fair.specs.declared.hand_over.Taken.{Taken as Counted}
 use Rattle.steps_rwlock_fair.specs.declared.hand_over.HandOverAt.TheVariants as handing
 use Rattle.steps_rwlock_fair.specs.declared.handed.HandedAt.TheVariants as handed
-use Rattle.steps_rwlock_fair.specs.FairCalls.{CallStands, in_hand_of}
-use Rattle.steps_rwlock_fair.specs.FairDeeds.{call_deeds, handing_deeds}
-use Rattle.steps_rwlock_fair.specs.FairLaws.{CallTells, StandsToHandOver as Hands}
-use Rattle.steps_rwlock_fair.specs.FairMoves.{call_move}
-use Rattle.steps_rwlock_fair.specs.FairProfiles.{call_profile}
-use Rattle.steps_rwlock_fair.specs.FairSteps.{call_act, call_next, call_owners, call_shares, has_room}
-use Rattle.steps_rwlock_fair.specs.FairSteps.{parked_as, tokens, with_taken, word_without}
-use Rattle.steps_rwlock_fair.proofs.FairActs.{fair_sleepers_move}
-use Rattle.steps_rwlock_fair.proofs.FairMoves.{hand_overs_move, handed_move}
-use Rattle.steps_rwlock_fair.proofs.FairOwners.{givers_keep}
-use Rattle.steps_rwlock_fair.proofs.FairStands.{fair_calls_stand}
-use Rattle.steps_rwlock_fair.proofs.FairTells.{hand_overs_tell}
-use Rattle.steps_rwlock_fair.proofs.HandOverCodes.{hand_overs_code}
-use Rattle.steps_rwlock_fair.proofs.HandOverFit.{hand_overs_follow}
-use Rattle.lot_steps.specs.declared.places.Place.{Place}
-use Rattle.lot_steps.specs.declared.places.Place.TheVariants.{Idle, Mutex, RwLock, Once, Condvar, Semaphore}
-use Rattle.lot_steps.specs.Steps.{next_place, profile}
-use Rattle.spec_locks.specs.Locks.{LockState, Rules, Taken, HandOff, IsLockState, Owns, Queued, without_owner}
-use Rattle.spec_locks.specs.Sites.{Case, Role, Pends, Site, has_readers}
-use Rattle.spec_locks.specs.Codes.{HasLimit, code}
 use Rattle.spec_locks.specs.Deeds as laws
-use Rattle.lot_machine.specs.Machine.{State, owners_at, place_at, put, queue_at, share_at, shares_at}
-use Rattle.lot_machine.specs.Machine.{sharers_in_hand, state_after_act, successor_from, unshared_then}
-use Rattle.lot_machine.specs.Machine.{word_at}
-use Rattle.lot_machine.specs.Fits.{IsWellFormed}
-use Rattle.lot_laws.specs.Refinement.{taken_at}
-use Rattle.lot_laws.specs.ThreadDeeds.{acts}
-use Rattle.lot_laws.specs.SitesOf.{FitsItsLock, Goes, LimitHasRoom, IsCountOfHand, IsInductive, carried_at}
-use Rattle.lot_laws.specs.SitesOf.{hand_at, rules_in}
-use Rattle.lot_laws.specs.Locations.{role_on, location}
 use Rattle.lot_laws.proofs.sites.ActsKept.{lock_by}
-use Rattle.steps_base.specs.Profiles.{Hand}
 use Rattle.lot_laws.proofs.machine.Parts.{free_of, IsOf, role_here, next_of, location_here, of_single}
 use Rattle.lot_laws.proofs.machine.Parts.{condvar_unheld}
 use Rattle.lot_laws.proofs.hands.Counted.{few_sharers, has_in_hand}

@@ -1,47 +1,23 @@
 -- A hand-over of a reader-writer lock is one case of the abstract lock, and the calls of all that were handed
 -- it go on with what they wanted.
-use Rattle.std.proofs.Common.{ℕ, Bool, true, false, Option, Some, None, if◌then◌else◌, ◌==◌, ◌≡◌, ◌<◌, List}
-use Rattle.std.proofs.Common.{◌++◌, length, get_or, get_or-set_other, refl, sym, ◌∙◌, ap, subst}
+use Rattle.lot_laws.proofs.Names
+use Names.{ℕ, Bool, true, false, Option, Some, None, if◌then◌else◌, ◌==◌, ◌≡◌, ◌<◌, List, ◌++◌, length}
+use Names.{get_or, get_or-set_other, refl, sym, ◌∙◌, ap, subst, eqb-true, get_or-map, Op, Want, Exclusive}
+use Names.{Upgradable, Shared, CallOnce, Next, HandedBy, Value, takes_effect, claim_handed, heir_of, row_of}
+use Names.{is_thread, Hand, Of, Profile, hand, taken_from, Location, location_by, Admission, RwLockCallPlace}
+use Names.{in_hand_of, call_deeds, next_rows, with_claim, call_move, call_profile, call_act, call_next}
+use Names.{handed_move, fair_sleepers_hear, Place, Idle, Mutex, RwLock, Once, Condvar, Semaphore, calls}
+use Names.{next_place, profile, rwlock_goes, taker, case_of, event_by, HandOff, IsTaken, Queued, Rights}
+use Names.{Taken, putting, AtLock, Event, is_taken_by, Deed, IsWellFormed, State, place_after_telling}
+use Names.{place_at, put, state_after_act, state_after_hand_over_by, unshared_then, word_at, acts, call_state}
+use Names.{lock_state, taken_at, FitsItsLock, Goes, IsCountOfHand, IsInductive, carried_at, rules_in}
 use Rattle.lot_laws.proofs.rwlock.Kept.{beside_no_call, of_no_once}
-use Rattle.std.proofs.lemmas.Bool.{eqb-true}
-use Rattle.std.proofs.Math.ListN.{get_or-map}
-use Rattle.core_base.specs.declared.ops.Op.{Op}
-use Rattle.core_base.specs.declared.wants.Want.{Want}
-use Rattle.core_base.specs.declared.wants.Want.TheVariants.{Exclusive, Upgradable, Shared, Wait, CallOnce}
+use Rattle.core_base.specs.declared.wants.Want.TheVariants.{Wait}
 use Rattle.steps_base.specs.declared.acts.Act.TheVariants as act
-use Rattle.steps_base.specs.declared.acts.Next.{Next}
 use Rattle.steps_base.specs.declared.acts.Next.TheVariants as next
-use Rattle.steps_base.specs.declared.acts.Reply.TheVariants.{HandedBy, Value}
-use Rattle.steps_base.specs.Acts.{takes_effect}
-use Rattle.steps_base.specs.Moves.{claim_handed, heir_of, row_of}
-use Rattle.steps_base.specs.Owners.{is_thread}
-use Rattle.steps_base.specs.Profiles.{Hand, Of, Profile, hand, taken_from}
-use Rattle.steps_base.specs.Locations.{Location, nowhere, location_by}
-use Rattle.steps_rwlock.specs.declared.places.Admission.{Admission}
-use Rattle.steps_rwlock_fair.specs.declared.places.RwLockCallPlace.{RwLockCallPlace}
+use Rattle.steps_base.specs.Locations.{nowhere}
 use Rattle.steps_rwlock_fair.specs.declared.hand_over.Taken.{Taken as Counted}
-use Rattle.steps_rwlock_fair.specs.FairCalls.{in_hand_of}
-use Rattle.steps_rwlock_fair.specs.FairDeeds.{call_deeds}
-use Rattle.steps_rwlock_fair.specs.FairLaws.{next_rows, with_claim}
-use Rattle.steps_rwlock_fair.specs.FairMoves.{call_move}
-use Rattle.steps_rwlock_fair.specs.FairProfiles.{call_profile}
-use Rattle.steps_rwlock_fair.specs.FairSteps.{call_act, call_next}
-use Rattle.steps_rwlock_fair.proofs.FairMoves.{handed_move}
-use Rattle.steps_rwlock_fair.proofs.FairSleepers.{fair_sleepers_hear}
-use Rattle.lot_steps.specs.declared.places.Place.{Place}
-use Rattle.lot_steps.specs.declared.places.Place.TheVariants.{Idle, Mutex, RwLock, Once, Condvar, Semaphore}
-use Rattle.lot_steps.specs.Steps.{calls, next_place, profile, rwlock_goes, taker}
-use Rattle.spec_locks.specs.Deeds.{case_of, event_by}
-use Rattle.spec_locks.specs.Locks.{HandOff, IsTaken, Queued, Rights, Taken, putting}
-use Rattle.spec_locks.specs.Runs.{AtLock, Event, is_taken_by}
-use Rattle.spec_locks.specs.Sites.{Deed}
-use Rattle.lot_machine.specs.Fits.{IsWellFormed}
-use Rattle.lot_machine.specs.Machine.{State, place_after_telling, place_at, put, state_after_act}
-use Rattle.lot_machine.specs.Machine.{state_after_hand_over_by, unshared_then, word_at}
-use Rattle.lot_laws.specs.ThreadDeeds.{acts}
 use Rattle.lot_laws.specs.ThreadDeeds as deeds
-use Rattle.lot_laws.specs.Refinement.{call_state, lock_state, taken_at}
-use Rattle.lot_laws.specs.SitesOf.{FitsItsLock, Goes, IsCountOfHand, IsInductive, carried_at, rules_in}
 use Rattle.lot_laws.proofs.machine.AtPlaces.{in_no_hand, unless_held}
 use Rattle.lot_laws.proofs.calls.Events.{Happens, OthersFollow, happens}
 use Rattle.lot_laws.proofs.machine.Parts.{IsSingle, held_tells, location_here, condvar_untaken}

@@ -1,19 +1,10 @@
 -- The threads in a hand by their wants: how many want to share, and which one wants more. A place's word on
 -- it stays true as long as nobody comes into the hand or leaves it, and the lock hands over by it.
-use Rattle.std.proofs.Common.{ℕ, zero, suc, Bool, true, false, Option, Some, None, if◌then◌else◌, ◌==◌, ◌&&◌}
-use Rattle.std.proofs.Common.{◌≡◌, ◌+◌, List, [], ◌∷◌, length, get_or, cond, refl, sym, ◌∙◌, ap, subst, arith}
-use Rattle.std.specs.Prelude.{sum}
-use Rattle.std.specs.List.{filter}
-use Rattle.std.proofs.lemmas.Bool.{eqb-true}
-use Rattle.std.proofs.lemmas.Bool.Decides.{nat_tests}
-use Rattle.core_base.specs.declared.wants.Want.{Want}
-use Rattle.spec_locks.specs.Locks.{Taken, shares_handed, sharing_from, wants_shared}
-use Rattle.spec_locks.proofs.HandLimits.{sum_cons}
-use Rattle.lot_steps.specs.declared.places.Place.{Place}
-use Rattle.lot_steps.specs.declared.places.Place.TheVariants.{Idle}
-use Rattle.lot_machine.specs.declared.hands.Successor.{Successor}
-use Rattle.lot_machine.specs.Machine.{held, shares_in_hand, sharers_in_hand, successor_from, successor_or}
-use Rattle.lot_machine.specs.Machine.{wants_more_in_hand}
+use Rattle.lot_laws.proofs.Names
+use Names.{ℕ, zero, suc, Bool, true, false, Option, Some, None, if◌then◌else◌, ◌==◌, ◌&&◌, ◌≡◌, ◌+◌, List, []}
+use Names.{◌∷◌, length, get_or, cond, refl, sym, ◌∙◌, ap, subst, arith, sum, filter, eqb-true, nat_tests}
+use Names.{Want, Taken, shares_handed, sharing_from, wants_shared, sum_cons, Place, Idle, Successor, held}
+use Names.{shares_in_hand, sharers_in_hand, successor_from, successor_or, wants_more_in_hand}
 
 -- tells what a thread wants, where t has taken it
 abbrev pub wanted_of : ℕ → Option Taken → Option Want

@@ -1,20 +1,10 @@
 -- A thread that has taken others is inside the section from whose line it took them. One that is yet to set a
--- parked bit beside waiters is inside
--- too, or has ended its run of a `Once` and owes them their wake.
-use Rattle.std.proofs.Common.{ℕ, Bool, true, false, Some, None, if◌then◌else◌, ◌≡◌, inl, inr, sym, ◌∙◌, ap}
-use Rattle.std.proofs.Common.{subst}
-use Rattle.spec_locks.specs.Locks.{Taken}
-use Rattle.spec_locks.specs.Sites.{Role, Line, Main, idle}
-use Rattle.steps_condvar.specs.declared.places.CondvarPlace.{CondvarPlace}
-use Rattle.lot_steps.specs.declared.places.Place.{Place}
-use Rattle.lot_steps.specs.declared.places.Place.TheVariants.{Condvar}
-use Rattle.lot_steps.specs.Steps.{beside_of, calls, is_lock, line_owed, or_else, profile, profile_beside}
-use Rattle.lot_machine.specs.Machine.{State, place_at}
-use Rattle.lot_laws.specs.Refinement.{lock_state}
-use Rattle.lot_laws.specs.Locations.{role_on}
-use Rattle.lot_laws.specs.SitesOf.{IsInductive}
-use Rattle.lot_laws.specs.Owing.{IsInside}
-use Rattle.lot_laws.specs.Promises.{IsAboutToMark, IsToMark}
+-- parked bit beside waiters is inside too, or has ended its run of a `Once` and owes them their wake.
+use Rattle.lot_laws.proofs.Names
+use Names.{ℕ, Bool, true, false, Some, None, if◌then◌else◌, ◌≡◌, inl, inr, sym, ◌∙◌, ap, subst, Taken, Role}
+use Names.{Line, Main, idle, CondvarPlace, Place, Condvar, beside_of, calls, is_lock, line_owed, or_else}
+use Names.{profile, profile_beside, State, place_at, lock_state, role_on, IsInductive, IsInside}
+use Names.{IsAboutToMark, IsToMark}
 use Rattle.lot_laws.proofs.machine.Parts.{inside_is, single_role, single_or_two, single_owes}
 use Rattle.lot_laws.proofs.machine.PlaceTest.{beside_facts, row_facts}
 

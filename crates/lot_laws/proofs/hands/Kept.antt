@@ -1,56 +1,35 @@
 -- A thread hands its right over to all that it has in hand, one or many, each by its want: every lock is a
 -- site again. No place is named: the laws of its sort of lock say that its deeds may be done, what it does
 -- then, and where those in its hand go.
-use Rattle.std.proofs.Common.{ℕ, zero, suc, Bool, true, false, Option, Some, None, if◌then◌else◌, ◌==◌, ◌&&◌}
-use Rattle.std.proofs.Common.{◌||◌, ◌≡◌, ◌≢◌, ◌+◌, ◌-◌, ◌*◌, ◌%◌, ◌^◌, ◌≤◌, ◌<◌, ◌⊎◌, replicate, List, []}
-use Rattle.std.proofs.Common.{◌∷◌, ◌++◌, length, get_or, set, map, inl, inr, refl, sym, ◌∙◌, ap, subst, arith}
-use Rattle.std.proofs.Common.{length-set, get_or-set_same, get_or-set_other}
-use Rattle.std.specs.Prelude.{sum}
-use Rattle.std.proofs.lemmas.Bool.{cases_eq, cases_lt, eqb-true}
-use Rattle.std.proofs.lemmas.Bool.Decides.{nat_tests}
-use Rattle.std.proofs.lemmas.List.{length-map}
-use Rattle.core_base.specs.declared.ops.Op.{Op}
-use Rattle.core_base.specs.declared.wants.Waiter.{Waiter}
-use Rattle.core_base.specs.declared.wants.Want.{Want}
-use Rattle.core_base.specs.declared.wants.Want.TheVariants.{Exclusive, Upgradable, Shared, Wait, CallOnce}
-use Rattle.core_base.specs.Words.{apply}
+use Rattle.lot_laws.proofs.Names
+use Names.{ℕ, zero, suc, Bool, true, false, Option, Some, None, if◌then◌else◌, ◌==◌, ◌&&◌, ◌||◌, ◌≡◌, ◌≢◌}
+use Names.{◌+◌, ◌-◌, ◌*◌, ◌%◌, ◌^◌, ◌≤◌, ◌<◌, ◌⊎◌, replicate, List, [], ◌∷◌, ◌++◌, length, get_or, set, map}
+use Names.{inl, inr, refl, sym, ◌∙◌, ap, subst, arith, length-set, get_or-set_same, get_or-set_other, sum}
+use Names.{cases_eq, cases_lt, eqb-true, nat_tests, length-map, Op, Waiter, Want, Exclusive, Upgradable}
+use Names.{Shared, CallOnce, apply, Owners, HandedBy, claim_handed, bit_left, is_thread, with_exclusive, hand}
+use Names.{Hand, Of, in_hand as in_hand_if, taken_from, Place, Idle, calls, next_place, owners_after, profile}
+use Names.{taker, wants, LockState, Queued, Taken, Rules, Sort, Recursive, HandOff, IsSuccessor, Knows}
+use Names.{keep_from, let_go, putting, sharing_from, sharing_handed, shares_handed, succeeding, wants_shared}
+use Names.{with_owner, with_successor, without_owner, handed, readers, Role, Site, IsSite, Deed, Has, Begin}
+use Names.{Case, Holds, has_readers, is_full, after_deed, code, code_of, fills, has_aside, has_parked}
+use Names.{HasLimit, TellsTrue, words_tell_true, handed_limit, sum_cons, unshared_successor}
+use Names.{has_upgradable_handed, has_exclusive_handed, pends_handed, shares_handed_on, Successor, State}
+use Names.{place_at, word_at, owners_at, shares_at, filled_at, kind_at, queue_at, section_at, unlocked, put}
+use Names.{state_after_hand_over, state_after_telling, place_after_telling, hand_over_told, unshared_then}
+use Names.{held, held_by, shares_in_hand, shares_given, shares_handed_over, with_share, successor_from}
+use Names.{owners_of_successor, owners_handed_over, owners_with_pending, given_count, taken_at, acts}
+use Names.{location, location_at, nowhere, role_on, locations_of, ActsNeeded, LimitHasRoom, IsInductive, Goes}
+use Names.{Hands, TakesOne, FitsItsLock, after_acts, rules_in, carried_at, hand_at}
+use Rattle.core_base.specs.declared.wants.Want.TheVariants.{Wait}
 use Rattle.spec_locks.specs.declared.kinds.Kind as kind
-use Rattle.steps_base.specs.declared.owners.Owners.{Owners}
-use Rattle.steps_base.specs.declared.acts.Reply.TheVariants.{HandedBy}
-use Rattle.steps_base.specs.Moves.{claim_handed, bit_left}
-use Rattle.steps_base.specs.Owners.{is_thread, lock_seen, with_exclusive}
-use Rattle.steps_base.specs.Profiles.{hand, Hand, Of, in_hand as in_hand_if, taken_from}
-use Rattle.lot_steps.specs.declared.places.Place.{Place}
-use Rattle.lot_steps.specs.declared.places.Place.TheVariants.{Idle}
-use Rattle.lot_steps.specs.Steps.{calls, next_place, owners_after, profile, taker, wants}
-use Rattle.spec_locks.specs.Locks.{LockState, Queued, Taken, Rules, Sort, Mutex, Normal, Recursive, Semaphore}
-use Rattle.spec_locks.specs.Locks.{Once, HandOff, IsSuccessor, Knows, keep_from, let_go, putting}
-use Rattle.spec_locks.specs.Locks.{sharing_from, sharing_handed, shares_handed, succeeding, wants_shared}
-use Rattle.spec_locks.specs.Locks.{with_owner, with_successor, without_owner, handed, readers}
+use Rattle.steps_base.specs.Owners.{lock_seen}
+use Rattle.spec_locks.specs.Locks.{Mutex, Normal, Semaphore}
+use Rattle.spec_locks.specs.Locks.{Once}
 use Rattle.spec_locks.specs.Locks as locks
-use Rattle.spec_locks.specs.Sites.{Role, Site, IsSite, Deed, Has, Begin, Case, Holds, has_readers, is_full}
-use Rattle.spec_locks.specs.Sites.{after_deed}
-use Rattle.spec_locks.specs.Codes.{code, code_of, fills, has_aside, has_parked, HasLimit, TellsTrue}
 use Rattle.spec_locks.specs.Deeds as laws
-use Rattle.spec_locks.proofs.CodeLaws.{words_tell_true}
-use Rattle.spec_locks.proofs.HandLimits.{handed_limit, sum_cons, unshared_successor}
-use Rattle.spec_locks.proofs.Hands.{has_upgradable_handed, has_exclusive_handed, pends_handed}
-use Rattle.spec_locks.proofs.Hands.{shares_handed_on}
-use Rattle.lot_machine.specs.declared.hands.Successor.{Successor}
 use Rattle.lot_machine.specs.declared.locks.Lock.{Lock}
-use Rattle.lot_machine.specs.Machine.{State, place_at, word_at, owners_at, shares_at, filled_at, kind_at}
-use Rattle.lot_machine.specs.Machine.{queue_at, section_at, unlocked, put, state_after_hand_over}
-use Rattle.lot_machine.specs.Machine.{state_after_telling, place_after_telling, hand_over_told, unshared_then}
-use Rattle.lot_machine.specs.Machine.{held, held_by, shares_in_hand, shares_given, shares_handed_over}
-use Rattle.lot_machine.specs.Machine.{with_share, successor_from, owners_of_successor, owners_handed_over}
-use Rattle.lot_machine.specs.Machine.{owners_with_pending}
-use Rattle.lot_machine.proofs.ShareLemmas.{given_count}
-use Rattle.lot_laws.specs.Refinement.{taken_at}
-use Rattle.lot_laws.specs.ThreadDeeds.{acts}
 use Rattle.lot_laws.specs.ThreadDeeds as deeds
-use Rattle.lot_laws.specs.Locations.{Location, location, location_at, nowhere, role_on}
-use Rattle.lot_laws.specs.SitesOf.{locations_of, ActsNeeded, LimitHasRoom, IsInductive, Goes, Hands, TakesOne}
-use Rattle.lot_laws.specs.SitesOf.{FitsItsLock, after_acts, rules_in, carried_at, hand_at}
+use Rattle.lot_laws.specs.Locations.{Location}
 use Rattle.lot_laws.proofs.machine.Parts.{free_of, held_calls, Parts, parts_at, lock_in, seen_in, same}
 use Rattle.lot_laws.proofs.machine.Parts.{put_here, put_other, put_same, IsOf, location_here, untaken}
 use Rattle.lot_laws.proofs.machine.Parts.{held_tells, thread_is, past_all, IsSingle, of_single, single_taken}

@@ -1,34 +1,21 @@
 -- A thread goes on by the act that hands its right over, at a lock that is shared: where the operation takes
 -- effect all that it has in hand own, and else nothing changes. No place is named, as in `MovesKept`.
-use Rattle.std.proofs.Common.{ℕ, Bool, true, false, Option, Some, None, ◌≡◌, ◌+◌, ◌*◌, ◌<◌, List, [], ◌∷◌}
-use Rattle.std.proofs.Common.{◌++◌, length, refl, sym, ◌∙◌, ap, subst}
-use Rattle.core_base.specs.declared.ops.Op.{Op}
-use Rattle.core_base.specs.Words.{apply}
+use Rattle.lot_laws.proofs.Names
+use Names.{ℕ, Bool, true, false, Option, Some, None, ◌≡◌, ◌+◌, ◌*◌, ◌<◌, List, [], ◌∷◌, ◌++◌, length, refl}
+use Names.{sym, ◌∙◌, ap, subst, Op, apply, Done, Value, Wakes, One, takes_effect, wakes_taken, Move, Hears}
+use Names.{Accepts, HandsOver, TellsHanded, bit_left, heir_of, inside_of, Profile, in_hand, Location}
+use Names.{location_by, Place, owners_after, profile, Rules, HandOff, without_owner, Site, Deed, Case, End}
+use Names.{Main, has_readers, code, Successor, State, place_at, word_at, owners_at, shares_at, queue_at, put}
+use Names.{state_after_act, state_after_leave, state_after_hand_over_by, successor_from, unshared_then}
+use Names.{want_of_successor, taken_at, acts, role_on, location, ActsNeeded, IsInductive, Goes, after_acts}
+use Names.{key_of, rules_in, hand_at}
 use Rattle.steps_base.specs.declared.acts.Act.TheVariants as act
-use Rattle.steps_base.specs.declared.acts.Reply.TheVariants.{Done, Value}
-use Rattle.steps_base.specs.declared.acts.Wakes.{Wakes}
-use Rattle.core_base.specs.declared.keys.Keys.TheVariants.{One}
 use Rattle.core_base.specs.declared.notes.Note.TheVariants.{HandOff as HandOffNote}
-use Rattle.steps_base.specs.Acts.{takes_effect, wakes_taken}
-use Rattle.steps_base.specs.Moves.{Move, Hears, Accepts, HandsOver, TellsHanded, bit_left, heir_of, inside_of}
 use Rattle.steps_base.specs.Owners.{lock_seen}
-use Rattle.steps_base.specs.Profiles.{Profile, in_hand}
-use Rattle.steps_base.specs.Locations.{Location, location_by, nowhere}
-use Rattle.lot_steps.specs.declared.places.Place.{Place}
-use Rattle.lot_steps.specs.Steps.{owners_after, profile}
-use Rattle.spec_locks.specs.Locks.{Rules, HandOff, without_owner}
-use Rattle.spec_locks.specs.Sites.{Site, Deed, Case, End, Main, has_readers}
-use Rattle.spec_locks.specs.Codes.{code}
+use Rattle.steps_base.specs.Locations.{nowhere}
 use Rattle.spec_locks.specs.Deeds as laws
-use Rattle.lot_machine.specs.declared.hands.Successor.{Successor}
-use Rattle.lot_machine.specs.Machine.{State, place_at, word_at, owners_at, shares_at, queue_at, put}
-use Rattle.lot_machine.specs.Machine.{state_after_act, state_after_leave, state_after_hand_over_by}
-use Rattle.lot_machine.specs.Machine.{successor_from, unshared_then, want_of_successor}
-use Rattle.lot_laws.specs.Refinement.{taken_at}
-use Rattle.lot_laws.specs.ThreadDeeds.{acts}
 use Rattle.lot_laws.specs.ThreadDeeds as deeds
-use Rattle.lot_laws.specs.Locations.{role_on, hand, location}
-use Rattle.lot_laws.specs.SitesOf.{ActsNeeded, IsInductive, Goes, after_acts, key_of, rules_in, hand_at}
+use Rattle.lot_laws.specs.Locations.{hand}
 use Rattle.lot_laws.proofs.sites.ActsKept.{lock_by, operated, place_goes}
 use Rattle.lot_laws.proofs.machine.Parts.{free_of, IsOf, role_here, lock_in, parts_at, of_single}
 use Rattle.lot_laws.proofs.hands.Kept.{IsGiven, HandsLawful, claims_given, hand_over_goes, heir_in}

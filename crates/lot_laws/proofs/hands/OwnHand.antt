@@ -1,14 +1,9 @@
 -- A thread that calls one lock is in no hand of its own: a thread that is in a hand has nobody in hand.
-use Rattle.std.proofs.Common.{ℕ, Bool, true, false, Some, None, if◌then◌else◌, ◌≡◌, ◌⊎◌, inl, inr, refl, ◌∙◌}
-use Rattle.std.proofs.Common.{ap}
-use Rattle.lot_steps.specs.declared.places.Place.{Place}
-use Rattle.lot_steps.specs.declared.places.Place.TheVariants.{Idle, Mutex, RwLock, Once, Condvar, Semaphore}
-use Rattle.lot_steps.specs.Steps.{calls, profile}
-use Rattle.spec_locks.specs.Runs.{is_taken_by}
-use Rattle.lot_machine.specs.Machine.{State, place_at}
-use Rattle.lot_laws.specs.Refinement.{taken_at}
-use Rattle.lot_laws.specs.Locations.{Location, nowhere, location}
-use Rattle.lot_laws.specs.SitesOf.{IsInductive, carried_at}
+use Rattle.lot_laws.proofs.Names
+use Names.{ℕ, Bool, true, false, Some, None, if◌then◌else◌, ◌≡◌, ◌⊎◌, inl, inr, refl, ◌∙◌, ap, Place, Idle}
+use Names.{Mutex, RwLock, Once, Condvar, Semaphore, calls, profile, is_taken_by, State, place_at, taken_at}
+use Names.{nowhere, location, IsInductive, carried_at}
+use Rattle.lot_laws.specs.Locations.{Location}
 use Rattle.lot_laws.proofs.machine.AtPlaces.{unless_held}
 use Rattle.lot_laws.proofs.machine.PlaceTest.{call_facts, mutex_row_facts, once_facts, semaphore_facts}
 use Rattle.lot_laws.proofs.machine.Parts.{IsSingle, free_of, single_location}

@@ -1,22 +1,13 @@
 -- A thread at a place, between steps: the section that it is inside, the lines in which it stands, and its
 -- rights.
-use Rattle.std.proofs.Common.{ℕ, Bool, true, false, Option, Some, None, if◌then◌else◌, ◌==◌, ◌≡◌, ◌*◌, []}
-use Rattle.std.proofs.Common.{get_or, map, refl, sym, ◌∙◌, ap}
-use Rattle.std.proofs.Math.ListN.{get_or-map}
-use Rattle.core_base.specs.declared.wants.Want.TheVariants.{Exclusive}
-use Rattle.core_base.specs.Lines.{without, times}
-use Rattle.lot_steps.specs.declared.places.Place.TheVariants.{Mutex}
-use Rattle.steps_mutex.specs.declared.places.MutexPlace.{MutexPlace}
-use Rattle.spec_locks.specs.Locks.{Taken, HasTakenNobody, keep_from}
+use Rattle.lot_laws.proofs.Names
+use Names.{ℕ, Bool, true, false, Option, Some, None, if◌then◌else◌, ◌==◌, ◌≡◌, ◌*◌, [], get_or, map, refl}
+use Names.{sym, ◌∙◌, ap, get_or-map, Exclusive, without, times, Mutex, MutexPlace, Taken, HasTakenNobody}
+use Names.{keep_from, is_taken_by, Main, Has, State, place_at, word_at, owners_at, kind_at, queue_at}
+use Names.{lock_state, taken_at, IsMutexWord, mutex_role, location, location_at, role_on, IsInductive}
+use Names.{FitsItsLock, rules_in, carried_at, hand_at, stood_in}
 use Rattle.spec_locks.specs.Locks as locks
-use Rattle.spec_locks.specs.Runs.{is_taken_by}
-use Rattle.spec_locks.specs.Sites.{Main, Has}
-use Rattle.lot_machine.specs.Machine.{State, place_at, word_at, owners_at, kind_at, queue_at}
-use Rattle.lot_laws.specs.Refinement.{lock_state, taken_at}
-use Rattle.lot_laws.specs.MutexPromises.{IsMutexWord}
-use Rattle.lot_laws.specs.ThreadDeeds.{mutex_role}
-use Rattle.lot_laws.specs.Locations.{hand, location, location_at, role_on}
-use Rattle.lot_laws.specs.SitesOf.{IsInductive, FitsItsLock, rules_in, carried_at, hand_at, stood_in}
+use Rattle.lot_laws.specs.Locations.{hand}
 use Rattle.lot_laws.proofs.hands.Counts.{without_absent}
 use Rattle.lot_laws.proofs.machine.Parts.{IsSingle, same, role_here, nothing_at, untaken}
 use Rattle.lot_laws.proofs.machine.Parts.{mutex}

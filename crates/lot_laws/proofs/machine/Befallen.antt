@@ -1,20 +1,11 @@
 -- A thread keeps, whatever befalls it, all that no wake, take or hand-over changes, as long as its own turn
 -- doesn't come.
-use Rattle.std.proofs.Common.{ℕ, Bool, true, false, Option, Some, None, if◌then◌else◌, ◌≡◌, ◌≢◌, refl, ◌∙◌}
-use Rattle.std.proofs.Common.{ap, get_or-set_other}
-use Rattle.core_base.specs.declared.keys.Keys.TheVariants.{One}
-use Rattle.spec_locks.specs.declared.calls.Turn.{Turn}
+use Rattle.lot_laws.proofs.Names
+use Names.{ℕ, Bool, true, false, Option, Some, None, if◌then◌else◌, ◌≡◌, ◌≢◌, refl, ◌∙◌, ap, get_or-set_other}
+use Names.{One, Turn, Step, Act, Reply, Place, Idle, act_of, late_key, looking, next_place, State, after}
+use Names.{closed_place, is_possible, place_at, put, state_after_act, state_after_go, state_after_going}
+use Names.{state_after_late_on, state_after_look, state_after_turn, state_with_sections, acted_keeps}
 use Rattle.spec_locks.specs.declared.calls.Turn as turn
-use Rattle.spec_locks.specs.declared.calls.Step.{Step}
-use Rattle.steps_base.specs.declared.acts.Act.{Act}
-use Rattle.steps_base.specs.declared.acts.Reply.{Reply}
-use Rattle.lot_steps.specs.declared.places.Place.{Place}
-use Rattle.lot_steps.specs.declared.places.Place.TheVariants.{Idle}
-use Rattle.lot_steps.specs.Steps.{act_of, late_key, looking, next_place}
-use Rattle.lot_machine.specs.Machine.{State, after, closed_place, is_possible, place_at, put, state_after_act}
-use Rattle.lot_machine.specs.Machine.{state_after_go, state_after_going, state_after_late_on}
-use Rattle.lot_machine.specs.Machine.{state_after_look, state_after_turn, state_with_sections}
-use Rattle.lot_machine.proofs.Acted.{acted_keeps}
 use Rattle.lot_laws.proofs.promises.RowPromises.{Befalls}
 
 module _ {A : Type 0} (g : Place → A) (kept : (p : Place) (r : Reply) → Befalls r → g (next_place p r) ≡ g p)

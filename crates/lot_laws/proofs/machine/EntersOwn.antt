@@ -1,24 +1,14 @@
 -- An act enters a section of the lock that its thread calls, or of the mutex beside.
-use Rattle.std.proofs.Common.{ℕ, Bool, true, false, Some, ◌≡◌, ◌⊎◌, ◌*◌, inl, inr, refl, sym, ◌∙◌, ap, subst}
-use Rattle.std.proofs.Common.{arith}
-use Rattle.core_base.specs.declared.keys.Keys.TheVariants.{One, Two}
-use Rattle.steps_base.specs.declared.acts.Act.{Act}
+use Rattle.lot_laws.proofs.Names
+use Names.{ℕ, Bool, true, false, Some, ◌≡◌, ◌⊎◌, ◌*◌, inl, inr, refl, sym, ◌∙◌, ap, subst, arith, One, Two}
+use Names.{Act, Location, CondvarPlace, condvar_act, mutex_beside, move_act, Place, Idle, Mutex, RwLock, Once}
+use Names.{Condvar, Semaphore, act_of, beside_of, called_lock, Line, Main, Second, has_readers, rules_of}
+use Names.{State, kind_at, place_at, FitsItsLock, IsWorld, key_of, rules_in, EntersSection, HasLine, IsBarred}
+use Names.{location}
 use Rattle.steps_base.specs.declared.acts.Act.TheVariants as act
-use Rattle.steps_base.specs.Locations.{Location}
-use Rattle.steps_condvar.specs.declared.places.CondvarPlace.{CondvarPlace}
 use Rattle.steps_condvar.specs.declared.places.CondvarPlace.TheVariants as condvar
 use Rattle.steps_condvar.specs.declared.wait.WaitAt.TheVariants as wait
 use Rattle.steps_condvar.specs.declared.notify.NotifyAt.TheVariants as notify
-use Rattle.steps_condvar.specs.CondvarSteps.{condvar_act, mutex_beside, move_act}
-use Rattle.lot_steps.specs.declared.places.Place.{Place}
-use Rattle.lot_steps.specs.declared.places.Place.TheVariants.{Idle, Mutex, RwLock, Once, Condvar, Semaphore}
-use Rattle.lot_steps.specs.Steps.{act_of, beside_of, called_lock}
-use Rattle.spec_locks.specs.Sites.{Line, Main, Second, has_readers}
-use Rattle.spec_locks.specs.Purposes.{rules_of}
-use Rattle.lot_machine.specs.Machine.{State, kind_at, place_at}
-use Rattle.lot_laws.specs.SitesOf.{FitsItsLock, IsWorld, key_of, rules_in}
-use Rattle.lot_laws.specs.Solo.{EntersSection, HasLine, IsBarred}
-use Rattle.lot_laws.specs.Locations.{location}
 use Rattle.lot_laws.proofs.machine.PlaceTest.{IsLineAct, call_facts, mutex_facts, once_facts, semaphore_facts}
 
 -- ---------------------------------------------------------------- the main line's part

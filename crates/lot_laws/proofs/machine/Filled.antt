@@ -1,34 +1,19 @@
 -- A lock is filled where it was before, or where as many share it now as its limit allows.
-use Rattle.std.proofs.Common.{ℕ, zero, suc, Bool, true, false, Option, Some, None, if◌then◌else◌, ◌||◌, ◌≡◌}
-use Rattle.std.proofs.Common.{◌⊎◌, inl, inr, List, [], ◌∷◌, get_or, set, refl, ap, ◌∙◌}
-use Rattle.core_base.specs.declared.keys.Keys.{Keys}
-use Rattle.core_base.specs.declared.keys.Keys.TheVariants.{One, Two}
-use Rattle.core_base.specs.declared.ops.Op.{Op}
-use Rattle.core_base.specs.Lines.{first_of}
+use Rattle.lot_laws.proofs.Names
+use Names.{ℕ, zero, suc, Bool, true, false, Option, Some, None, if◌then◌else◌, ◌||◌, ◌≡◌, ◌⊎◌, inl, inr, List}
+use Names.{[], ◌∷◌, get_or, set, refl, ap, ◌∙◌, Keys, One, Two, Op, first_of, Step, Turn, Act, Wakes}
+use Names.{takes_effect, holds, Place, act_of, looking, late_key, fills, full_by, rules_of, is_full, State}
+use Names.{unlocked, place_at, word_at, kind_at, filled_at, queue_at, put, state_after_operation}
+use Names.{state_after_hand_over_by, state_with_sections, queues_with_last, queues_without_first}
+use Names.{state_after_taking, state_after_wake, state_after_act, state_after_look, state_after_late_on}
+use Names.{state_after_turn, closed_place, is_possible, after, locks_of, lock_state, IsWorld, rules_in}
+use Names.{site_of}
 use Rattle.spec_locks.specs.declared.kinds.Kind as kind
-use Rattle.spec_locks.specs.declared.calls.Step.{Step}
-use Rattle.spec_locks.specs.declared.calls.Turn.{Turn}
 use Rattle.spec_locks.specs.declared.calls.Turn as turn
-use Rattle.steps_base.specs.declared.acts.Act.{Act}
 use Rattle.steps_base.specs.declared.acts.Act.TheVariants as act
-use Rattle.steps_base.specs.declared.acts.Wakes.{Wakes}
 use Rattle.steps_base.specs.declared.acts.Wakes as wakes
 use Rattle.steps_base.specs.declared.acts.Whom as whom
-use Rattle.steps_base.specs.Acts.{takes_effect, holds}
-use Rattle.lot_steps.specs.declared.places.Place.{Place}
-use Rattle.lot_steps.specs.Steps.{act_of, looking, late_key}
-use Rattle.spec_locks.specs.Codes.{fills}
-use Rattle.spec_locks.specs.Headline.{full_by}
-use Rattle.spec_locks.specs.Purposes.{rules_of}
-use Rattle.spec_locks.specs.Sites.{is_full}
 use Rattle.lot_machine.specs.declared.locks.Lock.{Lock}
-use Rattle.lot_machine.specs.Machine.{State, unlocked, place_at, word_at, kind_at, filled_at, queue_at, put}
-use Rattle.lot_machine.specs.Machine.{state_after_operation, state_after_hand_over_by, state_with_sections}
-use Rattle.lot_machine.specs.Machine.{queues_with_last, queues_without_first, state_after_taking}
-use Rattle.lot_machine.specs.Machine.{state_after_wake, state_after_act, state_after_look}
-use Rattle.lot_machine.specs.Machine.{state_after_late_on, state_after_turn, closed_place, is_possible, after}
-use Rattle.lot_laws.specs.Refinement.{locks_of, lock_state}
-use Rattle.lot_laws.specs.SitesOf.{IsWorld, rules_in, site_of}
 use Rattle.lot_laws.proofs.sites.OneStep.{fills_by, noted}
 
 -- it is as it was, or its word says whether it fills up

@@ -1,75 +1,43 @@
 -- Each place of a call of one lock, by what befalls its thread there: one that tells others something hears
--- nothing, one that sleeps does so on,
--- and a call goes on as it was where its thread is taken, and tries again where it is woken.
-use Rattle.std.proofs.Common.{ℕ, Bool, true, false, Option, Some, None, if◌then◌else◌, ◌==◌, ◌≡◌, not, ◌+◌}
-use Rattle.std.proofs.Common.{◌-◌, ◌*◌, refl, sym, ap, ◌∙◌}
-use Rattle.core_base.specs.declared.keys.Keys.TheVariants.{One}
+-- nothing, one that sleeps does so on, and a call goes on as it was where its thread is taken, and tries
+-- again where it is woken.
+use Rattle.lot_laws.proofs.Names
+use Names.{ℕ, Bool, true, false, Option, Some, None, if◌then◌else◌, ◌==◌, ◌≡◌, not, ◌+◌, ◌-◌, ◌*◌, refl, sym}
+use Names.{ap, ◌∙◌, One, Note, Access, has_aside, Rights, Bumps, CallState, Hand, hand, Act, Word, Enter}
+use Names.{Sleep, Next, At, Reply, TakenBy, MovedTo, HandedBy, Woken, MutexPlace, is_locked, mutex_act}
+use Names.{Admission, RwLockPlace, RwLockAt, RwLockPurpose, Decision, WakeAt, rwlock_profile, access_of}
+use Names.{act_at, decided, decided_act, plus, rwlock_act, rwlock_next, wake_next, wanted, taken_goes}
+use Names.{woken_goes, RwLockCallPlace, HandOverAt, bump_former, bump_released, bumping, bump_next, call_act}
+use Names.{given, handed_by, has_room, hand_over_act, plain_next, unless_given, Course, OncePlace, course_act}
+use Names.{course_of, once_act, SemaphorePlace, is_free, semaphore_act, Place, Mutex, RwLock, Once, Semaphore}
+use Names.{act_of, next_place, profile, rwlock_goes, Befalls, tells, call_state, sleeps}
 use Rattle.core_base.specs.declared.keys.Line.{Line}
-use Rattle.core_base.specs.declared.notes.Note.{Note}
 use Rattle.core_base.specs.declared.notes.Note.TheVariants as note
 use Rattle.core_base.specs.declared.ops.Op as op
-use Rattle.spec_locks.specs.declared.calls.Access.{Access}
 use Rattle.spec_locks.specs.declared.calls.Access.TheVariants as access
-use Rattle.spec_locks.specs.Codes.{has_aside}
-use Rattle.spec_locks.specs.Locks.{Rights}
-use Rattle.spec_locks.specs.Purposes.{Bumps}
-use Rattle.spec_locks.specs.Runs.{CallState}
-use Rattle.steps_base.specs.Profiles.{Hand, hand}
-use Rattle.steps_base.specs.declared.acts.Act.{Act}
 use Rattle.steps_base.specs.declared.acts.Act.TheVariants as act
-use Rattle.steps_base.specs.declared.acts.Act.TheVariants.{Word, Enter, Sleep}
-use Rattle.steps_base.specs.declared.acts.Next.{Next}
-use Rattle.steps_base.specs.declared.acts.Next.TheVariants.{At}
-use Rattle.steps_base.specs.declared.acts.Reply.{Reply}
-use Rattle.steps_base.specs.declared.acts.Reply.TheVariants.{TakenBy, MovedTo, HandedBy, Woken}
 use Rattle.steps_mutex.specs.declared.lock.LockAt.TheVariants as lock
 use Rattle.steps_mutex.specs.declared.unlock.UnlockAt.TheVariants as unlock
 use Rattle.steps_mutex.specs.declared.hand_off.HandOffAt.TheVariants as hand_off
-use Rattle.steps_mutex.specs.declared.places.MutexPlace.{MutexPlace}
 use Rattle.steps_mutex.specs.declared.places.MutexPlace.TheVariants as mutex
-use Rattle.steps_mutex.specs.MutexSteps.{is_locked, mutex_act}
-use Rattle.steps_rwlock.specs.declared.places.Admission.{Admission}
-use Rattle.steps_rwlock.specs.declared.places.RwLockPlace.{RwLockPlace}
-use Rattle.steps_rwlock.specs.declared.places.RwLockAt.{RwLockAt}
 use Rattle.steps_rwlock.specs.declared.places.RwLockAt.TheVariants as at
-use Rattle.steps_rwlock.specs.declared.purposes.RwLockPurpose.{RwLockPurpose}
 use Rattle.steps_rwlock.specs.declared.purposes.RwLockPurpose.TheVariants as purpose
-use Rattle.steps_rwlock.specs.declared.enter.Decision.{Decision}
 use Rattle.steps_rwlock.specs.declared.enter.Decision.TheVariants as decisions
 use Rattle.steps_rwlock.specs.declared.park.ParkAt.TheVariants as parking
-use Rattle.steps_rwlock.specs.declared.release.WakeAt.{WakeAt}
 use Rattle.steps_rwlock.specs.declared.release.WakeAt.TheVariants as waking
-use Rattle.steps_rwlock.specs.RwLockProfiles.{rwlock_profile}
-use Rattle.steps_rwlock.specs.RwLockSteps.{access_of, act_at, decided, decided_act, plus, rwlock_act}
-use Rattle.steps_rwlock.specs.RwLockSteps.{rwlock_next, wake_next, wanted}
-use Rattle.steps_rwlock.proofs.RwLockCallPlaces.{taken_goes, woken_goes}
-use Rattle.steps_rwlock_fair.specs.declared.places.RwLockCallPlace.{RwLockCallPlace}
 use Rattle.steps_rwlock_fair.specs.declared.places.RwLockCallPlace.TheVariants as fair
-use Rattle.steps_rwlock_fair.specs.declared.hand_over.HandOverAt.{HandOverAt}
 use Rattle.steps_rwlock_fair.specs.declared.hand_over.HandOverAt.TheVariants as handing
 use Rattle.steps_rwlock_fair.specs.declared.handed.HandedAt.TheVariants as handed
-use Rattle.steps_rwlock_fair.specs.FairProfiles.{bump_former, bump_released, bumping}
-use Rattle.steps_rwlock_fair.specs.FairSteps.{bump_next, call_act, given, handed_by, has_room, hand_over_act}
-use Rattle.steps_rwlock_fair.specs.FairSteps.{plain_next, unless_given}
 use Rattle.steps_once.specs.declared.look.LookAt.TheVariants as look
-use Rattle.steps_once.specs.declared.look.Course.{Course}
 use Rattle.steps_once.specs.declared.look.Course.TheVariants as course
 use Rattle.steps_once.specs.declared.give_up.GiveUpAt.TheVariants as give_up
 use Rattle.steps_once.specs.declared.run.RunAt.TheVariants as run
-use Rattle.steps_once.specs.declared.places.OncePlace.{OncePlace}
 use Rattle.steps_once.specs.declared.places.OncePlace.TheVariants as once
-use Rattle.steps_once.specs.OnceSteps.{course_act, course_of, once_act}
 use Rattle.steps_semaphore.specs.declared.acquire.AcquireAt.TheVariants as acquire
 use Rattle.steps_semaphore.specs.declared.tries.TryAt.TheVariants as tries
 use Rattle.steps_semaphore.specs.declared.release.ReleaseAt.TheVariants as release
-use Rattle.steps_semaphore.specs.declared.places.SemaphorePlace.{SemaphorePlace}
 use Rattle.steps_semaphore.specs.declared.places.SemaphorePlace.TheVariants as semaphore
-use Rattle.steps_semaphore.specs.SemaphoreSteps.{is_free, semaphore_act}
-use Rattle.lot_steps.specs.declared.places.Place.{Place}
-use Rattle.lot_steps.specs.declared.places.Place.TheVariants.{Mutex, RwLock, Once, Semaphore}
-use Rattle.lot_steps.specs.Steps.{act_of, next_place, profile, rwlock_goes}
-use Rattle.lot_machine.proofs.Acted.{Befalls, tells}
-use Rattle.lot_laws.specs.Refinement.{call_by, call_state, sleeps}
+use Rattle.lot_laws.specs.Refinement.{call_by}
 use Rattle.lot_laws.proofs.calls.PlainCalls.{plain_goes}
 
 -- a reply that befalls a thread, but for a wake

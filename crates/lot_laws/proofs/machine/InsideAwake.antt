@@ -1,12 +1,7 @@
 -- A thread that is inside a section is awake, in no closure, and enters no other section.
-use Rattle.std.proofs.Common.{ℕ, Bool, true, false, Some, if◌then◌else◌, ◌≡◌, ◌∙◌}
-use Rattle.spec_locks.specs.Sites.{Line, idle}
-use Rattle.lot_steps.specs.declared.places.Place.{Place}
-use Rattle.lot_steps.specs.Steps.{act_of, beside_of, calls, is_lock, profile, profile_beside}
-use Rattle.lot_machine.specs.Machine.{State, place_at}
-use Rattle.lot_laws.specs.Locations.{role_on}
-use Rattle.lot_laws.specs.SitesOf.{IsInductive}
-use Rattle.lot_laws.specs.Owing.{IsInside}
+use Rattle.lot_laws.proofs.Names
+use Names.{ℕ, Bool, true, false, Some, if◌then◌else◌, ◌≡◌, ◌∙◌, Line, idle, Place, act_of, beside_of, calls}
+use Names.{is_lock, profile, profile_beside, State, place_at, role_on, IsInductive, IsInside}
 use Rattle.lot_laws.proofs.machine.Parts.{inside_is}
 use Rattle.lot_laws.proofs.machine.PlaceTest.{IsFree, beside_facts, row_facts}
 

@@ -1,33 +1,16 @@
 -- Locks stay of their kinds.
-use Rattle.std.proofs.Common.{ℕ, Bool, true, false, Option, Some, None, if◌then◌else◌, ◌||◌, ◌≡◌, length}
-use Rattle.std.proofs.Common.{replicate, get_or, set, refl, ap, ◌∙◌}
-use Rattle.core_base.specs.declared.ops.Op.{Op}
-use Rattle.spec_locks.specs.declared.kinds.Kind.{Kind}
+use Rattle.lot_laws.proofs.Names
+use Names.{ℕ, Bool, true, false, Option, Some, None, if◌then◌else◌, ◌||◌, ◌≡◌, length, replicate, get_or, set}
+use Names.{refl, ap, ◌∙◌, Op, Kind, has_readers, rules_of, MutexCall, RwLockCall, Turn, Step, CondvarCall}
+use Names.{OnceCall, SemaphoreCall, Place, has_call, act_of, looking, late_key, State, shares_handed_over}
+use Names.{unlocked, place_at, word_at, shares_at, filled_at, kind_at, state_after_hand_over}
+use Names.{state_after_look, put, state_after_late_on, state_after_turn, closed_place, is_possible, after}
+use Names.{apply, fills, or-false, is_mutex}
 use Rattle.spec_locks.specs.declared.kinds.Kind as kind
 use Rattle.spec_locks.specs.declared.calls.Call as call
-use Rattle.spec_locks.specs.Sites.{has_readers}
-use Rattle.spec_locks.specs.Purposes.{rules_of}
-use Rattle.spec_locks.specs.declared.calls.MutexCall.{MutexCall}
-use Rattle.spec_locks.specs.declared.calls.RwLockCall.{RwLockCall}
-use Rattle.spec_locks.specs.declared.calls.Turn.{Turn}
 use Rattle.spec_locks.specs.declared.calls.Turn as turn
-use Rattle.spec_locks.specs.declared.calls.Step.{Step}
-use Rattle.spec_locks.specs.declared.calls.CondvarCall.{CondvarCall}
-use Rattle.spec_locks.specs.declared.calls.OnceCall.{OnceCall}
-use Rattle.spec_locks.specs.declared.calls.SemaphoreCall.{SemaphoreCall}
-use Rattle.lot_steps.specs.declared.places.Place.{Place}
-use Rattle.spec_locks.specs.Kinds.{has_call}
-use Rattle.lot_steps.specs.Steps.{act_of, looking, late_key}
-use Rattle.lot_machine.specs.Machine.{State, shares_handed_over, unlocked, place_at, word_at, shares_at}
-use Rattle.lot_machine.specs.Machine.{filled_at, kind_at, state_after_hand_over, state_after_look, put}
-use Rattle.lot_machine.specs.Machine.{state_after_late_on, state_after_turn, closed_place, is_possible, after}
-use Rattle.core_base.specs.Words.{apply}
 use Rattle.spec_locks.specs.Locks as locks
-use Rattle.spec_locks.specs.Codes.{fills}
-use Rattle.spec_locks.specs.Purposes.{rules_of}
-use Rattle.std.proofs.Math.Bool.{or-false}
 pub use Rattle.lot_machine.proofs.KindsStay.{set_field, operated_kinds, given_kinds, performed_kinds}
-use Rattle.lot_laws.specs.SitesOf.{is_mutex}
 
 pub given_filled : (w : State) (t : ℕ) (p : Place) (l : ℕ) (f : Op) → rules_of (kind_at w l)
     ≡ record { sort = locks.Mutex; limit = 0 } → (k : ℕ) → filled_at (state_after_hand_over w t p l f) k

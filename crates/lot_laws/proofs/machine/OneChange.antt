@@ -1,59 +1,33 @@
 -- A step changes one word at most, or queues whose sections its thread is in.
-use Rattle.std.proofs.Common.{subst, sym, ℕ, Bool, true, false, Option, Some, None, if◌then◌else◌, ◌≡◌, ◌<◌}
-use Rattle.std.proofs.Common.{◌⊎◌, inl, inr, List, [], ◌∷◌, ◌++◌, get_or, set, map, drop, refl, ◌∙◌, ap}
-use Rattle.std.proofs.Common.{get_or-set_other}
-use Rattle.steps_base.specs.declared.acts.Reply.TheVariants.{Value}
-use Rattle.steps_once.specs.OnceSteps.{word_after}
-use Rattle.lot_machine.specs.Machine.{state_after_close, state_after_operation, closed_place}
+use Rattle.lot_laws.proofs.Names
+use Names.{subst, sym, ℕ, Bool, true, false, Option, Some, None, if◌then◌else◌, ◌≡◌, ◌<◌, ◌⊎◌, inl, inr, List}
+use Names.{[], ◌∷◌, ◌++◌, get_or, set, map, drop, refl, ◌∙◌, ap, get_or-set_other, Value, word_after}
+use Names.{state_after_close, state_after_operation, closed_place, cases_eq, ltb-true, Keys, One, Two, waiter}
+use Names.{without, first_of, Act, Wakes, Late, Turn, Step, Place, lock_in, act_of, called_lock, next_place}
+use Names.{first_place, looking, late_key, state_after_hand_over_by, State, left_in_line, state_after_requeue}
+use Names.{state_after_take, can_turn, unlocked, place_at, word_at, queue_at, section_at, put}
+use Names.{state_with_sections, queues_with_last, queues_without_first, state_after_taking, state_after_wake}
+use Names.{state_after_act, state_after_look, state_after_late_on, go_reply, state_after_turn, is_possible}
+use Names.{after, kind_at, both, location, FitsItsLock, IsInductive, CondvarPlace, Condvar, Requeue, Want}
+use Names.{Waiter, without_lock_picked, Whom, takes_effect, holds, ChangesOneThing, KeepsWordsAndQueues}
+use Names.{TouchesOnlyByGoing}
 use Rattle.lot_laws.proofs.calls.Closures.{RunsOne, closes_one}
 use Rattle.lot_laws.proofs.calls.Closings.{afterwards, closing, goes_there, is_after}
 use Rattle.lot_laws.proofs.calls.Looking.{closing_here}
 use Rattle.lot_laws.proofs.calls.OwnPlace.{goes_from_there}
-use Rattle.std.proofs.lemmas.Bool.{cases_eq, ltb-true}
-use Rattle.core_base.specs.declared.keys.Keys.{Keys}
-use Rattle.core_base.specs.declared.keys.Keys.TheVariants.{One, Two}
 use Rattle.core_base.specs.declared.ops.Op as op
-use Rattle.core_base.specs.Lines.{waiter, without, first_of}
 use Rattle.spec_locks.specs.declared.kinds.Kind as kind
-use Rattle.steps_base.specs.declared.acts.Act.{Act}
 use Rattle.steps_base.specs.declared.acts.Act as act
-use Rattle.steps_base.specs.declared.acts.Wakes.{Wakes}
 use Rattle.steps_base.specs.declared.acts.Wakes as wakes
-use Rattle.steps_base.specs.declared.acts.Reply.TheVariants.{Late}
-use Rattle.spec_locks.specs.declared.calls.Turn.{Turn}
 use Rattle.spec_locks.specs.declared.calls.Turn as turn
-use Rattle.spec_locks.specs.declared.calls.Step.{Step}
-use Rattle.lot_steps.specs.declared.places.Place.{Place}
-use Rattle.spec_locks.specs.Calls.{lock_in}
-use Rattle.lot_steps.specs.Steps.{act_of, called_lock, next_place, first_place, looking, late_key}
-use Rattle.lot_machine.specs.Machine.{state_after_hand_over_by, State, left_in_line, state_after_requeue}
-use Rattle.lot_machine.specs.Machine.{state_after_take, can_turn, unlocked, place_at, word_at, queue_at}
-use Rattle.lot_machine.specs.Machine.{section_at, put, state_after_operation, state_with_sections}
-use Rattle.lot_machine.specs.Machine.{queues_with_last, queues_without_first, state_after_taking}
-use Rattle.lot_machine.specs.Machine.{state_after_wake, state_after_act, state_after_look}
-use Rattle.lot_machine.specs.Machine.{state_after_late_on, go_reply, state_after_turn, is_possible, after}
-use Rattle.lot_machine.specs.Machine.{kind_at}
 use Rattle.lot_laws.proofs.calls.Looking.{looks_untouched}
-use Rattle.lot_machine.proofs.Shape.{both}
 use Rattle.std.specs.Prelude.{nat_lt, length}
-use Rattle.lot_laws.specs.Locations.{location}
-use Rattle.lot_laws.specs.SitesOf.{FitsItsLock, IsInductive}
 use Rattle.lot_laws.proofs.condvar.Sections.{IsActOfTwo, condvar_lines, holds_key, left_at}
-use Rattle.steps_condvar.specs.declared.places.CondvarPlace.{CondvarPlace}
-use Rattle.lot_steps.specs.declared.places.Place.TheVariants.{Condvar}
-use Rattle.core_base.specs.declared.requeues.Requeue.{Requeue}
 use Rattle.lot_laws.proofs.machine.Parts.{IsOf, IsOfTwo, IsSingle, calls_none, fits_two, of_own}
 use Rattle.lot_laws.proofs.machine.Parts.{single_or_two}
 use Rattle.lot_laws.proofs.promises.LineActs.{line_act, holds_line, removed_at}
 use Rattle.lot_laws.proofs.machine.PlaceTest.{IsLineAct}
-use Rattle.core_base.specs.declared.wants.Want.{Want}
-use Rattle.core_base.specs.declared.wants.Waiter.{Waiter}
-use Rattle.core_base.specs.Picks.{without_lock_picked}
-use Rattle.steps_base.specs.declared.acts.Whom.{Whom}
 use Rattle.steps_base.specs.declared.acts.Whom.TheVariants as whom
-use Rattle.steps_base.specs.Acts.{takes_effect, holds}
-use Rattle.lot_laws.specs.Refinement.{ChangesOneThing}
-use Rattle.lot_laws.specs.WorldRuns.{KeepsWordsAndQueues, TouchesOnlyByGoing}
 
 -- a thread that looks at the word once more changes none
 spun_touches : (w : State) (t : ℕ) → t < length w.places → (o : Option Place) → looking (place_at w t) ≡ o

@@ -1,59 +1,26 @@
 -- The state of a world by its parts, as total functions, and what each act does to a lock and to what the
 -- threads do about it.
-use Rattle.std.proofs.Common.{ℕ, zero, suc, Bool, true, false, Option, Some, None, if◌then◌else◌, ◌==◌, ◌||◌}
-use Rattle.std.proofs.Common.{◌≡◌, ◌≢◌, ◌+◌, ◌*◌, ◌≤◌, ◌⊎◌, List, [], ◌∷◌, map, length, get_or, set, inl, inr}
-use Rattle.std.proofs.Common.{refl, sym, ◌∙◌, ap, subst, arith, length-set, get_or-set_same, get_or-set_other}
-use Rattle.std.proofs.Common.{not}
-use Rattle.spec_locks.specs.Locks.{wants_shared}
-use Rattle.std.proofs.lemmas.Bool.{cases_lt, eqb-true}
-use Rattle.std.proofs.lemmas.Bool.Decides.{nat_tests}
-use Rattle.core_base.specs.declared.wants.Waiter.{Waiter}
-use Rattle.core_base.specs.declared.wants.Want.TheVariants.{Exclusive}
-use Rattle.steps_base.specs.declared.owners.Owners.{Owners}
-use Rattle.steps_once.specs.declared.places.OncePlace.{OncePlace}
-use Rattle.steps_semaphore.specs.declared.places.SemaphorePlace.{SemaphorePlace}
-use Rattle.steps_semaphore.specs.SemaphoreSteps.{semaphore_next}
-use Rattle.steps_once.specs.OnceSteps.{once_next}
-use Rattle.steps_condvar.specs.declared.places.CondvarPlace.{CondvarPlace}
-use Rattle.steps_condvar.specs.declared.places.CondvarPlace.TheVariants.{Wait, Look, Notify}
-use Rattle.steps_condvar.specs.CondvarSteps.{mutex_beside}
-use Rattle.steps_condvar.specs.CondvarProfiles.{mutex_side}
-use Rattle.spec_locks.specs.declared.kinds.Kind.{Kind}
+use Rattle.lot_laws.proofs.Names
+use Names.{ℕ, zero, suc, Bool, true, false, Option, Some, None, if◌then◌else◌, ◌==◌, ◌||◌, ◌≡◌, ◌≢◌, ◌+◌, ◌*◌}
+use Names.{◌≤◌, ◌⊎◌, List, [], ◌∷◌, map, length, get_or, set, inl, inr, refl, sym, ◌∙◌, ap, subst, arith}
+use Names.{length-set, get_or-set_same, get_or-set_other, not, wants_shared, cases_lt, eqb-true, nat_tests}
+use Names.{Waiter, Exclusive, Owners, OncePlace, SemaphorePlace, semaphore_next, once_next, CondvarPlace}
+use Names.{Wait, Look, Notify, mutex_beside, mutex_side, Kind, is_plain_mutex, rules_of, Place, Idle, Mutex}
+use Names.{RwLock, Once, Condvar, Semaphore, Entry, MutexPlace, Lock, Reply, parked_in, aside_in, Next}
+use Names.{RwLockCallPlace, call_next, mutex_next, Want, Hand, Of, hand_owner, taken_from, Profile, blank_row}
+use Names.{next_place, taker, mutex_goes, rwlock_goes, once_goes, semaphore_goes, called_lock, profile, wants}
+use Names.{is_lock, calls, beside_of, or_else, profile_beside, key_in, late_key, line_owed, retries_on}
+use Names.{LockState, Taken, Rules, keep_from, putting, is_thread, Role, Site, idle, wakened, State, place_at}
+use Names.{kind_at, word_at, owners_at, shares_at, filled_at, queue_at, place_after_telling, held}
+use Names.{shares_in_hand, with_share, shares_given, wants_more_in_hand, successor_or, successor_from, put}
+use Names.{held_by, Successor, lock_seen, taken_at, mutex_location, mutex_role, location, location_at}
+use Names.{nowhere, role_on, rules_in, hand_at, FitsItsLock, IsInductive, TakesOne}
 use Rattle.spec_locks.specs.declared.kinds.Kind as kind
-use Rattle.spec_locks.specs.Kinds.{is_plain_mutex}
-use Rattle.spec_locks.specs.Purposes.{rules_of}
-use Rattle.lot_steps.specs.declared.places.Place.{Place}
-use Rattle.lot_steps.specs.declared.places.Place.TheVariants.{Idle, Mutex, RwLock, Once, Condvar, Semaphore}
-use Rattle.steps_mutex.specs.declared.lock.Entry.{Entry}
-use Rattle.steps_mutex.specs.declared.places.MutexPlace.{MutexPlace}
-use Rattle.steps_mutex.specs.declared.places.MutexPlace.TheVariants.{Lock}
 use Rattle.steps_mutex.specs.declared.lock.LockAt.TheVariants as lock
-use Rattle.steps_base.specs.declared.acts.Reply.{Reply}
-use Rattle.spec_locks.specs.Codes.{parked_in, aside_in}
-use Rattle.steps_base.specs.declared.acts.Next.{Next}
-use Rattle.steps_rwlock_fair.specs.declared.places.RwLockCallPlace.{RwLockCallPlace}
-use Rattle.steps_rwlock_fair.specs.FairSteps.{call_next}
 use Rattle.steps_base.specs.declared.acts.Next as next
-use Rattle.steps_mutex.specs.MutexSteps.{mutex_next}
-use Rattle.core_base.specs.declared.wants.Want.{Want}
-use Rattle.steps_base.specs.Profiles.{Hand, Of, hand_owner, taken_from, Profile, blank_row}
-use Rattle.lot_steps.specs.Steps.{next_place, taker, mutex_goes, rwlock_goes, once_goes, semaphore_goes}
-use Rattle.lot_steps.specs.Steps.{called_lock, profile, wants, is_lock, calls, beside_of, or_else}
-use Rattle.lot_steps.specs.Steps.{profile_beside, key_in, late_key, line_owed, retries_on}
-use Rattle.spec_locks.specs.Locks.{LockState, Taken, Rules, keep_from, putting}
 use Rattle.std.specs.Prelude.{◌&&◌, ◌||◌}
-use Rattle.steps_base.specs.Owners.{is_thread}
 use Rattle.spec_locks.specs.Locks as locks
-use Rattle.spec_locks.specs.Sites.{Role, Site, idle, wakened}
-use Rattle.lot_machine.specs.Machine.{State, place_at, kind_at, word_at, owners_at, shares_at, filled_at}
-use Rattle.lot_machine.specs.Machine.{queue_at, place_after_telling, held, shares_in_hand, with_share}
-use Rattle.lot_machine.specs.Machine.{shares_given, wants_more_in_hand, successor_or, successor_from, put}
-use Rattle.lot_machine.specs.Machine.{held_by}
-use Rattle.lot_machine.specs.declared.hands.Successor.{Successor}
-use Rattle.lot_laws.specs.Refinement.{lock_seen, taken_at}
-use Rattle.lot_laws.specs.ThreadDeeds.{mutex_location, mutex_role}
-use Rattle.lot_laws.specs.Locations.{Location, hand, location, location_at, nowhere, role_on, location_by}
-use Rattle.lot_laws.specs.SitesOf.{rules_in, hand_at, FitsItsLock, IsInductive, TakesOne}
+use Rattle.lot_laws.specs.Locations.{Location, hand, location_by}
 
 -- ---------------------------------------------------------------- lists with one element set, as functions
 

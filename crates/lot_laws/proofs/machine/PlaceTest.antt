@@ -1,86 +1,51 @@
 -- Each place, tested once: its row and the act that its thread does there agree, by a test that computes.
 -- Other files read off it what they need.
-use Rattle.std.proofs.Common.{ℕ, Bool, true, false, Option, Some, None, if◌then◌else◌, ◌==◌, ◌&&◌, ◌||◌, not}
-use Rattle.std.proofs.Common.{◌≡◌, ◌⊎◌, ◌+◌, ◌-◌, ◌*◌, inl, inr, refl, sym, ◌∙◌, ap, subst}
-use Rattle.core_base.specs.declared.keys.Keys.TheVariants.{One, Two}
+use Rattle.lot_laws.proofs.Names
+use Names.{ℕ, Bool, true, false, Option, Some, None, if◌then◌else◌, ◌==◌, ◌&&◌, ◌||◌, not, ◌≡◌, ◌⊎◌, ◌+◌, ◌-◌}
+use Names.{◌*◌, inl, inr, refl, sym, ◌∙◌, ap, subst, One, Two, Shared, Access, OnceCall, Act, Hand, Profile}
+use Names.{in_line, is_line, is_try, no_line, has_aside, CondvarStage, Recall, Blank, Purpose, Enters}
+use Names.{Converts, once_purpose, Patience, Try, Line, Main, Second, Entry, MutexPlace, inside}
+use Names.{entry_purpose, mutex_profile, is_locked, mutex_act, Course, OncePlace, once_profile, course_act}
+use Names.{course_of, once_act, SemaphorePlace, patience, semaphore_profile, is_free, semaphore_act}
+use Names.{Admission, RwLockPlace, RwLockAt, Decision, RwLockPurpose, rwlock_profile, act_at, decided}
+use Names.{decided_act, exchange, plus, HandOverAt, RwLockCallPlace, call_profile, call_act, has_room}
+use Names.{hand_over_act, NotifyAt, CondvarPlace, Stands, WaitAt, condvar_profile, hand_of, has_moved}
+use Names.{is_main_line, is_moved, mutex_side, condvar_act, move_act, Place, Idle, Mutex, RwLock, Once}
+use Names.{Condvar, Semaphore, act_of, profile, profile_beside, IsTry, keys_entered, sleeps, key_of}
+use Names.{EntersSection}
 use Rattle.core_base.specs.declared.ops.Op.TheVariants as op
-use Rattle.core_base.specs.declared.wants.Want.TheVariants.{Shared}
-use Rattle.spec_locks.specs.declared.calls.Access.{Access}
 use Rattle.spec_locks.specs.declared.calls.Access.TheVariants as access
-use Rattle.spec_locks.specs.declared.calls.OnceCall.{OnceCall}
 use Rattle.spec_locks.specs.declared.calls.OnceCall.TheVariants as once_call
-use Rattle.steps_base.specs.declared.acts.Act.{Act}
 use Rattle.steps_base.specs.declared.acts.Act.TheVariants as act
-use Rattle.steps_base.specs.Profiles.{Hand, Profile, in_line}
-use Rattle.steps_base.proofs.RowCheck.{both, is_line, is_try, no_line}
-use Rattle.spec_locks.specs.Codes.{has_aside}
-use Rattle.spec_locks.specs.Condvars.{CondvarStage}
-use Rattle.spec_locks.specs.Purposes.{Recall, Blank, Purpose, Enters, Converts, once_purpose}
-use Rattle.spec_locks.specs.declared.calls.Patience.{Patience}
-use Rattle.spec_locks.specs.declared.calls.Patience.TheVariants.{Try}
-use Rattle.spec_locks.specs.Sites.{Line, Main, Second}
-use Rattle.steps_mutex.specs.declared.lock.Entry.{Entry}
+use Rattle.steps_base.proofs.RowCheck.{both}
 use Rattle.steps_mutex.specs.declared.lock.Entry.TheVariants as entry
 use Rattle.steps_mutex.specs.declared.lock.LockAt.TheVariants as lock
 use Rattle.steps_mutex.specs.declared.unlock.UnlockAt.TheVariants as unlock
 use Rattle.steps_mutex.specs.declared.hand_off.HandOffAt.TheVariants as hand_off
-use Rattle.steps_mutex.specs.declared.places.MutexPlace.{MutexPlace}
 use Rattle.steps_mutex.specs.declared.places.MutexPlace.TheVariants as mutex
-use Rattle.steps_mutex.specs.MutexProfiles.{inside, entry_purpose, mutex_profile, release_purpose}
-use Rattle.steps_mutex.specs.MutexSteps.{is_locked, mutex_act}
-use Rattle.steps_once.specs.declared.look.Course.{Course}
+use Rattle.steps_mutex.specs.MutexProfiles.{release_purpose}
 use Rattle.steps_once.specs.declared.look.Course.TheVariants as course
 use Rattle.steps_once.specs.declared.look.LookAt.TheVariants as look
 use Rattle.steps_once.specs.declared.run.RunAt.TheVariants as run
 use Rattle.steps_once.specs.declared.give_up.GiveUpAt.TheVariants as give_up
-use Rattle.steps_once.specs.declared.places.OncePlace.{OncePlace}
 use Rattle.steps_once.specs.declared.places.OncePlace.TheVariants as once
-use Rattle.steps_once.specs.OnceProfiles.{once_profile}
-use Rattle.steps_once.specs.OnceSteps.{course_act, course_of, once_act}
 use Rattle.steps_semaphore.specs.declared.acquire.AcquireAt.TheVariants as acquire
 use Rattle.steps_semaphore.specs.declared.tries.TryAt.TheVariants as tries_at
 use Rattle.steps_semaphore.specs.declared.release.ReleaseAt.TheVariants as release
-use Rattle.steps_semaphore.specs.declared.places.SemaphorePlace.{SemaphorePlace}
 use Rattle.steps_semaphore.specs.declared.places.SemaphorePlace.TheVariants as semaphore
-use Rattle.steps_semaphore.specs.SemaphoreProfiles.{patience, semaphore_profile}
-use Rattle.steps_semaphore.specs.SemaphoreSteps.{is_free, semaphore_act}
-use Rattle.steps_rwlock.specs.declared.places.Admission.{Admission}
-use Rattle.steps_rwlock.specs.declared.places.RwLockPlace.{RwLockPlace}
-use Rattle.steps_rwlock.specs.declared.places.RwLockAt.{RwLockAt}
 use Rattle.steps_rwlock.specs.declared.places.RwLockAt.TheVariants as at
 use Rattle.steps_rwlock.specs.declared.park.ParkAt.TheVariants as parking
 use Rattle.steps_rwlock.specs.declared.release.WakeAt.TheVariants as waking
-use Rattle.steps_rwlock.specs.declared.enter.Decision.{Decision}
 use Rattle.steps_rwlock.specs.declared.enter.Decision.TheVariants as decisions
-use Rattle.steps_rwlock.specs.declared.purposes.RwLockPurpose.{RwLockPurpose}
-use Rattle.steps_rwlock.specs.RwLockProfiles.{rwlock_profile}
-use Rattle.steps_rwlock.specs.RwLockSteps.{act_at, decided, decided_act, exchange, plus}
-use Rattle.steps_rwlock_fair.specs.declared.hand_over.HandOverAt.{HandOverAt}
 use Rattle.steps_rwlock_fair.specs.declared.hand_over.HandOverAt.TheVariants as handing
 use Rattle.steps_rwlock_fair.specs.declared.handed.HandedAt.TheVariants as handed
-use Rattle.steps_rwlock_fair.specs.declared.places.RwLockCallPlace.{RwLockCallPlace}
 use Rattle.steps_rwlock_fair.specs.declared.places.RwLockCallPlace.TheVariants as fair
-use Rattle.steps_rwlock_fair.specs.FairProfiles.{call_profile}
-use Rattle.steps_rwlock_fair.specs.FairSteps.{call_act, has_room, hand_over_act}
-use Rattle.steps_condvar.specs.declared.notify.NotifyAt.{NotifyAt}
 use Rattle.steps_condvar.specs.declared.notify.NotifyAt.TheVariants as notify
-use Rattle.steps_condvar.specs.declared.places.CondvarPlace.{CondvarPlace}
 use Rattle.steps_condvar.specs.declared.places.CondvarPlace.TheVariants as condvar
-use Rattle.steps_condvar.specs.declared.wait.Stands.{Stands}
 use Rattle.steps_condvar.specs.declared.wait.Stands.TheVariants as stands
-use Rattle.steps_condvar.specs.declared.wait.WaitAt.{WaitAt}
 use Rattle.steps_condvar.specs.declared.wait.WaitAt.TheVariants as wait
-use Rattle.steps_condvar.specs.CondvarProfiles.{condvar_profile, hand_of, has_moved, is_main_line, is_moved}
-use Rattle.steps_condvar.specs.CondvarProfiles.{mutex_side}
-use Rattle.steps_condvar.specs.CondvarSteps.{condvar_act, move_act}
-use Rattle.lot_steps.specs.declared.places.Place.{Place}
-use Rattle.lot_steps.specs.declared.places.Place.TheVariants.{Idle, Mutex, RwLock, Once, Condvar, Semaphore}
-use Rattle.lot_steps.specs.Steps.{act_of, profile, profile_beside}
 use Rattle.lot_laws.specs.ThreadDeeds.{mutex_row}
-use Rattle.lot_laws.specs.Promises.{IsTry}
-use Rattle.lot_laws.specs.Refinement.{keys_entered, runs_closure, sleeps}
-use Rattle.lot_laws.specs.SitesOf.{key_of}
-use Rattle.lot_laws.specs.Solo.{EntersSection}
+use Rattle.lot_laws.specs.Refinement.{runs_closure}
 use Rattle.lot_laws.specs.Locations.{Location, location_by}
 
 -- ---------------------------------------------------------------- acts

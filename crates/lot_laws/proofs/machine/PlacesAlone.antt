@@ -1,14 +1,9 @@
 -- By a turn that changes no more than its thread's place, and sections, no lock changes: its call alone does.
-use Rattle.std.proofs.Common.{ℕ, Option, ◌≡◌, ◌<◌, List, length, length-set, replicate, get_or}
-use Rattle.std.proofs.Common.{get_or-set_other, get_or-set_same, inl, inr, refl, ◌∙◌, ap}
-use Rattle.std.proofs.lemmas.Bool.{cases_eq}
+use Rattle.lot_laws.proofs.Names
+use Names.{ℕ, Option, ◌≡◌, ◌<◌, List, length, length-set, replicate, get_or, get_or-set_other}
+use Names.{get_or-set_same, inl, inr, refl, ◌∙◌, ap, cases_eq, Place, Idle, Rights, rights_of, CallState}
+use Names.{Stays, State, place_at, put, call_state, lock_state, locks_of, taken_at}
 use Rattle.spec_locks.specs.declared.outcomes.Outcome as outcome
-use Rattle.lot_steps.specs.declared.places.Place.{Place}
-use Rattle.lot_steps.specs.declared.places.Place.TheVariants.{Idle}
-use Rattle.spec_locks.specs.Locks.{Rights, rights_of}
-use Rattle.spec_locks.specs.Runs.{CallState, Stays}
-use Rattle.lot_machine.specs.Machine.{State, place_at, put}
-use Rattle.lot_laws.specs.Refinement.{call_state, lock_state, locks_of, taken_at}
 use Rattle.lot_laws.proofs.calls.Events.{put_is, rights}
 
 module _ (w : State) (t : ℕ) (there : t < length w.places) where

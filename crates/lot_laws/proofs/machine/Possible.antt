@@ -1,98 +1,60 @@
 -- A turn is possible exactly where the abstract locks and the call say so, and a thread is told that it
 -- sleeps where it does.
 use Rattle.spec_locks.specs.declared.calls.CondvarCall.TheVariants as condvar
-use Rattle.std.proofs.Common.{is_some, subst, ℕ, Bool, true, false, Option, Some, None, if◌then◌else◌, ◌&&◌}
-use Rattle.std.proofs.Common.{◌≡◌, ◌≢◌, ◌+◌, ◌*◌, ◌≤◌, ◌<◌, ◌↔◌, ◌⊎◌, inl, inr, List, length, is_none, refl}
-use Rattle.std.proofs.Common.{sym, ◌∙◌, ap, arith, get_or-set_other, get_or-set_same, length-set, set}
+use Rattle.lot_laws.proofs.Names
+use Names.{is_some, subst, ℕ, Bool, true, false, Option, Some, None, if◌then◌else◌, ◌&&◌, ◌≡◌, ◌≢◌, ◌+◌, ◌*◌}
+use Names.{◌≤◌, ◌<◌, ◌↔◌, ◌⊎◌, inl, inr, List, length, is_none, refl, sym, ◌∙◌, ap, arith, get_or-set_other}
+use Names.{get_or-set_same, length-set, set, once_profile, is_closure, cases_eq, cases_lt, get_or_past, Keys}
+use Names.{One, Two, first_of, Waiter, Turn, Call, MutexCall, Kind, is_fair, Act, Enter, Take, Sleep, Closure}
+use Names.{Reply, Late, Next, MutexPlace, OncePlace, once_act, once_next, SemaphorePlace, semaphore_act}
+use Names.{semaphore_first, semaphore_next, SemaphoreCall, CondvarPlace, condvar_next, condvar_act}
+use Names.{mutex_beside, Place, Idle, Mutex, RwLock, Once, Condvar, Semaphore, Wakes, Whom, takes_effect}
+use Names.{outcome_of, holds, mutex_act, mutex_first, mutex_next, act_of, beside_of, called_lock}
+use Names.{profile_beside, next_place, next_act, mutex_goes, mutex_does, late_key, first_place, looking}
+use Names.{key_in, profile, rwlock_does, rwlock_goes, once_does, once_goes, condvar_goes, condvar_does}
+use Names.{semaphore_does, semaphore_goes, Op, state_after_hand_over_by, State, state_after_take, place_at}
+use Names.{queue_at, section_at, can_do, can_go, is_free_under, word_at, state_with_sections}
+use Names.{queues_without_first, state_after_taking, state_after_wake, state_after_act, state_after_go}
+use Names.{state_after_late_on, IsWellFormed, PlaceFits, Main, Line, Second, location, location_at}
+use Names.{FitsItsLock, IsInductive, stood_in, key_of, lock_state, locks_of, call_state, sleeps, keys_entered}
+use Names.{call_on_both, Wait, Look, Notify, runs_closure, Rights, AreFree, MayBeLate, MayTurn, IsTimed}
+use Names.{StandsFreely, SectionChanges, CallState, RwLockCallPlace, admission_of_kind, call_first, call_act}
+use Names.{call_next, RwLockCall, Patient, Timed, Try}
 use Rattle.lot_laws.proofs.once.Owing.{late_place}
-use Rattle.steps_once.specs.OnceProfiles.{once_profile}
-use Rattle.spec_locks.specs.Runs.{is_closure}
 use Rattle.lot_laws.proofs.calls.Closures.{call_runs_none, closure_told, mutex_runs_none, condvar_runs_none}
 use Rattle.lot_laws.proofs.calls.Closures.{semaphore_runs_none}
-use Rattle.std.proofs.lemmas.Bool.{cases_eq, cases_lt}
-use Rattle.std.proofs.lemmas.List.{get_or_past}
-use Rattle.core_base.specs.declared.keys.Keys.{Keys}
-use Rattle.core_base.specs.declared.keys.Keys.TheVariants.{One, Two}
-use Rattle.core_base.specs.Lines.{first_of}
-use Rattle.core_base.specs.declared.wants.Waiter.{Waiter}
-use Rattle.spec_locks.specs.declared.calls.Turn.{Turn}
 use Rattle.spec_locks.specs.declared.calls.Turn as turn
-use Rattle.spec_locks.specs.declared.calls.Call.{Call}
 use Rattle.spec_locks.specs.declared.calls.Call as call
-use Rattle.spec_locks.specs.declared.calls.MutexCall.{MutexCall}
 use Rattle.spec_locks.specs.declared.calls.MutexCall as mutex_call
-use Rattle.spec_locks.specs.declared.kinds.Kind.{Kind}
-use Rattle.spec_locks.specs.Kinds.{is_fair}
 use Rattle.spec_locks.specs.declared.outcomes.Outcome as outcome
-use Rattle.steps_base.specs.declared.acts.Act.{Act}
-use Rattle.steps_base.specs.declared.acts.Act.TheVariants.{Rest, Enter, Park, Take, Sleep, Closure, End}
+use Rattle.steps_base.specs.declared.acts.Act.TheVariants.{Rest, Park, End}
 use Rattle.steps_base.specs.declared.acts.Act.TheVariants as act
-use Rattle.steps_base.specs.declared.acts.Reply.{Reply}
-use Rattle.steps_base.specs.declared.acts.Reply.TheVariants.{Late}
-use Rattle.steps_base.specs.declared.acts.Next.{Next}
 use Rattle.steps_base.specs.declared.acts.Next.TheVariants as next
-use Rattle.steps_mutex.specs.declared.places.MutexPlace.{MutexPlace}
-use Rattle.steps_once.specs.declared.places.OncePlace.{OncePlace}
-use Rattle.steps_once.specs.OnceSteps.{once_act, once_next}
-use Rattle.steps_semaphore.specs.declared.places.SemaphorePlace.{SemaphorePlace}
-use Rattle.steps_semaphore.specs.SemaphoreSteps.{semaphore_act, semaphore_first, semaphore_next}
-use Rattle.spec_locks.specs.declared.calls.SemaphoreCall.{SemaphoreCall}
 use Rattle.spec_locks.specs.declared.calls.SemaphoreCall.TheVariants as semaphore_call
-use Rattle.steps_condvar.specs.declared.places.CondvarPlace.{CondvarPlace}
-use Rattle.steps_condvar.specs.CondvarSteps.{condvar_next, condvar_act, mutex_beside}
-use Rattle.lot_steps.specs.declared.places.Place.{Place}
-use Rattle.lot_steps.specs.declared.places.Place.TheVariants.{Idle, Mutex, RwLock, Once, Condvar, Semaphore}
-use Rattle.steps_base.specs.declared.acts.Wakes.{Wakes}
 use Rattle.steps_base.specs.declared.acts.Wakes as wakes
-use Rattle.steps_base.specs.declared.acts.Whom.{Whom}
 use Rattle.steps_base.specs.declared.acts.Whom as whom
-use Rattle.steps_base.specs.Acts.{takes_effect, outcome_of, holds}
-use Rattle.steps_mutex.specs.MutexSteps.{mutex_act, mutex_first, mutex_next}
-use Rattle.lot_steps.specs.Steps.{act_of, beside_of, called_lock, profile_beside, next_place, next_act}
-use Rattle.lot_steps.specs.Steps.{mutex_goes, mutex_does, late_key, first_place, looking, key_in, profile}
-use Rattle.lot_steps.specs.Steps.{rwlock_does, rwlock_goes, once_does, once_goes, condvar_goes, condvar_does}
-use Rattle.lot_steps.specs.Steps.{semaphore_does, semaphore_goes}
-use Rattle.core_base.specs.declared.ops.Op.{Op}
-use Rattle.lot_machine.specs.Machine.{state_after_hand_over_by, State, state_after_take, place_at, queue_at}
-use Rattle.lot_machine.specs.Machine.{section_at, can_do, can_go, is_free_under, word_at, state_with_sections}
-use Rattle.lot_machine.specs.Machine.{queues_without_first, state_after_taking, state_after_wake}
-use Rattle.lot_machine.specs.Machine.{state_after_act, state_after_go, state_after_late_on}
-use Rattle.lot_machine.specs.Fits.{IsWellFormed, PlaceFits}
-use Rattle.spec_locks.specs.Sites.{Main, Line, Second}
-use Rattle.lot_laws.specs.Locations.{location, location_at, Location}
-use Rattle.lot_laws.specs.SitesOf.{FitsItsLock, IsInductive, stood_in, key_of}
-use Rattle.lot_laws.specs.Refinement.{lock_state, locks_of, call_state, sleeps, runs_closure, keys_entered}
-use Rattle.lot_laws.specs.Refinement.{call_on_both}
+use Rattle.lot_laws.specs.Locations.{Location}
+use Rattle.lot_laws.specs.Refinement.{runs_closure}
 use Rattle.lot_laws.proofs.calls.SingleCalls.{call_none}
 use Rattle.lot_laws.proofs.machine.Parts.{IsOf, of_own, IsOfTwo, IsSingle, fits_two, calls_none}
 use Rattle.lot_laws.proofs.machine.Parts.{condvar_apart, single_late, single_or_two}
 use Rattle.lot_laws.proofs.condvar.Late.{IsLate, condvar_acts, two_late, two_may_late}
 use Rattle.lot_laws.proofs.condvar.Sections.{IsActOfTwo, IsItsKey, condvar_lines, holds_key, inside_its}
-use Rattle.steps_condvar.specs.declared.places.CondvarPlace.TheVariants.{Wait, Look, Notify}
 use Rattle.lot_laws.proofs.promises.LineActs.{line_act, holds_line, key_there, late_line, calls_there}
 use Rattle.lot_laws.proofs.machine.PlaceTest.{IsOfLine, IsLineAct}
 use Rattle.lot_laws.proofs.sites.ByAct.{none_is}
-use Rattle.lot_machine.specs.Machine.{runs_closure}
 use Rattle.lot_laws.proofs.machine.AtPlaces.{queued_by}
 use Rattle.lot_laws.proofs.calls.Events.{rights}
-use Rattle.spec_locks.specs.Locks.{Rights}
 use Rattle.spec_locks.specs.Locks as locks
-use Rattle.spec_locks.specs.Runs.{AreFree, MayGo, MayBeLate, MayTurn, IsTimed, StandsFreely, SectionChanges}
-use Rattle.spec_locks.specs.Runs.{CallState}
+use Rattle.spec_locks.specs.Runs.{MayGo}
 use Rattle.lot_laws.proofs.promises.RowPromises.{is_acting}
 use Rattle.lot_laws.proofs.promises.PlacePromises.{row_promises, location_own, location_calls, call_own}
 use Rattle.lot_laws.proofs.promises.PlacePromises.{in_second}
 use Rattle.lot_laws.proofs.sites.StandsKept.{in_main}
 use Rattle.lot_laws.proofs.hands.Counts.{first_times}
 use Rattle.lot_laws.proofs.promises.PlaceSteps.{late_next}
-use Rattle.steps_rwlock_fair.specs.declared.places.RwLockCallPlace.{RwLockCallPlace}
 use Rattle.spec_locks.specs.declared.calls.RwLockCall.TheVariants as rwlock_call
 use Rattle.spec_locks.specs.declared.calls.Access.TheVariants as access
-use Rattle.steps_rwlock.specs.RwLockBegins.{admission_of_kind}
-use Rattle.steps_rwlock_fair.specs.FairBegins.{call_first}
-use Rattle.steps_rwlock_fair.specs.FairSteps.{call_act, call_next}
-use Rattle.spec_locks.specs.declared.calls.RwLockCall.{RwLockCall}
-use Rattle.spec_locks.specs.declared.calls.Patience.TheVariants.{Patient, Timed, Try}
 
 -- ---------------------------------------------------------------- going on
 

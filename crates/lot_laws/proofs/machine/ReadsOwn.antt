@@ -1,29 +1,17 @@
 -- A call that reads the waiters does so in the main line of its lock, which it has to itself where the thread
 -- has its way.
-use Rattle.std.proofs.Common.{ℕ, Bool, true, false, Some, ◌≡◌, inl, ap}
+use Rattle.lot_laws.proofs.Names
+use Names.{ℕ, Bool, true, false, Some, ◌≡◌, inl, ap, Call, CondvarCall, MutexCall, OnceCall, RwLockCall}
+use Names.{SemaphoreCall, Kind, lock_in, first_place, called_lock, mutex_purpose, purpose_of, rwlock_purpose}
+use Names.{purpose_at, Main, State, kind_at, place_at, locks_of, IsUnobstructed, HasMainLine, HasWhatItReads}
 use Rattle.spec_locks.specs.declared.calls.Access.TheVariants as access
-use Rattle.spec_locks.specs.declared.calls.Call.{Call}
 use Rattle.spec_locks.specs.declared.calls.Call.TheVariants as call
-use Rattle.spec_locks.specs.declared.calls.CondvarCall.{CondvarCall}
 use Rattle.spec_locks.specs.declared.calls.CondvarCall.TheVariants as condvar_call
-use Rattle.spec_locks.specs.declared.calls.MutexCall.{MutexCall}
 use Rattle.spec_locks.specs.declared.calls.MutexCall.TheVariants as mutex_call
-use Rattle.spec_locks.specs.declared.calls.OnceCall.{OnceCall}
 use Rattle.spec_locks.specs.declared.calls.OnceCall.TheVariants as once_call
-use Rattle.spec_locks.specs.declared.calls.RwLockCall.{RwLockCall}
 use Rattle.spec_locks.specs.declared.calls.RwLockCall.TheVariants as rwlock_call
-use Rattle.spec_locks.specs.declared.calls.SemaphoreCall.{SemaphoreCall}
 use Rattle.spec_locks.specs.declared.calls.SemaphoreCall.TheVariants as semaphore_call
-use Rattle.spec_locks.specs.declared.kinds.Kind.{Kind}
 use Rattle.spec_locks.specs.declared.kinds.Kind.TheVariants as kinds
-use Rattle.spec_locks.specs.Calls.{lock_in}
-use Rattle.lot_steps.specs.Steps.{first_place, called_lock}
-use Rattle.spec_locks.specs.Purposes.{mutex_purpose, purpose_of, rwlock_purpose}
-use Rattle.spec_locks.specs.Runs.{purpose_at}
-use Rattle.spec_locks.specs.Sites.{Main}
-use Rattle.lot_machine.specs.Machine.{State, kind_at, place_at}
-use Rattle.lot_laws.specs.Refinement.{locks_of}
-use Rattle.lot_laws.specs.Solo.{IsUnobstructed, HasMainLine, HasWhatItReads}
 
 module _ (w : State) (t l : ℕ) (own : HasMainLine w t l) where
   mutex_reads : (fair : Bool) (c : MutexCall) → HasWhatItReads w t (Some (mutex_purpose fair l c))

@@ -1,50 +1,25 @@
 -- A thread that sleeps does so on, whatever befalls it but a wake; and another thread wakes only those that
 -- it has in hand.
-use Rattle.std.proofs.Common.{ℕ, Bool, true, false, Option, Some, None, if◌then◌else◌, ◌==◌, ◌≡◌, ◌≢◌, ◌⊎◌}
-use Rattle.std.proofs.Common.{inl, inr, List, [], ◌∷◌, length, map, set, get_or, refl, sym, ◌∙◌, ap, subst}
-use Rattle.std.proofs.Common.{get_or-set_other, get_or-set_same}
-use Rattle.std.proofs.Math.ListN.{get_or-map}
-use Rattle.std.proofs.lemmas.Bool.{cases_eq, cases_lt, eqb-true}
-use Rattle.std.proofs.lemmas.List.{set_past}
-use Rattle.core_base.specs.declared.keys.Keys.{Keys}
-use Rattle.core_base.specs.declared.keys.Keys.TheVariants.{One, Two}
-use Rattle.core_base.specs.Lines.{first_of, threads_of}
-use Rattle.core_base.specs.Picks.{lock_picked}
-use Rattle.core_base.specs.Requeues.{taken_by}
-use Rattle.spec_locks.specs.declared.calls.Step.{Step}
-use Rattle.spec_locks.specs.declared.calls.Turn.{Turn}
+use Rattle.lot_laws.proofs.Names
+use Names.{ℕ, Bool, true, false, Option, Some, None, if◌then◌else◌, ◌==◌, ◌≡◌, ◌≢◌, ◌⊎◌, inl, inr, List, []}
+use Names.{◌∷◌, length, map, set, get_or, refl, sym, ◌∙◌, ap, subst, get_or-set_other, get_or-set_same}
+use Names.{get_or-map, cases_eq, cases_lt, eqb-true, set_past, Keys, One, Two, first_of, threads_of}
+use Names.{lock_picked, taken_by, Step, Turn, Act, Sleep, Next, At, Reply, TakenBy, MovedTo, HandedBy, Woken}
+use Names.{holds, takes_effect, is_thread, MutexPlace, mutex_act, mutex_next, CondvarPlace, WaitAt, NotifyAt}
+use Names.{condvar_act, condvar_next, notify_act, move_act, in_wait, relocked, wait_act, Place, Idle, Mutex}
+use Names.{RwLock, Once, Condvar, Semaphore, act_of, condvar_goes, late_key, looking, mutex_goes, next_place}
+use Names.{taker, State, hand_over_told, is_possible, after, listed, moved_threads, place_after_telling}
+use Names.{place_at, places_told, put, queue_at, queues_without_first, closed_place, state_after_act}
+use Names.{state_after_go, state_after_hand_over_by, state_after_late_on, state_after_look}
+use Names.{state_after_taking, state_after_turn, state_with_sections, word_at, SleepersStay}
 use Rattle.spec_locks.specs.declared.calls.Turn.TheVariants as turn
-use Rattle.steps_base.specs.declared.acts.Act.{Act}
 use Rattle.steps_base.specs.declared.acts.Act.TheVariants as act
-use Rattle.steps_base.specs.declared.acts.Act.TheVariants.{Sleep}
-use Rattle.steps_base.specs.declared.acts.Next.{Next}
-use Rattle.steps_base.specs.declared.acts.Next.TheVariants.{At}
-use Rattle.steps_base.specs.declared.acts.Reply.{Reply}
-use Rattle.steps_base.specs.declared.acts.Reply.TheVariants.{TakenBy, MovedTo, HandedBy, Woken}
 use Rattle.steps_base.specs.declared.acts.Wakes.TheVariants as wakes
 use Rattle.steps_base.specs.declared.acts.Whom.TheVariants as whom
-use Rattle.steps_base.specs.Acts.{holds, takes_effect}
-use Rattle.steps_base.specs.Owners.{is_thread}
-use Rattle.steps_mutex.specs.declared.places.MutexPlace.{MutexPlace}
-use Rattle.steps_mutex.specs.MutexSteps.{mutex_act, mutex_next}
-use Rattle.steps_condvar.specs.declared.places.CondvarPlace.{CondvarPlace}
 use Rattle.steps_condvar.specs.declared.places.CondvarPlace.TheVariants as condvar
 use Rattle.steps_condvar.specs.declared.wait.Stands.TheVariants as stands
-use Rattle.steps_condvar.specs.declared.wait.WaitAt.{WaitAt}
 use Rattle.steps_condvar.specs.declared.wait.WaitAt.TheVariants as wait
-use Rattle.steps_condvar.specs.declared.notify.NotifyAt.{NotifyAt}
 use Rattle.steps_condvar.specs.declared.notify.NotifyAt.TheVariants as notify
-use Rattle.steps_condvar.specs.CondvarSteps.{condvar_act, condvar_next, notify_act, move_act, in_wait}
-use Rattle.steps_condvar.specs.CondvarSteps.{relocked, wait_act}
-use Rattle.lot_steps.specs.declared.places.Place.{Place}
-use Rattle.lot_steps.specs.declared.places.Place.TheVariants.{Idle, Mutex, RwLock, Once, Condvar, Semaphore}
-use Rattle.lot_steps.specs.Steps.{act_of, condvar_goes, late_key, looking, mutex_goes, next_place, taker}
-use Rattle.lot_machine.specs.Machine.{State, hand_over_told, is_possible, after, listed, moved_threads}
-use Rattle.lot_machine.specs.Machine.{place_after_telling, place_at, places_told, put, queue_at}
-use Rattle.lot_machine.specs.Machine.{queues_without_first, closed_place, state_after_act, state_after_go}
-use Rattle.lot_machine.specs.Machine.{state_after_hand_over_by, state_after_late_on, state_after_look}
-use Rattle.lot_machine.specs.Machine.{state_after_taking, state_after_turn, state_with_sections, word_at}
-use Rattle.lot_laws.specs.WorldRuns.{SleepersStay}
 use Rattle.lot_laws.proofs.machine.Hearing.{Quiet, call_hears, mutex_hears, once_hears, semaphore_hears}
 
 -- ---------------------------------------------------------------- a condition variable

@@ -1,67 +1,41 @@
 -- A thread that is awake stands as it does, whatever befalls it as long as its own turn doesn't come.
-use Rattle.std.proofs.Common.{ℕ, Bool, true, false, Option, Some, None, if◌then◌else◌, ◌==◌, ◌≡◌, ◌≢◌, refl}
-use Rattle.std.proofs.Common.{sym, ◌∙◌, ap, get_or-set_other, is_some}
-use Rattle.core_base.specs.declared.keys.Keys.TheVariants.{One}
+use Rattle.lot_laws.proofs.Names
+use Names.{ℕ, Bool, true, false, Option, Some, None, if◌then◌else◌, ◌==◌, ◌≡◌, ◌≢◌, refl, sym, ◌∙◌, ap}
+use Names.{get_or-set_other, is_some, One, Step, Turn, Status, Act, Sleep, At, Reply, TakenBy, MovedTo}
+use Names.{HandedBy, Woken, MutexPlace, mutex_act, mutex_looking, mutex_next, Admission, RwLockPlace}
+use Names.{RwLockAt, RwLockPurpose, act_at, rwlock_next, RwLockCallPlace, bump_next, call_act, given}
+use Names.{plain_next, unless_given, OncePlace, once_act, SemaphorePlace, semaphore_act, CondvarPlace, WaitAt}
+use Names.{NotifyAt, condvar_act, in_lock, in_wait, relocked, wait_act, Place, Idle, Mutex, RwLock, Once}
+use Names.{Condvar, Semaphore, act_of, condvar_goes, in_condvar, in_mutex, in_once, in_semaphore, late_key}
+use Names.{looking, mutex_goes, next_place, rwlock_goes, State, after, closed_place, is_possible, place_at}
+use Names.{put, state_after_act, state_after_go, state_after_going, state_after_late_on, state_after_look}
+use Names.{state_after_turn, state_with_sections, Befalls, acted_keeps, sleeps, stance_by, stance_of}
 use Rattle.core_base.specs.declared.notes.Note.TheVariants as note
-use Rattle.spec_locks.specs.declared.calls.Step.{Step}
-use Rattle.spec_locks.specs.declared.calls.Turn.{Turn}
 use Rattle.spec_locks.specs.declared.calls.Turn as turn
-use Rattle.spec_locks.specs.Runs.{Status}
-use Rattle.steps_base.specs.declared.acts.Act.{Act}
-use Rattle.steps_base.specs.declared.acts.Act.TheVariants.{Sleep}
-use Rattle.steps_base.specs.declared.acts.Next.TheVariants.{At}
-use Rattle.steps_base.specs.declared.acts.Reply.{Reply}
-use Rattle.steps_base.specs.declared.acts.Reply.TheVariants.{TakenBy, MovedTo, HandedBy, Woken}
 use Rattle.steps_mutex.specs.declared.lock.LockAt.TheVariants as lock
 use Rattle.steps_mutex.specs.declared.unlock.UnlockAt.TheVariants as unlock
 use Rattle.steps_mutex.specs.declared.hand_off.HandOffAt.TheVariants as hand_off
-use Rattle.steps_mutex.specs.declared.places.MutexPlace.{MutexPlace}
 use Rattle.steps_mutex.specs.declared.places.MutexPlace.TheVariants as mutex
-use Rattle.steps_mutex.specs.MutexSteps.{mutex_act, mutex_looking, mutex_next}
-use Rattle.steps_rwlock.specs.declared.places.Admission.{Admission}
-use Rattle.steps_rwlock.specs.declared.places.RwLockPlace.{RwLockPlace}
-use Rattle.steps_rwlock.specs.declared.places.RwLockAt.{RwLockAt}
 use Rattle.steps_rwlock.specs.declared.places.RwLockAt.TheVariants as at
-use Rattle.steps_rwlock.specs.declared.purposes.RwLockPurpose.{RwLockPurpose}
 use Rattle.steps_rwlock.specs.declared.purposes.RwLockPurpose.TheVariants as purpose
 use Rattle.steps_rwlock.specs.declared.park.ParkAt.TheVariants as parking
 use Rattle.steps_rwlock.specs.declared.release.WakeAt.TheVariants as waking
-use Rattle.steps_rwlock.specs.RwLockSteps.{act_at, rwlock_next}
-use Rattle.steps_rwlock_fair.specs.declared.places.RwLockCallPlace.{RwLockCallPlace}
 use Rattle.steps_rwlock_fair.specs.declared.places.RwLockCallPlace.TheVariants as fair
 use Rattle.steps_rwlock_fair.specs.declared.hand_over.HandOverAt.TheVariants as handing
 use Rattle.steps_rwlock_fair.specs.declared.handed.HandedAt.TheVariants as handed
-use Rattle.steps_rwlock_fair.specs.FairSteps.{bump_next, call_act, given, plain_next, unless_given}
 use Rattle.steps_once.specs.declared.look.LookAt.TheVariants as look
 use Rattle.steps_once.specs.declared.run.RunAt.TheVariants as run
 use Rattle.steps_once.specs.declared.give_up.GiveUpAt.TheVariants as give_up
-use Rattle.steps_once.specs.declared.places.OncePlace.{OncePlace}
 use Rattle.steps_once.specs.declared.places.OncePlace.TheVariants as once
-use Rattle.steps_once.specs.OnceSteps.{once_act}
 use Rattle.steps_once.specs.OnceSteps as once_steps
 use Rattle.steps_semaphore.specs.declared.acquire.AcquireAt.TheVariants as acquire
 use Rattle.steps_semaphore.specs.declared.tries.TryAt.TheVariants as tries
 use Rattle.steps_semaphore.specs.declared.release.ReleaseAt.TheVariants as release
-use Rattle.steps_semaphore.specs.declared.places.SemaphorePlace.{SemaphorePlace}
 use Rattle.steps_semaphore.specs.declared.places.SemaphorePlace.TheVariants as semaphore
-use Rattle.steps_semaphore.specs.SemaphoreSteps.{semaphore_act}
 use Rattle.steps_semaphore.specs.SemaphoreSteps as semaphore_steps
-use Rattle.steps_condvar.specs.declared.places.CondvarPlace.{CondvarPlace}
 use Rattle.steps_condvar.specs.declared.places.CondvarPlace.TheVariants as condvar
-use Rattle.steps_condvar.specs.declared.wait.WaitAt.{WaitAt}
 use Rattle.steps_condvar.specs.declared.wait.WaitAt.TheVariants as wait
-use Rattle.steps_condvar.specs.declared.notify.NotifyAt.{NotifyAt}
 use Rattle.steps_condvar.specs.declared.notify.NotifyAt.TheVariants as notify
-use Rattle.steps_condvar.specs.CondvarSteps.{condvar_act, in_lock, in_wait, relocked, wait_act}
-use Rattle.lot_steps.specs.declared.places.Place.{Place}
-use Rattle.lot_steps.specs.declared.places.Place.TheVariants.{Idle, Mutex, RwLock, Once, Condvar, Semaphore}
-use Rattle.lot_steps.specs.Steps.{act_of, condvar_goes, in_condvar, in_mutex, in_once, in_semaphore, late_key}
-use Rattle.lot_steps.specs.Steps.{looking, mutex_goes, next_place, rwlock_goes}
-use Rattle.lot_machine.specs.Machine.{State, after, closed_place, is_possible, place_at, put, state_after_act}
-use Rattle.lot_machine.specs.Machine.{state_after_go, state_after_going, state_after_late_on}
-use Rattle.lot_machine.specs.Machine.{state_after_look, state_after_turn, state_with_sections}
-use Rattle.lot_machine.proofs.Acted.{Befalls, acted_keeps}
-use Rattle.lot_laws.specs.Refinement.{sleeps, stance_by, stance_of}
 
 -- by the same act, and whether it may look once more
 pub stance_so : (a b : Act) (x y : Option Place) → a ≡ b → is_some x ≡ is_some y → stance_by a x

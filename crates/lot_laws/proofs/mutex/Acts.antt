@@ -1,44 +1,30 @@
 -- A thread acts at a mutex, by its rows there and whatever its call: every lock is a site again. Elsewhere
 -- it is as it was.
-use Rattle.std.proofs.Common.{ℕ, Bool, true, false, Option, Some, None, if◌then◌else◌, ◌||◌, ◌≡◌, ◌+◌, ◌*◌}
-use Rattle.std.proofs.Common.{◌<◌, List, [], ◌∷◌, length, refl, sym, ◌∙◌, ap, subst}
-use Rattle.std.specs.Prelude.{nat_le, ◌&&◌}
-use Rattle.std.proofs.Math.Bool.{or-false}
-use Rattle.core_base.specs.declared.keys.Keys.TheVariants.{One}
-use Rattle.core_base.specs.declared.ops.Op.{Op}
-use Rattle.core_base.specs.declared.wants.Want.TheVariants.{Exclusive}
-use Rattle.core_base.specs.Words.{apply}
-use Rattle.steps_base.specs.Owners.{shares_then, with_exclusive, is_thread}
-use Rattle.lot_steps.specs.declared.places.Place.{Place}
-use Rattle.lot_steps.specs.Steps.{owners_after, shares_after, taker}
-use Rattle.spec_locks.specs.Codes.{aside_in, code, count_in, parked_in, word_by}
+use Rattle.lot_laws.proofs.Names
+use Names.{ℕ, Bool, true, false, Option, Some, None, if◌then◌else◌, ◌||◌, ◌≡◌, ◌+◌, ◌*◌, ◌<◌, List, [], ◌∷◌}
+use Names.{length, refl, sym, ◌∙◌, ap, subst, nat_le, or-false, One, Op, Exclusive, apply, shares_then}
+use Names.{with_exclusive, is_thread, Place, owners_after, shares_after, taker, aside_in, code, count_in}
+use Names.{parked_in, word_by, Leave, Rules, one_if_some, putting, Park, keep_from, Case, Clear, Deed, End}
+use Names.{In, Main, Mark, MarkBrought, MarkOwned, Site, has_readers, FindNobody, Second, State, filled_at}
+use Names.{owners_at, place_at, put, queue_at, section_at, share_at, shares_at, state_after_operation}
+use Names.{state_with_sections, word_at, state_after_telling, queues_with_last, queues_without_first}
+use Names.{queues_without, lock_seen, taken_at, acts, role_on, location_at, FitsItsLock, Goes, IsInductive}
+use Names.{after_acts, key_of, rules_in, hand_at, carried_at, stood_in, AreLeaving, Normal, Woken, first_of}
+use Names.{times, without}
+use Rattle.std.specs.Prelude.{◌&&◌}
 use Rattle.spec_locks.specs.Codes as codes
 use Rattle.spec_locks.specs.Deeds as laws
-use Rattle.spec_locks.specs.Locks.{Enter, Leave, Rules, one_if_some, putting, Park, keep_from}
+use Rattle.spec_locks.specs.Locks.{Enter}
 use Rattle.spec_locks.specs.Locks as locks
-use Rattle.spec_locks.specs.Sites.{Case, Clear, Deed, End, In, Main, Mark, MarkBrought, MarkOwned, Site}
-use Rattle.spec_locks.specs.Sites.{has_readers, FindNobody, Second}
-use Rattle.lot_machine.specs.Machine.{State, filled_at, owners_at, place_at, put, queue_at, section_at}
-use Rattle.lot_machine.specs.Machine.{share_at, shares_at, state_after_operation, state_with_sections}
-use Rattle.lot_machine.specs.Machine.{word_at, state_after_telling, queues_with_last, queues_without_first}
-use Rattle.lot_machine.specs.Machine.{queues_without}
-use Rattle.lot_laws.specs.Refinement.{lock_seen, taken_at}
-use Rattle.lot_laws.specs.ThreadDeeds.{acts}
-use Rattle.lot_laws.specs.Locations.{role_on, location_at, hand}
-use Rattle.lot_laws.specs.SitesOf.{FitsItsLock, Goes, IsInductive, after_acts, key_of, rules_in, hand_at}
-use Rattle.lot_laws.specs.SitesOf.{carried_at, stood_in}
+use Rattle.lot_laws.specs.Locations.{hand}
 use Rattle.lot_laws.proofs.machine.Parts.{lock_in, parts_at, LetGo, stays, untaken, put_here, put_other}
 use Rattle.lot_laws.proofs.sites.OneStep.{AreSingle, Steps, same_filled, steps_by, queued_without}
 use Rattle.lot_laws.proofs.sites.LawsKept.{after_same, needed_same}
 use Rattle.lot_laws.proofs.sites.StandsKept.{AlikeBeside}
 use Rattle.lot_laws.proofs.sites.Following.{lock_by, operated, parks, lates}
-use Rattle.steps_base.specs.Moves.{AreLeaving}
-use Rattle.core_base.specs.declared.notes.Note.TheVariants.{Normal}
-use Rattle.steps_base.specs.declared.acts.Reply.TheVariants.{Woken}
 use Rattle.lot_laws.proofs.sites.ToldAt.{HoldsHere, same_hands}
 use Rattle.lot_laws.proofs.sites.WakesAt.{IsWokenAt, leaving_by, wake_goes}
 use Rattle.lot_laws.proofs.sites.ActsAt as acting
-use Rattle.core_base.specs.Lines.{first_of, times, without}
 use Rattle.lot_laws.proofs.hands.Counts.{first_out, aside_kept}
 
 -- a step on the word of a mutex: it is owned, or not, or its bit is set, or cleared

@@ -1,32 +1,19 @@
 -- A mutex that each call gives up fairly is owned while a waiter is in a hand. A fair one is owned while a
 -- thread waits for it too, by the thread that has the waiter in its hand.
-use Rattle.std.proofs.Common.{ℕ, Bool, true, false, Option, Some, None, if◌then◌else◌, ◌==◌, ◌≡◌, ◌≢◌, ◌≤◌}
-use Rattle.std.proofs.Common.{◌+◌, ◌⊎◌, inl, inr, refl, sym, ◌∙◌, ap, subst, arith}
-use Rattle.std.proofs.lemmas.Bool.{cases_lt, eqb-true}
-use Rattle.core_base.specs.declared.wants.Want.TheVariants.{Exclusive, Upgradable}
-use Rattle.spec_locks.specs.declared.kinds.Kind.{Kind}
+use Rattle.lot_laws.proofs.Names
+use Names.{ℕ, Bool, true, false, Option, Some, None, if◌then◌else◌, ◌==◌, ◌≡◌, ◌≢◌, ◌≤◌, ◌+◌, ◌⊎◌, inl, inr}
+use Names.{refl, sym, ◌∙◌, ap, subst, arith, cases_lt, eqb-true, Exclusive, Upgradable, Kind, ReleasesFairly}
+use Names.{is_fair, is_plain_mutex, IsSomePending, LockState, Rights, Taken, one_if_some, one_if_thread}
+use Names.{rights_of, standing, rules_of, Has, Role, has_readers, idle, Location, mutex_beside, mutex_profile}
+use Names.{MutexPlace, Place, Idle, Mutex, RwLock, Once, Condvar, Semaphore, beside_of, is_lock, State}
+use Names.{kind_at, place_at, location_at, role_on, IsGivenUpFairly, call_state, lock_state, FitsItsLock}
+use Names.{IsWorld, rules_in}
 use Rattle.spec_locks.specs.declared.kinds.Kind.TheVariants as kinds
-use Rattle.spec_locks.specs.Bypass.{ReleasesFairly}
-use Rattle.spec_locks.specs.Kinds.{is_fair, is_plain_mutex}
-use Rattle.spec_locks.specs.Locks.{IsSomePending, LockState, Rights, Taken, one_if_some, one_if_thread}
-use Rattle.spec_locks.specs.Locks.{rights_of, standing, times}
+use Rattle.spec_locks.specs.Locks.{times}
 use Rattle.spec_locks.specs.Locks as locks
-use Rattle.spec_locks.specs.Purposes.{rules_of}
-use Rattle.spec_locks.specs.Sites.{Has, Role, has_readers, idle}
-use Rattle.steps_base.specs.Locations.{Location, nowhere}
-use Rattle.steps_condvar.specs.CondvarSteps.{mutex_beside}
-use Rattle.steps_mutex.specs.MutexProfiles.{mutex_profile}
+use Rattle.steps_base.specs.Locations.{nowhere}
 use Rattle.steps_mutex.specs.declared.hand_off.HandOffAt.TheVariants as hand_off
-use Rattle.steps_mutex.specs.declared.places.MutexPlace.{MutexPlace}
 use Rattle.steps_mutex.specs.declared.places.MutexPlace.TheVariants as mutex
-use Rattle.lot_steps.specs.declared.places.Place.{Place}
-use Rattle.lot_steps.specs.declared.places.Place.TheVariants.{Idle, Mutex, RwLock, Once, Condvar, Semaphore}
-use Rattle.lot_steps.specs.Steps.{beside_of, is_lock}
-use Rattle.lot_machine.specs.Machine.{State, kind_at, place_at}
-use Rattle.lot_laws.specs.Locations.{location_at, role_on}
-use Rattle.lot_laws.specs.Overtaking.{IsGivenUpFairly}
-use Rattle.lot_laws.specs.Refinement.{call_state, lock_state}
-use Rattle.lot_laws.specs.SitesOf.{FitsItsLock, IsWorld, rules_in}
 use Rattle.lot_laws.proofs.machine.Parts.{taken_held}
 use Rattle.lot_laws.proofs.promises.SitesPromise.{not_empty}
 

@@ -1,36 +1,20 @@
 -- A fair mutex is released fairly, is owned while somebody waits for it, and lets nobody be overtaken.
-use Rattle.std.proofs.Common.{ℕ, true, false, Option, Some, None, ◌≡◌, ◌≢◌, ◌≤◌, ◌<◌, inl, inr, List, [], ◌∷◌}
-use Rattle.std.proofs.Common.{length, get_or-set_other, get_or-set_same, refl, sym, ◌∙◌, ap, subst, arith}
-use Rattle.std.proofs.lemmas.Bool.{cases_eq}
-use Rattle.std.proofs.lemmas.Bool.Decides.{nat_tests}
-use Rattle.spec_locks.specs.declared.calls.Step.{Step}
-use Rattle.spec_locks.specs.declared.kinds.Kind.{Kind}
+use Rattle.lot_laws.proofs.Names
+use Names.{ℕ, true, false, Option, Some, None, ◌≡◌, ◌≢◌, ◌≤◌, ◌<◌, inl, inr, List, [], ◌∷◌, length}
+use Names.{get_or-set_other, get_or-set_same, refl, sym, ◌∙◌, ap, subst, arith, cases_eq, nat_tests, Step}
+use Names.{Kind, ReleasesFairly, LockState, Queued, Rights, rights_of, rules_of, IsOpening, has_readers}
+use Names.{fair_stays, Place, Idle, RwLock, act_of, beside_of, called_lock, profile, profile_beside}
+use Names.{IsWellFormed, Admission, RwLockPlace, RwLockPurpose, purpose_by, Plain, State, after, kind_at}
+use Names.{opening, place_at, put, runs_closure, step_outcome, call_at, call_on_both, call_state, lock_state}
+use Names.{locks_of, AreFairMutexes, IsFairMutex, IsInductive, IsSettled, IsWorld, AreCondvars, AreCounted}
+use Names.{is_mutex, rules_in}
 use Rattle.spec_locks.specs.declared.kinds.Kind.TheVariants as kinds
-use Rattle.spec_locks.specs.Bypass.{ReleasesFairly}
-use Rattle.spec_locks.specs.Locks.{LockState, Queued, Rights, rights_of, times}
+use Rattle.spec_locks.specs.Locks.{times}
 use Rattle.spec_locks.specs.Locks as locks
-use Rattle.spec_locks.specs.Purposes.{rules_of}
-use Rattle.spec_locks.specs.Runs.{IsOpening}
-use Rattle.spec_locks.specs.Sites.{has_readers}
-use Rattle.spec_locks.proofs.FairQueues.{fair_stays}
-use Rattle.lot_steps.specs.declared.places.Place.{Place}
-use Rattle.lot_steps.specs.declared.places.Place.TheVariants.{Idle, RwLock}
-use Rattle.lot_steps.specs.Steps.{act_of, beside_of, called_lock, profile, profile_beside}
-use Rattle.lot_machine.specs.Fits.{IsWellFormed}
-use Rattle.steps_rwlock.specs.declared.places.Admission.{Admission}
-use Rattle.steps_rwlock.specs.declared.places.RwLockPlace.{RwLockPlace}
-use Rattle.steps_rwlock.specs.declared.purposes.RwLockPurpose.{RwLockPurpose}
 use Rattle.steps_rwlock.specs.declared.purposes.RwLockPurpose.TheVariants as purposes
-use Rattle.steps_rwlock.specs.RwLockProfiles.{purpose_by}
-use Rattle.steps_rwlock_fair.specs.declared.places.RwLockCallPlace.TheVariants.{Plain}
 use Rattle.lot_laws.proofs.once.Marks.{opening_unmarked, unmarked_after}
 use Rattle.lot_laws.proofs.once.Runs.{opening_running, put_running, running_after}
 use Rattle.lot_laws.proofs.promises.Promises.{opening_is}
-use Rattle.lot_machine.specs.Machine.{State, after, kind_at, opening, place_at, put, runs_closure}
-use Rattle.lot_machine.specs.Machine.{step_outcome}
-use Rattle.lot_laws.specs.Refinement.{call_at, call_on_both, call_state, lock_state, locks_of}
-use Rattle.lot_laws.specs.SitesOf.{AreFairMutexes, IsFairMutex, IsInductive, IsSettled, IsWorld, AreCondvars}
-use Rattle.lot_laws.specs.SitesOf.{AreCounted, is_mutex, rules_in}
 use Rattle.lot_laws.proofs.calls.LockSteps.{after_step}
 use Rattle.lot_laws.proofs.machine.KindsStay.{after_kinds}
 use Rattle.lot_laws.proofs.mutex.FairHands.{given_up_fairly}

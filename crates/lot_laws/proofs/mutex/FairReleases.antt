@@ -1,31 +1,16 @@
 -- A mutex that each call gives up fairly is let go by no step while somebody waits for it.
-use Rattle.std.proofs.Common.{ℕ, Bool, true, false, Option, Some, None, if◌then◌else◌, ◌==◌, ◌≡◌, ◌≢◌, inl}
-use Rattle.std.proofs.Common.{inr, refl, sym, ◌∙◌, ap}
-use Rattle.std.proofs.lemmas.Bool.{eqb-true}
-use Rattle.spec_locks.specs.declared.calls.Step.{Step}
-use Rattle.spec_locks.specs.declared.kinds.Kind.{Kind}
-use Rattle.spec_locks.specs.Bypass.{LetsGoWhileSomeWait}
-use Rattle.spec_locks.specs.Codes.{parked_in}
-use Rattle.spec_locks.specs.Locks.{Rules}
+use Rattle.lot_laws.proofs.Names
+use Names.{ℕ, Bool, true, false, Option, Some, None, if◌then◌else◌, ◌==◌, ◌≡◌, ◌≢◌, inl, inr, refl, sym, ◌∙◌}
+use Names.{ap, eqb-true, Step, Kind, LetsGoWhileSomeWait, parked_in, Rules, rules_of, Role, has_readers, idle}
+use Names.{FairlyGoes, fairly_goes, mutex_beside, MutexPlace, Place, Idle, Mutex, RwLock, Once, Condvar}
+use Names.{Semaphore, beside_of, is_lock, profile, profile_beside, State, after, kind_at, place_at}
+use Names.{step_outcome, word_at, role_on, IsGivenUpFairly, WaitsFor, locks_of, owner_at, FitsItsLock}
+use Names.{IsWorld, is_mutex, rules_in}
 use Rattle.spec_locks.specs.Locks as locks
-use Rattle.spec_locks.specs.Purposes.{rules_of}
-use Rattle.spec_locks.specs.Sites.{Role, has_readers, idle}
-use Rattle.spec_locks.proofs.FairEvents.{FairlyGoes, fairly_goes}
-use Rattle.steps_condvar.specs.CondvarSteps.{mutex_beside}
 use Rattle.steps_mutex.specs.declared.hand_off.HandOffAt.TheVariants as hand_off
 use Rattle.steps_mutex.specs.declared.lock.LockAt.TheVariants as lock
-use Rattle.steps_mutex.specs.declared.places.MutexPlace.{MutexPlace}
 use Rattle.steps_mutex.specs.declared.places.MutexPlace.TheVariants as mutex
 use Rattle.steps_mutex.specs.declared.unlock.UnlockAt.TheVariants as unlock
-use Rattle.lot_steps.specs.declared.places.Place.{Place}
-use Rattle.lot_steps.specs.declared.places.Place.TheVariants.{Idle, Mutex, RwLock, Once, Condvar, Semaphore}
-use Rattle.lot_steps.specs.Steps.{beside_of, is_lock, profile, profile_beside}
-use Rattle.lot_machine.specs.Machine.{State, after, kind_at, place_at, step_outcome, word_at}
-use Rattle.lot_laws.specs.Locations.{role_on}
-use Rattle.lot_laws.specs.Overtaking.{IsGivenUpFairly}
-use Rattle.lot_laws.specs.Promises.{WaitsFor}
-use Rattle.lot_laws.specs.Refinement.{locks_of, owner_at}
-use Rattle.lot_laws.specs.SitesOf.{FitsItsLock, IsWorld, is_mutex, rules_in}
 use Rattle.lot_laws.proofs.calls.LockSteps.{IsTurn, after_step}
 use Rattle.lot_laws.proofs.mutex.FairHands.{locked_by}
 use Rattle.lot_laws.proofs.promises.Fair.{is_fair}

@@ -1,26 +1,18 @@
 -- A step by which a thread comes to own a free mutex takes nobody into a hand. A waiter that stays in a queue
 -- comes closer to its front, or stays where it is.
-use Rattle.std.proofs.Common.{ℕ, zero, suc, Bool, true, false, Option, Some, None, if◌then◌else◌, ◌==◌, ◌≡◌}
-use Rattle.std.proofs.Common.{◌≢◌, ◌≤◌, ◌+◌, ◌⊎◌, inl, inr, List, [], ◌∷◌, ◌++◌, refl, sym, ◌∙◌, ap, subst}
-use Rattle.std.proofs.Common.{arith}
-use Rattle.std.proofs.lemmas.Bool.{eqb-true}
-use Rattle.std.proofs.lemmas.Bool.Decides.{nat_tests}
-use Rattle.core_base.specs.declared.wants.Want.{Want}
-use Rattle.core_base.specs.declared.wants.Want.TheVariants.{Exclusive, Upgradable, Shared}
-use Rattle.spec_locks.specs.declared.calls.Turn.{Turn}
+use Rattle.lot_laws.proofs.Names
+use Names.{ℕ, zero, suc, Bool, true, false, Option, Some, None, if◌then◌else◌, ◌==◌, ◌≡◌, ◌≢◌, ◌≤◌, ◌+◌, ◌⊎◌}
+use Names.{inl, inr, List, [], ◌∷◌, ◌++◌, refl, sym, ◌∙◌, ap, subst, arith, eqb-true, nat_tests, Want}
+use Names.{Exclusive, Upgradable, Shared, Turn, Outcome, ahead, moved_of, IsPartOf, KeepsOrderOf, LockState}
+use Names.{LockCase, Queued, Rules, Taken, Needs, Pend, Settle, Leave, Convert, Park, Aside, TakeFirst}
+use Names.{TakeAside, TakePicked, Wake, HandOff, Rollback, OfOnce, OfCondvar, SeeOwner, IsLockState}
+use Names.{after_case, left_after, putting, LocksState, AreLockStates, Event, Nothing, AtLock, Moves, Does}
+use Names.{GoesOn, MayHappen, Turned, joined_by, locks_after, rules_at, needs_of}
 use Rattle.spec_locks.specs.declared.calls.Turn as turn
-use Rattle.spec_locks.specs.declared.outcomes.Outcome.{Outcome}
-use Rattle.spec_locks.specs.Bypass.{ahead}
-use Rattle.spec_locks.specs.Condvars.{moved_of}
-use Rattle.spec_locks.specs.EachStep.{IsPartOf, KeepsOrderOf}
 use Rattle.spec_locks.specs.Locks as locks
-use Rattle.spec_locks.specs.Locks.{LockState, LockCase, Mutex, Queued, Rules, Taken, Needs, Enter, Pend}
-use Rattle.spec_locks.specs.Locks.{Settle, Leave, Convert, Park, Aside, TakeFirst, TakeAside, TakePicked}
-use Rattle.spec_locks.specs.Locks.{Wake, HandOff, Late, Rollback, OfOnce, OfCondvar, SeeOwner, IsLockState}
-use Rattle.spec_locks.specs.Locks.{after_case, left_after, putting, times}
-use Rattle.spec_locks.specs.Runs.{LocksState, AreLockStates, Event, Nothing, AtLock, Moves, Does, GoesOn}
-use Rattle.spec_locks.specs.Runs.{MayHappen, Turned, joined_by, locks_after, rules_at}
-use Rattle.spec_locks.proofs.Runs.{needs_of}
+use Rattle.spec_locks.specs.Locks.{Mutex, Enter}
+use Rattle.spec_locks.specs.Locks.{Late}
+use Rattle.spec_locks.specs.Locks.{times}
 
 -- ---------------------------------------------------------------- lines
 

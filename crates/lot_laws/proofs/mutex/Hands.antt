@@ -1,50 +1,30 @@
 -- The first waiter of a mutex is taken, handed the mutex, or let go: so the mutex is a site again, by what
 -- befalls that thread.
-use Rattle.std.proofs.Common.{ℕ, Bool, true, false, Some, None, if◌then◌else◌, Option, ◌==◌, ◌⊎◌, ◌≡◌, ◌≢◌}
-use Rattle.std.proofs.Common.{◌*◌, ◌<◌, List, [], ◌∷◌, length, drop, map, inl, inr, refl, sym, ◌∙◌, ap, subst}
-use Rattle.std.proofs.Common.{arith, length-set, get_or-set_same, get_or-set_other}
-use Rattle.spec_locks.specs.Picks.{queued_of}
-use Rattle.lot_laws.specs.ThreadDeeds.{acts}
-use Rattle.lot_laws.specs.Locations.{location_at}
+use Rattle.lot_laws.proofs.Names
+use Names.{ℕ, Bool, true, false, Some, None, if◌then◌else◌, Option, ◌==◌, ◌⊎◌, ◌≡◌, ◌≢◌, ◌*◌, ◌<◌, List, []}
+use Names.{◌∷◌, length, drop, map, inl, inr, refl, sym, ◌∙◌, ap, subst, arith, length-set, get_or-set_same}
+use Names.{get_or-set_other, queued_of, acts, location_at, IsLockState, cases_eq, Waiter, Want, Exclusive}
+use Names.{Owners, Place, Mutex, Woken, TakenBy, HandedBy, or-false, is_parked, next_place, IsSuccessor}
+use Names.{IsTaken, Knows, KnowsAll, Queued, Rules, TakeFirst, Taken, keep_from, let_go, putting}
+use Names.{with_exclusive, Has, Deed, Site, Main, Begin, Mark, Clear, Case, wakened, held, lock_seen}
+use Names.{lock_state, taken_at, mutex_location, queued, nowhere, role_on, after_acts, hand_at, Hands, times}
+use Names.{threads_of, State, place_at, section_at, places_told, put, queue_at, queues_without_first}
+use Names.{state_after_reply, told_count, locations_of, AreWaiting, FitsItsLock, Goes, IsInductive, rules_in}
+use Names.{stood_in}
 use Rattle.lot_laws.proofs.machine.Parts.{put_places}
-use Rattle.spec_locks.specs.Locks.{IsLockState}
-use Rattle.std.proofs.lemmas.Bool.{cases_eq}
-use Rattle.core_base.specs.declared.wants.Waiter.{Waiter}
-use Rattle.core_base.specs.declared.wants.Want.{Want}
-use Rattle.core_base.specs.declared.wants.Want.TheVariants.{Exclusive}
 use Rattle.core_base.specs.declared.notes.Note.TheVariants as note
-use Rattle.steps_base.specs.declared.owners.Owners.{Owners}
-use Rattle.lot_steps.specs.declared.places.Place.{Place}
-use Rattle.lot_steps.specs.declared.places.Place.TheVariants.{Mutex}
 use Rattle.steps_mutex.specs.declared.places.MutexPlace.TheVariants.{HandOff}
 use Rattle.steps_mutex.specs.declared.hand_off.HandOffAt.TheVariants as hand_off
-use Rattle.steps_base.specs.declared.acts.Reply.TheVariants.{Woken, TakenBy, HandedBy}
-use Rattle.std.proofs.Math.Bool.{or-false}
-use Rattle.steps_mutex.specs.MutexSteps.{is_parked}
-use Rattle.lot_steps.specs.Steps.{next_place}
-use Rattle.spec_locks.specs.Locks.{IsSuccessor, IsTaken, Knows, KnowsAll, Queued, Rules, TakeFirst, Taken}
-use Rattle.spec_locks.specs.Locks.{keep_from, let_go, putting}
-use Rattle.steps_base.specs.Owners.{with_exclusive}
 use Rattle.spec_locks.specs.Locks as locks
-use Rattle.spec_locks.specs.Sites.{Has, Deed, Site, Main, Begin, Mark, Clear, Case, wakened}
-use Rattle.lot_machine.specs.Machine.{held}
-use Rattle.lot_laws.specs.Refinement.{lock_seen, lock_state, taken_at}
-use Rattle.lot_laws.specs.ThreadDeeds.{Act, mutex_location, queued}
-use Rattle.lot_laws.specs.Locations.{hand, nowhere, role_on}
-use Rattle.lot_laws.specs.SitesOf.{after_acts, hand_at, Hands}
+use Rattle.lot_laws.specs.ThreadDeeds.{Act}
+use Rattle.lot_laws.specs.Locations.{hand}
 use Rattle.lot_laws.proofs.machine.Parts.{mutex, Base, seen, LetGo, untaken, put_here, put_other, same}
 use Rattle.lot_laws.proofs.machine.Parts.{differ}
 use Rattle.lot_laws.proofs.hands.Handed.{handed_is, heir}
-use Rattle.core_base.specs.Lines.{times, threads_of}
-use Rattle.lot_machine.specs.Machine.{State, place_at, section_at, places_told, put, queue_at}
-use Rattle.lot_machine.specs.Machine.{queues_without_first, state_after_reply}
-use Rattle.lot_machine.proofs.QueueLemmas.{told_count}
 use Rattle.lot_laws.proofs.sites.StandsKept.{AlikeBeside}
 use Rattle.lot_laws.proofs.sites.Following.{lock_by}
 use Rattle.lot_laws.proofs.sites.TakesAt.{IsTakenAt, SplitsAt, after_take, member, told_by, told_places}
 use Rattle.lot_laws.proofs.sites.TakesAt.{take_goes, only_member}
-use Rattle.lot_laws.specs.SitesOf.{locations_of, AreWaiting, FitsItsLock, Goes, IsInductive, rules_in}
-use Rattle.lot_laws.specs.SitesOf.{stood_in}
 use Rattle.lot_laws.proofs.sites.OneStep.{noted}
 use Rattle.lot_laws.proofs.sites.StandsKept.{in_main}
 use Rattle.lot_laws.proofs.sites.StandsMoved.{takes_one}

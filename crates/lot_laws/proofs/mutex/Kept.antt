@@ -1,63 +1,40 @@
 -- A thread goes on: every lock is a site again. Here a call of a mutex.
-use Rattle.std.proofs.Common.{append-nil, ◌++◌, ℕ, Bool, true, false, Option, Some, None, if◌then◌else◌, ◌==◌}
-use Rattle.std.proofs.Common.{◌≡◌, ◌≢◌, ◌+◌, ◌*◌, ◌<◌, ◌⊎◌, List, [], ◌∷◌, ◌++◌, length, inl, inr, refl, sym}
-use Rattle.std.proofs.Common.{◌∙◌, ap, subst}
-use Rattle.core_base.specs.declared.notes.Note.TheVariants.{Normal, HandOff as HandOffNote}
-use Rattle.core_base.specs.declared.ops.Op.{Op}
+use Rattle.lot_laws.proofs.Names
+use Names.{append-nil, ◌++◌, ℕ, Bool, true, false, Option, Some, None, if◌then◌else◌, ◌==◌, ◌≡◌, ◌≢◌, ◌+◌}
+use Names.{◌*◌, ◌<◌, ◌⊎◌, List, [], ◌∷◌, length, inl, inr, refl, sym, ◌∙◌, ap, subst, Normal, Op, Waiter}
+use Names.{Exclusive, first_of, apply, Act, Next, Reply, Value, Took, HandedBy, TakenBy, Late, CallFollows}
+use Names.{inside_of, location_of, location_then, row_of, with_exclusive, Profile, in_hand, Location}
+use Names.{HasTakenNobody, IsLockState, IsSuccessor, Rules, first_thread, let_go, Case, Clear, Deed, End}
+use Names.{Line, Main, Mark, MarkBrought, MarkOwned, Site, aside_in, code, case_of, MutexPlace, mutex_deeds}
+use Names.{take_deeds, HandsOverToHeir, heir, mutex_row, next_row, mutex_late_line, hand_off_word, mutex_act}
+use Names.{mutex_next, mutex_owners, mutex_hand_overs_code, mutex_steps_code, mutex_steps_follow}
+use Names.{mutex_steps_tell, Place, Idle, Mutex, RwLock, Once, Condvar, Semaphore, act_of, mutex_goes}
+use Names.{next_place, profile, State, can_do, hand_over_told, section_is_free as is_free_in, owners_at}
+use Names.{place_at, put, queue_at, queues_without_first, reply_to, section_at, kind_at, state_after_act}
+use Names.{state_after_hand_over, state_after_late_under, state_after_operation, state_after_reply}
+use Names.{unshared_then, word_at, GivesUpTimed, IsWellFormed, PlaceFits, taken_at, acts, claims_of, location}
+use Names.{location_at, ActsNeeded, AreCounted, FitsItsLock, Goes, IsInductive, carried_at, hand_at, is_mutex}
+use Names.{key_of, rules_in}
+use Rattle.core_base.specs.declared.notes.Note.TheVariants.{HandOff as HandOffNote}
 use Rattle.core_base.specs.declared.ops.Op.TheVariants as ops
-use Rattle.core_base.specs.declared.wants.Waiter.{Waiter}
-use Rattle.core_base.specs.declared.wants.Want.TheVariants.{Exclusive}
-use Rattle.core_base.specs.Lines.{first_of}
-use Rattle.core_base.specs.Words.{apply}
-use Rattle.steps_base.specs.declared.acts.Act.{Act}
 use Rattle.steps_base.specs.declared.acts.Act.TheVariants as act
-use Rattle.steps_base.specs.declared.acts.Next.{Next}
 use Rattle.steps_base.specs.declared.acts.Next.TheVariants as next
-use Rattle.steps_base.specs.declared.acts.Reply.{Reply}
-use Rattle.steps_base.specs.declared.acts.Reply.TheVariants.{Value, Took, HandedBy, TakenBy, Late}
 use Rattle.steps_base.specs.declared.acts.Whom.TheVariants as whoms
-use Rattle.steps_base.specs.Calls.{CallFollows}
-use Rattle.steps_base.specs.Moves.{inside_of, location_of, location_then, row_of}
-use Rattle.steps_base.specs.Owners.{with_exclusive}
-use Rattle.steps_base.specs.Profiles.{Profile, in_hand}
-use Rattle.steps_base.specs.Locations.{Location}
-use Rattle.spec_locks.specs.Locks.{HasTakenNobody, IsLockState, IsSuccessor, Rules, first_thread, let_go}
 use Rattle.spec_locks.specs.Locks as locks
-use Rattle.spec_locks.specs.Sites.{Case, Clear, Deed, End, Line, Main, Mark, MarkBrought, MarkOwned, Site}
-use Rattle.spec_locks.specs.Codes.{aside_in, code}
-use Rattle.spec_locks.specs.Deeds.{case_of}
 use Rattle.spec_locks.specs.Deeds as laws
-use Rattle.steps_mutex.specs.declared.places.MutexPlace.{MutexPlace}
 use Rattle.steps_mutex.specs.declared.places.MutexPlace.TheVariants.{HandOff}
 use Rattle.steps_mutex.specs.declared.hand_off.HandOffAt.TheVariants as hand_off
-use Rattle.steps_mutex.specs.MutexDeeds.{mutex_deeds, take_deeds}
-use Rattle.steps_mutex.specs.MutexLaws.{Follows, HandsOverToHeir, IsAt, LeavesMutex, MayHear, heir, mutex_row}
-use Rattle.steps_mutex.specs.MutexLaws.{next_row, role_next}
-use Rattle.steps_mutex.specs.MutexProfiles.{mutex_late_line}
-use Rattle.steps_mutex.specs.MutexSteps.{hand_off_word, mutex_act, mutex_next, mutex_owners}
-use Rattle.steps_mutex.proofs.MutexCode.{mutex_hand_overs_code, mutex_steps_code}
-use Rattle.steps_mutex.proofs.MutexFit.{mutex_steps_follow}
-use Rattle.steps_mutex.proofs.MutexTells.{mutex_steps_tell}
-use Rattle.lot_steps.specs.declared.places.Place.{Place}
-use Rattle.lot_steps.specs.declared.places.Place.TheVariants.{Idle, Mutex, RwLock, Once, Condvar, Semaphore}
-use Rattle.lot_steps.specs.Steps.{act_of, mutex_goes, next_place, profile}
-use Rattle.lot_machine.specs.Machine.{State, can_do, hand_over_told, section_is_free as is_free_in, owners_at}
-use Rattle.lot_machine.specs.Machine.{place_at, put, queue_at, queues_without_first, reply_to, section_at}
-use Rattle.lot_machine.specs.Machine.{kind_at, state_after_act, state_after_hand_over, state_after_late_under}
-use Rattle.lot_machine.specs.Machine.{state_after_operation, state_after_reply, unshared_then, word_at}
-use Rattle.lot_machine.specs.Fits.{GivesUpTimed, IsWellFormed, PlaceFits}
-use Rattle.lot_laws.specs.Refinement.{taken_at}
-use Rattle.lot_laws.specs.ThreadDeeds.{Act as OneDeed, acts, claims_of}
+use Rattle.steps_mutex.specs.MutexLaws.{Follows, IsAt, LeavesMutex, MayHear}
+use Rattle.steps_mutex.specs.MutexLaws.{role_next}
+use Rattle.lot_laws.specs.ThreadDeeds.{Act as OneDeed}
 use Rattle.lot_laws.proofs.calls.Events.{AreClaims}
-use Rattle.lot_laws.specs.Locations.{hand, location, location_at}
-use Rattle.lot_laws.specs.SitesOf.{ActsNeeded, AreCounted, FitsItsLock, Goes, IsInductive, carried_at}
-use Rattle.lot_laws.specs.SitesOf.{hand_at, is_mutex, key_of, rules_in}
+use Rattle.lot_laws.specs.Locations.{hand}
 use Rattle.lot_laws.proofs.calls.LockEvents.{Befalls}
 use Rattle.lot_laws.proofs.calls.OtherCalls.{WakesOwn, befalls, befalls_nobody}
 use Rattle.lot_laws.proofs.hands.Handed.{handed_is}
 use Rattle.lot_laws.proofs.machine.AtPlaces.{in_no_hand}
 use Rattle.lot_laws.proofs.machine.Parts.{IsOf, IsSingle, base_at, differ, free_of, location_here, mutex}
-use Rattle.lot_laws.proofs.machine.Parts.{next_of, of_single, own_stance, role_here, untaken}
+use Rattle.lot_laws.proofs.machine.Parts.{next_of, of_single, own_stance, role_here, same, untaken}
 use Rattle.lot_laws.proofs.mutex.Acts.{IsOfWord, OwnedBy, owned_by, works_at}
 use Rattle.lot_laws.proofs.mutex.Hands.{accepts as has_now, first_goes, first_sleeps, first_stands, hands_to}
 use Rattle.lot_laws.proofs.mutex.Hands.{tries}
@@ -65,12 +42,14 @@ use Rattle.lot_laws.proofs.mutex.Moves.{MutexMoves, StoresNothing, Works, mutex_
 use Rattle.lot_laws.proofs.mutex.Moves.{mutex_late_move, mutex_move, owner_alone}
 use Rattle.lot_laws.proofs.mutex.Waiters.{CallsMutex, IsHeldThere, WasGivenThere, calls_mutex_at, given_there}
 use Rattle.lot_laws.proofs.mutex.Waiters.{held_there}
-use Rattle.lot_laws.proofs.once.Kept.{goes_once}
+use Rattle.lot_laws.proofs.book.Kept.{goes_on}
+use Rattle.lot_laws.proofs.book.Pages.{booked, semaphore_timed}
+use Rattle.lot_laws.proofs.once.Page.{keeps_all as once_keeps}
+use Rattle.lot_laws.proofs.semaphore.Page.{keeps_all as semaphore_keeps}
 use Rattle.lot_laws.proofs.sites.ByAct.{AreCalm, GoesBy, IsBrief, accepted, calm_case, into, left_main}
 use Rattle.lot_laws.proofs.sites.ByAct.{line_there, none_is, on_time, out_of, parked, section_there}
 use Rattle.lot_laws.proofs.sites.ByAct.{tells_all, took_first}
 use Rattle.lot_laws.proofs.rwlock.Steps.{rwlock_goes_on}
-use Rattle.lot_laws.proofs.semaphore.Kept.{goes_semaphore}
 use Rattle.lot_laws.proofs.sites.ActsKept.{goes_inductive, lock_by}
 use Rattle.lot_laws.proofs.sites.FirstTaken.{TakesFirst}
 use Rattle.lot_laws.proofs.sites.FirstTaken as first
@@ -555,9 +534,14 @@ module _ (w : State) (t : ℕ) (inductive : IsInductive w) (shape : IsWellFormed
     gone_kept counted Idle is single fits can = absurd cc
     gone_kept counted (Condvar l at) is single fits can = absurd single
     gone_kept counted (Once l at) is single fits can = goes_inductive w _ l _ inductive
-        (goes_once w t l at inductive shape there fits is can).goes
+        (goes_on w t l (Once l at) inductive shape there fits is (booked w t l (Once l at) inductive is tt
+        (same l))
+        (same l) (once_keeps l at) can).goes
     gone_kept counted (Semaphore l at) is single fits can =
-        goes_inductive w _ l _ inductive (goes_semaphore w t l at inductive shape there fits is can).goes
+        goes_inductive w _ l _ inductive (goes_on w t l (Semaphore l at) inductive shape there fits is
+        (booked w t l (Semaphore l at) inductive is tt (same l)) (same l)
+        (semaphore_keeps l at (semaphore_timed w l at (subst (FitsItsLock w) is (inductive.stands.calls t))))
+        can).goes
     gone_kept counted (Mutex l at) is single fits can = goes_inductive w _ l _ inductive
         (goes_mutex w t l at inductive shape there fits.0 is can).goes
     gone_kept counted (RwLock l a c) is single fits can =

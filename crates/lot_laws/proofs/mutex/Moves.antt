@@ -1,41 +1,29 @@
 -- Each step of a mutex takes its thread in the machine where its act says.
-use Rattle.std.proofs.Common.{ℕ, Bool, true, false, Some, None, if◌then◌else◌, ◌==◌, ◌≡◌, ◌+◌, ◌*◌, [], ◌∷◌}
-use Rattle.std.proofs.Common.{inl, inr, refl, subst, not, ◌⊎◌}
+use Rattle.lot_laws.proofs.Names
+use Names.{ℕ, Bool, true, false, Some, None, if◌then◌else◌, ◌==◌, ◌≡◌, ◌+◌, ◌*◌, [], ◌∷◌, inl, inr, refl}
+use Names.{subst, not, ◌⊎◌, One, Exclusive, Act, Next, At, Owners, with_exclusive, Accepts, GoesIn, GoesOut}
+use Names.{Hears, LeavesLine, Move, Parks, TellsHanded, inside_of, row_of, location_of, location_then}
+use Names.{in_hand, Location, location_by, code, Leave, Rules, Case, End, Line, Main, Mark, Site, Entry}
+use Names.{MutexPlace, Lock, TryLock, Unlock, UnlockFair, enter_deeds, mutex_deeds, take_deeds, mutex_row}
+use Names.{next_row, mutex_late_line, in_unlock, is_locked, is_parked, mutex_act, mutex_next, mutex_owners}
+use Names.{GivesUpTimed}
 use Rattle.std.specs.Prelude.{◌&&◌}
-use Rattle.core_base.specs.declared.keys.Keys.TheVariants.{One}
 use Rattle.core_base.specs.declared.ops.Op.TheVariants as op
-use Rattle.core_base.specs.declared.wants.Want.TheVariants.{Exclusive}
 use Rattle.core_base.specs.Keys.{key_of}
-use Rattle.steps_base.specs.declared.acts.Act.{Act}
 use Rattle.steps_base.specs.declared.acts.Act.TheVariants as act
-use Rattle.steps_base.specs.declared.acts.Next.{Next}
-use Rattle.steps_base.specs.declared.acts.Next.TheVariants.{At, End as Over}
+use Rattle.steps_base.specs.declared.acts.Next.TheVariants.{End as Over}
 use Rattle.steps_base.specs.declared.acts.Reply.TheVariants as reply
 use Rattle.steps_base.specs.declared.acts.Whom.TheVariants.{First}
-use Rattle.steps_base.specs.declared.owners.Owners.{Owners}
-use Rattle.steps_base.specs.Owners.{with_exclusive}
 use Rattle.spec_locks.specs.declared.outcomes.Answer.TheVariants as answer
-use Rattle.steps_base.specs.Moves.{Accepts, GoesIn, GoesOut, Hears, LeavesLine, Move, Parks, TellsHanded}
-use Rattle.steps_base.specs.Moves.{inside_of, row_of, location_of, location_then}
-use Rattle.steps_base.specs.Profiles.{in_hand}
-use Rattle.steps_base.specs.Locations.{Location, nowhere, location_by}
-use Rattle.spec_locks.specs.Codes.{code}
-use Rattle.spec_locks.specs.Locks.{Leave, Rules}
-use Rattle.spec_locks.specs.Sites.{Case, End, Line, Main, Mark, Site}
-use Rattle.steps_mutex.specs.declared.lock.Entry.{Entry}
+use Rattle.steps_base.specs.Locations.{nowhere}
 use Rattle.steps_mutex.specs.declared.lock.Entry.TheVariants as entries
 use Rattle.steps_mutex.specs.declared.lock.LockAt.TheVariants as lock
 use Rattle.steps_mutex.specs.declared.unlock.UnlockAt.TheVariants as unlock
 use Rattle.steps_mutex.specs.declared.hand_off.HandOffAt.TheVariants as hand_off
-use Rattle.steps_mutex.specs.declared.places.MutexPlace.{MutexPlace}
-use Rattle.steps_mutex.specs.declared.places.MutexPlace.TheVariants.{Lock, TryLock, Unlock, UnlockFair, Bump}
+use Rattle.steps_mutex.specs.declared.places.MutexPlace.TheVariants.{Bump}
 use Rattle.steps_mutex.specs.declared.places.MutexPlace.TheVariants.{HandOff}
-use Rattle.steps_mutex.specs.MutexDeeds.{enter_deeds, mutex_deeds, take_deeds}
-use Rattle.steps_mutex.specs.MutexLaws.{MayHear, mutex_row, next_row}
-use Rattle.steps_mutex.specs.MutexProfiles.{mutex_late_line}
-use Rattle.steps_mutex.specs.MutexSteps.{entered, in_lock, in_unlock, is_locked, is_parked, mutex_act}
-use Rattle.steps_mutex.specs.MutexSteps.{mutex_next, mutex_owners}
-use Rattle.lot_machine.specs.Fits.{GivesUpTimed}
+use Rattle.steps_mutex.specs.MutexLaws.{MayHear}
+use Rattle.steps_mutex.specs.MutexSteps.{entered, in_lock}
 use Rattle.lot_laws.proofs.mutex.Acts.{IsOfWord}
 use Rattle.lot_laws.proofs.sites.FirstTaken.{TakesFirst}
 

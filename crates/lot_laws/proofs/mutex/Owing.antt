@@ -1,49 +1,31 @@
 -- A call of a mutex comes to owe a wake by the word that it sees, and by entering the section. An
 -- event that befalls a thread asleep changes nothing of that.
-use Rattle.std.proofs.Common.{ℕ, Bool, true, false, Some, None, if◌then◌else◌, ◌==◌, not, ◌≡◌, ◌*◌, inl, inr}
-use Rattle.std.proofs.Common.{length, drop, refl, sym, ◌∙◌, ap, subst}
+use Rattle.lot_laws.proofs.Names
+use Names.{ℕ, Bool, true, false, Some, None, if◌then◌else◌, ◌==◌, not, ◌≡◌, ◌*◌, inl, inr, length, drop, refl}
+use Names.{sym, ◌∙◌, ap, subst, first_of, MutexCall, Outcome, Reply, TakenBy, MovedTo, HandedBy, Woken, Late}
+use Names.{MutexPlace, Lock, TryLock, Unlock, UnlockFair, LockAt, Place, Idle, Mutex, outcome_of, Entry, Next}
+use Names.{UnlockAt, HandOffAt, in_unlock, is_parked, is_locked, next_lock, lock_act, mutex_first, next_place}
+use Names.{mutex_goes, mutex_does, State, place_at, word_at, queue_at, is_there, reply_to, owner_at, Main}
+use Names.{IsMutexWord, IsInductive, line_owed, profile, mutex_act, mutex_next, line_let_in, tells_of, Line}
+use Names.{Second}
 use Rattle.core_base.specs.declared.notes.Note.TheVariants as note
-use Rattle.core_base.specs.Lines.{first_of}
-use Rattle.spec_locks.specs.declared.calls.MutexCall.{MutexCall}
 use Rattle.spec_locks.specs.declared.calls.MutexCall as mutex_call
-use Rattle.spec_locks.specs.declared.outcomes.Outcome.{Outcome}
 use Rattle.spec_locks.specs.declared.outcomes.Outcome as outcome
-use Rattle.steps_base.specs.declared.acts.Reply.{Reply}
-use Rattle.steps_base.specs.declared.acts.Reply.TheVariants.{TakenBy, MovedTo, HandedBy, Woken, Late}
-use Rattle.steps_mutex.specs.declared.places.MutexPlace.{MutexPlace}
-use Rattle.steps_mutex.specs.declared.places.MutexPlace.TheVariants.{Lock, TryLock, Unlock, UnlockFair, Bump}
+use Rattle.steps_mutex.specs.declared.places.MutexPlace.TheVariants.{Bump}
 use Rattle.steps_mutex.specs.declared.places.MutexPlace.TheVariants.{HandOff}
-use Rattle.steps_mutex.specs.declared.lock.LockAt.{LockAt}
 use Rattle.steps_mutex.specs.declared.lock.LockAt.TheVariants as lock
 use Rattle.steps_mutex.specs.declared.unlock.UnlockAt.TheVariants as unlock
 use Rattle.steps_mutex.specs.declared.hand_off.HandOffAt.TheVariants as hand_off
-use Rattle.lot_steps.specs.declared.places.Place.{Place}
-use Rattle.lot_steps.specs.declared.places.Place.TheVariants.{Idle, Mutex}
-use Rattle.steps_base.specs.Acts.{outcome_of}
-use Rattle.steps_mutex.specs.declared.lock.Entry.{Entry}
 use Rattle.steps_mutex.specs.declared.lock.Entry.TheVariants as entries
-use Rattle.steps_base.specs.declared.acts.Next.{Next}
 use Rattle.steps_base.specs.declared.acts.Next.TheVariants as next
 use Rattle.spec_locks.specs.declared.outcomes.Answer as answer
-use Rattle.steps_mutex.specs.declared.unlock.UnlockAt.{UnlockAt}
-use Rattle.steps_mutex.specs.declared.hand_off.HandOffAt.{HandOffAt}
-use Rattle.steps_mutex.specs.MutexSteps.{in_lock, in_unlock, is_parked, is_locked, looked, next_lock}
-use Rattle.steps_mutex.specs.MutexSteps.{lock_act, mutex_first}
-use Rattle.lot_steps.specs.Steps.{next_place, mutex_goes, mutex_does}
-use Rattle.lot_machine.specs.Machine.{State, place_at, word_at, queue_at, is_there, reply_to}
-use Rattle.lot_laws.specs.Refinement.{owner_at}
-use Rattle.spec_locks.specs.Sites.{Main}
-use Rattle.lot_laws.specs.MutexPromises.{IsMutexWord}
-use Rattle.lot_laws.specs.SitesOf.{IsInductive}
+use Rattle.steps_mutex.specs.MutexSteps.{in_lock, looked}
 use Rattle.lot_laws.proofs.machine.AtPlaces.{coded_for, owns}
-use Rattle.lot_steps.specs.Steps.{line_owed, profile}
 use Rattle.lot_laws.proofs.promises.RowPromises.{LetsIn, RowSees, RowOwesNext, IsLateNext, Befalls}
 use Rattle.lot_laws.proofs.mutex.Rows.{lock_owes, shut}
 use Rattle.lot_laws.specs.ThreadDeeds.{mutex_row}
-use Rattle.steps_mutex.specs.MutexSteps.{mutex_act, mutex_next, is_timed}
-use Rattle.lot_laws.specs.Owing.{line_let_in, tells_of}
+use Rattle.steps_mutex.specs.MutexSteps.{is_timed}
 use Rattle.spec_locks.specs.Locks as locks
-use Rattle.spec_locks.specs.Sites.{Line, Second}
 
 -- ---------------------------------------------------------------- effects on another thread
 

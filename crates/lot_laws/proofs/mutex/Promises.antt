@@ -1,27 +1,15 @@
 -- The promises of every state, and of every step, in the words that users of a mutex know.
-use Rattle.std.proofs.Common.{ℕ, true, false, Option, Some, None, ◌≡◌, ◌⊎◌, inl, inr, refl, sym, ◌∙◌, ap}
-use Rattle.std.proofs.Common.{subst}
-use Rattle.core_base.specs.declared.wants.Want.{Want}
-use Rattle.core_base.specs.declared.wants.Want.TheVariants.{Exclusive, Upgradable, Shared}
-use Rattle.spec_locks.specs.declared.outcomes.Outcome.{Outcome}
-use Rattle.steps_mutex.specs.MutexSteps.{is_parked}
-use Rattle.lot_steps.specs.Steps.{is_line, line_owed}
+use Rattle.lot_laws.proofs.Names
+use Names.{ℕ, true, false, Option, Some, None, ◌≡◌, ◌⊎◌, inl, inr, refl, sym, ◌∙◌, ap, subst, Want, Exclusive}
+use Names.{Upgradable, Shared, Outcome, is_parked, line_owed, Knows, Sort, parked_in, aside_in, word_by, Line}
+use Names.{Main, Second, has_readers, Recall, Purpose, Enters, Releases, Converts, Bumps, CallsOnce, Awaits}
+use Names.{Waits, Notifies, State, place_at, word_at, kind_at, owner_at, lock_state, call_at, is_mutex}
+use Names.{rules_in, Owes, IsInside, IsWait, ReleasesLock, LetsOthersIn, SeesWaiters, OwesSince, OnlyLooks}
+use Names.{LooksFirst, line_let_in, tells_by, sort_at, WakesWaiters, IsKept, IsLookedAfterIn, IsOpenNow}
+use Names.{KnowsRights, WakesAside, HasDebtor, HasReleasedIt, IsShownToOwe, WakesOne, GoesToRelease}
+use Names.{SeesParkedBit, IsMutexKept, MutexesAreKept, OwesMutexSince, MutexesOwe}
+use Rattle.lot_steps.specs.Steps.{is_line}
 use Rattle.spec_locks.specs.Locks as locks
-use Rattle.spec_locks.specs.Locks.{Knows, Sort}
-use Rattle.spec_locks.specs.Codes.{parked_in, aside_in, word_by}
-use Rattle.spec_locks.specs.Sites.{Line, Main, Second, has_readers}
-use Rattle.spec_locks.specs.Purposes.{Recall, Purpose, Enters, Releases, Converts, Bumps, CallsOnce, Awaits}
-use Rattle.spec_locks.specs.Purposes.{Waits, Notifies}
-use Rattle.lot_machine.specs.Machine.{State, place_at, word_at, kind_at}
-use Rattle.lot_laws.specs.Refinement.{owner_at, lock_state, call_at}
-use Rattle.lot_laws.specs.SitesOf.{is_mutex, rules_in}
-use Rattle.lot_laws.specs.Owing.{Owes, IsInside, IsWait, ReleasesLock, LetsOthersIn, SeesWaiters, OwesSince}
-use Rattle.lot_laws.specs.Owing.{OnlyLooks, LooksFirst, line_let_in, tells_by, sort_at}
-use Rattle.lot_laws.specs.Promises.{WakesWaiters, IsKept, IsLookedAfterIn, IsOpenNow}
-use Rattle.steps_base.specs.Rows.{KnowsRights, WakesAside}
-use Rattle.lot_laws.specs.MutexPromises.{HasDebtor, HasReleasedIt, IsShownToOwe, WakesOne, GoesToRelease}
-use Rattle.lot_laws.specs.MutexPromises.{SeesParkedBit, IsMutexKept, MutexesAreKept, OwesMutexSince}
-use Rattle.lot_laws.specs.MutexPromises.{MutexesOwe}
 use Rattle.lot_laws.proofs.machine.Parts.{mutex}
 use Rattle.lot_laws.proofs.sites.StandsMoved.{mutex_rules}
 use Rattle.lot_laws.proofs.promises.RowPromises.{mutex_tells}

@@ -1,22 +1,13 @@
 -- The rows of a mutex: all that is asked of them beside their promises.
-use Rattle.std.proofs.Common.{ℕ, Bool, true, false, if◌then◌else◌, not, ◌≡◌, ◌≢◌, ◌+◌, ◌*◌, inl, inr, refl}
-use Rattle.core_base.specs.declared.keys.Keys.TheVariants.{One}
+use Rattle.lot_laws.proofs.Names
+use Names.{ℕ, Bool, true, false, if◌then◌else◌, not, ◌≡◌, ◌≢◌, ◌+◌, ◌*◌, inl, inr, refl, One, Sleep, LetsIn}
+use Names.{is_acting, Entry, MutexPlace, Lock, LockAt, UnlockAt, mutex_row, lock_row, mutex_act, unlock_act}
+use Names.{mutex_promises}
 use Rattle.core_base.specs.declared.ops.Op as op
 use Rattle.steps_base.specs.declared.acts.Act.TheVariants as act
-use Rattle.steps_base.specs.declared.acts.Act.TheVariants.{Sleep}
-use Rattle.steps_base.specs.Rows.{LetsIn, is_acting}
-use Rattle.steps_mutex.specs.declared.lock.Entry.{Entry}
 use Rattle.steps_mutex.specs.declared.lock.Entry.TheVariants as entries
-use Rattle.steps_mutex.specs.declared.places.MutexPlace.{MutexPlace}
-use Rattle.steps_mutex.specs.declared.places.MutexPlace.TheVariants.{Lock}
-use Rattle.steps_mutex.specs.declared.lock.LockAt.{LockAt}
 use Rattle.steps_mutex.specs.declared.lock.LockAt.TheVariants as lock
-use Rattle.steps_mutex.specs.declared.unlock.UnlockAt.{UnlockAt}
 use Rattle.steps_mutex.specs.declared.unlock.UnlockAt.TheVariants as unlock
-use Rattle.steps_mutex.specs.MutexLaws.{mutex_row}
-use Rattle.steps_mutex.specs.MutexProfiles.{lock_row}
-use Rattle.steps_mutex.specs.MutexSteps.{mutex_act, unlock_act}
-use Rattle.steps_mutex.proofs.MutexRowCheck.{mutex_promises}
 use Rattle.spec_locks.specs.Locks as locks
 
 pub mutex_acts : (l : ℕ) (at : MutexPlace) → is_acting (mutex_act l at) ≡ true

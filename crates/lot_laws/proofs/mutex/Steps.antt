@@ -1,45 +1,22 @@
 -- A thread in a call of a mutex goes on by its act: that is one event of the mutex, and its call goes on
 -- with it.
-use Rattle.std.proofs.Common.{inl, inr, ℕ, Bool, true, false, Option, Some, None, ◌≡◌, ◌<◌, ◌≤◌, length}
-use Rattle.std.proofs.Common.{get_or-set_same, get_or-set_other, refl, sym, ◌∙◌, ap, subst}
+use Rattle.lot_laws.proofs.Names
+use Names.{inl, inr, ℕ, Bool, true, false, Option, Some, None, ◌≡◌, ◌<◌, ◌≤◌, length, get_or-set_same}
+use Names.{get_or-set_other, refl, sym, ◌∙◌, ap, subst, Next, Reply, Value, outcome_of, row_of, Hand, Of}
+use Names.{Profile, RowPromises, Location, Entry, MutexPlace, Lock, Unlock, mutex_deeds, mutex_row, next_row}
+use Names.{mutex_act, mutex_next, decides, mutex_promises, Place, Idle, Mutex, called_lock, mutex_does}
+use Names.{mutex_goes, next_act, next_place, profile, case_of, event_by, LockCase, Rights, rights_of}
+use Names.{standing, Line, Main, GoesOn, Nothing, Stays, is_closure, State, can_do, going_outcome, place_at}
+use Names.{reply_to, state_after_act, state_after_going, word_at, IsWellFormed, mutex_runs_none}
+use Names.{performed_counts, call_state, lock_state, locks_of, IsInductive, carried_at, rules_in, location}
 use Rattle.core_base.specs.declared.ops.Op.TheVariants as op
 use Rattle.steps_base.specs.declared.acts.Act.TheVariants as act
-use Rattle.steps_base.specs.declared.acts.Next.{Next}
 use Rattle.steps_base.specs.declared.acts.Next.TheVariants as next
-use Rattle.steps_base.specs.declared.acts.Reply.{Reply}
-use Rattle.steps_base.specs.declared.acts.Reply.TheVariants.{Value}
-use Rattle.steps_base.specs.Acts.{outcome_of}
-use Rattle.steps_base.specs.Moves.{row_of}
-use Rattle.steps_base.specs.Profiles.{Hand, Of, Profile}
-use Rattle.steps_base.specs.Rows.{RowPromises}
-use Rattle.steps_base.specs.Locations.{Location}
-use Rattle.steps_mutex.specs.declared.lock.Entry.{Entry}
 use Rattle.steps_mutex.specs.declared.lock.LockAt.TheVariants as lock
 use Rattle.steps_mutex.specs.declared.unlock.UnlockAt.TheVariants as unlock
 use Rattle.steps_mutex.specs.declared.hand_off.HandOffAt.TheVariants as hand_off
-use Rattle.steps_mutex.specs.declared.places.MutexPlace.{MutexPlace}
-use Rattle.steps_mutex.specs.declared.places.MutexPlace.TheVariants.{Lock, Unlock, HandOff}
-use Rattle.steps_mutex.specs.MutexDeeds.{mutex_deeds}
-use Rattle.steps_mutex.specs.MutexLaws.{mutex_row, next_row}
-use Rattle.steps_mutex.specs.MutexSteps.{mutex_act, mutex_next}
-use Rattle.steps_mutex.proofs.MutexCalls.{decides}
-use Rattle.steps_mutex.proofs.MutexRowCheck.{mutex_promises}
-use Rattle.lot_steps.specs.declared.places.Place.{Place}
-use Rattle.lot_steps.specs.declared.places.Place.TheVariants.{Idle, Mutex}
-use Rattle.lot_steps.specs.Steps.{called_lock, mutex_does, mutex_goes, next_act, next_place, profile}
-use Rattle.spec_locks.specs.Deeds.{case_of, event_by}
-use Rattle.spec_locks.specs.Locks.{LockCase, Rights, rights_of, standing}
+use Rattle.steps_mutex.specs.declared.places.MutexPlace.TheVariants.{HandOff}
 use Rattle.spec_locks.specs.Locks as locks
-use Rattle.spec_locks.specs.Sites.{Line, Main}
-use Rattle.spec_locks.specs.Runs.{GoesOn, Nothing, Stays, is_closure}
-use Rattle.lot_machine.specs.Machine.{State, can_do, going_outcome, place_at, reply_to, state_after_act}
-use Rattle.lot_machine.specs.Machine.{state_after_going, word_at}
-use Rattle.lot_machine.specs.Fits.{IsWellFormed}
-use Rattle.lot_machine.proofs.Closures.{mutex_runs_none}
-use Rattle.lot_machine.proofs.Shape.{performed_counts}
-use Rattle.lot_laws.specs.Refinement.{call_state, lock_state, locks_of}
-use Rattle.lot_laws.specs.SitesOf.{IsInductive, carried_at, rules_in}
-use Rattle.lot_laws.specs.Locations.{location}
 use Rattle.lot_laws.proofs.machine.AtPlaces.{in_no_hand}
 use Rattle.lot_laws.proofs.calls.Events.{GoesAs, Happens, LeadsTo, OthersFollow, RunsNothing, begins_nothing}
 use Rattle.lot_laws.proofs.calls.Events.{goes_by, happens, others_follow, put_is, rights, runs_nothing}

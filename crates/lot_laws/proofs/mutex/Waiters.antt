@@ -1,42 +1,24 @@
 -- A waiter in the queue of a mutex, or in a hand there, and all that befalls it: by its rows at the mutex,
 -- in a call of that mutex or of a condition variable beside it. No other lock sees a change of it.
-use Rattle.std.proofs.Common.{ℕ, Bool, true, false, Option, Some, None, if◌then◌else◌, ◌==◌, ◌≡◌, ◌≢◌, ◌⊎◌}
-use Rattle.std.proofs.Common.{inl, inr, refl, sym, ◌∙◌, ap, subst}
-use Rattle.std.proofs.lemmas.Bool.{cases_eq, eqb-true}
+use Rattle.lot_laws.proofs.Names
+use Names.{ℕ, Bool, true, false, Option, Some, None, if◌then◌else◌, ◌==◌, ◌≡◌, ◌≢◌, ◌⊎◌, inl, inr, refl, sym}
+use Names.{◌∙◌, ap, subst, cases_eq, eqb-true, Exclusive, Woken, TakenBy, HandedBy, taken_from, in_line}
+use Names.{Place, Idle, Mutex, RwLock, Once, Condvar, Semaphore, next_place, or_else, wants, Entry, LockAt}
+use Names.{MutexPlace, Lock, Unlock, NotifyAt, CondvarPlace, Wait, Look, Notify, WaitAt, mutex_beside}
+use Names.{condvar_profile, mutex_side, notify_row, IsReached, IsUnlockPlace, IsLockOf, IsRelock, Rules}
+use Names.{Taken, Role, Line, Main, Has, has_readers, idle, State, place_at, taken_at, mutex_profile}
+use Names.{mutex_location, nowhere, location, location_at, role_on, FitsItsLock, IsInductive, Hands, hand_at}
+use Names.{rules_in}
 use Rattle.core_base.specs.declared.notes.Note.TheVariants as note
-use Rattle.core_base.specs.declared.wants.Want.TheVariants.{Exclusive}
-use Rattle.steps_base.specs.declared.acts.Reply.TheVariants.{Woken, TakenBy, HandedBy}
-use Rattle.steps_base.specs.Profiles.{taken_from, in_line}
-use Rattle.lot_steps.specs.declared.places.Place.{Place}
-use Rattle.lot_steps.specs.declared.places.Place.TheVariants.{Idle, Mutex, RwLock, Once, Condvar, Semaphore}
-use Rattle.lot_steps.specs.Steps.{next_place, or_else, wants}
-use Rattle.steps_mutex.specs.declared.lock.Entry.{Entry}
 use Rattle.steps_mutex.specs.declared.lock.Entry.TheVariants as entries
-use Rattle.steps_mutex.specs.declared.lock.LockAt.{LockAt}
 use Rattle.steps_mutex.specs.declared.lock.LockAt.TheVariants as lock
-use Rattle.steps_mutex.specs.declared.places.MutexPlace.{MutexPlace}
-use Rattle.steps_mutex.specs.declared.places.MutexPlace.TheVariants.{Lock, Unlock}
 use Rattle.steps_mutex.specs.declared.unlock.UnlockAt.TheVariants as unlock
-use Rattle.steps_condvar.specs.declared.notify.NotifyAt.{NotifyAt}
 use Rattle.steps_condvar.specs.declared.notify.NotifyAt.TheVariants as notify
-use Rattle.steps_condvar.specs.declared.places.CondvarPlace.{CondvarPlace}
-use Rattle.steps_condvar.specs.declared.places.CondvarPlace.TheVariants.{Wait, Look, Notify}
 use Rattle.steps_condvar.specs.declared.wait.Stands.TheVariants as stands
-use Rattle.steps_condvar.specs.declared.wait.WaitAt.{WaitAt}
 use Rattle.steps_condvar.specs.declared.wait.WaitAt.TheVariants as wait
-use Rattle.steps_condvar.specs.CondvarSteps.{mutex_beside}
-use Rattle.steps_condvar.specs.CondvarProfiles.{condvar_profile, mutex_side, notify_row}
-use Rattle.steps_condvar.specs.CondvarCalls.{IsReached, IsUnlockPlace, IsLockOf, IsRelock}
-use Rattle.spec_locks.specs.Locks.{Rules, Taken}
 use Rattle.spec_locks.specs.Locks as locks
-use Rattle.spec_locks.specs.Sites.{Role, Line, Main, Has, has_readers, idle}
-use Rattle.lot_machine.specs.Machine.{State, place_at}
-use Rattle.lot_laws.specs.Refinement.{taken_at}
-use Rattle.steps_mutex.specs.MutexProfiles.{mutex_profile}
-use Rattle.lot_laws.specs.ThreadDeeds.{mutex_row, mutex_location}
-use Rattle.lot_laws.specs.Locations.{Location, Hand, hand, nowhere, location, location_at, location_by}
-use Rattle.lot_laws.specs.Locations.{role_on}
-use Rattle.lot_laws.specs.SitesOf.{FitsItsLock, IsInductive, Hands, hand_at, rules_in}
+use Rattle.lot_laws.specs.ThreadDeeds.{mutex_row}
+use Rattle.lot_laws.specs.Locations.{Location, Hand, hand, location_by}
 use Rattle.lot_laws.proofs.sites.StandsKept.{Alike, AlikeBeside}
 use Rattle.lot_laws.proofs.sites.ToldAt.{HoldsHere}
 use Rattle.lot_laws.proofs.machine.Parts.{aparts, held_tells, same, differ, mutex, taken_out, IsApart}

@@ -1,7 +1,6 @@
 -- The word of a mutex tells its owner.
-use Rattle.std.proofs.Common.{ℕ, true, false, Option, Some, None, ◌≡◌, inl, inr, refl}
-use Rattle.steps_mutex.specs.MutexSteps.{is_locked}
-use Rattle.lot_laws.specs.MutexPromises.{IsMutexWord}
+use Rattle.lot_laws.proofs.Names
+use Names.{ℕ, true, false, Option, Some, None, ◌≡◌, inl, inr, refl, is_locked, IsMutexWord}
 
 pub free_word : (v : ℕ) (o : Option ℕ) → IsMutexWord v o → is_locked v ≡ false → o ≡ None
 free_word v None c h = refl

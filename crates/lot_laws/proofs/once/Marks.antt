@@ -1,60 +1,35 @@
 -- Nobody marks the word of a `Once` that is done.
-use Rattle.std.proofs.Common.{ℕ, Bool, true, false, Option, Some, None, if◌then◌else◌, ◌==◌, ◌≡◌, ◌≢◌, ◌<◌}
-use Rattle.std.proofs.Common.{◌+◌, ◌*◌, List, [], ◌∷◌, length, length-set, get_or, map, nat_lt, refl, sym}
-use Rattle.std.proofs.Common.{◌∙◌, ap, subst, arith}
-use Rattle.std.proofs.lemmas.Bool.{eqb-true, ltb-true}
-use Rattle.core_base.specs.declared.keys.Keys.TheVariants.{One, Two}
+use Rattle.lot_laws.proofs.Names
+use Names.{ℕ, Bool, true, false, Option, Some, None, if◌then◌else◌, ◌==◌, ◌≡◌, ◌≢◌, ◌<◌, ◌+◌, ◌*◌, List, []}
+use Names.{◌∷◌, length, length-set, get_or, map, nat_lt, refl, sym, ◌∙◌, ap, subst, arith, eqb-true, ltb-true}
+use Names.{One, Two, first_of, apply, OnceCall, Step, Turn, Kind, Sort, Phase, New, Poisoned, InProgress}
+use Names.{rules_of, has_readers, Act, holds, takes_effect, CondvarPlace, Wait, Look as Glance, Notify}
+use Names.{mutex_act, Course, Ends, Marks, OncePlace, Run, GiveUp, course_act, course_of, is_forced, marked}
+use Names.{once_act, started, MayGo, coded, marked_is, may_go, started_is, unmarked_is, word, call_act}
+use Names.{semaphore_act, Place, Idle, Mutex, RwLock, Once, Condvar, Semaphore, act_of, late_key, looking}
+use Names.{IsWellFormed, State, after, can_turn, is_possible, kind_at, opening, first_word, place_at, put}
+use Names.{queue_at, queues_with_last, queues_without_first, state_after_act, state_after_close}
+use Names.{state_after_go, state_after_hand_over_by, state_after_late_on, state_after_look}
+use Names.{state_after_taking, state_after_turn, unlocked, word_at, IsOwn, call_own, mutex_own, semaphore_own}
+use Names.{set_all, both, lock_state, AreUnmarked, FitsItsLock, IsInductive, is_mutex, rules_in, site_of}
 use Rattle.core_base.specs.declared.ops.Op.TheVariants as op
-use Rattle.core_base.specs.Lines.{first_of}
-use Rattle.core_base.specs.Words.{apply}
-use Rattle.spec_locks.specs.declared.calls.OnceCall.{OnceCall}
-use Rattle.spec_locks.specs.declared.calls.Step.{Step}
-use Rattle.spec_locks.specs.declared.calls.Turn.{Turn}
 use Rattle.spec_locks.specs.declared.calls.Turn as turn
-use Rattle.spec_locks.specs.declared.kinds.Kind.{Kind}
 use Rattle.spec_locks.specs.declared.kinds.Kind.TheVariants as kinds
-use Rattle.spec_locks.specs.Locks.{Sort}
 use Rattle.spec_locks.specs.Locks as locks
-use Rattle.spec_locks.specs.Onces.{Phase, New, Poisoned, InProgress, Done}
-use Rattle.spec_locks.specs.Purposes.{rules_of}
-use Rattle.spec_locks.specs.Sites.{has_readers}
-use Rattle.steps_base.specs.declared.acts.Act.{Act}
+use Rattle.spec_locks.specs.Onces.{Done}
 use Rattle.steps_base.specs.declared.acts.Act.TheVariants as act
 use Rattle.steps_base.specs.declared.acts.Wakes as wakes
 use Rattle.steps_base.specs.declared.acts.Whom as whom
-use Rattle.steps_base.specs.Acts.{holds, takes_effect}
-use Rattle.steps_condvar.specs.declared.places.CondvarPlace.{CondvarPlace}
-use Rattle.steps_condvar.specs.declared.places.CondvarPlace.TheVariants.{Wait, Look as Glance, Notify}
 use Rattle.steps_condvar.specs.declared.wait.WaitAt.TheVariants as wait
 use Rattle.steps_condvar.specs.declared.notify.NotifyAt.TheVariants as notify
-use Rattle.steps_mutex.specs.MutexSteps.{mutex_act}
 use Rattle.steps_once.specs.declared.give_up.GiveUpAt.TheVariants as give_up
-use Rattle.steps_once.specs.declared.look.Course.{Course}
-use Rattle.steps_once.specs.declared.look.Course.TheVariants.{Ends, Runs, Marks, Parks}
+use Rattle.steps_once.specs.declared.look.Course.TheVariants.{Runs, Parks}
 use Rattle.steps_once.specs.declared.look.LookAt.TheVariants as look
-use Rattle.steps_once.specs.declared.places.OncePlace.{OncePlace}
-use Rattle.steps_once.specs.declared.places.OncePlace.TheVariants.{Look, Run, GiveUp}
+use Rattle.steps_once.specs.declared.places.OncePlace.TheVariants.{Look}
 use Rattle.steps_once.specs.declared.places.TheConstants.{NOT_PARKED}
 use Rattle.steps_once.specs.declared.run.RunAt.TheVariants as run
-use Rattle.steps_once.specs.OnceSteps.{course_act, course_of, is_forced, marked, once_act, started, want_of}
-use Rattle.steps_once.proofs.OnceWords.{MayGo, coded, marked_is, may_go, started_is, unmarked_is, word}
-use Rattle.steps_rwlock_fair.specs.FairSteps.{call_act}
-use Rattle.steps_semaphore.specs.SemaphoreSteps.{semaphore_act}
-use Rattle.lot_steps.specs.declared.places.Place.{Place}
-use Rattle.lot_steps.specs.declared.places.Place.TheVariants.{Idle, Mutex, RwLock, Once, Condvar, Semaphore}
-use Rattle.lot_steps.specs.Steps.{act_of, late_key, looking}
+use Rattle.steps_once.specs.OnceSteps.{want_of}
 use Rattle.lot_machine.specs.declared.locks.Lock.{Lock}
-use Rattle.lot_machine.specs.Fits.{IsWellFormed}
-use Rattle.lot_machine.specs.Machine.{State, after, can_turn, is_possible, kind_at, opening, first_word}
-use Rattle.lot_machine.specs.Machine.{place_at, put, queue_at, queues_with_last, queues_without_first}
-use Rattle.lot_machine.specs.Machine.{state_after_act, state_after_close, state_after_go}
-use Rattle.lot_machine.specs.Machine.{state_after_hand_over_by, state_after_late_on, state_after_look}
-use Rattle.lot_machine.specs.Machine.{state_after_taking, state_after_turn, unlocked, word_at}
-use Rattle.lot_machine.proofs.Closures.{IsOwn, call_own, mutex_own, semaphore_own}
-use Rattle.lot_machine.proofs.KindsStay.{set_all}
-use Rattle.lot_machine.proofs.Shape.{both}
-use Rattle.lot_laws.specs.Refinement.{lock_state}
-use Rattle.lot_laws.specs.SitesOf.{AreUnmarked, FitsItsLock, IsInductive, is_mutex, rules_in, site_of}
 use Rattle.lot_laws.proofs.calls.Closings.{closing}
 use Rattle.lot_laws.proofs.calls.Closures.{closes_one}
 use Rattle.lot_laws.proofs.calls.Looking.{closing_inductive, looking_inductive}

@@ -1,36 +1,17 @@
 -- A thread in a call of a `Once` goes on where its act takes it: on the word, after the last of the queue,
 -- or with all that wait in its hand. No place is named.
-use Rattle.std.proofs.Common.{ℕ, Bool, true, false, Option, Some, None, if◌then◌else◌, ◌==◌, ◌||◌, ◌≡◌, ◌*◌}
-use Rattle.std.proofs.Common.{◌≤◌, ◌<◌, List, [], ◌∷◌, ◌++◌, length, not, refl, sym, ◌∙◌, ap, subst, arith}
-use Rattle.std.specs.Prelude.{◌&&◌, nat_le}
-use Rattle.std.proofs.Math.Bool.{or-false}
-use Rattle.core_base.specs.declared.ops.Op.{Op}
-use Rattle.core_base.specs.declared.wants.Waiter.{Waiter}
-use Rattle.core_base.specs.declared.wants.Want.{Want}
-use Rattle.core_base.specs.Lines.{times, waiter}
-use Rattle.core_base.specs.Words.{apply}
-use Rattle.steps_base.specs.declared.acts.Check.{Check}
-use Rattle.steps_base.specs.declared.acts.Reply.{Reply}
-use Rattle.steps_base.specs.declared.acts.Reply.TheVariants.{Value, Parked, Took}
+use Rattle.lot_laws.proofs.Names
+use Names.{ℕ, Bool, true, false, Option, Some, None, if◌then◌else◌, ◌==◌, ◌||◌, ◌≡◌, ◌*◌, ◌≤◌, ◌<◌, List, []}
+use Names.{◌∷◌, ◌++◌, length, not, refl, sym, ◌∙◌, ap, subst, arith, nat_le, or-false, Op, Waiter, Want}
+use Names.{times, waiter, apply, Check, Reply, Value, Parked, Took, holds, Move, Hears, StaysPut, inside_of}
+use Names.{location_of, in_hand, Location, Rest, TakeAll, Rules, OfOnce, HasTakenNobody, Site, Deed, Main}
+use Names.{Case, has_readers, aside_in, code, count_in, fills, parked_in, Place, next_place, profile}
+use Names.{RestsAfter, TakesAll, State, filled_at, place_at, put, queue_at, queues_with_last}
+use Names.{state_after_operation, state_after_park, state_after_take, word_at, lock_state, taken_at, acts}
+use Names.{location, location_at, Goes, IsInductive, TakesOne, after_acts, carried_at, rules_in, stood_in}
+use Rattle.std.specs.Prelude.{◌&&◌}
 use Rattle.steps_base.specs.declared.acts.Whom.TheVariants as whom
-use Rattle.steps_base.specs.Acts.{holds}
-use Rattle.steps_base.specs.Moves.{Move, Hears, StaysPut, inside_of, location_of}
-use Rattle.steps_base.specs.Profiles.{in_hand}
-use Rattle.steps_base.specs.Locations.{Location}
-use Rattle.spec_locks.specs.Onces.{Rest, TakeAll}
-use Rattle.spec_locks.specs.Locks.{Rules, OfOnce, HasTakenNobody}
-use Rattle.spec_locks.specs.Sites.{Site, Deed, Main, Case, has_readers}
-use Rattle.spec_locks.specs.Codes.{aside_in, code, count_in, fills, parked_in}
 use Rattle.spec_locks.specs.Deeds as laws
-use Rattle.lot_steps.specs.declared.places.Place.{Place}
-use Rattle.lot_steps.specs.Steps.{next_place, profile}
-use Rattle.steps_once.specs.OnceMoves.{RestsAfter, TakesAll}
-use Rattle.lot_machine.specs.Machine.{State, filled_at, place_at, put, queue_at, queues_with_last}
-use Rattle.lot_machine.specs.Machine.{state_after_operation, state_after_park, state_after_take, word_at}
-use Rattle.lot_laws.specs.Refinement.{lock_state, taken_at}
-use Rattle.lot_laws.specs.ThreadDeeds.{acts}
-use Rattle.lot_laws.specs.Locations.{location, location_at}
-use Rattle.lot_laws.specs.SitesOf.{Goes, IsInductive, TakesOne, after_acts, carried_at, rules_in, stood_in}
 use Rattle.lot_laws.proofs.sites.ActsKept.{lock_by, operated, park_goes, place_goes, with_line, word_goes}
 use Rattle.lot_laws.proofs.machine.AtPlaces.{in_no_hand}
 use Rattle.lot_laws.proofs.machine.Parts.{IsOf, differ, free_of, lock_in, nothing_at, parts_at, same}

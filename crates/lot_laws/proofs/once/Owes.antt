@@ -1,31 +1,20 @@
 -- A thread in a call of a `Once` owes a wake from the end of its run on, where that saw waiters, or from
 -- entering the section, until it leaves it.
-use Rattle.std.proofs.Common.{ℕ, Bool, true, false, Option, Some, None, if◌then◌else◌, ◌≡◌, inl, inr, refl}
-use Rattle.std.proofs.Common.{sym, ◌∙◌, ap, subst}
-use Rattle.spec_locks.specs.declared.calls.OnceCall.{OnceCall}
-use Rattle.spec_locks.specs.declared.calls.OnceCall.TheVariants.{CallOnce, Wait, WaitTimed}
-use Rattle.steps_base.specs.declared.acts.Next.{Next}
+use Rattle.lot_laws.proofs.Names
+use Names.{ℕ, Bool, true, false, Option, Some, None, if◌then◌else◌, ◌≡◌, inl, inr, refl, sym, ◌∙◌, ap, subst}
+use Names.{OnceCall, WaitTimed, Next, Reply, outcome_of, Line, Main, is_marked, GiveUpAt, LookAt, RunAt}
+use Names.{OncePlace, Run, GiveUp, begins_run, ended, closure_begun, in_look, in_run, is_forced, next_look}
+use Names.{once_act, once_next, run_act, is_late_asleep, give_up_act, in_give_up, is_timed, next_give_up}
+use Names.{retried_want, once_profile, run_row, act_of, once_does, once_goes, profile, State, reply_to}
+use Names.{word_at, tells_by, tells_of}
+use Rattle.spec_locks.specs.declared.calls.OnceCall.TheVariants.{CallOnce, Wait}
 use Rattle.steps_base.specs.declared.acts.Next.TheVariants as next
-use Rattle.steps_base.specs.declared.acts.Reply.{Reply}
 use Rattle.steps_base.specs.declared.acts.Reply.TheVariants as reply
-use Rattle.steps_base.specs.Acts.{outcome_of}
 use Rattle.spec_locks.specs.Locks as locks
-use Rattle.spec_locks.specs.Sites.{Line, Main}
-use Rattle.spec_locks.specs.Codes.{is_marked}
-use Rattle.steps_once.specs.declared.give_up.GiveUpAt.{GiveUpAt}
 use Rattle.steps_once.specs.declared.give_up.GiveUpAt.TheVariants as give_up
-use Rattle.steps_once.specs.declared.look.LookAt.{LookAt}
-use Rattle.steps_once.specs.declared.run.RunAt.{RunAt}
 use Rattle.steps_once.specs.declared.run.RunAt.TheVariants as run
-use Rattle.steps_once.specs.declared.places.OncePlace.{OncePlace}
-use Rattle.steps_once.specs.declared.places.OncePlace.TheVariants.{Look, Run, GiveUp}
-use Rattle.steps_once.specs.OnceSteps.{begins_run, ended, closure_begun, in_look, in_run, is_forced}
-use Rattle.steps_once.specs.OnceSteps.{next_look, once_act, once_next, run_act, still_retries, is_late_asleep}
-use Rattle.steps_once.specs.OnceSteps.{give_up_act, in_give_up, is_timed, next_give_up}
-use Rattle.steps_once.specs.OnceProfiles.{retried_want, once_profile, run_row}
-use Rattle.lot_steps.specs.Steps.{act_of, once_does, once_goes, profile}
-use Rattle.lot_machine.specs.Machine.{State, reply_to, word_at}
-use Rattle.lot_laws.specs.Owing.{tells_by, tells_of}
+use Rattle.steps_once.specs.declared.places.OncePlace.TheVariants.{Look}
+use Rattle.steps_once.specs.OnceSteps.{still_retries}
 use Rattle.lot_laws.proofs.once.Rows.{gives_up_quietly, lets_nobody, look_owes}
 use Rattle.lot_laws.proofs.promises.RowPromises.{RowOwesNext, RowOwesThen, owes_then}
 

@@ -1,19 +1,14 @@
 -- The places of a `Once` owe the same, whatever befalls their thread, and as its time is up.
-use Rattle.std.proofs.Common.{ℕ, Bool, ◌≡◌, Some, refl, sym, ap, subst}
+use Rattle.lot_laws.proofs.Names
+use Names.{ℕ, Bool, ◌≡◌, Some, refl, sym, ap, subst, Normal, WaitTimed, Reply, TakenBy, MovedTo, HandedBy}
+use Names.{Late, Woken, OncePlace, Run, GiveUp, once_profile, Once, line_owed, next_place}
 use Rattle.core_base.specs.declared.keys.Line.{Line}
 use Rattle.core_base.specs.declared.keys.Line.TheVariants.{Main}
-use Rattle.core_base.specs.declared.notes.Note.TheVariants.{Normal}
-use Rattle.spec_locks.specs.declared.calls.OnceCall.TheVariants.{CallOnce, Wait, WaitTimed}
-use Rattle.steps_base.specs.declared.acts.Reply.{Reply}
-use Rattle.steps_base.specs.declared.acts.Reply.TheVariants.{TakenBy, MovedTo, HandedBy, Late, Woken}
-use Rattle.steps_once.specs.declared.places.OncePlace.{OncePlace}
-use Rattle.steps_once.specs.declared.places.OncePlace.TheVariants.{Look, Run, GiveUp}
+use Rattle.spec_locks.specs.declared.calls.OnceCall.TheVariants.{CallOnce, Wait}
+use Rattle.steps_once.specs.declared.places.OncePlace.TheVariants.{Look}
 use Rattle.steps_once.specs.declared.look.LookAt.TheVariants as look_at
 use Rattle.steps_once.specs.declared.give_up.GiveUpAt.TheVariants as give_up
 use Rattle.steps_once.specs.declared.run.RunAt.TheVariants as run_at
-use Rattle.steps_once.specs.OnceProfiles.{once_profile}
-use Rattle.lot_steps.specs.declared.places.Place.TheVariants.{Once}
-use Rattle.lot_steps.specs.Steps.{line_owed, next_place}
 use Rattle.lot_laws.proofs.promises.RowPromises.{Befalls, IsLateNext}
 
 -- a thread owes what it owed, with all that befalls it

@@ -1,18 +1,12 @@
 -- The rows of a `Once`: all that is asked of them beside their promises.
-use Rattle.std.proofs.Common.{ℕ, Bool, true, false, Option, Some, ◌≡◌, inl, inr, refl, subst}
-use Rattle.core_base.specs.declared.wants.Want.{Want}
-use Rattle.spec_locks.specs.declared.calls.OnceCall.{OnceCall}
-use Rattle.spec_locks.specs.declared.calls.OnceCall.TheVariants.{CallOnce, Wait, WaitTimed}
-use Rattle.steps_base.specs.Rows.{LetsIn}
+use Rattle.lot_laws.proofs.Names
+use Names.{ℕ, Bool, true, false, Option, Some, ◌≡◌, inl, inr, refl, subst, Want, OnceCall, WaitTimed, LetsIn}
+use Names.{Line, IsReleasing, once_purpose, is_timed, GiveUpAt, LookAt, GiveUp, retried_want, look_row}
+use Names.{once_profile}
+use Rattle.spec_locks.specs.declared.calls.OnceCall.TheVariants.{CallOnce, Wait}
 use Rattle.spec_locks.specs.Locks as locks
-use Rattle.spec_locks.specs.Sites.{Line}
-use Rattle.spec_locks.specs.Purposes.{IsReleasing, once_purpose}
-use Rattle.steps_once.specs.OnceSteps.{is_timed}
-use Rattle.steps_once.specs.declared.give_up.GiveUpAt.{GiveUpAt}
-use Rattle.steps_once.specs.declared.look.LookAt.{LookAt}
 use Rattle.steps_once.specs.declared.look.LookAt.TheVariants as look
-use Rattle.steps_once.specs.declared.places.OncePlace.TheVariants.{Look, GiveUp}
-use Rattle.steps_once.specs.OnceProfiles.{retried_want, look_row, once_profile}
+use Rattle.steps_once.specs.declared.places.OncePlace.TheVariants.{Look}
 
 unreleased : (timed : Bool) (wanted : Option Want) (at : LookAt) → (look_row timed wanted at).released ≡ false
 unreleased timed wanted look.Load = refl

@@ -1,54 +1,28 @@
 -- A run of a `Once` is on only while its thread is in the closure of its call.
-use Rattle.spec_locks.specs.Condvars.{moved_of}
-use Rattle.std.proofs.Common.{◌==◌, eqb-true, ℕ, Bool, true, false, Option, Some, None, if◌then◌else◌, ◌≡◌}
-use Rattle.std.proofs.Common.{◌≢◌, ◌⊎◌, inl, inr, is_some, List, get_or-set_other, refl, sym, ◌∙◌, ap, subst}
-use Rattle.std.proofs.lemmas.Bool.{cases_eq}
-use Rattle.spec_locks.specs.declared.calls.Step.{Step}
-use Rattle.spec_locks.specs.declared.calls.Turn.{Turn}
+use Rattle.lot_laws.proofs.Names
+use Names.{moved_of, ◌==◌, ℕ, Bool, true, false, Option, Some, None, if◌then◌else◌, ◌≡◌, ◌≢◌, ◌⊎◌, inl, inr}
+use Names.{is_some, List, get_or-set_other, refl, sym, ◌∙◌, ap, subst, cases_eq, Step, Turn, Kind, Outcome}
+use Names.{Next, Reply, TakenBy, MovedTo, HandedBy, Woken, LockCase, LockState, OfOnce, Rules, left_after}
+use Names.{after_case, once_after, rights_of, phase_by, Phase, OnceCase, New, InProgress, Start, Finish, Fail}
+use Names.{Rest, TakeAll, Purpose, Enters, Releases, Converts, Bumps, CallsOnce, Awaits, Waits, Notifies}
+use Names.{AtLock, Begins, CallState, Closes, Does, Event, GoesOn, LocksState, MayDo, MayHappen, MayTurn}
+use Names.{Nothing, calls_after, is_closure, locks_after, rules_at, state_told, Moves, joined_by, OnceCall}
+use Names.{MutexPlace, mutex_next, GiveUpAt, LookAt, RunAt, Run, GiveUp, begins_run, course_of, closure_begun}
+use Names.{in_look, in_run, is_forced, next_look, next_run, is_late_asleep, in_give_up, next_give_up}
+use Names.{SemaphorePlace, semaphore_next, RwLockCallPlace, call_next, CondvarPlace, condvar_next, Place}
+use Names.{Idle, Mutex, RwLock, Once, Condvar, Semaphore, act_of, called_lock, looking, mutex_goes}
+use Names.{next_place, once_goes, rwlock_goes, condvar_goes, semaphore_goes, IsWellFormed, State, after}
+use Names.{opening, place_at, put, runs_closure, step_outcome, RunsClosure, call_at, call_state, lock_state}
+use Names.{locks_of, sleeps, AreCondvars, AreCounted, IsInductive, RunsInClosures}
+use Rattle.std.proofs.Common.{eqb-true}
 use Rattle.spec_locks.specs.declared.calls.Turn as turn
-use Rattle.spec_locks.specs.declared.kinds.Kind.{Kind}
-use Rattle.spec_locks.specs.declared.outcomes.Outcome.{Outcome}
 use Rattle.spec_locks.specs.declared.outcomes.Outcome as outcome
-use Rattle.steps_base.specs.declared.acts.Next.{Next}
 use Rattle.steps_base.specs.declared.acts.Next.TheVariants as next
-use Rattle.steps_base.specs.declared.acts.Reply.{Reply}
-use Rattle.steps_base.specs.declared.acts.Reply.TheVariants.{TakenBy, MovedTo, HandedBy, Woken}
-use Rattle.spec_locks.specs.Locks.{LockCase, LockState, OfOnce, Rules, left_after, after_case, once_after}
-use Rattle.spec_locks.specs.Locks.{rights_of}
-use Rattle.spec_locks.proofs.OnceLaws.{phase_by}
-use Rattle.spec_locks.specs.Onces.{Phase, OnceCase, New, InProgress, Start, Finish, Fail, Rest, TakeAll}
-use Rattle.spec_locks.specs.Purposes.{Purpose, Enters, Releases, Converts, Bumps, CallsOnce, Awaits, Waits}
-use Rattle.spec_locks.specs.Purposes.{Notifies}
-use Rattle.spec_locks.specs.Runs.{AtLock, Begins, CallState, Closes, Does, Event, GoesOn, LocksState, MayDo}
-use Rattle.spec_locks.specs.Runs.{MayHappen, MayTurn, Nothing, calls_after, is_closure, locks_after, rules_at}
-use Rattle.spec_locks.specs.Runs.{state_told, Moves, joined_by}
-use Rattle.spec_locks.specs.declared.calls.OnceCall.{OnceCall}
-use Rattle.steps_mutex.specs.declared.places.MutexPlace.{MutexPlace}
-use Rattle.steps_mutex.specs.MutexSteps.{mutex_next}
-use Rattle.steps_once.specs.declared.give_up.GiveUpAt.{GiveUpAt}
-use Rattle.steps_once.specs.declared.look.LookAt.{LookAt}
 use Rattle.steps_once.specs.declared.look.LookAt.TheVariants as look
 use Rattle.steps_once.specs.declared.give_up.GiveUpAt.TheVariants as give_up
-use Rattle.steps_once.specs.declared.run.RunAt.{RunAt}
 use Rattle.steps_once.specs.declared.run.RunAt.TheVariants as run
-use Rattle.steps_once.specs.declared.places.OncePlace.TheVariants.{Look, Run, GiveUp}
-use Rattle.steps_once.specs.OnceSteps.{begins_run, course_of, closure_begun, in_look, in_run, is_forced}
-use Rattle.steps_once.specs.OnceSteps.{next_look, next_run, still_retries, is_late_asleep, in_give_up}
-use Rattle.steps_once.specs.OnceSteps.{next_give_up}
-use Rattle.steps_semaphore.specs.declared.places.SemaphorePlace.{SemaphorePlace}
-use Rattle.steps_semaphore.specs.SemaphoreSteps.{semaphore_next}
-use Rattle.steps_rwlock_fair.specs.declared.places.RwLockCallPlace.{RwLockCallPlace}
-use Rattle.steps_rwlock_fair.specs.FairSteps.{call_next}
-use Rattle.steps_condvar.specs.declared.places.CondvarPlace.{CondvarPlace}
-use Rattle.steps_condvar.specs.CondvarSteps.{condvar_next}
-use Rattle.lot_steps.specs.declared.places.Place.{Place}
-use Rattle.lot_steps.specs.declared.places.Place.TheVariants.{Idle, Mutex, RwLock, Once, Condvar, Semaphore}
-use Rattle.lot_steps.specs.Steps.{act_of, called_lock, looking, mutex_goes, next_place, once_goes}
-use Rattle.lot_steps.specs.Steps.{rwlock_goes, condvar_goes, semaphore_goes}
-use Rattle.lot_machine.specs.Fits.{IsWellFormed}
-use Rattle.lot_machine.specs.Machine.{State, after, opening, place_at, put, runs_closure, step_outcome}
-use Rattle.lot_laws.specs.Refinement.{RunsClosure, call_at, call_state, lock_state, locks_of, sleeps}
-use Rattle.lot_laws.specs.SitesOf.{AreCondvars, AreCounted, IsInductive, RunsInClosures}
+use Rattle.steps_once.specs.declared.places.OncePlace.TheVariants.{Look}
+use Rattle.steps_once.specs.OnceSteps.{still_retries}
 use Rattle.lot_laws.proofs.machine.Befallen.{others_keep_it}
 use Rattle.lot_laws.proofs.calls.Closures.{call_runs_none, course_runs_none, mutex_runs_none, runs_one}
 use Rattle.lot_laws.proofs.calls.Closures.{condvar_runs_none, semaphore_runs_none}

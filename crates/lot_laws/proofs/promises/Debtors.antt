@@ -1,37 +1,19 @@
 -- A debtor of a line is inside its section or on its way into it. Each thread inside owes, and so does each
 -- one on its way but for a wait.
-use Rattle.std.proofs.Common.{ℕ, Bool, true, false, Option, Some, None, if◌then◌else◌, ◌==◌, ◌≡◌, ◌≢◌, ◌⊎◌}
-use Rattle.std.proofs.Common.{◌↔◌, inl, inr, refl, sym, ◌∙◌, ap, subst}
-use Rattle.std.proofs.lemmas.Bool.{eqb-true}
-use Rattle.core_base.specs.declared.keys.Keys.TheVariants.{One}
-use Rattle.steps_base.specs.declared.acts.Act.TheVariants.{Enter}
-use Rattle.steps_base.specs.Profiles.{in_line}
-use Rattle.steps_base.specs.Locations.{nowhere, location_by}
+use Rattle.lot_laws.proofs.Names
+use Names.{ℕ, Bool, true, false, Option, Some, None, if◌then◌else◌, ◌==◌, ◌≡◌, ◌≢◌, ◌⊎◌, ◌↔◌, inl, inr, refl}
+use Names.{sym, ◌∙◌, ap, subst, eqb-true, One, Enter, in_line, location_by, LockAt, inside, NotifyAt}
+use Names.{CondvarPlace, Wait, Look, Notify, IsLockOf, IsReached, condvar_row, has_moved, mutex_side}
+use Names.{section_in, mutex_beside, move_act, Condvar, act_of, is_lock, line_owed, or_else, Rights, Waits}
+use Names.{Line, Main, State, place_at, call_at, call_state, location, location_at, FitsCondvar, FitsItsLock}
+use Names.{IsInductive, key_of, IsInside, IsWait, Owes, GoesToWake, WaitHasReleased}
+use Rattle.steps_base.specs.Locations.{nowhere}
 use Rattle.steps_mutex.specs.declared.lock.Entry.TheVariants as entry
-use Rattle.steps_mutex.specs.declared.lock.LockAt.{LockAt}
 use Rattle.steps_mutex.specs.declared.lock.LockAt.TheVariants as lock
 use Rattle.steps_mutex.specs.declared.places.MutexPlace.TheVariants as mutex
 use Rattle.steps_mutex.specs.declared.unlock.UnlockAt.TheVariants as unlock
-use Rattle.steps_mutex.specs.MutexProfiles.{inside}
-use Rattle.steps_condvar.specs.declared.notify.NotifyAt.{NotifyAt}
 use Rattle.steps_condvar.specs.declared.notify.NotifyAt.TheVariants as notify
-use Rattle.steps_condvar.specs.declared.places.CondvarPlace.{CondvarPlace}
-use Rattle.steps_condvar.specs.declared.places.CondvarPlace.TheVariants.{Wait, Look, Notify}
 use Rattle.steps_condvar.specs.declared.wait.WaitAt.TheVariants as wait
-use Rattle.steps_condvar.specs.CondvarCalls.{IsLockOf, IsReached}
-use Rattle.steps_condvar.specs.CondvarProfiles.{condvar_row, has_moved, mutex_side, section_in}
-use Rattle.steps_condvar.specs.CondvarSteps.{mutex_beside, move_act}
-use Rattle.lot_steps.specs.declared.places.Place.TheVariants.{Condvar}
-use Rattle.lot_steps.specs.Steps.{act_of, is_lock, line_owed, or_else}
-use Rattle.spec_locks.specs.Locks.{Rights}
-use Rattle.spec_locks.specs.Purposes.{Waits}
-use Rattle.spec_locks.specs.Sites.{Line, Main}
-use Rattle.lot_machine.specs.Machine.{State, place_at}
-use Rattle.lot_laws.specs.Refinement.{call_at, call_state}
-use Rattle.lot_laws.specs.Locations.{location, location_at}
-use Rattle.lot_laws.specs.SitesOf.{FitsCondvar, FitsItsLock, IsInductive, key_of}
-use Rattle.lot_laws.specs.Owing.{IsInside, IsWait, Owes}
-use Rattle.lot_laws.specs.Promises.{GoesToWake, WaitHasReleased}
 use Rattle.lot_laws.proofs.calls.Events.{rights}
 use Rattle.lot_laws.proofs.machine.Parts.{condvar_apart, differ, same, single_or_two}
 use Rattle.lot_laws.proofs.promises.PlacePromises.{owing_is}

@@ -1,18 +1,12 @@
 -- The exclusive owner of a mutex after a step on its word.
-use Rattle.std.proofs.Common.{ℕ, Bool, true, false, Option, Some, None, if◌then◌else◌, ◌==◌, ◌&&◌, not, ◌≡◌}
-use Rattle.std.proofs.Common.{inl, inr, refl}
-use Rattle.steps_base.specs.declared.owners.Owners.{Owners}
-use Rattle.steps_mutex.specs.declared.places.MutexPlace.TheVariants.{Lock, TryLock, Unlock, UnlockFair, Bump}
+use Rattle.lot_laws.proofs.Names
+use Names.{ℕ, Bool, true, false, Option, Some, None, if◌then◌else◌, ◌==◌, ◌&&◌, not, ◌≡◌, inl, inr, refl}
+use Names.{Owners, Lock, TryLock, Unlock, UnlockFair, LockAt, First, Decide, UnlockAt, is_locked}
+use Names.{mutex_owners, MutexPlace, with_exclusive, IsMutexWord}
+use Rattle.steps_mutex.specs.declared.places.MutexPlace.TheVariants.{Bump}
 use Rattle.steps_mutex.specs.declared.places.MutexPlace.TheVariants.{HandOff}
-use Rattle.steps_mutex.specs.declared.lock.LockAt.{LockAt}
-use Rattle.steps_mutex.specs.declared.lock.LockAt.TheVariants.{First, Decide}
-use Rattle.steps_mutex.specs.declared.unlock.UnlockAt.{UnlockAt}
 use Rattle.steps_mutex.specs.declared.unlock.UnlockAt.TheVariants as unlock
 use Rattle.steps_mutex.specs.declared.hand_off.HandOffAt.TheVariants as hand_off
-use Rattle.steps_mutex.specs.MutexSteps.{is_locked, mutex_owners}
-use Rattle.steps_mutex.specs.declared.places.MutexPlace.{MutexPlace}
-use Rattle.steps_base.specs.Owners.{with_exclusive}
-use Rattle.lot_laws.specs.MutexPromises.{IsMutexWord}
 
 abbrev pub lock_owner : LockAt → ℕ → ℕ → Option ℕ → Option ℕ
 lock_owner First t v o = if v == 0 then Some t else o

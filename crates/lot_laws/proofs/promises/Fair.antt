@@ -1,71 +1,49 @@
 -- Each step of the world is fair.
-use Rattle.std.proofs.Common.{ℕ, Bool, true, false, Option, Some, None, if◌then◌else◌, ◌==◌, ◌&&◌, not, ◌≡◌}
-use Rattle.std.proofs.Common.{◌≢◌, ◌+◌, ◌*◌, ◌<◌, ◌⊎◌, inl, inr, [], length, refl, sym, ◌∙◌, ap, subst, arith}
-use Rattle.std.proofs.Common.{get_or-set_same, length-set}
+use Rattle.lot_laws.proofs.Names
+use Names.{ℕ, Bool, true, false, Option, Some, None, if◌then◌else◌, ◌==◌, ◌&&◌, not, ◌≡◌, ◌≢◌, ◌+◌, ◌*◌, ◌<◌}
+use Names.{◌⊎◌, inl, inr, [], length, refl, sym, ◌∙◌, ap, subst, arith, get_or-set_same, length-set, Run}
+use Names.{GiveUp, cases_eq, eqb-true, ltb-true, nat_tests, One, Op, Want, Exclusive, Upgradable, Shared}
+use Names.{CallOnce, first_of, Turn, Step, MutexPlace, Lock, TryLock, Unlock, UnlockFair, LockAt, NOT_PARKED}
+use Names.{HandOffAt, Place, Idle, Mutex, RwLock, Once, Condvar, Semaphore, CondvarPlace, is_locked}
+use Names.{is_parked, lock_act, hand_off_act, act_of, looking, late_key, next_place, called_lock, profile}
+use Names.{State, unlocked, place_at, word_at, owners_at, kind_at, queue_at, state_after_operation}
+use Names.{queues_with_last, queues_without_first, state_after_act, state_after_taking, state_after_look}
+use Names.{state_after_go, put, state_after_late_on, state_after_turn, can_turn, is_possible, after}
+use Names.{step_outcome, can_do, reply_to, IsWellFormed, PlaceFits, IsMutexWord, mutex_location, AreCondvars}
+use Names.{AreCounted, IsInductive, FitsItsLock, is_mutex, rules_in, Main, both, looking_well_formed}
+use Names.{OnceCase, Start, Finish, Fail, Rest, TakeAll, LockState, Rules, Taken, LockCase, Pend, Settle}
+use Names.{Leave, Convert, Park, Aside, TakeFirst, TakeAside, TakePicked, Wake, HandOff as HandsLockOff}
+use Names.{Rollback, OfOnce, Needs, IsTaken, HasTakenNobody, IsLockState, keep_from, first_thread, Owns}
+use Names.{CallState, AreLockStates, MayMove, rules_at, locks_after, Moves, call_at, lock_state, locks_of}
+use Names.{call_state, owner_at, OwnerReleasesFairly, IsFairRelease, OwnsOn, HandsMutexOver, LetsMutexGo}
+use Names.{IsFair, IsToGiveAt, GivesUpFairly, FairReleaseComesTo as GivesFrom, IsToGive, call_act, Admission}
+use Names.{RwLockCallPlace, rules_of, Owners, with_exclusive, Purpose, Enters, Releases, Converts, Bumps}
+use Names.{CallsOnce, Awaits, Waits, Notifies, lock_for, has_readers, call_profile}
 use Rattle.steps_semaphore.specs.declared.places.SemaphorePlace.TheVariants as semaphore
 use Rattle.spec_locks.specs.declared.calls.OnceCall.TheVariants as once_call
-use Rattle.steps_once.specs.declared.places.OncePlace.TheVariants.{Look, Run, GiveUp}
+use Rattle.steps_once.specs.declared.places.OncePlace.TheVariants.{Look}
 use Rattle.lot_laws.proofs.calls.Closures.{closes_one}
 use Rattle.lot_laws.proofs.calls.OwnPlace.{gone}
-use Rattle.std.proofs.lemmas.Bool.{cases_eq, eqb-true, ltb-true}
-use Rattle.std.proofs.lemmas.Bool.Decides.{nat_tests}
-use Rattle.core_base.specs.declared.keys.Keys.TheVariants.{One}
-use Rattle.core_base.specs.declared.ops.Op.{Op}
 use Rattle.core_base.specs.declared.ops.Op as op
-use Rattle.core_base.specs.declared.wants.Want.{Want}
-use Rattle.core_base.specs.declared.wants.Want.TheVariants.{Exclusive, Upgradable, Shared, Wait, CallOnce}
-use Rattle.core_base.specs.Lines.{first_of}
+use Rattle.core_base.specs.declared.wants.Want.TheVariants.{Wait}
 use Rattle.spec_locks.specs.declared.kinds.Kind as kind
 use Rattle.steps_base.specs.declared.acts.Act as act
-use Rattle.spec_locks.specs.declared.calls.Turn.{Turn}
 use Rattle.spec_locks.specs.declared.calls.Turn as turn
-use Rattle.spec_locks.specs.declared.calls.Step.{Step}
 use Rattle.steps_mutex.specs.declared.lock.Entry.TheVariants as entries
-use Rattle.steps_mutex.specs.declared.places.MutexPlace.{MutexPlace}
-use Rattle.steps_mutex.specs.declared.places.MutexPlace.TheVariants.{Lock, TryLock, Unlock, UnlockFair, Bump}
+use Rattle.steps_mutex.specs.declared.places.MutexPlace.TheVariants.{Bump}
 use Rattle.steps_mutex.specs.declared.places.MutexPlace.TheVariants.{HandOff}
-use Rattle.steps_mutex.specs.declared.lock.LockAt.{LockAt}
 use Rattle.steps_mutex.specs.declared.lock.LockAt.TheVariants as lock
-use Rattle.steps_mutex.specs.declared.places.TheConstants.{NOT_PARKED}
-use Rattle.steps_mutex.specs.declared.hand_off.HandOffAt.{HandOffAt}
 use Rattle.steps_mutex.specs.declared.hand_off.HandOffAt.TheVariants as hand_off
-use Rattle.lot_steps.specs.declared.places.Place.{Place}
-use Rattle.lot_steps.specs.declared.places.Place.TheVariants.{Idle, Mutex, RwLock, Once, Condvar, Semaphore}
-use Rattle.steps_condvar.specs.declared.places.CondvarPlace.{CondvarPlace}
 use Rattle.steps_condvar.specs.declared.places.CondvarPlace.TheVariants as condvar_place
-use Rattle.steps_mutex.specs.MutexSteps.{is_locked, is_parked, lock_act, hand_off_act}
-use Rattle.lot_steps.specs.Steps.{act_of, looking, late_key, next_place, called_lock, profile}
-use Rattle.lot_machine.specs.Machine.{State, unlocked, place_at, word_at, owners_at, kind_at, queue_at}
-use Rattle.lot_machine.specs.Machine.{state_after_operation, queues_with_last, queues_without_first}
-use Rattle.lot_machine.specs.Machine.{state_after_act, state_after_taking, state_after_look, state_after_go}
-use Rattle.lot_machine.specs.Machine.{put, state_after_late_on, state_after_turn, can_turn, is_possible}
-use Rattle.lot_machine.specs.Machine.{after, step_outcome, can_do, reply_to}
-use Rattle.lot_machine.specs.Fits.{IsWellFormed, PlaceFits}
-use Rattle.lot_laws.specs.MutexPromises.{IsMutexWord}
-use Rattle.lot_laws.specs.ThreadDeeds.{mutex_location}
-use Rattle.lot_laws.specs.SitesOf.{AreCondvars, AreCounted, IsInductive, FitsItsLock, is_mutex, rules_in}
-use Rattle.spec_locks.specs.Sites.{Main}
 use Rattle.lot_laws.proofs.machine.Parts.{own_role}
-use Rattle.lot_machine.proofs.Shape.{both, looking_well_formed}
 use Rattle.lot_laws.proofs.calls.Looking.{looking_inductive, locks_same, looks_now, calls_same}
 use Rattle.std.specs.Prelude.{nat_lt}
-use Rattle.spec_locks.specs.Onces.{OnceCase, Start, Finish, Fail, Rest, TakeAll}
-use Rattle.spec_locks.specs.Locks.{LockState, Rules, Taken, LockCase, Enter, Pend, Settle, Leave, Convert}
-use Rattle.spec_locks.specs.Locks.{Park, Aside, TakeFirst, TakeAside, TakePicked, Wake}
-use Rattle.spec_locks.specs.Locks.{HandOff as HandsLockOff, Late, Rollback, OfOnce, Needs, IsTaken}
-use Rattle.spec_locks.specs.Locks.{HasTakenNobody, IsLockState, keep_from, first_thread, Owns}
+use Rattle.spec_locks.specs.Locks.{Enter}
+use Rattle.spec_locks.specs.Locks.{Late}
 use Rattle.spec_locks.specs.Locks as locks
-use Rattle.spec_locks.specs.Runs.{CallState, AreLockStates, MayMove, rules_at, locks_after, Moves}
-use Rattle.lot_laws.specs.Refinement.{call_at, lock_state, locks_of, call_state, owner_at}
-use Rattle.lot_laws.specs.Fair.{OwnerReleasesFairly, IsFairRelease, OwnsOn, HandsMutexOver, LetsMutexGo}
-use Rattle.lot_laws.specs.Fair.{IsFair, IsToGiveAt, GivesUpFairly, FairReleaseComesTo as GivesFrom}
-use Rattle.steps_rwlock_fair.specs.FairGives.{IsToGive}
-use Rattle.steps_rwlock_fair.specs.FairSteps.{call_act}
 use Rattle.lot_laws.proofs.rwlock.FairHands.{goes_giving, owner_stays}
 use Rattle.lot_laws.proofs.promises.PlacePromises.{row_promises}
 use Rattle.lot_laws.proofs.hands.CountsPut.{looking_counted}
-use Rattle.steps_rwlock.specs.declared.places.Admission.{Admission}
-use Rattle.steps_rwlock_fair.specs.declared.places.RwLockCallPlace.{RwLockCallPlace}
 use Rattle.lot_laws.proofs.promises.ExclusiveOwners.{mutex_owner_after, mutex_is, by_code}
 use Rattle.lot_laws.proofs.calls.EachLock.{moves_no_owner, moves_no_readers, moves_takes, turned_so}
 use Rattle.lot_laws.proofs.machine.Parts.{IsSingle, own_stance, aparts, single_or_two}
@@ -76,16 +54,9 @@ use Rattle.lot_laws.proofs.sites.TurnsKept.{after_inductive}
 use Rattle.lot_laws.proofs.machine.Parts.{mutex}
 use Rattle.lot_laws.proofs.sites.StandsMoved.{mutex_rules}
 use Rattle.lot_laws.proofs.machine.KindsStay.{after_kinds}
-use Rattle.spec_locks.specs.Purposes.{rules_of}
 use Rattle.lot_laws.proofs.sites.SitesKept.{unshared_at, single_at, alone_at, mutexes_at}
-use Rattle.steps_base.specs.declared.owners.Owners.{Owners}
-use Rattle.steps_base.specs.Owners.{with_exclusive}
 use Rattle.lot_laws.proofs.calls.Events.{rights}
 use Rattle.lot_laws.proofs.calls.LockSteps.{IsTurn, after_step}
-use Rattle.spec_locks.specs.Purposes.{Purpose, Enters, Releases, Converts, Bumps, CallsOnce, Awaits, Waits}
-use Rattle.spec_locks.specs.Purposes.{Notifies, lock_for}
-use Rattle.spec_locks.specs.Sites.{has_readers}
-use Rattle.steps_rwlock_fair.specs.FairProfiles.{call_profile}
 use Rattle.lot_laws.proofs.rwlock.CallRows.{call_promises}
 
 -- the lock that is released fairly is that of the call

@@ -1,45 +1,25 @@
 -- The promises of the world say the headline: in the words of the abstract locks alone, nobody is forgotten.
-use Rattle.std.proofs.Common.{ℕ, Bool, true, false, Option, Some, None, ◌≤◌, ◌⊎◌, List, [], ◌∷◌, ◌++◌, ◌≡◌}
-use Rattle.std.proofs.Common.{◌≢◌, inl, inr, refl, sym, ◌∙◌, ap, subst}
-use Rattle.std.proofs.lemmas.List.{length-replicate, length-map}
+use Rattle.lot_laws.proofs.Names
+use Names.{ℕ, Bool, true, false, Option, Some, None, ◌≤◌, ◌⊎◌, List, [], ◌∷◌, ◌++◌, ◌≡◌, ◌≢◌, inl, inr, refl}
+use Names.{sym, ◌∙◌, ap, subst, length-replicate, length-map, Kind, Step, Outcome, Act, Sleep, Place, Idle}
+use Names.{Once, act_of, beside_of, called_lock, line_owed, profile, profile_beside, retries_on, Run}
+use Names.{runs_one, Rights, rights_of, standing, CallsOnce, MayTell, Behaves, Opens, State, kind_at, opening}
+use Names.{unlocked, place_at, filled_at, after, step_outcome, after_steps, step_outcomes, RunsClosure}
+use Names.{call_at, call_on_both, call_state, keys_entered, lock_state, locks_of, sleeps, AreLookedAfterIn}
+use Names.{IsKept, IsDebtorOf, IsLookedAfterIn, IsHandedOverIn, Owes, IsWorld, Tells, states_of, StateHolds}
+use Names.{StepHolds, AllHold, IsGuaranteed, IsSafe, safe_holds, step_holds}
 use Rattle.core_base.specs.declared.keys.Line.{Line}
 use Rattle.core_base.specs.declared.keys.Line.TheVariants.{Main, Second}
-use Rattle.spec_locks.specs.declared.kinds.Kind.{Kind}
-use Rattle.spec_locks.specs.declared.calls.Step.{Step}
-use Rattle.spec_locks.specs.declared.outcomes.Outcome.{Outcome}
-use Rattle.steps_base.specs.declared.acts.Act.{Act}
-use Rattle.steps_base.specs.declared.acts.Act.TheVariants.{Sleep}
-use Rattle.lot_steps.specs.declared.places.Place.{Place}
-use Rattle.lot_steps.specs.declared.places.Place.TheVariants.{Idle, Once}
-use Rattle.lot_steps.specs.Steps.{act_of, beside_of, called_lock, line_owed, profile, profile_beside}
-use Rattle.lot_steps.specs.Steps.{retries_on}
-use Rattle.steps_once.specs.declared.places.OncePlace.TheVariants.{Run}
 use Rattle.steps_once.specs.declared.run.RunAt.TheVariants as running
-use Rattle.lot_machine.proofs.Closures.{runs_one}
 use Rattle.lot_laws.proofs.machine.Parts.{calls_none}
-use Rattle.spec_locks.specs.Locks.{Rights, rights_of, standing}
-use Rattle.spec_locks.specs.Purposes.{CallsOnce}
 use Rattle.lot_laws.proofs.machine.Filled.{filled_after}
 use Rattle.spec_locks.specs.Headline as headline
-use Rattle.spec_locks.specs.Headline.{MayTell, Behaves, Opens}
-use Rattle.lot_machine.specs.Machine.{State, kind_at, opening, unlocked, place_at, filled_at, after}
-use Rattle.lot_machine.specs.Machine.{step_outcome, after_steps, step_outcomes}
-use Rattle.lot_laws.specs.Refinement.{RunsClosure, call_at, call_on_both, call_state, keys_entered}
-use Rattle.lot_laws.specs.Refinement.{lock_state, locks_of, runs_closure, sleeps}
-use Rattle.lot_laws.specs.Promises.{AreLookedAfterIn, IsKept, IsDebtorOf, IsLookedAfterIn, IsHandedOverIn}
-use Rattle.lot_laws.specs.Owing.{Owes}
-use Rattle.lot_laws.specs.SitesOf.{IsWorld}
-use Rattle.lot_laws.specs.WorldRuns.{Tells, states_of}
+use Rattle.lot_laws.specs.Refinement.{runs_closure}
 use Rattle.lot_laws.proofs.sites.Opening.{kind_is, unfilled_0}
 use Rattle.lot_laws.proofs.promises.Promises.{opening_is}
 use Rattle.lot_laws.proofs.alone.WorldRuns.{step_is, world_after, world_kept}
 use Rattle.lot_laws.proofs.condvar.SleepersOwn.{sleepers_own}
 use Rattle.lot_laws.proofs.mutex.FairHands.{fair_kind, fair_owned}
-use Rattle.spec_locks.specs.EachState.{StateHolds}
-use Rattle.spec_locks.specs.EachStep.{StepHolds}
-use Rattle.spec_locks.specs.Guarantees.{AllHold, IsGuaranteed}
-use Rattle.spec_locks.specs.Headline.{IsSafe}
-use Rattle.spec_locks.proofs.Guarantees.{safe_holds, step_holds}
 
 awake_is : (a : Act) → a ≢ Sleep → sleeps a ≡ false
 awake_is Sleep n = absurd (n refl)

@@ -1,20 +1,11 @@
 -- A step leaves the other threads as they are, but for the sleepers that its thread wakes.
-use Rattle.std.proofs.Common.{ℕ, Bool, true, false, Option, Some, None, ◌==◌, ◌≡◌, ◌≢◌, ◌≤◌, ◌⊎◌, inl, inr}
-use Rattle.std.proofs.Common.{refl, sym, ◌∙◌, subst, arith, is_some}
-use Rattle.std.proofs.lemmas.Bool.{cases_lt}
+use Rattle.lot_laws.proofs.Names
+use Names.{ℕ, Bool, true, false, Option, Some, None, ◌==◌, ◌≡◌, ◌≢◌, ◌≤◌, ◌⊎◌, inl, inr, refl, sym, ◌∙◌}
+use Names.{subst, arith, is_some, cases_lt, Step, Taken, standing, MayWait, LeavesOthers, MayWake}
+use Names.{is_taken_by, Main, Act, Sleep, Word, act_of, looking, taker, State, after, place_at, section_at}
+use Names.{call_at, lock_state, locks_of, sleeps, stance_of, IsHandedOverIn, IsKept, LeadsToSleep, holder}
+use Names.{sort_at}
 use Rattle.core_base.specs.Keys.{key_of}
-use Rattle.spec_locks.specs.declared.calls.Step.{Step}
-use Rattle.spec_locks.specs.Locks.{Taken, standing}
-use Rattle.spec_locks.specs.Purposes.{MayWait}
-use Rattle.spec_locks.specs.Runs.{LeavesOthers, MayWake, is_taken_by}
-use Rattle.spec_locks.specs.Sites.{Main}
-use Rattle.steps_base.specs.declared.acts.Act.{Act}
-use Rattle.steps_base.specs.declared.acts.Act.TheVariants.{Sleep, Word}
-use Rattle.lot_steps.specs.Steps.{act_of, looking, taker}
-use Rattle.lot_machine.specs.Machine.{State, after, place_at, section_at}
-use Rattle.lot_laws.specs.Refinement.{call_at, lock_state, locks_of, sleeps, stance_of}
-use Rattle.lot_laws.specs.Promises.{IsHandedOverIn, IsKept, LeadsToSleep, holder}
-use Rattle.lot_laws.specs.Owing.{sort_at}
 use Rattle.lot_laws.proofs.machine.Sleepers.{sleepers_stay}
 use Rattle.lot_laws.proofs.machine.StancesStay.{awake_stay, stance_so}
 

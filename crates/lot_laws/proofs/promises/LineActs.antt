@@ -1,21 +1,13 @@
 -- An act that enters a section is of a line of the lock that the thread calls, and one that leaves a section
--- or touches a queue is of the line
--- whose section the thread is in, as its place says.
-use Rattle.std.proofs.Common.{ℕ, zero, suc, Option, Some, None, ◌≡◌, ◌≢◌, ◌⊎◌, ◌+◌, ◌*◌, ◌<◌, inl, inr, []}
-use Rattle.std.proofs.Common.{map, length, get_or, refl, sym, ◌∙◌, ap, subst, arith}
-use Rattle.std.proofs.lemmas.Bool.{cases_eq}
-use Rattle.std.proofs.Math.ListN.{get_or-map}
-use Rattle.core_base.specs.Lines.{without, times}
-use Rattle.steps_base.specs.declared.acts.Act.{Act}
+-- or touches a queue is of the line whose section the thread is in, as its place says.
+use Rattle.lot_laws.proofs.Names
+use Names.{ℕ, zero, suc, Option, Some, None, ◌≡◌, ◌≢◌, ◌⊎◌, ◌+◌, ◌*◌, ◌<◌, inl, inr, [], map, length, get_or}
+use Names.{refl, sym, ◌∙◌, ap, subst, arith, cases_eq, get_or-map, without, times, Act, act_of, key_in}
+use Names.{late_key, called_lock, profile, Place, Idle, Mutex, RwLock, Once, Condvar, Semaphore, Line, Main}
+use Names.{Second, State, place_at, section_at, queue_at, IsWellFormed, PlaceFits, location, location_at}
+use Names.{IsInductive, key_of, stood_in}
 use Rattle.steps_base.specs.declared.acts.Act.TheVariants as act
-use Rattle.lot_steps.specs.Steps.{act_of, key_in, late_key, called_lock, profile}
-use Rattle.lot_steps.specs.declared.places.Place.{Place}
-use Rattle.lot_steps.specs.declared.places.Place.TheVariants.{Idle, Mutex, RwLock, Once, Condvar, Semaphore}
-use Rattle.spec_locks.specs.Sites.{Line, Main, Second}
-use Rattle.lot_machine.specs.Machine.{State, place_at, section_at, queue_at}
-use Rattle.lot_machine.specs.Fits.{IsWellFormed, PlaceFits}
-use Rattle.lot_laws.specs.Locations.{Location, location, location_at}
-use Rattle.lot_laws.specs.SitesOf.{IsInductive, key_of, stood_in}
+use Rattle.lot_laws.specs.Locations.{Location}
 use Rattle.lot_laws.proofs.hands.Counts.{without_absent}
 use Rattle.lot_laws.proofs.machine.PlaceTest.{IsLineAct, IsOfLine, IsWithinLine, StandsThere, call_facts}
 use Rattle.lot_laws.proofs.machine.PlaceTest.{mutex_row_facts, once_facts, semaphore_facts}

@@ -1,26 +1,16 @@
 -- In a run of the world a mutex that each call gives up fairly has no more new owners than there were threads
 -- before one that waits.
-use Rattle.std.proofs.Common.{ℕ, zero, suc, true, false, Option, Some, None, ◌≡◌, ◌≢◌, ◌+◌, ◌≤◌, ◌<◌, ◌⊎◌}
-use Rattle.std.proofs.Common.{inl, inr, List, [], ◌∷◌, length, refl, sym, ◌∙◌, ap, subst, arith}
-use Rattle.std.proofs.lemmas.Bool.{cases_lt}
-use Rattle.spec_locks.specs.declared.calls.Step.{Step}
+use Rattle.lot_laws.proofs.Names
+use Names.{ℕ, zero, suc, true, false, Option, Some, None, ◌≡◌, ◌≢◌, ◌+◌, ◌≤◌, ◌<◌, ◌⊎◌, inl, inr, List, []}
+use Names.{◌∷◌, length, refl, sym, ◌∙◌, ap, subst, arith, cases_lt, Step, IsHandedOn, ahead, in_hands, passed}
+use Names.{turns, LockState, Queued, Taken, one_if_some, standing, MayWait, Line, Main, Second, has_readers}
+use Names.{nobody_overtakes, queues_keep_order, Idle, State, after, after_steps, kind_at, place_at}
+use Names.{step_outcome, after_size, IsKept, WaitsFor, IsInside, call_at, call_state, lock_state, locks_of}
+use Names.{owner_at, taken_at, IsWorld, is_mutex, rules_in, FairlyThroughout, IsGivenUpFairly}
+use Names.{NobodyIsOvertaken, StandsThroughout, new_owners, newly_owned}
 use Rattle.spec_locks.specs.declared.kinds.Kind.TheVariants as kinds
-use Rattle.spec_locks.specs.Bypass.{IsHandedOn, ahead, in_hands, passed, turns}
-use Rattle.spec_locks.specs.Locks.{LockState, Queued, Taken, one_if_some, standing, times}
+use Rattle.spec_locks.specs.Locks.{times}
 use Rattle.spec_locks.specs.Locks as locks
-use Rattle.spec_locks.specs.Purposes.{MayWait}
-use Rattle.spec_locks.specs.Sites.{Line, Main, Second, has_readers}
-use Rattle.spec_locks.proofs.Bypass.{nobody_overtakes}
-use Rattle.spec_locks.proofs.QueueOrder.{queues_keep_order}
-use Rattle.lot_steps.specs.declared.places.Place.TheVariants.{Idle}
-use Rattle.lot_machine.specs.Machine.{State, after, after_steps, kind_at, place_at, step_outcome}
-use Rattle.lot_machine.proofs.Shape.{after_size}
-use Rattle.lot_laws.specs.Promises.{IsKept, WaitsFor}
-use Rattle.lot_laws.specs.Owing.{IsInside}
-use Rattle.lot_laws.specs.Refinement.{call_at, call_state, lock_state, locks_of, owner_at, taken_at}
-use Rattle.lot_laws.specs.SitesOf.{IsWorld, is_mutex, rules_in}
-use Rattle.lot_laws.specs.Overtaking.{FairlyThroughout, IsGivenUpFairly, NobodyIsOvertaken, StandsThroughout}
-use Rattle.lot_laws.specs.Overtaking.{new_owners, newly_owned}
 use Rattle.lot_laws.proofs.alone.WorldRuns.{step_is, world_after, world_kept}
 use Rattle.lot_laws.proofs.machine.KindsStay.{after_kinds}
 use Rattle.lot_laws.proofs.machine.Parts.{past_all, taken_held}

@@ -1,46 +1,25 @@
 -- A debtor owes its wake since it saw waiters, or since it entered the section.
-use Rattle.steps_base.specs.Acts.{outcome_of}
-use Rattle.std.proofs.Common.{ℕ, Bool, true, false, Option, Some, None, if◌then◌else◌, ◌≡◌, ◌≢◌, ◌<◌, ◌⊎◌}
-use Rattle.std.proofs.Common.{◌↔◌, inl, inr, length, refl, sym, ◌∙◌, ap, subst, get_or-set_same, nat_lt}
-use Rattle.std.proofs.Common.{is_some, length-set}
-use Rattle.lot_machine.specs.Machine.{closed_place}
+use Rattle.lot_laws.proofs.Names
+use Names.{outcome_of, ℕ, Bool, true, false, Option, Some, None, if◌then◌else◌, ◌≡◌, ◌≢◌, ◌<◌, ◌⊎◌, ◌↔◌, inl}
+use Names.{inr, length, refl, sym, ◌∙◌, ap, subst, get_or-set_same, nat_lt, is_some, length-set, closed_place}
+use Names.{close_outcome, state_after_close, ltb-true, One, Call, Turn, Step, Outcome, Enter, Late, Place}
+use Names.{Idle, lock_in, condvar_first, act_of, condvar_goes, next_place, first_place, is_idle, looking}
+use Names.{late_key, called_lock, line_owed, profile, next_act, State, place_at, word_at, state_after_go}
+use Names.{state_after_going, go_reply, go_outcome, going_outcome, is_free_under, is_open_to, can_begin}
+use Names.{state_after_begin, can_turn, turn_outcome, kind_at, put, state_after_look, look_outcome}
+use Names.{state_after_late_on, state_after_turn, is_possible, after, step_outcome, Rights, Owes, IsInside}
+use Names.{IsWait, SeesWaiters, OwesSince, OnlyLooks, LooksFirst, LetsOthersIn, line_let_in, sort_at}
+use Names.{tells_by, IsWellFormed, call_at, call_state, Line, AreCondvars, AreCounted, IsInductive, key_of}
+use Names.{both, Profile, call_by, CallState, no_call, Purpose, Waits, lock_for}
 use Rattle.lot_laws.proofs.calls.Looking.{alike_calls, closing_inductive, like}
 use Rattle.lot_laws.proofs.calls.Closings.{closing, closing_there}
 use Rattle.lot_laws.proofs.calls.OwnPlace.{gone_place, gone_told}
-use Rattle.lot_machine.specs.Machine.{close_outcome, state_after_close}
 use Rattle.lot_laws.proofs.calls.Closures.{RunsOne, closes_one}
-use Rattle.std.proofs.lemmas.Bool.{ltb-true}
-use Rattle.core_base.specs.declared.keys.Keys.TheVariants.{One}
-use Rattle.spec_locks.specs.declared.calls.Call.{Call}
 use Rattle.spec_locks.specs.declared.calls.Call as call
-use Rattle.spec_locks.specs.declared.calls.Turn.{Turn}
 use Rattle.spec_locks.specs.declared.calls.Turn as turn
-use Rattle.spec_locks.specs.declared.calls.Step.{Step}
-use Rattle.spec_locks.specs.declared.outcomes.Outcome.{Outcome}
 use Rattle.spec_locks.specs.declared.outcomes.Outcome as outcome
-use Rattle.steps_base.specs.declared.acts.Act.TheVariants.{Enter}
-use Rattle.steps_base.specs.declared.acts.Reply.TheVariants.{Late}
-use Rattle.lot_steps.specs.declared.places.Place.{Place}
-use Rattle.lot_steps.specs.declared.places.Place.TheVariants.{Idle}
-use Rattle.spec_locks.specs.Calls.{lock_in}
-use Rattle.steps_condvar.specs.CondvarSteps.{condvar_first}
-use Rattle.lot_steps.specs.Steps.{act_of, condvar_goes, next_place, first_place, is_idle, looking, late_key}
-use Rattle.lot_steps.specs.Steps.{called_lock, line_owed, profile, next_act}
-use Rattle.lot_machine.specs.Machine.{State, place_at, word_at, state_after_go, state_after_going, go_reply}
-use Rattle.lot_machine.specs.Machine.{go_outcome, going_outcome, is_free_under, is_open_to, can_begin}
-use Rattle.lot_machine.specs.Machine.{state_after_begin, can_turn, turn_outcome, kind_at, put}
-use Rattle.lot_machine.specs.Machine.{state_after_look, look_outcome, state_after_late_on, state_after_turn}
-use Rattle.lot_machine.specs.Machine.{is_possible, after, step_outcome}
 use Rattle.lot_laws.proofs.machine.Befallen.{others_keep_it}
-use Rattle.spec_locks.specs.Locks.{Rights}
 use Rattle.lot_laws.proofs.rwlock.GoesOn.{goes_on_waking, takes_next}
-use Rattle.lot_laws.specs.Owing.{Owes, IsInside, IsWait, SeesWaiters, OwesSince, OnlyLooks, LooksFirst}
-use Rattle.lot_laws.specs.Owing.{LetsOthersIn, line_let_in, sort_at, tells_by}
-use Rattle.lot_machine.specs.Fits.{IsWellFormed}
-use Rattle.lot_laws.specs.Refinement.{call_at, call_state}
-use Rattle.spec_locks.specs.Sites.{Line}
-use Rattle.lot_laws.specs.SitesOf.{AreCondvars, AreCounted, IsInductive, key_of}
-use Rattle.lot_machine.proofs.Shape.{both}
 use Rattle.lot_laws.proofs.sites.TurnsKept.{idle_is, after_inductive}
 use Rattle.lot_laws.proofs.calls.SingleCalls.{call_none}
 use Rattle.lot_laws.proofs.condvar.Owes.{SeesBy, calm_owing, first_calm, two_goes_late, went_owing}
@@ -48,10 +27,6 @@ use Rattle.lot_laws.proofs.machine.Parts.{IsLock, IsSingle, next_of, next_single
 use Rattle.lot_laws.proofs.machine.Parts.{of_own, single_or_two}
 use Rattle.lot_laws.proofs.calls.Looking.{looking_inductive, calls_same}
 use Rattle.lot_laws.proofs.calls.Events.{rights as rights_at}
-use Rattle.steps_base.specs.Profiles.{Profile}
-use Rattle.steps_base.specs.Calls.{call_by}
-use Rattle.spec_locks.specs.Runs.{CallState, no_call}
-use Rattle.spec_locks.specs.Purposes.{Purpose, Waits, lock_for}
 use Rattle.lot_laws.proofs.promises.RowPromises.{CallsOneLock, RowFinds, RowLooks, releases_for}
 use Rattle.lot_laws.proofs.promises.RowPromises.{downgrades_for}
 use Rattle.lot_laws.proofs.promises.PlacePromises.{LetsBy, row_promises, row_calls_one, calls_one_lock}

@@ -1,31 +1,18 @@
 -- The promises of a thread at any place of a call, by its row, and their sense in the state.
-use Rattle.std.proofs.Common.{ℕ, Bool, true, false, Option, Some, None, if◌then◌else◌, ◌≡◌, ◌≢◌, ◌*◌, ◌+◌}
-use Rattle.std.proofs.Common.{◌≤◌, ◌⊎◌, ◌↔◌, inl, inr, refl, sym, ◌∙◌, ap, subst, arith, ◌&&◌, not}
-use Rattle.steps_once.proofs.OnceRowCheck.{once_promises}
-use Rattle.steps_semaphore.proofs.SemaphoreRowCheck.{semaphore_promises}
-use Rattle.core_base.specs.declared.keys.Keys.TheVariants.{One}
-use Rattle.core_base.specs.Lines.{first_of}
+use Rattle.lot_laws.proofs.Names
+use Names.{ℕ, Bool, true, false, Option, Some, None, if◌then◌else◌, ◌≡◌, ◌≢◌, ◌*◌, ◌+◌, ◌≤◌, ◌⊎◌, ◌↔◌, inl}
+use Names.{inr, refl, sym, ◌∙◌, ap, subst, arith, ◌&&◌, not, once_promises, semaphore_promises, One, first_of}
+use Names.{Enter, taken_from, Place, Idle, Mutex, RwLock, Once, Condvar, Semaphore, act_of, called_lock}
+use Names.{is_lock, calls, profile, line_owed, beside_of, profile_beside, Taken, IsSomePending, one_if_some}
+use Names.{one_if_thread, standing, CallState, Purpose, IsReleasing, Waits, cases_eq, Role, Line, Main}
+use Names.{Second, Pends, idle, has_readers, State, place_at, kind_at, queue_at, lock_state, call_on, call_at}
+use Names.{taken_at, nowhere, location, location_at, role_on, IsInductive, FitsItsLock, key_of, stood_in}
+use Names.{rules_in, Owes, IsInside, LetsOthersIn, sort_at, IsDowngrade, GoesToWake, WaitHasReleased}
+use Names.{WakesAside, mutex_promises, call_profile, call_act}
 use Rattle.core_base.specs.Lines as Lines
-use Rattle.steps_base.specs.declared.acts.Act.TheVariants.{Enter, Rest}
-use Rattle.steps_base.specs.Profiles.{taken_from}
-use Rattle.lot_steps.specs.declared.places.Place.{Place}
-use Rattle.lot_steps.specs.declared.places.Place.TheVariants.{Idle, Mutex, RwLock, Once, Condvar, Semaphore}
-use Rattle.lot_steps.specs.Steps.{act_of, called_lock, is_lock, calls, profile, line_owed, beside_of}
-use Rattle.lot_steps.specs.Steps.{profile_beside}
-use Rattle.spec_locks.specs.Locks.{Taken, IsSomePending, one_if_some, one_if_thread, standing}
+use Rattle.steps_base.specs.declared.acts.Act.TheVariants.{Rest}
 use Rattle.spec_locks.specs.Locks as locks
-use Rattle.spec_locks.specs.Runs.{CallState}
-use Rattle.spec_locks.specs.Purposes.{Purpose, IsReleasing, Waits}
-use Rattle.std.proofs.lemmas.Bool.{cases_eq}
-use Rattle.spec_locks.specs.Sites.{Role, Line, Main, Second, Pends, idle, has_readers}
-use Rattle.lot_machine.specs.Machine.{State, place_at, kind_at, queue_at}
-use Rattle.lot_laws.specs.Refinement.{lock_state, call_on, call_at, taken_at}
-use Rattle.lot_laws.specs.Locations.{Location, nowhere, location, location_at, role_on, location_by}
-use Rattle.lot_laws.specs.SitesOf.{IsInductive, FitsItsLock, key_of, stood_in, rules_in}
-use Rattle.lot_laws.specs.Owing.{Owes, IsInside, LetsOthersIn, sort_at}
-use Rattle.steps_base.specs.Rows.{IsDowngrade}
-use Rattle.lot_laws.specs.Promises.{GoesToWake, WaitHasReleased}
-use Rattle.steps_base.specs.Rows.{WakesAside}
+use Rattle.lot_laws.specs.Locations.{Location, location_by}
 use Rattle.lot_laws.proofs.hands.Counts.{none_first, first_out}
 use Rattle.lot_laws.proofs.calls.SingleCalls.{call_here, call_none}
 use Rattle.lot_laws.proofs.condvar.Promises.{StandsAt, two_stand_main}
@@ -36,13 +23,10 @@ use Rattle.lot_laws.proofs.sites.OneStep.{queued_times}
 use Rattle.lot_laws.proofs.sites.StandsMoved.{mutex_rules}
 use Rattle.lot_laws.proofs.promises.LineActs.{line_act}
 use Rattle.lot_laws.proofs.machine.PlaceTest.{IsOfLine, IsLineAct}
-use Rattle.steps_mutex.proofs.MutexRowCheck.{mutex_promises}
 use Rattle.lot_laws.proofs.promises.RowPromises.{CallsOneLock, LetsIn, LetsInAt, IsWaiting}
 use Rattle.lot_laws.proofs.promises.RowPromises.{calls_one as purpose_of_one, taken_in_row, RowPromises}
 use Rattle.lot_laws.proofs.calls.Events.{rights}
 use Rattle.lot_laws.proofs.rwlock.CallRows.{call_promises}
-use Rattle.steps_rwlock_fair.specs.FairProfiles.{call_profile}
-use Rattle.steps_rwlock_fair.specs.FairSteps.{call_act}
 
 -- -------------------------------------------------------------- the lock that a thread calls, and the others
 

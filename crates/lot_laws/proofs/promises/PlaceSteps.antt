@@ -1,32 +1,23 @@
 -- A step changes the debt of its thread as its place says.
 use Rattle.spec_locks.specs.declared.calls.CondvarCall.TheVariants as condvar
-use Rattle.std.proofs.Common.{Bool, ℕ, true, false, Some, None, if◌then◌else◌, ◌≡◌, refl, sym, ◌∙◌, ap, subst}
+use Rattle.lot_laws.proofs.Names
+use Names.{Bool, ℕ, true, false, Some, None, if◌then◌else◌, ◌≡◌, refl, sym, ◌∙◌, ap, subst, Call, Reply, Late}
+use Names.{Place, Idle, Mutex, RwLock, Once, Condvar, Semaphore, outcome_of, Kind, is_fair, act_of, next_act}
+use Names.{next_place, first_place, called_lock, line_owed, profile, rwlock_does, rwlock_goes, State}
+use Names.{place_at, word_at, kind_at, reply_to, sort_at, Exclusive, Has, Line, has_readers, idle, role_on}
+use Names.{IsInductive, FitsItsLock, rules_in, site_of, Next, Admission, RwLockPlace, Admits, MayStand}
+use Names.{rwlock_act, RwLockCallPlace, admission_of_kind, Plain, HandOver, given, call_act, call_next}
+use Names.{call_profile, CallStands}
 use Rattle.lot_laws.proofs.condvar.Owing.{condvar_befallen}
 use Rattle.lot_laws.proofs.once.Owes.{once_owes_next}
 use Rattle.lot_laws.proofs.semaphore.Owes.{semaphore_owes_next}
 use Rattle.lot_laws.proofs.semaphore.Owing.{semaphore_befallen, semaphore_late}
 use Rattle.spec_locks.specs.declared.calls.Patience.TheVariants as how
 use Rattle.spec_locks.specs.declared.calls.SemaphoreCall.TheVariants as semaphore_call
-use Rattle.spec_locks.specs.declared.calls.Call.{Call}
 use Rattle.spec_locks.specs.declared.calls.Call as call
-use Rattle.steps_base.specs.declared.acts.Reply.{Reply}
-use Rattle.steps_base.specs.declared.acts.Reply.TheVariants.{Late}
 use Rattle.lot_laws.proofs.once.Owing.{once_befallen, once_late}
-use Rattle.lot_steps.specs.declared.places.Place.{Place}
-use Rattle.lot_steps.specs.declared.places.Place.TheVariants.{Idle, Mutex, RwLock, Once, Condvar, Semaphore}
-use Rattle.steps_base.specs.Acts.{outcome_of}
-use Rattle.spec_locks.specs.declared.kinds.Kind.{Kind}
-use Rattle.spec_locks.specs.Kinds.{is_fair}
-use Rattle.lot_steps.specs.Steps.{act_of, next_act, next_place, first_place, called_lock, line_owed, profile}
-use Rattle.lot_steps.specs.Steps.{rwlock_does, rwlock_goes}
-use Rattle.lot_machine.specs.Machine.{State, place_at, word_at, kind_at, reply_to}
 use Rattle.spec_locks.specs.Locks as locks
-use Rattle.lot_laws.specs.Owing.{sort_at}
-use Rattle.core_base.specs.declared.wants.Want.TheVariants.{Exclusive}
-use Rattle.spec_locks.specs.Sites.{Has, Line, has_readers, idle}
-use Rattle.lot_laws.specs.Locations.{role_on}
 use Rattle.lot_laws.proofs.machine.Parts.{same, IsSingle}
-use Rattle.lot_laws.specs.SitesOf.{IsInductive, FitsItsLock, rules_in, site_of}
 use Rattle.lot_laws.proofs.promises.RowPromises.{Befalls, RowOwesThen, IsLateNext, owes_then, mutex_tells}
 use Rattle.lot_laws.proofs.mutex.Owing.{mutex_befallen, mutex_owes_next, mutex_first_owes, mutex_late}
 use Rattle.lot_laws.proofs.sites.StandsMoved.{mutex_rules}
@@ -34,20 +25,8 @@ use Rattle.lot_laws.proofs.rwlock.Owing.{plain_tells, rwlock_befallen, rwlock_ow
 use Rattle.lot_laws.proofs.rwlock.Owing.{rwlock_late}
 use Rattle.lot_laws.proofs.rwlock.CallOwing.{CallOwesNext, IsOwners, call_owes_next, owners_word}
 use Rattle.spec_locks.specs.declared.calls.Access.TheVariants as access
-use Rattle.steps_base.specs.declared.acts.Next.{Next}
 use Rattle.steps_base.specs.declared.acts.Next.TheVariants as next
-use Rattle.steps_rwlock.specs.declared.places.Admission.{Admission}
-use Rattle.steps_rwlock.specs.declared.places.RwLockPlace.{RwLockPlace}
-use Rattle.steps_rwlock.specs.RwLockDeeds.{Admits}
-use Rattle.steps_rwlock.specs.RwLockCalls.{MayStand}
-use Rattle.steps_rwlock.specs.RwLockSteps.{rwlock_act}
-use Rattle.steps_rwlock_fair.specs.declared.places.RwLockCallPlace.{RwLockCallPlace}
 use Rattle.steps_rwlock_fair.specs.declared.hand_over.HandOverAt.TheVariants as handing
-use Rattle.steps_rwlock.specs.RwLockBegins.{admission_of_kind}
-use Rattle.steps_rwlock_fair.specs.declared.places.RwLockCallPlace.TheVariants.{Plain, HandOver}
-use Rattle.steps_rwlock_fair.specs.FairSteps.{given, call_act, call_next}
-use Rattle.steps_rwlock_fair.specs.FairProfiles.{call_profile}
-use Rattle.steps_rwlock_fair.specs.FairCalls.{CallStands}
 use Rattle.lot_laws.proofs.calls.PlainCalls.{never_given, plain_acts, plain_leads}
 
 -- ---------------------------------------------------------------- each place

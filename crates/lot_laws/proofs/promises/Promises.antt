@@ -1,39 +1,26 @@
 -- The promises between steps, as callers are told them.
-use Rattle.std.proofs.Common.{ℕ, Bool, true, false, Option, Some, None, if◌then◌else◌, ◌==◌, ◌&&◌, ◌≡◌, ◌≢◌}
-use Rattle.std.proofs.Common.{◌+◌, ◌-◌, ◌*◌, ◌≤◌, ◌<◌, ◌⊎◌, inl, inr, List, [], ◌∷◌, length, refl, ◌∙◌, ap}
-use Rattle.std.proofs.Common.{subst, arith, ◌↔◌, sym}
-use Rattle.core_base.specs.declared.wants.Want.{Want}
-use Rattle.core_base.specs.declared.wants.Want.TheVariants.{Exclusive}
-use Rattle.steps_base.specs.declared.acts.Act.TheVariants.{Leave, Rest, Sleep}
-use Rattle.steps_base.specs.Profiles.{Profile, hand, hand_owner}
-use Rattle.spec_locks.specs.declared.kinds.Kind.{Kind}
-use Rattle.lot_steps.specs.declared.places.Place.{Place}
-use Rattle.lot_steps.specs.declared.places.Place.TheVariants.{Condvar}
-use Rattle.lot_steps.specs.Steps.{act_of, calls, is_lock, called_lock, or_else, profile, retries_on, taker}
-use Rattle.lot_machine.specs.Machine.{State, opening, place_at, kind_at, filled_at, section_at}
-use Rattle.lot_laws.specs.Locations.{Location, location_at, role_on}
-use Rattle.lot_laws.specs.SitesOf.{AreCondvars, AreUnmarked, IsInductive, IsSettled, rules_in, site_of}
-use Rattle.spec_locks.specs.Permits.{HasPermits, debt, debts}
-use Rattle.steps_semaphore.specs.Tended.{IsTended, semaphore}
-use Rattle.steps_semaphore.proofs.TendedKept.{nobody_forgotten}
-use Rattle.spec_locks.specs.Runs.{CallState, IsOpening}
-use Rattle.spec_locks.specs.Locks.{LockState, Sort, Queued, Rights, opening_lock, Rules, IsSomePending}
-use Rattle.spec_locks.specs.Locks.{has_caller, rights_of, readers, count, standing}
-use Rattle.spec_locks.specs.Onces.{Done, InProgress, IsRunning}
+use Rattle.lot_laws.proofs.Names
+use Names.{ℕ, Bool, true, false, Option, Some, None, if◌then◌else◌, ◌==◌, ◌&&◌, ◌≡◌, ◌≢◌, ◌+◌, ◌-◌, ◌*◌, ◌≤◌}
+use Names.{◌<◌, ◌⊎◌, inl, inr, List, [], ◌∷◌, length, refl, ◌∙◌, ap, subst, arith, ◌↔◌, sym, Want, Exclusive}
+use Names.{Sleep, Profile, hand, hand_owner, Kind, Place, Condvar, act_of, calls, is_lock, called_lock}
+use Names.{or_else, profile, retries_on, taker, State, opening, place_at, kind_at, filled_at, section_at}
+use Names.{location_at, role_on, AreCondvars, AreUnmarked, IsInductive, IsSettled, rules_in, site_of}
+use Names.{HasPermits, debt, debts, IsTended, semaphore, nobody_forgotten, CallState, IsOpening, LockState}
+use Names.{Sort, Queued, Rights, opening_lock, Rules, IsSomePending, has_caller, rights_of, readers, count}
+use Names.{standing, InProgress, IsRunning, Role, Line, Main, Second, Has, Pends, Runs, IsOpen, counts_some}
+use Names.{has_readers, IsDebtorRole, IsSite, LooksAfter, HasLimit, Enters, Converts, Bumps, CallsOnce}
+use Names.{Awaits, Purpose, MayWait, Waits, RunsClosure, locks_of, lock_state, lock_seen, taken_at, call_at}
+use Names.{call_on, call_state, stance_of, Owes, sort_at, AreLookedAfterIn, IsKept, WaitsFor, WakesWaiters}
+use Names.{IsDebtorOf, IsLookedAfterIn, IsOpenNow, WasNeverFull, HasOrPends, IsHandedOverIn, IsOwedWake}
+use Names.{IsWithinLimit, want_of, WaitHasReleased, KnowsRights, CondvarPlace, line_owed, FitsItsLock, One}
+use Names.{condvar_profile, condvar_place_purpose, condvar_recalls, condvar_released, condvar_row}
+use Names.{mutex_beside, idle_at, none_at, empty_at, nobody_owns, opening_shares, cases_lt, eqb-true}
+use Rattle.steps_base.specs.declared.acts.Act.TheVariants.{Leave, Rest}
+use Rattle.lot_laws.specs.Locations.{Location}
+use Rattle.spec_locks.specs.Onces.{Done}
 use Rattle.spec_locks.specs.Locks as sorts
-use Rattle.spec_locks.specs.Sites.{Role, Line, Main, Second, Has, Pends, Runs, IsOpen, counts_some}
-use Rattle.spec_locks.specs.Sites.{has_readers, IsDebtorRole, IsSite, LooksAfter}
-use Rattle.spec_locks.specs.Codes.{HasLimit}
-use Rattle.spec_locks.specs.Purposes.{Enters, Converts, Bumps, CallsOnce, Awaits, Purpose, MayWait, Waits}
-use Rattle.lot_laws.specs.Refinement.{RunsClosure, locks_of, lock_state, lock_seen, taken_at, call_at}
-use Rattle.lot_laws.specs.Refinement.{call_on, call_state, stance_of}
-use Rattle.lot_laws.specs.Owing.{Owes, sort_at}
 use Rattle.lot_laws.proofs.semaphore.Debtors.{Distinct, distinct, few_debts, owing_role}
 use Rattle.lot_laws.proofs.once.Marks.{marked_done, once_kind}
-use Rattle.lot_laws.specs.Promises.{AreLookedAfterIn, IsKept, WaitsFor, WakesWaiters, IsDebtorOf}
-use Rattle.lot_laws.specs.Promises.{IsLookedAfterIn, IsOpenNow, WasNeverFull, HasOrPends, IsHandedOverIn}
-use Rattle.lot_laws.specs.Promises.{IsOwedWake, IsWithinLimit, want_of, WaitHasReleased}
-use Rattle.steps_base.specs.Rows.{KnowsRights}
 use Rattle.lot_laws.proofs.calls.Closures.{runs_one}
 use Rattle.lot_laws.proofs.hands.Inside.{hands_inside, is_to_mark}
 use Rattle.lot_laws.proofs.sites.Held.{held}
@@ -50,29 +37,19 @@ use Rattle.lot_laws.proofs.promises.PlacePromises.{row_promises, location_own, r
 use Rattle.lot_laws.proofs.promises.PlacePromises.{calls_one_lock, role_calls, location_calls, stands_waiting}
 use Rattle.lot_laws.proofs.promises.PlacePromises.{waiting_stands, call_own, inside_own}
 use Rattle.lot_laws.proofs.calls.SingleCalls.{call_none, single_call}
-use Rattle.steps_condvar.specs.declared.places.CondvarPlace.{CondvarPlace}
-use Rattle.lot_steps.specs.Steps.{line_owed}
-use Rattle.lot_laws.specs.Refinement.{call_state}
-use Rattle.lot_laws.specs.SitesOf.{FitsItsLock}
 use Rattle.lot_laws.proofs.condvar.Promises.{StandsAt, two_know, two_one, two_owe_main, two_purpose}
 use Rattle.lot_laws.proofs.condvar.Promises.{two_retry, two_wait}
 use Rattle.lot_laws.proofs.machine.Parts.{IsOfTwo, condvar_apart, fits_two, single_or_two}
 use Rattle.lot_laws.proofs.promises.PlacePromises.{stands_there, there_stands}
 use Rattle.lot_laws.proofs.condvar.Asleep.{WasHandedBeside, two_asleep, two_hand_none}
 use Rattle.lot_laws.proofs.mutex.Waiters.{role_beside, location_beside}
-use Rattle.core_base.specs.declared.keys.Keys.TheVariants.{One}
 use Rattle.core_base.specs.declared.notes.Note as note
 use Rattle.steps_base.specs.declared.acts.Wakes as wakes
-use Rattle.steps_condvar.specs.CondvarProfiles.{condvar_profile, condvar_place_purpose, condvar_recalls}
-use Rattle.steps_condvar.specs.CondvarProfiles.{condvar_released, condvar_row}
-use Rattle.steps_condvar.specs.CondvarSteps.{mutex_beside}
 use Rattle.lot_laws.proofs.promises.Debtors.{going_owes_so, inside_owes_so, owing_so}
 use Rattle.lot_laws.proofs.condvar.MutexDebts.{LooksBeside, debtor_beside, idle_owes, looks_beside, no_second}
 use Rattle.lot_laws.proofs.condvar.MutexDebts.{two_owe, two_recalls, two_released, two_retries}
 use Rattle.lot_laws.proofs.machine.Parts.{same, calls_none, single_retries, single_taker, IsSingle}
 use Rattle.lot_laws.proofs.machine.Parts.{plain_rules}
-use Rattle.lot_machine.proofs.Opening.{idle_at, none_at, empty_at, nobody_owns, opening_shares}
-use Rattle.std.proofs.lemmas.Bool.{cases_lt, eqb-true}
 
 -- a call waits for one lock
 one_purpose : (o : Option Purpose) (l k : ℕ) → CallsOneLock o → MayWait o l → MayWait o k → l ≡ k

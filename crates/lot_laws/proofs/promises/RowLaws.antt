@@ -1,16 +1,9 @@
 -- One run of the world, and what its definitions refuse.
-use Rattle.std.proofs.Common.{ℕ, zero, suc, true, Some, None, ◌≡◌, inl, inr, [], ◌∷◌, refl, sym, ◌∙◌, arith}
-use Rattle.std.proofs.Common.{Option}
+use Rattle.lot_laws.proofs.Names
+use Names.{ℕ, zero, suc, true, Some, None, ◌≡◌, inl, inr, [], ◌∷◌, refl, sym, ◌∙◌, arith, Option, after_steps}
+use Names.{Line, Main, IsLookedAfterIn, FairUnlockHandsOver, NoWaiterIsForgotten, NobodyIsPassedOver, three}
+use Names.{row, row_told, forgotten, opening_well_formed, All-cons, All-nil, fits, IsWorld}
 use Rattle.spec_locks.specs.declared.kinds.Kind.TheVariants as kind
-use Rattle.lot_machine.specs.Machine.{after_steps}
-use Rattle.spec_locks.specs.Sites.{Line, Main}
-use Rattle.lot_laws.specs.Promises.{IsLookedAfterIn}
-use Rattle.lot_laws.specs.Laws.{FairUnlockHandsOver, NoWaiterIsForgotten, NobodyIsPassedOver, three, row}
-use Rattle.lot_laws.specs.Laws.{row_told, forgotten}
-use Rattle.lot_machine.proofs.Shape.{opening_well_formed}
-use Rattle.std.proofs.lemmas.List.Elements.{All-cons, All-nil}
-use Rattle.spec_locks.specs.Kinds.{fits}
-use Rattle.lot_laws.specs.SitesOf.{IsWorld}
 use Rattle.lot_laws.proofs.sites.Opening.{opening_condvars, opening_inductive}
 use Rattle.lot_laws.proofs.hands.CountsPut.{opening_counted}
 use Rattle.lot_laws.proofs.mutex.FairMutexes.{opening_settled}

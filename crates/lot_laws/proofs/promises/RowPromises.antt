@@ -1,30 +1,15 @@
 -- The row of a place promises of a step to the next one, whatever the sort of its lock.
-use Rattle.std.proofs.Common.{ℕ, Bool, true, false, Option, Some, None, ◌||◌, ◌≡◌, ◌≢◌, ◌⊎◌, inl, inr, refl}
-use Rattle.std.proofs.Common.{sym, ◌∙◌}
-use Rattle.core_base.specs.declared.keys.Keys.TheVariants.{One}
-use Rattle.core_base.specs.declared.wants.Want.{Want}
-use Rattle.core_base.specs.declared.wants.Want.TheVariants.{Exclusive}
-use Rattle.spec_locks.specs.declared.outcomes.Outcome.{Outcome}
+use Rattle.lot_laws.proofs.Names
+use Names.{ℕ, Bool, true, false, Option, Some, None, ◌||◌, ◌≡◌, ◌≢◌, ◌⊎◌, inl, inr, refl, sym, ◌∙◌, One, Want}
+use Names.{Exclusive, Outcome, Act, Enter, Sleep, Profile, Place, act_of, profile, parked_in, Sort, Purpose}
+use Names.{Enters, Releases, Converts, Bumps, CallsOnce, Awaits, IsReleasing, lock_for, Waits, Notifies, Line}
+use Names.{Main, Second, key_of, LooksFirst, line_let_in, tells_by, tells_of, IsDowngrade, KnowsRights}
 use Rattle.spec_locks.specs.declared.outcomes.Outcome.TheVariants as told
-use Rattle.steps_base.specs.declared.acts.Act.{Act}
-use Rattle.steps_base.specs.declared.acts.Act.TheVariants.{Enter, Sleep}
-use Rattle.steps_base.specs.Profiles.{Profile}
-use Rattle.lot_steps.specs.declared.places.Place.{Place}
-use Rattle.lot_steps.specs.Steps.{act_of, profile}
-use Rattle.spec_locks.specs.Codes.{parked_in}
-use Rattle.spec_locks.specs.Locks.{Sort}
 use Rattle.spec_locks.specs.Locks as sorts
-use Rattle.spec_locks.specs.Purposes.{Purpose, Enters, Releases, Converts, Bumps, CallsOnce, Awaits}
-use Rattle.spec_locks.specs.Purposes.{IsReleasing, lock_for, Waits, Notifies}
-use Rattle.spec_locks.specs.Sites.{Line, Main, Second}
 pub use Rattle.steps_base.specs.Rows.{is_acting, taken_in_row, IsWaiting, HasClaimed, WasHanded, LetsIn}
 pub use Rattle.steps_base.specs.Rows.{LetsInAt, RowOwes, IsDebtorIn, HasDebt, RowLooksAfter, RowIsLate}
 pub use Rattle.steps_base.specs.Rows.{RowPromises}
 pub use Rattle.lot_machine.proofs.Acted.{Befalls}
-use Rattle.lot_laws.specs.SitesOf.{key_of}
-use Rattle.lot_laws.specs.Owing.{LooksFirst, line_let_in, tells_by, tells_of}
-use Rattle.steps_base.specs.Rows.{IsDowngrade}
-use Rattle.steps_base.specs.Rows.{KnowsRights}
 
 -- a call is of one lock
 abbrev pub CallsOneLock : Option Purpose → Type 0

@@ -1,17 +1,12 @@
 -- A site of a mutex promises of its word and of its waiters.
-use Rattle.std.proofs.Common.{ℕ, Bool, true, false, Option, Some, None, ◌⊎◌, ◌≡◌, ◌≢◌, ◌+◌, ◌*◌, ◌≤◌, List}
-use Rattle.std.proofs.Common.{[], ◌∷◌, inl, inr, sym, ◌∙◌, ap, subst, arith}
+use Rattle.lot_laws.proofs.Names
+use Names.{ℕ, Bool, true, false, Option, Some, None, ◌⊎◌, ◌≡◌, ◌≢◌, ◌+◌, ◌*◌, ◌≤◌, List, [], ◌∷◌, inl, inr}
+use Names.{sym, ◌∙◌, ap, subst, arith, is_parked, Queued, one_if_some, Main, bit, code, parked_in, State}
+use Names.{place_at, word_at, owners_at, queue_at, section_at, lock_state, IsAboutToMark, WaitsFor}
+use Names.{IsMutexWord, IsInductive, rules_in}
 use Rattle.core_base.specs.Lines as Lines
-use Rattle.steps_mutex.specs.MutexSteps.{is_parked}
-use Rattle.spec_locks.specs.Locks.{Queued, times, one_if_some}
+use Rattle.spec_locks.specs.Locks.{times}
 use Rattle.spec_locks.specs.Locks as locks
-use Rattle.spec_locks.specs.Sites.{Main}
-use Rattle.spec_locks.specs.Codes.{bit, code, parked_in}
-use Rattle.lot_machine.specs.Machine.{State, place_at, word_at, owners_at, queue_at, section_at}
-use Rattle.lot_laws.specs.Refinement.{lock_state}
-use Rattle.lot_laws.specs.Promises.{IsAboutToMark, WaitsFor}
-use Rattle.lot_laws.specs.MutexPromises.{IsMutexWord}
-use Rattle.lot_laws.specs.SitesOf.{IsInductive, rules_in}
 use Rattle.lot_laws.proofs.machine.Parts.{inside_is}
 use Rattle.lot_laws.proofs.machine.Parts.{mutex}
 use Rattle.lot_laws.proofs.sites.OneStep.{queued_times}

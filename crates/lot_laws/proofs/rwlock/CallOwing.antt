@@ -1,65 +1,32 @@
 -- How a fair release, a bump, and a thread that was handed the lock come to owe a wake: by the word that they
 -- see, and by entering a section.
-use Rattle.std.proofs.lemmas.Bool.{eqb-true}
-use Rattle.std.proofs.Common.{ℕ, Bool, true, false, Option, Some, None, if◌then◌else◌, ◌==◌, ◌&&◌, ◌||◌, ◌≡◌}
-use Rattle.std.proofs.Common.{◌⊎◌, inl, inr, refl, sym, ◌∙◌, ap, subst, arith}
-use Rattle.core_base.specs.declared.keys.Keys.TheVariants.{One}
+use Rattle.lot_laws.proofs.Names
+use Names.{eqb-true, ℕ, Bool, true, false, Option, Some, None, if◌then◌else◌, ◌==◌, ◌&&◌, ◌||◌, ◌≡◌, ◌⊎◌, inl}
+use Names.{inr, refl, sym, ◌∙◌, ap, subst, arith, One, Want, Exclusive, Upgradable, Access, Patience, Patient}
+use Names.{Answer, Ok, Act, Next, Reply, Value, outcome_of, row_of, Profile, Admission, RwLockPlace, RwLockAt}
+use Names.{RwLockPurpose, WakeAt, rwlock_act, next_at, Admits, StandsAt, rwlock_profile, RwLockCallPlace}
+use Names.{Plain, Glance, HandOver, Bump, Handed, HandOverAt, HandedAt, any_taken, bump_next, enters_again}
+use Names.{exchange_act, gives_up_at, gives_way, glance_next, has_room, looked, took, call_act, call_next}
+use Names.{bumping, call_profile, has_given, release_purpose, next_rows, CallStands, HandsOverAt, IsOfBump}
+use Names.{bit, code, code_of, count_in, has_aside, has_parked, packed, parked_in, aside_in, writers}
+use Names.{Recursive, Rules, Sort, count, one_if_some, readers, IsSite, Site, has_readers, words_tell_true}
+use Names.{State, word_at, reply_to, rules_in, line_let_in, tells_by}
 use Rattle.core_base.specs.declared.keys.Line.{Line}
 use Rattle.core_base.specs.declared.keys.Line.TheVariants.{Main, Second}
 use Rattle.core_base.specs.declared.ops.Op.TheVariants as operation
-use Rattle.core_base.specs.declared.wants.Want.{Want}
-use Rattle.core_base.specs.declared.wants.Want.TheVariants.{Exclusive, Upgradable}
 use Rattle.core_base.specs.Keys.{key_of}
-use Rattle.spec_locks.specs.declared.calls.Access.{Access}
 use Rattle.spec_locks.specs.declared.calls.Access.TheVariants as access
-use Rattle.spec_locks.specs.declared.calls.Patience.{Patience}
-use Rattle.spec_locks.specs.declared.calls.Patience.TheVariants.{Patient}
-use Rattle.spec_locks.specs.declared.outcomes.Answer.{Answer}
-use Rattle.spec_locks.specs.declared.outcomes.Answer.TheVariants.{Ok}
 use Rattle.spec_locks.specs.declared.outcomes.Outcome.TheVariants as told
-use Rattle.steps_base.specs.declared.acts.Act.{Act}
 use Rattle.steps_base.specs.declared.acts.Act.TheVariants as act
-use Rattle.steps_base.specs.declared.acts.Next.{Next}
 use Rattle.steps_base.specs.declared.acts.Next.TheVariants as next
-use Rattle.steps_base.specs.declared.acts.Reply.{Reply}
-use Rattle.steps_base.specs.declared.acts.Reply.TheVariants.{Value}
-use Rattle.steps_base.specs.Acts.{outcome_of}
-use Rattle.steps_base.specs.Moves.{row_of}
-use Rattle.steps_base.specs.Profiles.{Profile}
-use Rattle.steps_rwlock.specs.declared.places.Admission.{Admission}
-use Rattle.steps_rwlock.specs.declared.places.RwLockPlace.{RwLockPlace}
-use Rattle.steps_rwlock.specs.declared.places.RwLockAt.{RwLockAt}
 use Rattle.steps_rwlock.specs.declared.places.RwLockAt.TheVariants as at
-use Rattle.steps_rwlock.specs.declared.purposes.RwLockPurpose.{RwLockPurpose}
 use Rattle.steps_rwlock.specs.declared.purposes.RwLockPurpose.TheVariants as purpose
-use Rattle.steps_rwlock.specs.declared.release.WakeAt.{WakeAt}
 use Rattle.steps_rwlock.specs.declared.release.WakeAt.TheVariants as waking
-use Rattle.steps_rwlock.specs.RwLockSteps.{rwlock_act, next_at}
-use Rattle.steps_rwlock.specs.RwLockDeeds.{Admits}
-use Rattle.steps_rwlock.specs.RwLockCalls.{StandsAt}
-use Rattle.steps_rwlock.specs.RwLockProfiles.{rwlock_profile}
-use Rattle.steps_rwlock_fair.specs.declared.places.RwLockCallPlace.{RwLockCallPlace}
-use Rattle.steps_rwlock_fair.specs.declared.places.RwLockCallPlace.TheVariants.{Plain, Glance, HandOver, Bump}
-use Rattle.steps_rwlock_fair.specs.declared.places.RwLockCallPlace.TheVariants.{Handed}
 use Rattle.steps_rwlock_fair.specs.declared.hand_over.Taken.{Taken}
-use Rattle.steps_rwlock_fair.specs.declared.hand_over.HandOverAt.{HandOverAt}
 use Rattle.steps_rwlock_fair.specs.declared.hand_over.HandOverAt.TheVariants as handing
-use Rattle.steps_rwlock_fair.specs.declared.handed.HandedAt.{HandedAt}
 use Rattle.steps_rwlock_fair.specs.declared.handed.HandedAt.TheVariants as handed
-use Rattle.steps_rwlock_fair.specs.FairSteps.{any_taken, bump_next, enters_again, exchange_act, gives_up_at}
-use Rattle.steps_rwlock_fair.specs.FairSteps.{gives_way, glance_next, has_room, looked, released, took}
-use Rattle.steps_rwlock_fair.specs.FairSteps.{call_act, call_next}
-use Rattle.steps_rwlock_fair.specs.FairProfiles.{bumping, call_profile, has_given, release_purpose}
-use Rattle.steps_rwlock_fair.specs.FairLaws.{next_rows}
-use Rattle.steps_rwlock_fair.specs.FairCalls.{CallStands, HandsOverAt, IsOfBump}
-use Rattle.spec_locks.specs.Codes.{bit, code, code_of, count_in, has_aside, has_parked, packed, parked_in}
-use Rattle.spec_locks.specs.Codes.{aside_in, writers}
-use Rattle.spec_locks.specs.Locks.{Normal, Recursive, Rules, Sort, count, one_if_some, readers}
-use Rattle.spec_locks.specs.Sites.{IsSite, Site, has_readers}
-use Rattle.spec_locks.proofs.CodeLaws.{words_tell_true}
-use Rattle.lot_machine.specs.Machine.{State, word_at, reply_to}
-use Rattle.lot_laws.specs.SitesOf.{rules_in}
-use Rattle.lot_laws.specs.Owing.{line_let_in, tells_by}
+use Rattle.steps_rwlock_fair.specs.FairSteps.{released}
+use Rattle.spec_locks.specs.Locks.{Normal}
 use Rattle.lot_laws.proofs.calls.PlainCalls.{never_given}
 use Rattle.lot_laws.proofs.machine.Parts.{same}
 use Rattle.lot_laws.proofs.promises.RowPromises.{LetsIn, RowFinds, RowLooks, RowOwesThen}

@@ -1,54 +1,30 @@
 -- Each place of a call of a reader-writer lock says of its thread what is promised of it: also of a fair
--- release, of a bump, and of one that was
--- handed the lock.
-use Rattle.std.proofs.Common.{ℕ, Bool, true, false, Some, None, if◌then◌else◌, ◌≡◌, ◌≢◌, ◌+◌, ◌*◌, ◌⊎◌, inl}
-use Rattle.std.proofs.Common.{inr, refl, sym, ◌∙◌, ap, subst, arith}
-use Rattle.core_base.specs.declared.keys.Keys.TheVariants.{One}
+-- release, of a bump, and of one that was handed the lock.
+use Rattle.lot_laws.proofs.Names
+use Names.{ℕ, Bool, true, false, Some, None, if◌then◌else◌, ◌≡◌, ◌≢◌, ◌+◌, ◌*◌, ◌⊎◌, inl, inr, refl, sym, ◌∙◌}
+use Names.{ap, subst, arith, One, Exclusive, Access, Patience, Patient, Timed, Try, Sleep, Profile, Admission}
+use Names.{RwLockPlace, RwLockAt, RwLockPurpose, Decision, wanted, decided, decided_act, rwlock_act, Admits}
+use Names.{MayStand, WaitsIfBlocked as HasTime, ParksBy, StandsAt, rwlock_profile, late_at, has_given_up}
+use Names.{RwLockCallPlace, Plain, Glance, HandOver, Bump, Handed, HandOverAt, HandedAt, any_taken, has_room}
+use Names.{exchange_act, hand_over_act, handed_act, call_act, claim_at, call_profile, carries_taken}
+use Names.{release_purpose, CallStands, HandsOverAt, IsOfBump, WaitsWithPatience, Rules, Sort, Bumps, MayWait}
+use Names.{lock_for, Has, has_readers, want_of, KnowsRights, WakesAside}
 use Rattle.core_base.specs.declared.keys.Line.{Line}
 use Rattle.core_base.specs.declared.keys.Line.TheVariants.{Main, Second}
 use Rattle.core_base.specs.declared.notes.Note.TheVariants as note
 use Rattle.core_base.specs.declared.ops.Op.TheVariants as operation
-use Rattle.core_base.specs.declared.wants.Want.TheVariants.{Exclusive}
 use Rattle.core_base.specs.Keys.{key_of}
-use Rattle.spec_locks.specs.declared.calls.Access.{Access}
 use Rattle.spec_locks.specs.declared.calls.Access.TheVariants as access
-use Rattle.spec_locks.specs.declared.calls.Patience.{Patience}
-use Rattle.spec_locks.specs.declared.calls.Patience.TheVariants.{Patient, Timed, Try}
 use Rattle.steps_base.specs.declared.acts.Act.TheVariants as act
-use Rattle.steps_base.specs.declared.acts.Act.TheVariants.{Sleep}
 use Rattle.steps_base.specs.declared.acts.Wakes as wakes
-use Rattle.steps_base.specs.Profiles.{Profile}
-use Rattle.steps_rwlock.specs.declared.places.Admission.{Admission}
-use Rattle.steps_rwlock.specs.declared.places.RwLockPlace.{RwLockPlace}
-use Rattle.steps_rwlock.specs.declared.places.RwLockAt.{RwLockAt}
 use Rattle.steps_rwlock.specs.declared.places.RwLockAt.TheVariants as at
-use Rattle.steps_rwlock.specs.declared.purposes.RwLockPurpose.{RwLockPurpose}
 use Rattle.steps_rwlock.specs.declared.purposes.RwLockPurpose.TheVariants as purpose
-use Rattle.steps_rwlock.specs.declared.enter.Decision.{Decision}
 use Rattle.steps_rwlock.specs.declared.enter.Decision.TheVariants as decisions
 use Rattle.steps_rwlock.specs.declared.park.ParkAt.TheVariants as parking
-use Rattle.steps_rwlock.specs.RwLockSteps.{wanted, decided, decided_act, rwlock_act}
-use Rattle.steps_rwlock.specs.RwLockDeeds.{Admits}
-use Rattle.steps_rwlock.specs.RwLockCalls.{MayStand, WaitsIfBlocked as HasTime, ParksBy, StandsAt}
-use Rattle.steps_rwlock.specs.RwLockProfiles.{rwlock_profile, late_at, has_given_up}
-use Rattle.steps_rwlock_fair.specs.declared.places.RwLockCallPlace.{RwLockCallPlace}
-use Rattle.steps_rwlock_fair.specs.declared.places.RwLockCallPlace.TheVariants.{Plain, Glance, HandOver, Bump}
-use Rattle.steps_rwlock_fair.specs.declared.places.RwLockCallPlace.TheVariants.{Handed}
 use Rattle.steps_rwlock_fair.specs.declared.hand_over.Taken.{Taken}
-use Rattle.steps_rwlock_fair.specs.declared.hand_over.HandOverAt.{HandOverAt}
 use Rattle.steps_rwlock_fair.specs.declared.hand_over.HandOverAt.TheVariants as handing
-use Rattle.steps_rwlock_fair.specs.declared.handed.HandedAt.{HandedAt}
 use Rattle.steps_rwlock_fair.specs.declared.handed.HandedAt.TheVariants as handed
-use Rattle.steps_rwlock_fair.specs.FairSteps.{any_taken, has_room, exchange_act, hand_over_act, handed_act}
-use Rattle.steps_rwlock_fair.specs.FairSteps.{call_act}
-use Rattle.steps_rwlock_fair.specs.FairDeeds.{claim_at}
-use Rattle.steps_rwlock_fair.specs.FairProfiles.{call_profile, carries_taken, release_purpose, entry_purpose}
-use Rattle.steps_rwlock_fair.specs.FairCalls.{CallStands, HandsOverAt, IsOfBump, WaitsWithPatience}
-use Rattle.spec_locks.specs.Locks.{Rules, Sort}
-use Rattle.spec_locks.specs.Purposes.{Bumps, MayWait, lock_for}
-use Rattle.spec_locks.specs.Sites.{Has, has_readers}
-use Rattle.lot_laws.specs.Promises.{want_of}
-use Rattle.steps_base.specs.Rows.{KnowsRights, WakesAside}
+use Rattle.steps_rwlock_fair.specs.FairProfiles.{entry_purpose}
 use Rattle.lot_laws.proofs.promises.RowPromises.{is_acting, IsWaiting, WasHanded, LetsIn, LetsInAt}
 use Rattle.lot_laws.proofs.promises.RowPromises.{IsDebtorIn, HasClaimed, HasDebt, RowLooksAfter, RowPromises}
 use Rattle.lot_laws.proofs.rwlock.Rows.{knows, no_bump, of, rwlock_promises}

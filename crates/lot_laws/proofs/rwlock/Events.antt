@@ -1,65 +1,35 @@
 -- Each step of a thread in a call of a reader-writer lock is a step of the abstract locks, and a call begins
 -- where it has its right.
-use Rattle.std.proofs.Common.{ℕ, Bool, true, false, Option, Some, None, if◌then◌else◌, ◌==◌, not, ◌≡◌, ◌≤◌}
-use Rattle.std.proofs.Common.{◌<◌, ◌⊎◌, inl, inr, length, get_or-set_same, refl, sym, ◌∙◌, ap, subst, arith}
+use Rattle.lot_laws.proofs.Names
+use Names.{ℕ, Bool, true, false, Option, Some, None, if◌then◌else◌, ◌==◌, not, ◌≡◌, ◌≤◌, ◌<◌, ◌⊎◌, inl, inr}
+use Names.{length, get_or-set_same, refl, sym, ◌∙◌, ap, subst, arith, is_closure, nat_tests, Access}
+use Names.{RwLockCall, Kind, Act, Next, Reply, outcome_of, Hand, Profile, hand, taken_from, Location}
+use Names.{Admission, RwLockPlace, has_access, from_of, rwlock_next, wanted, RwLockCallPlace, RwLockPurpose}
+use Names.{Ok, Done, HandedBy, Picked, Value, Woken, Normal, Plain, Glance, HandOver, Bump, Handed}
+use Names.{HandOverAt, CallMoves, call_hears, call_move, any_taken, bump_next, call_act, call_next}
+use Names.{enters_again, freed_next, given, gives_up_at, gives_way, hand_over_next, has_room, looked}
+use Names.{plain_next, took, unless_given, fair_acts_move, never_given, call_first, call_right, CallOpens}
+use Names.{next_rows, call_profile, calls_open, Idle, RwLock, calls, called_lock, next_act, profile}
+use Names.{rwlock_does, rwlock_goes, LockCase, Owns, Rights, standing, purpose_of, rules_of, rwlock_purpose}
+use Names.{GoesOn, HasRight, new_call, has_readers, State, can_do, owners_at, place_at, reply_to, share_at}
+use Names.{state_after_act, IsWellFormed, performed_counts, call_state, lock_state, locks_of, taken_at}
+use Names.{AreCounted, FitsItsLock, IsInductive, rules_in}
 use Rattle.lot_laws.proofs.calls.Closures.{call_runs_none, closure_told}
 use Rattle.lot_laws.proofs.rwlock.Kept.{admits, stands}
-use Rattle.spec_locks.specs.Runs.{is_closure}
 use Rattle.lot_laws.proofs.calls.Events.{RunsNothing, begins_nothing, runs_nothing}
-use Rattle.std.proofs.lemmas.Bool.Decides.{nat_tests}
-use Rattle.spec_locks.specs.declared.calls.Access.{Access}
 use Rattle.spec_locks.specs.declared.calls.Access.TheVariants as access
 use Rattle.spec_locks.specs.declared.calls.Call.TheVariants as call
-use Rattle.spec_locks.specs.declared.calls.RwLockCall.{RwLockCall}
 use Rattle.spec_locks.specs.declared.calls.RwLockCall.TheVariants as rwlock_call
-use Rattle.spec_locks.specs.declared.kinds.Kind.{Kind}
 use Rattle.spec_locks.specs.declared.kinds.Kind.TheVariants as kind
 use Rattle.spec_locks.specs.declared.outcomes.Outcome.TheVariants as outcome
-use Rattle.steps_base.specs.declared.acts.Act.{Act}
 use Rattle.steps_base.specs.declared.acts.Act.TheVariants as act
-use Rattle.steps_base.specs.declared.acts.Next.{Next}
 use Rattle.steps_base.specs.declared.acts.Next.TheVariants as next
-use Rattle.steps_base.specs.declared.acts.Reply.{Reply}
-use Rattle.steps_base.specs.Acts.{outcome_of}
 use Rattle.steps_base.specs.declared.acts.Whom.TheVariants as whom
-use Rattle.steps_base.specs.Profiles.{Hand, Profile, hand, taken_from}
-use Rattle.steps_base.specs.Locations.{Location}
-use Rattle.steps_rwlock.specs.declared.places.Admission.{Admission}
-use Rattle.steps_rwlock.specs.declared.places.RwLockPlace.{RwLockPlace}
-use Rattle.steps_rwlock.specs.RwLockBegins.{has_access}
-use Rattle.steps_rwlock.specs.RwLockSteps.{from_of, rwlock_next, wanted}
-use Rattle.steps_rwlock_fair.specs.declared.places.RwLockCallPlace.{RwLockCallPlace}
-use Rattle.steps_rwlock.specs.declared.purposes.RwLockPurpose.{RwLockPurpose}
 use Rattle.steps_rwlock.specs.declared.purposes.RwLockPurpose.TheVariants as purpose
-use Rattle.spec_locks.specs.declared.outcomes.Answer.TheVariants.{Ok}
-use Rattle.steps_base.specs.declared.acts.Reply.TheVariants.{Done, HandedBy, Picked, Value, Woken}
-use Rattle.core_base.specs.declared.notes.Note.TheVariants.{HandOff, Normal}
-use Rattle.steps_rwlock_fair.specs.declared.places.RwLockCallPlace.TheVariants.{Plain, Glance, HandOver, Bump}
-use Rattle.steps_rwlock_fair.specs.declared.places.RwLockCallPlace.TheVariants.{Handed}
-use Rattle.steps_rwlock_fair.specs.declared.hand_over.HandOverAt.{HandOverAt}
+use Rattle.core_base.specs.declared.notes.Note.TheVariants.{HandOff}
 use Rattle.steps_rwlock_fair.specs.declared.hand_over.HandOverAt.TheVariants as handing
 use Rattle.steps_rwlock_fair.specs.declared.handed.HandedAt.TheVariants as handed
-use Rattle.steps_rwlock_fair.specs.FairMoves.{CallMoves, call_hears, call_move}
-use Rattle.steps_rwlock_fair.specs.FairSteps.{any_taken, bump_next, call_act, call_next, enters_again}
-use Rattle.steps_rwlock_fair.specs.FairSteps.{freed_next, given, gives_up_at, gives_way, hand_over_next}
-use Rattle.steps_rwlock_fair.specs.FairSteps.{has_room, looked, plain_next, released, took, unless_given}
-use Rattle.steps_rwlock_fair.proofs.FairActs.{fair_acts_move}
-use Rattle.steps_rwlock_fair.proofs.FairSleepers.{never_given}
-use Rattle.steps_rwlock_fair.specs.FairBegins.{call_first, call_right}
-use Rattle.steps_rwlock_fair.specs.FairLaws.{CallOpens, next_rows}
-use Rattle.steps_rwlock_fair.specs.FairProfiles.{call_profile}
-use Rattle.steps_rwlock_fair.proofs.FairOpenings.{calls_open}
-use Rattle.lot_steps.specs.declared.places.Place.TheVariants.{Idle, RwLock}
-use Rattle.lot_steps.specs.Steps.{calls, called_lock, next_act, profile, rwlock_does, rwlock_goes}
-use Rattle.spec_locks.specs.Locks.{LockCase, Owns, Rights, standing}
-use Rattle.spec_locks.specs.Purposes.{purpose_of, rules_of, rwlock_purpose}
-use Rattle.spec_locks.specs.Runs.{GoesOn, HasRight, new_call}
-use Rattle.spec_locks.specs.Sites.{has_readers}
-use Rattle.lot_machine.specs.Machine.{State, can_do, owners_at, place_at, reply_to, share_at, state_after_act}
-use Rattle.lot_machine.specs.Fits.{IsWellFormed}
-use Rattle.lot_machine.proofs.Shape.{performed_counts}
-use Rattle.lot_laws.specs.Refinement.{call_state, lock_state, locks_of, taken_at}
-use Rattle.lot_laws.specs.SitesOf.{AreCounted, FitsItsLock, IsInductive, rules_in}
+use Rattle.steps_rwlock_fair.specs.FairSteps.{released}
 use Rattle.lot_laws.proofs.calls.Events.{LeadsTo, goes_by}
 use Rattle.lot_laws.proofs.machine.Parts.{IsSingle, is_owner, thread_is}
 use Rattle.lot_laws.proofs.promises.PlacePromises.{waiting_stands}

@@ -1,48 +1,22 @@
 -- A fair release, or a bump, of a lock that is shared: what its own steps make of those that it has taken.
-use Rattle.std.proofs.Common.{ℕ, Bool, true, false, Option, Some, None, if◌then◌else◌, ◌≡◌, ◌≢◌, ◌<◌, ◌==◌}
-use Rattle.std.proofs.Common.{◌⊎◌, inl, inr, length, refl, sym, ◌∙◌, ap, subst}
-use Rattle.core_base.specs.declared.keys.Keys.TheVariants.{One, Two}
-use Rattle.core_base.specs.declared.ops.Op.{Op}
+use Rattle.lot_laws.proofs.Names
+use Names.{ℕ, Bool, true, false, Option, Some, None, if◌then◌else◌, ◌≡◌, ◌≢◌, ◌<◌, ◌==◌, ◌⊎◌, inl, inr}
+use Names.{length, refl, sym, ◌∙◌, ap, subst, One, Two, Op, Want, Exclusive, Upgradable, Shared, CallOnce}
+use Names.{first_of, Access, Act, Value, holds, takes_effect, in_hand, Admission, RwLockCallPlace, Plain}
+use Names.{Glance, HandOver, Bump, Handed, CallStands, HasInHand, in_hand_of, call_deeds, IsToGive, CallMoves}
+use Names.{call_hears, call_move, call_profile, any_taken, call_act, has_room, parked_as, with_taken}
+use Names.{word_without, fair_acts_move, bump_keeps, fair_releases_give, handed_keeps, plain_keeps, after_all}
+use Names.{Owns, Rules, Site, deeds_lead, Place, RwLock, profile, IsWellFormed, State, can_do, owners_at}
+use Names.{place_at, queue_at, queues_without_first, reply_to, state_after_act, state_after_taking}
+use Names.{successor_from, word_at, FairReleaseComesTo, lock_state, AreCounted, IsInductive, rules_in}
 use Rattle.core_base.specs.declared.ops.Op.TheVariants as operation
-use Rattle.core_base.specs.declared.wants.Want.{Want}
-use Rattle.core_base.specs.declared.wants.Want.TheVariants.{Exclusive, Upgradable, Shared, Wait, CallOnce}
-use Rattle.core_base.specs.Lines.{first_of}
-use Rattle.spec_locks.specs.declared.calls.Access.{Access}
-use Rattle.steps_base.specs.declared.acts.Act.{Act}
+use Rattle.core_base.specs.declared.wants.Want.TheVariants.{Wait}
 use Rattle.steps_base.specs.declared.acts.Act.TheVariants as act
-use Rattle.steps_base.specs.declared.acts.Reply.TheVariants.{Value}
 use Rattle.steps_base.specs.declared.acts.Wakes.TheVariants as wakes
 use Rattle.steps_base.specs.declared.acts.Whom.TheVariants as whoms
-use Rattle.steps_base.specs.Acts.{holds, takes_effect}
-use Rattle.steps_base.specs.Profiles.{in_hand}
-use Rattle.steps_rwlock.specs.declared.places.Admission.{Admission}
-use Rattle.steps_rwlock_fair.specs.declared.places.RwLockCallPlace.{RwLockCallPlace}
-use Rattle.steps_rwlock_fair.specs.declared.places.RwLockCallPlace.TheVariants.{Plain, Glance, HandOver, Bump}
-use Rattle.steps_rwlock_fair.specs.declared.places.RwLockCallPlace.TheVariants.{Handed}
 use Rattle.steps_rwlock_fair.specs.declared.hand_over.Taken.{Taken as Counted}
 use Rattle.steps_rwlock_fair.specs.declared.hand_over.HandOverAt.TheVariants as handing
-use Rattle.steps_rwlock_fair.specs.FairCalls.{CallStands, HasInHand, in_hand_of}
-use Rattle.steps_rwlock_fair.specs.FairDeeds.{call_deeds, exchanged_deeds}
-use Rattle.steps_rwlock_fair.specs.FairGives.{IsToGive}
-use Rattle.steps_rwlock_fair.specs.FairMoves.{CallMoves, call_hears, call_move}
-use Rattle.steps_rwlock_fair.specs.FairProfiles.{call_profile}
-use Rattle.steps_rwlock_fair.specs.FairSteps.{any_taken, call_act, has_room, parked_as, with_taken}
-use Rattle.steps_rwlock_fair.specs.FairSteps.{word_without}
-use Rattle.steps_rwlock_fair.proofs.FairActs.{fair_acts_move}
-use Rattle.steps_rwlock_fair.proofs.FairGives.{bump_keeps, fair_releases_give, handed_keeps, plain_keeps}
-use Rattle.spec_locks.specs.Deeds.{after_all}
-use Rattle.spec_locks.specs.Locks.{Owns, Rules}
-use Rattle.spec_locks.specs.Sites.{Site}
-use Rattle.spec_locks.proofs.Deeds.{deeds_lead}
-use Rattle.lot_steps.specs.declared.places.Place.{Place}
-use Rattle.lot_steps.specs.declared.places.Place.TheVariants.{RwLock}
-use Rattle.lot_steps.specs.Steps.{profile}
-use Rattle.lot_machine.specs.Fits.{IsWellFormed}
-use Rattle.lot_machine.specs.Machine.{State, can_do, owners_at, place_at, queue_at, queues_without_first}
-use Rattle.lot_machine.specs.Machine.{reply_to, state_after_act, state_after_taking, successor_from, word_at}
-use Rattle.lot_laws.specs.Fair.{FairReleaseComesTo}
-use Rattle.lot_laws.specs.Refinement.{lock_state}
-use Rattle.lot_laws.specs.SitesOf.{AreCounted, IsInductive, rules_in}
+use Rattle.steps_rwlock_fair.specs.FairDeeds.{exchanged_deeds}
 use Rattle.lot_laws.proofs.sites.ActsKept.{lock_by}
 use Rattle.lot_laws.proofs.machine.AtPlaces.{in_no_hand}
 use Rattle.lot_laws.proofs.machine.Parts.{IsSingle, free_of}

@@ -1,77 +1,42 @@
 -- A conversion or a roll-back that works on the word while threads wait does not end by that step.
-use Rattle.std.proofs.Common.{ℕ, Bool, true, false, Option, Some, None, if◌then◌else◌, ◌≡◌, ◌≢◌, ◌<◌, ◌⊎◌}
-use Rattle.std.proofs.Common.{is_some, inl, inr, length, nat_lt, refl, sym, ◌∙◌, ap, subst}
-use Rattle.core_base.specs.declared.ops.Op.{Op}
+use Rattle.lot_laws.proofs.Names
+use Names.{ℕ, Bool, true, false, Option, Some, None, if◌then◌else◌, ◌≡◌, ◌≢◌, ◌<◌, ◌⊎◌, is_some, inl, inr}
+use Names.{length, nat_lt, refl, sym, ◌∙◌, ap, subst, Op, Downgrade, Patient, Step, Turn, has_parked, Rights}
+use Names.{Rules, rights_of, Line, Main, Second, has_readers, Act, Value, Next, outcome_of, IsDowngrade}
+use Names.{Admission, RwLockPlace, RwLockAt, ParkAt, RwLockPurpose, DowngradesAt, StandsAt, act_at, next_at}
+use Names.{park_act, park_next, parks_at, start_of, wakes_or_ends, want_at, enters_late, gone_to}
+use Names.{has_given_up, late_at, looking_at, purpose_by, rwlock_profile, RwLockCallPlace, CallStands}
+use Names.{IsOfBump, bump_next, call_act, plain_next, Place, Idle, Mutex, RwLock, Once, Condvar, Semaphore}
+use Names.{call_profile, in_call, OncePlace, CondvarPlace, mutex_act, semaphore_act, IsOwn, call_runs_none}
+use Names.{mutex_own, semaphore_own, ltb-true, Call, MutexPlace, SemaphorePlace, both, Want, act_of}
+use Names.{in_rwlock, is_idle, key_in, late_key, looking, next_act, next_place, profile, rwlock_does}
+use Names.{rwlock_goes, location, location_at, key_of, State, after, can_begin, can_close, can_do, can_turn}
+use Names.{closed_place, go_outcome, is_free_under, is_open_to, is_possible, kind_at, place_at, reply_to}
+use Names.{runs_closure, state_after_go, state_after_turn, step_outcome, turn_outcome, word_at}
+use Names.{GivesWayWhileSomeWait, IsInside, LetsMoreIn, TakesNext, sort_at, call_at, call_state, lock_state}
+use Names.{FitsItsLock, IsInductive}
 use Rattle.spec_locks.specs.declared.calls.Access.TheVariants as access
-use Rattle.spec_locks.specs.declared.calls.Downgrade.{Downgrade}
 use Rattle.spec_locks.specs.declared.calls.Downgrade.TheVariants as downgrade
-use Rattle.spec_locks.specs.declared.calls.Patience.TheVariants.{Patient}
-use Rattle.spec_locks.specs.declared.calls.Step.{Step}
-use Rattle.spec_locks.specs.declared.calls.Turn.{Turn}
 use Rattle.spec_locks.specs.declared.calls.Turn as turn
 use Rattle.spec_locks.specs.declared.outcomes.Answer.TheVariants as answer
 use Rattle.spec_locks.specs.declared.outcomes.Outcome.TheVariants as told
-use Rattle.spec_locks.specs.Codes.{has_parked}
-use Rattle.spec_locks.specs.Locks.{Rights, Rules, rights_of}
 use Rattle.spec_locks.specs.Locks as locks
-use Rattle.spec_locks.specs.Sites.{Line, Main, Second, has_readers}
-use Rattle.steps_base.specs.declared.acts.Act.{Act}
 use Rattle.steps_base.specs.declared.acts.Act.TheVariants as act
-use Rattle.steps_base.specs.declared.acts.Reply.TheVariants.{Value}
-use Rattle.steps_base.specs.declared.acts.Next.{Next}
 use Rattle.steps_base.specs.declared.acts.Next.TheVariants as next
-use Rattle.steps_base.specs.Acts.{outcome_of}
-use Rattle.steps_base.specs.Rows.{IsDowngrade}
-use Rattle.steps_rwlock.specs.declared.places.Admission.{Admission}
-use Rattle.steps_rwlock.specs.declared.places.RwLockPlace.{RwLockPlace}
-use Rattle.steps_rwlock.specs.declared.places.RwLockAt.{RwLockAt}
 use Rattle.steps_rwlock.specs.declared.places.RwLockAt.TheVariants as at
-use Rattle.steps_rwlock.specs.declared.park.ParkAt.{ParkAt}
 use Rattle.steps_rwlock.specs.declared.park.ParkAt.TheVariants as parking
 use Rattle.steps_rwlock.specs.declared.release.WakeAt.TheVariants as waking
-use Rattle.steps_rwlock.specs.declared.purposes.RwLockPurpose.{RwLockPurpose}
 use Rattle.steps_rwlock.specs.declared.purposes.RwLockPurpose.TheVariants as purpose
-use Rattle.steps_rwlock.specs.RwLockCalls.{DowngradesAt, StandsAt}
-use Rattle.steps_rwlock.specs.RwLockSteps.{act_at, next_at, park_act, park_next, parks_at, start_of}
-use Rattle.steps_rwlock.specs.RwLockSteps.{wakes_or_ends, want_at}
-use Rattle.steps_rwlock.specs.RwLockProfiles.{enters_late, gone_to, has_given_up, late_at, looking_at}
-use Rattle.steps_rwlock.specs.RwLockProfiles.{purpose_by, rwlock_profile}
-use Rattle.steps_rwlock_fair.specs.declared.places.RwLockCallPlace.{RwLockCallPlace}
 use Rattle.steps_rwlock_fair.specs.declared.places.RwLockCallPlace.TheVariants as fair
-use Rattle.steps_rwlock_fair.specs.FairCalls.{CallStands, IsOfBump}
-use Rattle.steps_rwlock_fair.specs.FairSteps.{bump_next, call_act, plain_next}
-use Rattle.lot_steps.specs.declared.places.Place.{Place}
-use Rattle.lot_steps.specs.declared.places.Place.TheVariants.{Idle, Mutex, RwLock, Once, Condvar, Semaphore}
-use Rattle.steps_rwlock_fair.specs.FairProfiles.{call_profile, in_call}
-use Rattle.steps_once.specs.declared.places.OncePlace.{OncePlace}
 use Rattle.steps_once.specs.declared.places.OncePlace.TheVariants as once
 use Rattle.spec_locks.specs.declared.calls.OnceCall.TheVariants as once_call
-use Rattle.steps_condvar.specs.declared.places.CondvarPlace.{CondvarPlace}
 use Rattle.steps_condvar.specs.declared.places.CondvarPlace.TheVariants as condvar
-use Rattle.steps_mutex.specs.MutexSteps.{mutex_act}
-use Rattle.steps_semaphore.specs.SemaphoreSteps.{semaphore_act}
-use Rattle.lot_machine.proofs.Closures.{IsOwn, call_runs_none, mutex_own, semaphore_own}
-use Rattle.std.proofs.lemmas.Bool.{ltb-true}
-use Rattle.spec_locks.specs.declared.calls.Call.{Call}
 use Rattle.steps_mutex.specs.declared.lock.Entry.TheVariants as entry
-use Rattle.steps_mutex.specs.declared.places.MutexPlace.{MutexPlace}
 use Rattle.steps_mutex.specs.declared.places.MutexPlace.TheVariants as mutex
-use Rattle.steps_semaphore.specs.declared.places.SemaphorePlace.{SemaphorePlace}
 use Rattle.steps_semaphore.specs.declared.places.SemaphorePlace.TheVariants as semaphore
-use Rattle.lot_machine.proofs.Shape.{both}
-use Rattle.core_base.specs.declared.wants.Want.{Want}
 use Rattle.steps_base.specs.declared.acts.Whom.TheVariants as whom
-use Rattle.lot_steps.specs.Steps.{act_of, in_rwlock, is_idle, key_in, late_key, looking, next_act, next_place}
-use Rattle.lot_steps.specs.Steps.{profile, rwlock_does, rwlock_goes}
-use Rattle.lot_laws.specs.Locations.{Location, location, location_at}
-use Rattle.lot_laws.specs.SitesOf.{key_of}
-use Rattle.lot_machine.specs.Machine.{State, after, can_begin, can_close, can_do, can_turn, closed_place}
-use Rattle.lot_machine.specs.Machine.{go_outcome, is_free_under, is_open_to, is_possible, kind_at, place_at}
-use Rattle.lot_machine.specs.Machine.{reply_to, runs_closure, state_after_go, state_after_turn, step_outcome}
-use Rattle.lot_machine.specs.Machine.{turn_outcome, word_at}
-use Rattle.lot_laws.specs.Owing.{GivesWayWhileSomeWait, IsInside, LetsMoreIn, TakesNext, kept_by, sort_at}
-use Rattle.lot_laws.specs.Refinement.{call_at, call_state, lock_state}
-use Rattle.lot_laws.specs.SitesOf.{FitsItsLock, IsInductive}
+use Rattle.lot_laws.specs.Locations.{Location}
+use Rattle.lot_laws.specs.Owing.{kept_by}
 use Rattle.lot_laws.proofs.calls.OwnPlace.{gone_place, gone_told}
 use Rattle.lot_laws.proofs.machine.Parts.{IsSingle, location_here, next_of}
 use Rattle.lot_laws.proofs.sites.StandsMoved.{mutex_rules}

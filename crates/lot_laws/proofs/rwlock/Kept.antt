@@ -1,88 +1,39 @@
 -- A thread in a call of a reader-writer lock goes on: every lock is a site again.
-use Rattle.std.proofs.Common.{inl, inr, ℕ, Bool, true, false, Option, Some, None, if◌then◌else◌, ◌==◌, ◌≡◌}
-use Rattle.std.proofs.Common.{◌≢◌, ◌+◌, ◌*◌, ◌-◌, ◌^◌, ◌≤◌, ◌<◌, List, [], ◌∷◌, length, refl, sym, ◌∙◌, ap}
-use Rattle.std.proofs.Common.{subst, arith}
-use Rattle.std.proofs.lemmas.Bool.{eqb-true}
-use Rattle.core_base.specs.declared.notes.Note.TheVariants.{HandOff, Normal}
-use Rattle.core_base.specs.declared.ops.Op.{Op}
-use Rattle.core_base.specs.Words.{apply}
-use Rattle.core_base.specs.declared.wants.Want.{Want}
-use Rattle.steps_base.specs.Calls.{IsNotLate}
-use Rattle.spec_locks.specs.declared.calls.RwLockCall.{RwLockCall}
-use Rattle.spec_locks.specs.declared.kinds.Kind.{Kind}
+use Rattle.lot_laws.proofs.Names
+use Names.{inl, inr, ℕ, Bool, true, false, Option, Some, None, if◌then◌else◌, ◌==◌, ◌≡◌, ◌≢◌, ◌+◌, ◌*◌, ◌-◌}
+use Names.{◌^◌, ◌≤◌, ◌<◌, List, [], ◌∷◌, length, refl, sym, ◌∙◌, ap, subst, arith, eqb-true, Normal, Op}
+use Names.{apply, Want, IsNotLate, RwLockCall, Kind, Patience, Act, Next, Reply, Done, Value, Took, Picked}
+use Names.{Late, TakenBy, Woken, Wakes, StaysPut, Picks, TakesAside, TellsHanded, takes_aside, row_of}
+use Names.{Profile, hand, in_hand, taken_from, Location, location_by, shares_then, Admission, RwLockPlace}
+use Names.{RwLockAt, patience_of, Admits, late_line_at, HasDeadline, MayBeTold, admission_of_kind}
+use Names.{RwLockCallPlace, Plain, Glance, HandOver, Bump, Handed, CallMayBeTold, CallMayHear, CallStands}
+use Names.{CallStandsNext, IsInCall, call_deeds, call_role, call_role_next, CallMoves, call_hears, call_move}
+use Names.{call_late_line, call_profile, fair_acts_move, fair_late_moves, fair_sleepers_move}
+use Names.{fair_sections_tell, fair_steps_tell, fair_steps_code, fair_steps_follow, handed_move}
+use Names.{fair_owners_follow, fair_sections_follow, fair_calls_stand, call_first, call_right, CallOpens}
+use Names.{CallTells, next_rows, call_act, call_next, call_owners, call_shares, calls_open, SemaphorePlace}
+use Names.{Place, Idle, Mutex, RwLock, Once, Condvar, Semaphore as OfSemaphore, MutexPlace, OncePlace}
+use Names.{next_place, profile, calls, rwlock_goes, Rules, Sort, Recursive, count, keep_from, one_if_some}
+use Names.{standing, Site, IsSite, Deed, Line, Main, Second, Begin, Case, has_readers, wakened, HasLimit, bit}
+use Names.{code, code_of, packed, writers, case_of, rules_of, State, place_at, word_at, kind_at, owners_at}
+use Names.{shares_at, share_at, queue_at, section_at, can_do, section_is_free, put, state_after_act}
+use Names.{state_after_late_under, reply_to, IsWellFormed, taken_at, acts, location, role_on, IsInductive}
+use Names.{Goes, FitsItsLock, TakesOne, LimitHasRoom, carried_at, hand_at, is_mutex, rules_in, key_of}
+use Names.{CondvarPlace, is_lock, Hand, mutex_beside}
+use Rattle.core_base.specs.declared.notes.Note.TheVariants.{HandOff}
 use Rattle.spec_locks.specs.declared.kinds.Kind.TheVariants as kinds
-use Rattle.spec_locks.specs.declared.calls.Patience.{Patience}
 use Rattle.spec_locks.specs.declared.calls.Patience.TheVariants as patience
-use Rattle.steps_base.specs.declared.acts.Act.{Act}
 use Rattle.steps_base.specs.declared.acts.Act.TheVariants as act
-use Rattle.steps_base.specs.declared.acts.Next.{Next}
 use Rattle.steps_base.specs.declared.acts.Next.TheVariants as next
-use Rattle.steps_base.specs.declared.acts.Reply.{Reply}
-use Rattle.steps_base.specs.declared.acts.Reply.TheVariants.{Done, Value, Took, Picked, Late, TakenBy, Woken}
-use Rattle.steps_base.specs.declared.acts.Wakes.{Wakes}
 use Rattle.steps_base.specs.declared.acts.Whom as whom
-use Rattle.steps_base.specs.Moves.{StaysPut, Picks, TakesAside, TellsHanded, takes_aside, row_of}
-use Rattle.steps_base.specs.Profiles.{Profile, hand, in_hand, taken_from}
-use Rattle.steps_base.specs.Locations.{Location, nowhere, location_by}
-use Rattle.steps_base.specs.Owners.{lock_seen, shares_then}
-use Rattle.steps_rwlock.specs.declared.places.Admission.{Admission}
-use Rattle.steps_rwlock.specs.declared.places.RwLockPlace.{RwLockPlace}
-use Rattle.steps_rwlock.specs.declared.places.RwLockAt.{RwLockAt}
+use Rattle.steps_base.specs.Locations.{nowhere}
+use Rattle.steps_base.specs.Owners.{lock_seen}
 use Rattle.steps_rwlock.specs.declared.places.RwLockAt.TheVariants as at
 use Rattle.steps_rwlock.specs.declared.park.ParkAt.TheVariants as parking
-use Rattle.steps_rwlock.specs.RwLockSteps.{patience_of}
-use Rattle.steps_rwlock.specs.RwLockDeeds.{Admits, MayHear}
-use Rattle.steps_rwlock.specs.RwLockProfiles.{late_line_at}
-use Rattle.steps_rwlock.specs.RwLockCalls.{HasDeadline, MayBeTold}
-use Rattle.steps_rwlock.specs.RwLockBegins.{admission_of_kind}
-use Rattle.steps_rwlock_fair.specs.declared.places.RwLockCallPlace.{RwLockCallPlace}
-use Rattle.steps_rwlock_fair.specs.declared.places.RwLockCallPlace.TheVariants.{Plain, Glance, HandOver, Bump}
-use Rattle.steps_rwlock_fair.specs.declared.places.RwLockCallPlace.TheVariants.{Handed}
-use Rattle.steps_rwlock_fair.specs.FairCalls.{CallMayBeTold, CallMayHear, CallStands, CallStandsNext}
-use Rattle.steps_rwlock_fair.specs.FairCalls.{IsInCall}
-use Rattle.steps_rwlock_fair.specs.FairDeeds.{call_deeds, call_role, call_role_next}
-use Rattle.steps_rwlock_fair.specs.FairMoves.{CallMoves, call_hears, call_move}
-use Rattle.steps_rwlock_fair.specs.FairProfiles.{call_late_line, call_profile}
-use Rattle.steps_rwlock_fair.proofs.FairActs.{fair_acts_move, fair_late_moves, fair_sleepers_move}
-use Rattle.steps_rwlock_fair.proofs.FairCallTells.{fair_sections_tell, fair_steps_tell}
-use Rattle.steps_rwlock_fair.proofs.FairCodes.{fair_steps_code}
-use Rattle.steps_rwlock_fair.proofs.FairFit.{fair_steps_follow}
-use Rattle.steps_rwlock_fair.proofs.FairMoves.{handed_move}
-use Rattle.steps_rwlock_fair.proofs.FairOwners.{fair_owners_follow}
-use Rattle.steps_rwlock_fair.proofs.FairSections.{fair_sections_follow}
-use Rattle.steps_rwlock_fair.proofs.FairStands.{fair_calls_stand}
-use Rattle.steps_rwlock_fair.specs.FairBegins.{call_first, call_right}
-use Rattle.steps_rwlock_fair.specs.FairLaws.{CallOpens, CallTells, next_rows}
-use Rattle.steps_rwlock_fair.specs.FairSteps.{call_act, call_next, call_owners, call_shares}
-use Rattle.steps_rwlock_fair.proofs.FairOpenings.{calls_open}
-use Rattle.steps_semaphore.specs.declared.places.SemaphorePlace.{SemaphorePlace}
-use Rattle.lot_steps.specs.declared.places.Place.{Place}
-use Rattle.lot_steps.specs.declared.places.Place.TheVariants.{Idle, Mutex, RwLock, Once, Condvar}
-use Rattle.lot_steps.specs.declared.places.Place.TheVariants.{Semaphore as OfSemaphore}
-use Rattle.steps_mutex.specs.declared.places.MutexPlace.{MutexPlace}
-use Rattle.steps_once.specs.declared.places.OncePlace.{OncePlace}
-use Rattle.lot_steps.specs.Steps.{next_place, profile, calls, rwlock_goes}
-use Rattle.spec_locks.specs.Locks.{Rules, Sort, Normal as NormalSort, Recursive, Semaphore, count, keep_from}
-use Rattle.spec_locks.specs.Locks.{one_if_some, standing}
+use Rattle.steps_rwlock.specs.RwLockDeeds.{MayHear}
+use Rattle.spec_locks.specs.Locks.{Normal as NormalSort, Semaphore}
 use Rattle.spec_locks.specs.Locks as locks
-use Rattle.spec_locks.specs.Sites.{Site, IsSite, Deed, Line, Main, Second, Begin, Case, has_readers, wakened}
-use Rattle.spec_locks.specs.Codes.{HasLimit, bit, code, code_of, packed, writers}
-use Rattle.spec_locks.specs.Deeds.{case_of}
 use Rattle.spec_locks.specs.Deeds as laws
-use Rattle.spec_locks.specs.Purposes.{rules_of}
-use Rattle.lot_machine.specs.Machine.{State, place_at, word_at, kind_at, owners_at, shares_at, share_at}
-use Rattle.lot_machine.specs.Machine.{queue_at, section_at, can_do, section_is_free, put, state_after_act}
-use Rattle.lot_machine.specs.Machine.{state_after_late_under, reply_to}
-use Rattle.lot_machine.specs.Fits.{IsWellFormed}
-use Rattle.lot_laws.specs.Refinement.{taken_at}
-use Rattle.lot_laws.specs.ThreadDeeds.{acts}
-use Rattle.lot_laws.specs.Locations.{location, role_on}
-use Rattle.lot_laws.specs.SitesOf.{IsInductive, Goes, FitsItsLock, TakesOne, LimitHasRoom, carried_at}
-use Rattle.lot_laws.specs.SitesOf.{hand_at, is_mutex, rules_in, key_of}
-use Rattle.steps_condvar.specs.declared.places.CondvarPlace.{CondvarPlace}
-use Rattle.lot_steps.specs.Steps.{is_lock}
-use Rattle.steps_base.specs.Profiles.{Hand}
-use Rattle.steps_condvar.specs.CondvarSteps.{mutex_beside}
 use Rattle.lot_laws.proofs.machine.Parts.{not_beside, condvar_unheld, free_of, IsOf, next_of, parts_at}
 use Rattle.lot_laws.proofs.machine.Parts.{put_here, role_here, location_here, of_single}
 use Rattle.lot_laws.proofs.sites.WakesAt.{IsWokenAt}
@@ -106,14 +57,14 @@ pub goes_row : (l : ℕ) (a : Admission) (n : Next RwLockCallPlace) → profile 
 goes_row l a (next.At c) = refl
 goes_row l a (next.End answer) = refl
 
-role_row : (a : Admission) (c : RwLockCallPlace) → (call_profile a c).role ≡ call_role c
+pub role_row : (a : Admission) (c : RwLockCallPlace) → (call_profile a c).role ≡ call_role c
 role_row a (Plain p) = refl
 role_row a (Glance x) = refl
 role_row a (HandOver x b to) = refl
 role_row a (Bump p) = refl
 role_row a (Handed x how b to) = refl
 
-role_is : (a : Admission) (n : Next RwLockCallPlace) → call_role_next n ≡ (row_of (next_rows a n)).role
+pub role_is : (a : Admission) (n : Next RwLockCallPlace) → call_role_next n ≡ (row_of (next_rows a n)).role
 role_is a (next.At c) = sym (role_row a c)
 role_is a (next.End answer) = refl
 
@@ -176,14 +127,14 @@ module _ (a : Admission) where
   call_told_value (HandOver x b to) v h = tt
   call_told_value (Handed x how b to) v h = tt
 
-  call_told_late : (c : RwLockCallPlace) (m : Line) → call_late_line c ≡ Some m → CallMayBeTold a c Late
+  pub call_told_late : (c : RwLockCallPlace) (m : Line) → call_late_line c ≡ Some m → CallMayBeTold a c Late
   call_told_late (Plain p) m h = told_late a p p.at (patience_of p.purpose) refl m h
   call_told_late (Bump p) m h = told_late a p p.at (patience_of p.purpose) refl m h
   call_told_late (Glance x) m h = tt
   call_told_late (HandOver x b to) m h = tt
   call_told_late (Handed x how b to) m h = tt
 
-  call_told_done : (r : Rules) (s : Site) (t : ℕ) (c : RwLockCallPlace) (whom : Option ℕ)
+  pub call_told_done : (r : Rules) (s : Site) (t : ℕ) (c : RwLockCallPlace) (whom : Option ℕ)
       → CallMayHear r a s t c whom Done
       → CallMayBeTold a c Done
   call_told_done r s t (Plain p) whom h = told_done a p r s t p.at whom h
@@ -357,38 +308,6 @@ module _ (w : State) (t l : ℕ) (a : Admission) (c : RwLockCallPlace) (inductiv
   beside_no_call u k at e = not_beside w (Condvar k at) l (subst (FitsItsLock w) e (inductive.stands.calls u))
       many
 
-  asleep : (u : ℕ) → SleepsIfCalls w t l inductive there own (rules_in w l) refl (call_move a c) same_row u
-  asleep u = record {
-    apart = not_beside w (place_at w u) l (inductive.stands.calls u) many;
-    sleeper = λ h. by_place (place_at w u) refl h;
-  }
-    where
-      by_place : (q : Place) → place_at w u ≡ q → calls q l ≡ true
-          → IsSleeper w t l inductive there own (rules_in w l) refl (call_move a c) same_row u
-      by_place Idle e g = absurd cc
-      by_place (Condvar k at) e g = absurd (of_no_condvar u k at e (eqb-true k l g))
-      by_place (Once k at) e g = absurd (of_no_once u k at e (eqb-true k l g))
-      by_place (OfSemaphore k at) e g = absurd (of_no_semaphore u k at e (eqb-true k l g))
-      by_place (Mutex k m) e g = absurd (of_no_mutex u k m e (eqb-true k l g))
-      by_place (RwLock k b q) e g = record {
-        single = rw e tt;
-        move = call_move b q;
-        row = ap profile e;
-        waits = fair_sleepers_move b q fits_u.1;
-        taken = ap (λ y. profile (next_place y (TakenBy t))) e ∙ goes_row k b (call_next b q (TakenBy t));
-        woken = ap (λ y. profile (next_place y (Woken Normal))) e
-            ∙ goes_row k b (call_next b q (Woken Normal));
-        taken_fits = subst (λ y. FitsItsLock w (next_place y (TakenBy t))) (sym e)
-            (fits_next k b (call_next b q (TakenBy t)) fits_u.0 (fair_calls_stand b q (TakenBy t) fits_u.1
-            (call_told_other b q (TakenBy t) tt)));
-        woken_fits = subst (λ y. FitsItsLock w (next_place y (Woken Normal))) (sym e)
-            (fits_next k b (call_next b q (Woken Normal)) fits_u.0 (fair_calls_stand b q (Woken Normal)
-            fits_u.1 (call_told_other b q (Woken Normal) tt)));
-      }
-        where
-          fits_u : FitsItsLock w (RwLock k b q)
-          fits_u = subst (FitsItsLock w) e (inductive.stands.calls u)
-
   -- ---------------------------------------------------------------- each act
 
   -- its deeds as it goes on from a place, what they make of its call, and of those of the others
@@ -400,257 +319,6 @@ module _ (w : State) (t l : ℕ) (a : Admission) (c : RwLockCallPlace) (inductiv
     pub others : WakesOwn ((call_profile a c).carries) y
         (case_of ((call_profile a c).carries) (call_deeds a c whom (reply_to w t y)))
 
-  tells_by : (whom : Option ℕ) (told : Reply) → IsNotLate told → CallMayHear (rules_in w l) a here t c whom
-      told
-      → CallTells (rules_in w l) a here t l c whom told
-  tells_by whom told now hears = fair_sections_tell (rules_in w l) a here t l c whom told at_now hears now
-
-  calm_by : (ds : List Deed) {x : List Deed} → x ≡ ds → AreCalm ds
-      → IsCalm (case_of ((call_profile a c).carries) x)
-  calm_by ds e h = subst (λ (x : List Deed). IsCalm (case_of ((call_profile a c).carries) x)) (sym e)
-      (calm_case ((call_profile a c).carries) ds h)
-
-  pub word_is : word_at w l ≡ code (rules_in w l) here
-  word_is = inductive.sites.word l
-
-  -- one operation on the word
-  on_word : (op : Op) → call_act l a c ≡ act.Word l op → StaysPut (call_move a c)
-      → GoesFrom (place_at w t) (act.Word l op)
-  on_word op e g = record {
-    whom = None;
-    goes = stays w t l inductive there own (rules_in w l) refl (call_move a c) same_row admits.0
-        (RwLock l a c)
-        (next_place (place_at w t) (Value (word_at w l))) op lt g on.0 on.1 on.2;
-    tells = subst (λ v. CallTells (rules_in w l) a here t l c None (Value v)) (sym word_is)
-        (fair_steps_tell (rules_in w l) a here t l c op at_now nowhere e);
-    others = calm_by (call_deeds a c None (Value (word_at w l))) refl
-        (word_calm (call_deeds a c None (Value (word_at w l))) (g.deeds (word_at w l)));
-  }
-    where
-      nowhere : standing t here.lock ≡ 0
-      nowhere = nowhere_here w t l inductive there own (rules_in w l) refl (call_move a c) same_row g.out
-          g.free
-
-      limits : LimitHasRoom (length w.places) (rules_in w l) × HasLimit (rules_in w l) here.lock
-      limits = inductive.sites.limits l admits.0
-
-      room : a.limit < 2 ^ 60 - 1
-      room = subst (λ n. n < 2 ^ 60 - 1) admits.2 limits.0.1
-
-      few : code (rules_in w l) here < 2 ^ 64
-      few = word_few (rules_in w l) here admits.0 site limits.0.1 limits.1
-
-      at_word : ℕ → Type 0
-      at_word v = Followed None (Value v)
-          × (lock_seen (shares_then (shares_at w l) t (call_shares a c v (share_at w l t)))
-          (call_owners a c t v (owners_at w l)) (queue_at w (2 * l)) (queue_at w (2 * l + 1))
-          (λ u. taken_at (place_at w u) l)
-          ≡ (laws.after_all (rules_in w l) (call_deeds a c None (Value v)) here t).lock)
-          × (apply op v ≡ code (rules_in w l) (laws.after_all (rules_in w l) (call_deeds a c None (Value v))
-          here t))
-
-      on : at_word (word_at w l)
-      on = subst at_word (sym word_is) (let f = fair_steps_follow (rules_in w l) a here t l c op at_now
-          nowhere e in (
-            followed_by None (Value (code (rules_in w l) here)) f.needed f.role
-                (call_told_value a c (code (rules_in w l) here) few),
-            fair_owners_follow (rules_in w l) a here t l c op (shares_at w l) (owners_at w l)
-                (queue_at w (2 * l))
-                (queue_at w (2 * l + 1)) (λ u. taken_at (place_at w u) l) at_now e room limits.1 refl,
-            fair_steps_code (rules_in w l) a here t l c op at_now nowhere e few room limits.1,
-          ))
-
-  -- told of neither the word nor its time, it goes on as its laws say
-  brief : (told : Reply) → IsBrief told → CallMayHear (rules_in w l) a here t c None told → Followed None told
-  brief (Value v) now h = absurd now
-  brief Late now h = absurd now
-  brief Done now h = followed None Done h (call_told_done a (rules_in w l) here t c None h)
-  brief told now h = followed None told h (call_told_other a c told tt)
-
-  go_on : (y : Act) → GoesBy w t l inductive shape there lt own (call_move a c) same_row (call_hears a c)
-      (RwLock l a c) brief None y → GoesFrom (place_at w t) y
-  go_on y b = record {
-    whom = None;
-    goes = b.goes;
-    tells = tells_by None (reply_to w t y) (not_late (reply_to w t y) b.brief) b.told;
-    others = b.others;
-  }
-
-  -- a thread that it has handed the lock goes on where its wake leads it
-  hears_so : (u : ℕ) → hand_at (place_at w u) l ≡ hand t true → IsWokenAt w t l HandOff (place_at w u)
-  hears_so u held = by_place (place_at w u) refl held
-    where
-      by_place : (q : Place) → place_at w u ≡ q → hand_at q l ≡ hand t true → IsWokenAt w t l HandOff q
-      by_place Idle e h = absurd cc
-      by_place (Condvar k at) e h = absurd (let none : hand_at (Condvar k at) l ≡ None =
-          condvar_unheld k at l (beside_no_call u k at e) in let both : ◌≡◌ {A = Option Hand} None
-          (hand t true) = sym none ∙ h in cc)
-      by_place (Once k at) e h = either (k == l) refl h
-        where
-          either : (b : Bool) → (k == l) ≡ b → (if b then location (Once k at) else nowhere).hand
-              ≡ hand t true
-              → IsWokenAt w t l HandOff (Once k at)
-          either true same_lock g = absurd (of_no_once u k at e (eqb-true k l same_lock))
-          either false same_lock g = absurd cc
-      by_place (OfSemaphore k at) e h = either (k == l) refl h
-        where
-          either : (b : Bool) → (k == l) ≡ b → (if b then location (OfSemaphore k at) else nowhere).hand
-              ≡ hand t true
-              → IsWokenAt w t l HandOff (OfSemaphore k at)
-          either true same_lock g = absurd (of_no_semaphore u k at e (eqb-true k l same_lock))
-          either false same_lock g = absurd cc
-      by_place (Mutex k m) e h = either (k == l) refl h
-        where
-          either : (b : Bool) → (k == l) ≡ b → (if b then location (Mutex k m) else nowhere).hand
-              ≡ hand t true
-              → IsWokenAt w t l HandOff (Mutex k m)
-          either true same_lock g = absurd (of_no_mutex u k m e (eqb-true k l same_lock))
-          either false same_lock g = absurd cc
-      by_place (RwLock k b q) e h = either (k == l) refl h
-        where
-          fits_u : FitsItsLock w (RwLock k b q)
-          fits_u = subst (FitsItsLock w) e (inductive.stands.calls u)
-
-          then_u : Place
-          then_u = next_place (RwLock k b q) (Woken HandOff)
-
-          then_row : profile then_u ≡ row_of (next_rows b (call_next b q (Woken HandOff)))
-          then_row = goes_row k b (call_next b q (Woken HandOff))
-
-          at_lock : k ≡ l → (call_profile b q).hand ≡ hand t true → IsWokenAt w t l HandOff (RwLock k b q)
-          at_lock same_lock g = let z = (handed_move b q fits_u.1).was_given t g
-              in woken_of w t l HandOff (RwLock k b q) true same_lock (record {
-                taken = free_of then_u l (of_single l then_u (next_of l (RwLock k b q) (Woken HandOff)
-                    same_lock))
-                    (ap (λ (y : Location). y.hand) (ap location_by then_row ∙ z.goes))
-                    ∙ sym (ap (keep_from t) untaken);
-                role = role_here l then_u (next_of l (RwLock k b q) (Woken HandOff) same_lock)
-                    ∙ ap (λ (y : Profile). y.role) then_row ∙ z.role
-                    ∙ sym (ap (λ o. wakened t o (role_on (RwLock k b q) l)) untaken
-                    ∙ role_here l (RwLock k b q) same_lock);
-              }) z.was (ap location_by then_row ∙ z.goes)
-              (fits_next k b (call_next b q (Woken HandOff)) fits_u.0 (fair_calls_stand b q (Woken HandOff)
-              fits_u.1 (call_told_other b q (Woken HandOff) tt)))
-            where
-              untaken : taken_at (RwLock k b q) l ≡ None
-              untaken = ap (λ o. taken_from o (call_profile b q).wants (calls (RwLock k b q) l)) g
-
-          either : (d : Bool) → (k == l) ≡ d → (if d then location (RwLock k b q) else nowhere).hand
-              ≡ hand t true
-              → IsWokenAt w t l HandOff (RwLock k b q)
-          either true same_lock g = at_lock (eqb-true k l same_lock) g
-          either false same_lock g = absurd cc
-
-  -- they were handed it
-  told_so : {wakes : Wakes} → TellsHanded (call_move a c) (call_hears a c) wakes → (u : ℕ) (b : Bool)
-      → hand_at (place_at w u) l ≡ hand t b → IsWokenAt w t l HandOff (place_at w u)
-  told_so g u b held = by_handed b held (sym (carried_now ∙ ap (λ (y : Location). y.carries) g.was)
-      ∙ inductive.stands.hands.taken t u l b held) g.any
-    where
-      carried_now : carried_at (place_at w t) l ≡ (call_profile a c).carries
-      carried_now = ap (λ (y : Location). y.carries) (location_here l (place_at w t) own)
-          ∙ ap (λ (y : Profile). y.carries) same_row
-
-      by_handed : (b : Bool) → hand_at (place_at w u) l ≡ hand t b → in_hand g.any true ≡ Some b
-          → (any : Bool)
-          → IsWokenAt w t l HandOff (place_at w u)
-      by_handed true h f any = hears_so u h
-      by_handed false h f any = absurd (never g.any f)
-        where
-          never : (any : Bool) → in_hand any true ≡ Some false → ⊥
-          never true f = cc
-          never false f = cc
-
-  picked : (key : ℕ) (start : Option Want) (b : Bool) → key ≡ key_of l Main → b ≡ a.recursive
-      → Picks (call_move a c) (call_hears a c) start → GoesFrom (place_at w t)
-      (act.Take key (whom.TheVariants.Picked start b))
-  picked key start b e same_rule g =
-      subst (λ j. GoesFrom (place_at w t) (act.Take j (whom.TheVariants.Picked start b))) (sym e)
-      (subst (λ c. GoesFrom (place_at w t) (act.Take (key_of l Main) (whom.TheVariants.Picked start c)))
-      (admits.1 ∙ sym same_rule) (record {
-        whom = None;
-        goes = takes_chosen w t l inductive there own (rules_in w l) refl (call_move a c) same_row asleep
-            (call_hears a c) many (line_there w l shape lt Main) start g follows;
-        tells = tells_by None _ tt (picked_hears w t l inductive there own (rules_in w l) refl (call_move a c)
-            same_row asleep (call_hears a c) many (line_there w l shape lt Main) start g follows);
-        others = calm_by (Case (locks.TakePicked start) ∷ []) (picked_deeds w t l inductive there own
-            (rules_in w l)
-            refl (call_move a c) same_row asleep (call_hears a c) many (line_there w l shape lt Main) start g
-            follows) tt;
-      }))
-    where
-      follows : (n : ℕ) (y : Option Want) (none_left : Bool) → call_hears a c (rules_in w l) here t None
-          (Picked n y none_left)
-          → Followed None (Picked n y none_left)
-      follows n y none_left h = followed None (Picked n y none_left) h
-          (call_told_other a c (Picked n y none_left) tt)
-
-  took : (key : ℕ) → key ≡ key_of l Second → TakesAside (call_move a c) (call_hears a c)
-      → GoesFrom (place_at w t) (act.Take key whom.TheVariants.First)
-  took key e g = subst (λ j. GoesFrom (place_at w t) (act.Take j whom.TheVariants.First)) (sym e) (record {
-    whom = here.lock.aside;
-    goes = takes_whom_aside w t l inductive there own (rules_in w l) refl (call_move a c) same_row asleep
-        (call_hears a c) many (line_there w l shape lt Second) g (λ any none_left h. followed here.lock.aside
-        (Took any none_left) h (call_told_other a c (Took any none_left) tt));
-    tells = tells_by here.lock.aside (reply_to w t (act.Take (key_of l Second) whom.TheVariants.First)) tt
-        (g.may (rules_in w l) here t _ _);
-    others = calm_by (takes_aside here.lock.aside ∷ []) (g.deeds here.lock.aside _ _)
-        (aside_calm here.lock.aside);
-  })
-
-  -- by any act that hands nothing over
-  by_act : ((k : ℕ) (op : Op) → call_act l a c ≢ act.HandOver k op) → (y : Act) → call_act l a c ≡ y
-      → CallMoves l a.recursive (call_move a c) (call_hears a c) y → can_do w y ≡ true
-      → GoesFrom (place_at w t) y
-  by_act plain (act.Word k op) e g can = subst (λ j. GoesFrom (place_at w t) (act.Word j op)) (sym g.0)
-      (on_word op (e ∙ ap (λ j. act.Word j op) g.0) g.1)
-  by_act plain (act.Enter keys) e g can =
-      go_on (act.Enter keys) (into w t l inductive shape there lt own (call_move a c) same_row
-      (call_hears a c)
-      (RwLock l a c) brief g.0 keys g.1 can g.2)
-  by_act plain (act.Park k key check want) e g can = go_on (act.Park k key check want)
-      (parked w t l inductive shape there lt own (call_move a c) same_row (call_hears a c) (RwLock l a c)
-      brief
-      g.0 k key check want g.1 g.2 g.3)
-  by_act plain (act.Take key (whom.TheVariants.Picked start b)) e g can = picked key start b g.0 g.1 g.2
-  by_act plain (act.Take key whom.TheVariants.First) e g can = took key g.0 g.1
-  by_act plain (act.Take key whom.TheVariants.All) e g can = absurd g
-  by_act plain (act.Remove key) e g can =
-      go_on (act.Remove key) (left w t l inductive shape there lt own (call_move a c) same_row
-      (call_hears a c)
-      (RwLock l a c) brief asleep g.0 key g.1 g.2)
-  by_act plain (act.Leave keys wakes) e g can = elim g [
-    | inl h ↦ go_on (act.Leave keys wakes) (out_of w t l inductive shape there lt own (call_move a c) same_row
-        (call_hears a c) (RwLock l a c) brief h.0 keys wakes h.1 h.2 (wakes_one w t l inductive there own
-        (rules_in w l) refl (call_move a c) same_row asleep h.2.any h.2.carries))
-    | inr h ↦ go_on (act.Leave keys wakes) (tells_all w t l inductive shape there lt own (call_move a c)
-        same_row
-        (call_hears a c) (RwLock l a c) brief keys wakes h.0 h.1 (told_so h.1))
-  ]
-  by_act plain (act.HandOver k op) e g can = absurd (plain k op e)
-  by_act plain act.Accept e g can = go_on act.Accept (accepted w t l inductive shape there lt own
-      (call_move a c)
-      same_row (call_hears a c) (RwLock l a c) brief g)
-  by_act plain act.Sleep e g can = absurd cc
-  by_act plain (act.End answer) e g can = absurd cc
-  by_act plain y e g can = absurd g
-
-  -- its deeds are what the place and the reply say
-  pub goes_unhanded : ((k : ℕ) (op : Op) → call_act l a c ≢ act.HandOver k op) → can_do w (call_act l a c)
-      ≡ true
-      → GoesFrom (RwLock l a c) (call_act l a c)
-  goes_unhanded plain can = subst (λ q. GoesFrom q (call_act l a c)) is (by_act plain (call_act l a c) refl
-      (fair_acts_move l a c stands) can)
-
-  -- ---------------------------------------------------------------- its time is up
-
-  pub rwlock_goes_late : (m : Line) → call_late_line c ≡ Some m → section_is_free w (key_of l m) ≡ true
-      → Goes w (state_after_late_under w t (key_of l m)) l (acts t (call_deeds a c None Late))
-  rwlock_goes_late m e free = goes_in w t l inductive there own (rules_in w l) refl (call_move a c) same_row
-      (call_hears a c) m Late (next_place (place_at w t) Late) (section_there w l shape lt m)
-      (none_is (section_at w (key_of l m)) free) (fair_late_moves a c m e)
-      (λ h. followed None Late h (call_told_late a c m e))
-
 -- ---------------------------------------------------------------- a call begins
 
 -- a lock of such a kind lets in the threads that the call says
@@ -660,39 +328,6 @@ admits_by (kinds.Recursive limit) h = (refl, refl, refl)
 admits_by k h = absurd cc
 
 -- it begins where it fits its lock
-first_fits : (w : State) (l : ℕ) (a : Admission) (c : RwLockCall) → Admits (rules_in w l) a
+pub first_fits : (w : State) (l : ℕ) (a : Admission) (c : RwLockCall) → Admits (rules_in w l) a
     → FitsItsLock w (RwLock l a (call_first c))
 first_fits w l a c admits = (admits, (calls_open a c).stands)
-
-module _ (w : State) (t l : ℕ) (c : RwLockCall) (inductive : IsInductive w) (there : t < length w.places)
-    (idle_now : place_at w t ≡ Idle) (readers : has_readers (rules_in w l).sort ≡ true)
-    (right : call_right c t (owners_at w l) (share_at w l t) ≡ true) where
-  abbrev pub first : Place
-  first = RwLock l (admission_of_kind (kind_at w l)) (call_first c)
-
-  pub opens : CallOpens (admission_of_kind (kind_at w l)) c
-  opens = calls_open (admission_of_kind (kind_at w l)) c
-
-  free_now : taken_at (place_at w t) l ≡ None
-  free_now = ap (λ q. taken_at q l) idle_now
-
-  -- with what it claims
-  pub rwlock_begins : Goes w (put w t first) l (acts t (Begin opens.opening.claims ∷ []))
-  rwlock_begins = place_goes w t l inductive (rw idle_now tt) there (rules_in w l) refl first refl
-      (first_fits w l (admission_of_kind (kind_at w l)) c (admits_by (kind_at w l) readers))
-      (Begin opens.opening.claims ∷ []) (λ h. tt)
-      (steps_by (rules_in w l) l (parts_at w l) (parts_at w l) (place_at w) t first
-      (Begin opens.opening.claims ∷ []) (
-        opens.has t (shares_at w l) (owners_at w l) (queue_at w (2 * l)) (queue_at w (2 * l + 1))
-            (λ u. taken_at (place_at w u) l) right,
-        tt,
-      ) (tt, tt)
-      (free_now ∙ sym (free_of first l tt (ap (λ (y : Location). y.hand) opens.opening.location)))
-      refl refl refl refl
-      (role_here l first refl ∙ opens.opening.role
-      ∙ sym (put_here (λ u. role_on (place_at w u) l) t (record (role_on (place_at w t) l) {
-        claims =
-            opens.opening.claims;
-      }) ∙ ap (λ q. record (role_on q l) { claims = opens.opening.claims })
-      idle_now)))
-      (opens.opening.location ∙ sym (ap location idle_now))

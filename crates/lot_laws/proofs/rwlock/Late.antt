@@ -1,19 +1,12 @@
 -- A reader-writer call whose time is up: it sleeps in the line that its row says, and stands there still.
-use Rattle.std.proofs.Common.{Some, None, ◌≡◌, refl, ap}
+use Rattle.lot_laws.proofs.Names
+use Names.{Some, None, ◌≡◌, refl, ap, RwLockAt, rwlock_next, next_at, patience_of, Admission, RwLockPlace}
+use Names.{rwlock_late_line, late_line_at, parked_hand as rwlock_hand, RwLockCallPlace, Plain, Glance}
+use Names.{HandOver, Bump as BumpCall, Handed, call_late_line, call_profile, bump_next, call_next, plain_next}
 use Rattle.steps_rwlock.specs.declared.places.RwLockAt.TheVariants as at
 use Rattle.steps_rwlock.specs.declared.park.ParkAt.TheVariants as parking
 use Rattle.core_base.specs.declared.keys.Line.{Line}
-use Rattle.steps_rwlock.specs.declared.places.RwLockAt.{RwLockAt}
-use Rattle.steps_rwlock.specs.RwLockSteps.{rwlock_next, next_at, patience_of}
-use Rattle.steps_rwlock.specs.declared.places.Admission.{Admission}
-use Rattle.steps_rwlock.specs.declared.places.RwLockPlace.{RwLockPlace}
-use Rattle.steps_rwlock.specs.RwLockProfiles.{rwlock_late_line, late_line_at, parked_hand as rwlock_hand}
 use Rattle.steps_base.specs.declared.acts.Reply.TheVariants as reply
-use Rattle.steps_rwlock_fair.specs.declared.places.RwLockCallPlace.{RwLockCallPlace}
-use Rattle.steps_rwlock_fair.specs.declared.places.RwLockCallPlace.TheVariants.{Plain, Glance, HandOver}
-use Rattle.steps_rwlock_fair.specs.declared.places.RwLockCallPlace.TheVariants.{Bump as BumpCall, Handed}
-use Rattle.steps_rwlock_fair.specs.FairProfiles.{call_late_line, call_profile}
-use Rattle.steps_rwlock_fair.specs.FairSteps.{bump_next, call_next, plain_next}
 use Rattle.steps_base.specs.declared.acts.Next.TheVariants as next
 
 -- it sleeps in a line, and stands there still

@@ -1,66 +1,36 @@
 -- A call of a reader-writer lock comes to owe a wake by the word that it sees, and by entering a
 -- section. An event that befalls a thread changes nothing of that.
-use Rattle.std.proofs.Common.{ℕ, Bool, true, false, Option, Some, None, if◌then◌else◌, ◌==◌, ◌&&◌, ◌≡◌, inl}
-use Rattle.std.proofs.Common.{inr, refl, sym, ◌∙◌, ap, subst}
+use Rattle.lot_laws.proofs.Names
+use Names.{ℕ, Bool, true, false, Option, Some, None, if◌then◌else◌, ◌==◌, ◌&&◌, ◌≡◌, inl, inr, refl, sym, ◌∙◌}
+use Names.{ap, subst, Note, Access, Patience, Patient, Timed, Try, RwLockCall, Answer, Next, Reply}
+use Names.{outcome_of, in_line, Admission, RwLockPlace, RwLockAt, RwLockPurpose, Decision, ParkAt, WakeAt}
+use Names.{plus, decided, patience_of, patience_at, entered, looked_by, missed, came_in, came_in_for}
+use Names.{exchanged_next, after_count, rolled_back, gave_way_by, park_next, parks_at, looks_again, clears}
+use Names.{wake_next, next_at, rwlock_act, rwlock_next, act_at, Admits, rwlock_role, pends, StandsAt}
+use Names.{MayStand, RwLockCallPlace, Plain, Glance, HandOver, Bump, Handed, HandOverAt, HandedAt, call_first}
+use Names.{bump_ended, bump_next, given, glances, hand_over_next, handed_by, handed_next, handed_woken}
+use Names.{plain_next, unless_given, woken_with, call_profile, rwlock_profile, owes_at, late_line_at}
+use Names.{purpose_by, count_in, has_aside, has_parked, parked_in, aside_in, Rules, Sort, has_readers, RwLock}
+use Names.{next_place, line_owed, profile, rwlock_goes, State, word_at, reply_to, rules_in, line_let_in}
+use Names.{tells_by, tells_of}
 use Rattle.core_base.specs.declared.keys.Line.{Line}
 use Rattle.core_base.specs.declared.keys.Line.TheVariants.{Main, Second}
-use Rattle.core_base.specs.declared.notes.Note.{Note}
 use Rattle.core_base.specs.declared.notes.Note.TheVariants as note
-use Rattle.spec_locks.specs.declared.calls.Access.{Access}
 use Rattle.spec_locks.specs.declared.calls.Access.TheVariants as access
-use Rattle.spec_locks.specs.declared.calls.Patience.{Patience}
-use Rattle.spec_locks.specs.declared.calls.Patience.TheVariants.{Patient, Timed, Try}
-use Rattle.spec_locks.specs.declared.calls.RwLockCall.{RwLockCall}
 use Rattle.spec_locks.specs.declared.calls.RwLockCall.TheVariants as rwlock_call
-use Rattle.spec_locks.specs.declared.outcomes.Answer.{Answer}
 use Rattle.spec_locks.specs.declared.outcomes.Answer as answer
-use Rattle.steps_base.specs.declared.acts.Next.{Next}
 use Rattle.steps_base.specs.declared.acts.Next.TheVariants as next
-use Rattle.steps_base.specs.declared.acts.Reply.{Reply}
 use Rattle.steps_base.specs.declared.acts.Reply.TheVariants as reply
-use Rattle.steps_base.specs.Acts.{outcome_of}
-use Rattle.steps_base.specs.Profiles.{in_line}
-use Rattle.steps_rwlock.specs.declared.places.Admission.{Admission}
-use Rattle.steps_rwlock.specs.declared.places.RwLockPlace.{RwLockPlace}
-use Rattle.steps_rwlock.specs.declared.places.RwLockAt.{RwLockAt}
 use Rattle.steps_rwlock.specs.declared.places.RwLockAt.TheVariants as at
-use Rattle.steps_rwlock.specs.declared.purposes.RwLockPurpose.{RwLockPurpose}
 use Rattle.steps_rwlock.specs.declared.purposes.RwLockPurpose.TheVariants as purpose
-use Rattle.steps_rwlock.specs.declared.enter.Decision.{Decision}
 use Rattle.steps_rwlock.specs.declared.enter.Decision.TheVariants as decisions
-use Rattle.steps_rwlock.specs.declared.park.ParkAt.{ParkAt}
 use Rattle.steps_rwlock.specs.declared.park.ParkAt.TheVariants as parking
-use Rattle.steps_rwlock.specs.declared.release.WakeAt.{WakeAt}
 use Rattle.steps_rwlock.specs.declared.release.WakeAt.TheVariants as waking
-use Rattle.steps_rwlock.specs.RwLockSteps.{plus, decided, patience_of, patience_at, entered, looked}
-use Rattle.steps_rwlock.specs.RwLockSteps.{looked_by, missed, came_in, came_in_for, exchanged_next}
-use Rattle.steps_rwlock.specs.RwLockSteps.{after_count, rolled_back, gave_way_by, park_next, parks_at}
-use Rattle.steps_rwlock.specs.RwLockSteps.{looks_again, clears, wake_next, next_at, rwlock_act, rwlock_next}
-use Rattle.steps_rwlock.specs.RwLockSteps.{act_at}
-use Rattle.steps_rwlock.specs.RwLockDeeds.{Admits, rwlock_role, pends}
-use Rattle.steps_rwlock.specs.RwLockCalls.{StandsAt, MayStand}
-use Rattle.steps_rwlock_fair.specs.declared.places.RwLockCallPlace.{RwLockCallPlace}
-use Rattle.steps_rwlock_fair.specs.declared.places.RwLockCallPlace.TheVariants.{Plain, Glance, HandOver, Bump}
-use Rattle.steps_rwlock_fair.specs.declared.places.RwLockCallPlace.TheVariants.{Handed}
-use Rattle.steps_rwlock_fair.specs.declared.hand_over.HandOverAt.{HandOverAt}
+use Rattle.steps_rwlock.specs.RwLockSteps.{looked}
 use Rattle.steps_rwlock_fair.specs.declared.hand_over.HandOverAt.TheVariants as handing
-use Rattle.steps_rwlock_fair.specs.declared.handed.HandedAt.{HandedAt}
 use Rattle.steps_rwlock_fair.specs.declared.handed.HandedAt.TheVariants as handed
-use Rattle.steps_rwlock_fair.specs.FairBegins.{call_first}
-use Rattle.steps_rwlock_fair.specs.FairSteps.{bump_ended, bump_next, given, glances, hand_over_next}
-use Rattle.steps_rwlock_fair.specs.FairSteps.{handed_by, handed_next, handed_woken, plain_next, unless_given}
-use Rattle.steps_rwlock_fair.specs.FairSteps.{woken_with}
-use Rattle.steps_rwlock_fair.specs.FairProfiles.{call_profile}
-use Rattle.steps_rwlock.specs.RwLockProfiles.{rwlock_profile, is_timed, owes_at, late_line_at, purpose_by}
-use Rattle.spec_locks.specs.Codes.{count_in, has_aside, has_parked, parked_in, aside_in}
-use Rattle.spec_locks.specs.Locks.{Rules, Sort}
+use Rattle.steps_rwlock.specs.RwLockProfiles.{is_timed}
 use Rattle.spec_locks.specs.Locks as sorts
-use Rattle.spec_locks.specs.Sites.{has_readers}
-use Rattle.lot_steps.specs.declared.places.Place.TheVariants.{RwLock}
-use Rattle.lot_steps.specs.Steps.{next_place, line_owed, profile, rwlock_goes}
-use Rattle.lot_machine.specs.Machine.{State, word_at, reply_to}
-use Rattle.lot_laws.specs.SitesOf.{rules_in}
-use Rattle.lot_laws.specs.Owing.{line_let_in, tells_by, tells_of}
 use Rattle.lot_laws.proofs.calls.PlainCalls.{plain_goes, plain_does}
 use Rattle.lot_laws.proofs.promises.RowPromises.{LetsIn, RowOwesNext, IsLateNext, Befalls}
 use Rattle.lot_laws.proofs.rwlock.Rows.{of, row_of, IsBefore, lesser, shut, shut_before, parking_inside}

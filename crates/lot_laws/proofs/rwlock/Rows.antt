@@ -1,48 +1,28 @@
 -- Each place of a reader-writer lock says of its thread what is promised of it.
-use Rattle.std.proofs.Common.{ℕ, Bool, true, false, Option, Some, None, if◌then◌else◌, ◌≡◌, ◌≢◌, ◌+◌, ◌*◌}
-use Rattle.std.proofs.Common.{◌⊎◌, inl, inr, refl, sym, ◌∙◌, ap, arith}
-use Rattle.core_base.specs.declared.keys.Keys.TheVariants.{One}
+use Rattle.lot_laws.proofs.Names
+use Names.{ℕ, Bool, true, false, Option, Some, None, if◌then◌else◌, ◌≡◌, ◌≢◌, ◌+◌, ◌*◌, ◌⊎◌, inl, inr, refl}
+use Names.{sym, ◌∙◌, ap, arith, One, Want, Exclusive, Access, Downgrade, Patience, Patient, Timed, Try, Sleep}
+use Names.{Admission, RwLockPlace, RwLockAt, RwLockPurpose, Decision, ParkAt, WakeAt, wanted, to_of, start_of}
+use Names.{patience_of, want_at, decided, decided_act, park_act, act_at, rwlock_act, exchange, plus, Admits}
+use Names.{parking_role, waking_role, role_at, rwlock_role, falls_back, pends, claimed, ParksBy, StandsAt}
+use Names.{IsNoRefusal, IsDecided, MayStand, rwlock_profile, is_inside, owes_at, stands_at, parked_hand}
+use Names.{carries_at, late_line_at, late_at, has_given_up, purpose_by, wants_for, Profile, hand, in_line}
+use Names.{taken_from, has_aside, Rules, Sort, Knows, MayWait, lock_for, Blank, IsTimed, Pends, Claim}
+use Names.{counts_some, has_readers, idle, KnowsRights, WakesAside}
 use Rattle.core_base.specs.declared.keys.Line.{Line}
 use Rattle.core_base.specs.declared.keys.Line.TheVariants.{Main, Second}
-use Rattle.core_base.specs.declared.wants.Want.{Want}
-use Rattle.core_base.specs.declared.wants.Want.TheVariants.{Exclusive}
 use Rattle.core_base.specs.Keys.{key_of}
-use Rattle.spec_locks.specs.declared.calls.Access.{Access}
 use Rattle.spec_locks.specs.declared.calls.Access.TheVariants as access
-use Rattle.spec_locks.specs.declared.calls.Downgrade.{Downgrade}
 use Rattle.spec_locks.specs.declared.calls.Downgrade.TheVariants as downgrade
-use Rattle.spec_locks.specs.declared.calls.Patience.{Patience}
-use Rattle.spec_locks.specs.declared.calls.Patience.TheVariants.{Patient, Timed, Try}
 use Rattle.steps_base.specs.declared.acts.Act.TheVariants as act
-use Rattle.steps_base.specs.declared.acts.Act.TheVariants.{Sleep}
-use Rattle.steps_rwlock.specs.declared.places.Admission.{Admission}
-use Rattle.steps_rwlock.specs.declared.places.RwLockPlace.{RwLockPlace}
-use Rattle.steps_rwlock.specs.declared.places.RwLockAt.{RwLockAt}
 use Rattle.steps_rwlock.specs.declared.places.RwLockAt.TheVariants as at
-use Rattle.steps_rwlock.specs.declared.purposes.RwLockPurpose.{RwLockPurpose}
 use Rattle.steps_rwlock.specs.declared.purposes.RwLockPurpose.TheVariants as purpose
-use Rattle.steps_rwlock.specs.declared.enter.Decision.{Decision}
 use Rattle.steps_rwlock.specs.declared.enter.Decision.TheVariants as decisions
-use Rattle.steps_rwlock.specs.declared.park.ParkAt.{ParkAt}
 use Rattle.steps_rwlock.specs.declared.park.ParkAt.TheVariants as parking
-use Rattle.steps_rwlock.specs.declared.release.WakeAt.{WakeAt}
 use Rattle.steps_rwlock.specs.declared.release.WakeAt.TheVariants as waking
-use Rattle.steps_rwlock.specs.RwLockSteps.{wanted, to_of, start_of, patience_of, want_at, decided}
-use Rattle.steps_rwlock.specs.RwLockSteps.{decided_act, park_act, act_at, rwlock_act, exchange, plus}
-use Rattle.steps_rwlock.specs.RwLockDeeds.{Admits, parking_role, waking_role, role_at, retried_want}
-use Rattle.steps_rwlock.specs.RwLockDeeds.{rwlock_role, falls_back, pends, claimed}
-use Rattle.steps_rwlock.specs.RwLockCalls.{ParksBy, StandsAt, IsNoRefusal, IsDecided, MayStand}
-use Rattle.steps_rwlock.specs.RwLockProfiles.{rwlock_profile, is_inside, is_timed, owes_at, stands_at}
-use Rattle.steps_rwlock.specs.RwLockProfiles.{parked_hand, carries_at, late_line_at, late_at, has_given_up}
-use Rattle.steps_rwlock.specs.RwLockProfiles.{purpose_by, wants_for}
-use Rattle.steps_base.specs.Profiles.{Profile, hand, in_line, taken_from}
-use Rattle.spec_locks.specs.Codes.{has_aside}
-use Rattle.spec_locks.specs.Locks.{Rules, Sort, Knows}
+use Rattle.steps_rwlock.specs.RwLockDeeds.{retried_want}
+use Rattle.steps_rwlock.specs.RwLockProfiles.{is_timed}
 use Rattle.spec_locks.specs.Locks as sorts
-use Rattle.spec_locks.specs.Purposes.{MayWait, lock_for, Blank}
-use Rattle.spec_locks.specs.Runs.{IsTimed}
-use Rattle.spec_locks.specs.Sites.{Pends, Claim, counts_some, has_readers, idle}
-use Rattle.steps_base.specs.Rows.{KnowsRights, WakesAside}
 use Rattle.lot_laws.proofs.promises.RowPromises.{is_acting, LetsIn, IsDebtorIn, HasDebt, RowLooksAfter}
 use Rattle.lot_laws.proofs.promises.RowPromises.{RowIsLate, RowPromises}
 

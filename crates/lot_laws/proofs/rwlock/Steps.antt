@@ -1,58 +1,35 @@
 -- A thread in a call of a reader-writer lock goes on by its act: for itself alone, or handing its right over
 -- to those that it has in hand.
-use Rattle.std.proofs.Common.{ℕ, Bool, true, false, Option, Some, ◌≡◌, ◌≢◌, ◌<◌, List, [], length, refl, sym}
-use Rattle.std.proofs.Common.{◌∙◌, ap, subst, append-nil}
-use Rattle.core_base.specs.declared.ops.Op.{Op}
+use Rattle.lot_laws.proofs.Names
+use Names.{ℕ, Bool, true, false, Option, Some, ◌≡◌, ◌≢◌, ◌<◌, ◌*◌, ◌+◌, List, [], ◌∷◌, length, refl, sym, ◌∙◌}
+use Names.{ap, subst, append-nil, Op, Act, Value, takes_effect, Location, Admission, RwLockPlace, MayStand}
+use Names.{rwlock_move, rwlock_hears, rwlock_act, rwlock_acts_move, MovesByAct, RwLockCallPlace, Plain}
+use Names.{Glance, HandOver, Bump, Handed, CallStands, in_hand_of, call_deeds, CallTells, CallMoves}
+use Names.{call_hears, call_move, call_profile, call_act, fair_acts_move, Idle, RwLock, called_lock}
+use Names.{next_place, case_of, event_by, LockCase, Begin, Deed, State, can_do, kind_at, owners_at, place_at}
+use Names.{put, queue_at, reply_to, share_at, shares_at, state_after_hand_over_by, word_at, IsWellFormed}
+use Names.{acts, AreCounted, Goes, IsInductive, carried_at, rules_in, location, has_readers, RwLockCall}
+use Names.{admission_of_kind, call_first, call_right, CallOpens, calls_open, Place, taken_at}
 use Rattle.spec_locks.specs.declared.calls.Access.TheVariants as access
-use Rattle.steps_base.specs.declared.acts.Act.{Act}
 use Rattle.steps_base.specs.declared.acts.Act.TheVariants as act
-use Rattle.steps_base.specs.declared.acts.Reply.TheVariants.{Value}
-use Rattle.steps_base.specs.Acts.{takes_effect}
-use Rattle.steps_base.specs.Locations.{Location}
-use Rattle.steps_rwlock.specs.declared.places.Admission.{Admission}
-use Rattle.steps_rwlock.specs.declared.places.RwLockPlace.{RwLockPlace}
-use Rattle.steps_rwlock.specs.RwLockCalls.{MayStand}
-use Rattle.steps_rwlock.specs.RwLockMoves.{rwlock_move, rwlock_hears}
-use Rattle.steps_rwlock.specs.RwLockSteps.{rwlock_act}
-use Rattle.steps_rwlock.proofs.RwLockMoves.{rwlock_acts_move}
-use Rattle.steps_base.specs.Moves.{MovesByAct}
-use Rattle.steps_rwlock_fair.specs.declared.places.RwLockCallPlace.{RwLockCallPlace}
-use Rattle.steps_rwlock_fair.specs.declared.places.RwLockCallPlace.TheVariants.{Plain, Glance, HandOver, Bump}
-use Rattle.steps_rwlock_fair.specs.declared.places.RwLockCallPlace.TheVariants.{Handed}
 use Rattle.steps_rwlock_fair.specs.declared.hand_over.Taken.{Taken as Counted}
 use Rattle.steps_rwlock_fair.specs.declared.hand_over.HandOverAt.TheVariants as handing
 use Rattle.steps_rwlock_fair.specs.declared.handed.HandedAt.TheVariants as handed
-use Rattle.steps_rwlock_fair.specs.FairCalls.{CallStands, in_hand_of}
-use Rattle.steps_rwlock_fair.specs.FairDeeds.{call_deeds}
-use Rattle.steps_rwlock_fair.specs.FairLaws.{CallTells}
-use Rattle.steps_rwlock_fair.specs.FairMoves.{CallMoves, call_hears, call_move}
-use Rattle.steps_rwlock_fair.specs.FairProfiles.{call_profile}
-use Rattle.steps_rwlock_fair.specs.FairSteps.{call_act}
-use Rattle.steps_rwlock_fair.proofs.FairActs.{fair_acts_move}
-use Rattle.lot_steps.specs.declared.places.Place.TheVariants.{RwLock}
-use Rattle.lot_steps.specs.Steps.{called_lock, next_place}
-use Rattle.spec_locks.specs.Deeds.{case_of, event_by}
-use Rattle.spec_locks.specs.Locks.{LockCase}
-use Rattle.spec_locks.specs.Sites.{Deed}
-use Rattle.lot_machine.specs.Machine.{State, can_do, place_at, put, reply_to, state_after_hand_over_by}
-use Rattle.lot_machine.specs.Machine.{word_at}
-use Rattle.lot_machine.specs.Fits.{IsWellFormed}
-use Rattle.lot_laws.specs.ThreadDeeds.{acts}
-use Rattle.lot_laws.specs.SitesOf.{AreCounted, Goes, IsInductive, carried_at, rules_in}
-use Rattle.lot_laws.specs.Locations.{location}
 use Rattle.lot_laws.proofs.sites.ActsKept.{lock_by}
 use Rattle.lot_laws.proofs.machine.AtPlaces.{in_no_hand}
 use Rattle.lot_laws.proofs.calls.Events.{Happens, OthersFollow, happens, others_follow}
 use Rattle.lot_laws.proofs.hands.HandsOn.{g, hands_fails, hands_tell, whom}
 use Rattle.lot_laws.proofs.hands.HandsOnEvents.{hands_happen, hands_others}
-use Rattle.spec_locks.specs.Sites.{has_readers}
 use Rattle.lot_laws.proofs.rwlock.Kept.{admits}
 use Rattle.lot_laws.proofs.promises.LineActs.{TakesHere, takes_here}
 use Rattle.lot_laws.proofs.machine.PlaceTest.{call_facts}
 use Rattle.lot_laws.proofs.calls.OtherCalls.{Stay, IsCalm, WakesOwn, calm, hands_nothing, lonely, no_hand_off}
 use Rattle.lot_laws.proofs.calls.OtherCalls.{wakes_own}
 use Rattle.lot_laws.proofs.promises.PlacePromises.{location_own}
-use Rattle.lot_laws.proofs.rwlock.Kept.{GoesFrom, goes_unhanded, stands}
+use Rattle.lot_laws.proofs.rwlock.Kept.{GoesFrom, admits_by, first_fits, stands}
+use Rattle.lot_laws.proofs.book.Kept.{begins_with, goes_on, whom_by}
+use Rattle.lot_laws.proofs.book.Pages.{booked}
+use Rattle.lot_laws.proofs.machine.Parts.{same}
 use Rattle.lot_laws.proofs.sites.SitesKept.{go_by}
 
 -- ---------------------------------------------------------------- a thread that hands over
@@ -212,6 +189,13 @@ module _ (w : State) (t l : ℕ) (a : Admission) (c : RwLockCallPlace) (inductiv
     effect_whom true f = refl
     effect_whom false f = refl
 
+  -- by any act that hands nothing over
+  pub goes_unhanded : ((k : ℕ) (op : Op) → call_act l a c ≢ act.HandOver k op) → can_do w (call_act l a c)
+      ≡ true → GoesFrom w t l a c inductive shape there lt is (RwLock l a c) (call_act l a c)
+  goes_unhanded plain can = let g = goes_on w t l (RwLock l a c) inductive shape there lt is
+      (booked w t l (RwLock l a c) inductive is tt (same l)) (same l) plain can in
+      record { whom = whom_by w (call_act l a c); goes = g.goes; tells = g.tells; others = g.others }
+
   -- wherever it stands
   pub rwlock_goes_on : AreCounted w → can_do w (call_act l a c) ≡ true → GoesOnBy w t l a c (call_act l a c)
   rwlock_goes_on counted can = by_act (call_act l a c) refl
@@ -221,7 +205,7 @@ module _ (w : State) (t l : ℕ) (a : Admission) (c : RwLockCallPlace) (inductiv
 
       alone : ((k : ℕ) (op : Op) → call_act l a c ≢ act.HandOver k op) → GoesOnBy w t l a c (call_act l a c)
       alone plain = by_own (call_act l a c) (takes_here l (location (RwLock l a c)) (call_act l a c)
-          (call_facts l a c).line) (goes_unhanded w t l a c inductive shape there lt is plain can)
+          (call_facts l a c).line) (goes_unhanded plain can)
 
       by_act : (y : Act) → call_act l a c ≡ y → GoesOnBy w t l a c (call_act l a c)
       by_act (act.HandOver k op) e =
@@ -232,3 +216,23 @@ module _ (w : State) (t l : ℕ) (a : Admission) (c : RwLockCallPlace) (inductiv
           subst (GoesOnBy w t l a c) (sym here) (by_effect n.0 n.1 counted op here
           (takes_effect op (word_at w l)) refl)
       by_act y e = alone (λ k op f. let g : y ≡ act.HandOver k op = sym e ∙ f in cc)
+
+-- ---------------------------------------------------------------- a call begins
+
+module _ (w : State) (t l : ℕ) (c : RwLockCall) (inductive : IsInductive w) (there : t < length w.places)
+    (idle_now : place_at w t ≡ Idle)
+    (readers : has_readers (rules_in w l).sort ≡ true) (right : call_right c t (owners_at w l)
+    (share_at w l t) ≡ true) where
+  abbrev pub first : Place
+  first = RwLock l (admission_of_kind (kind_at w l)) (call_first c)
+
+  pub opens : CallOpens (admission_of_kind (kind_at w l)) c
+  opens = calls_open (admission_of_kind (kind_at w l)) c
+
+  -- with what it claims
+  pub rwlock_begins : Goes w (put w t first) l (acts t (Begin opens.opening.claims ∷ []))
+  rwlock_begins = begins_with w t l inductive there idle_now first refl refl
+      (first_fits w l (admission_of_kind (kind_at w l)) c (admits_by (kind_at w l) readers))
+      opens.opening.claims opens.opening.location opens.opening.role
+      (opens.has t (shares_at w l) (owners_at w l) (queue_at w (2 * l)) (queue_at w (2 * l + 1))
+      (λ u. taken_at (place_at w u) l) right)

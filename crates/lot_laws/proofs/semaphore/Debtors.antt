@@ -1,30 +1,16 @@
 -- As many different threads look after the line of a semaphore as its roles owe.
-use Rattle.std.proofs.Common.{ℕ, zero, suc, Bool, true, false, Option, Some, None, if◌then◌else◌, ◌==◌, ◌≡◌}
-use Rattle.std.proofs.Common.{◌≢◌, ◌+◌, ◌≤◌, ◌<◌, inl, inr, refl, sym, ◌∙◌, ap, subst, arith}
-use Rattle.std.proofs.lemmas.Bool.{cases_eq, eqb-true}
-use Rattle.std.proofs.lemmas.Bool.Decides.{nat_tests}
-use Rattle.core_base.specs.declared.wants.Want.{Want}
-use Rattle.spec_locks.specs.Codes.{bit}
-use Rattle.spec_locks.specs.Locks.{one_if_some}
+use Rattle.lot_laws.proofs.Names
+use Names.{ℕ, zero, suc, Bool, true, false, Option, Some, None, if◌then◌else◌, ◌==◌, ◌≡◌, ◌≢◌, ◌+◌, ◌≤◌, ◌<◌}
+use Names.{inl, inr, refl, sym, ◌∙◌, ap, subst, arith, cases_eq, eqb-true, nat_tests, Want, bit, one_if_some}
+use Names.{debt, sum_to, wakes_main, rules_of, IsDebtorRole, Line, Main, Second, Role, has_readers, idle}
+use Names.{Kind, is_plain_mutex, mutex_beside, SemaphorePlace, Acquire, Release, semaphore_profile, Place}
+use Names.{Idle, Mutex, RwLock, Once, Condvar, Semaphore, is_lock, profile, profile_beside, State, kind_at}
+use Names.{place_at, role_on, FitsItsLock, IsInductive, is_mutex, rules_in}
 use Rattle.spec_locks.specs.Locks as locks
-use Rattle.spec_locks.specs.Permits.{debt, sum_to, wakes_main}
-use Rattle.spec_locks.specs.Purposes.{rules_of}
-use Rattle.spec_locks.specs.Sites.{IsDebtorRole, Line, Main, Second, Role, has_readers, idle}
-use Rattle.spec_locks.specs.declared.kinds.Kind.{Kind}
 use Rattle.spec_locks.specs.declared.kinds.Kind.TheVariants as kinds
-use Rattle.spec_locks.specs.Kinds.{is_plain_mutex}
-use Rattle.steps_condvar.specs.CondvarSteps.{mutex_beside}
 use Rattle.steps_semaphore.specs.declared.acquire.AcquireAt.TheVariants as acquire
-use Rattle.steps_semaphore.specs.declared.places.SemaphorePlace.{SemaphorePlace}
-use Rattle.steps_semaphore.specs.declared.places.SemaphorePlace.TheVariants.{Acquire, Try, Release}
+use Rattle.steps_semaphore.specs.declared.places.SemaphorePlace.TheVariants.{Try}
 use Rattle.steps_semaphore.specs.declared.release.ReleaseAt.TheVariants as release
-use Rattle.steps_semaphore.specs.SemaphoreProfiles.{semaphore_profile}
-use Rattle.lot_steps.specs.declared.places.Place.{Place}
-use Rattle.lot_steps.specs.declared.places.Place.TheVariants.{Idle, Mutex, RwLock, Once, Condvar, Semaphore}
-use Rattle.lot_steps.specs.Steps.{is_lock, profile, profile_beside}
-use Rattle.lot_machine.specs.Machine.{State, kind_at, place_at}
-use Rattle.lot_laws.specs.Locations.{role_on}
-use Rattle.lot_laws.specs.SitesOf.{FitsItsLock, IsInductive, is_mutex, rules_in}
 
 -- ---------------------------------------------------------------- numbers
 

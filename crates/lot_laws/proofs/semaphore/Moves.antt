@@ -1,41 +1,29 @@
 -- Each step of a semaphore takes its thread in the machine where its act says, and so does what befalls it
 -- asleep.
-use Rattle.std.proofs.Common.{ℕ, Bool, true, false, Option, Some, None, if◌then◌else◌, ◌==◌, ◌≡◌, ◌-◌, ◌*◌}
-use Rattle.std.proofs.Common.{[], ◌∷◌, inl, inr, refl, sym, ap, ◌∙◌, subst, not}
+use Rattle.lot_laws.proofs.Names
+use Names.{ℕ, Bool, true, false, Option, Some, None, if◌then◌else◌, ◌==◌, ◌≡◌, ◌-◌, ◌*◌, [], ◌∷◌, inl, inr}
+use Names.{refl, sym, ap, ◌∙◌, subst, not, One, Shared, Act, Next, At, AreOfWord, GoesIn, Hears, IsHeld, Move}
+use Names.{MovesByAct, Sleeps, StaysPut, RowWaits, inside_of, row_of, location_then, Hand, hand, in_hand}
+use Names.{Location, location_by, has_parked, Leave as GivesBack, Case, End, Line, Main, Mark, Second, Normal}
+use Names.{Reply, TryAt, ReleaseAt, SemaphorePlace, Acquire, Release, semaphore_deeds, semaphore_late_line}
+use Names.{semaphore_profile, acquired, in_acquire, in_release, in_try, is_free, next_release, next_try}
+use Names.{semaphore_act, semaphore_next, LateIsTimed}
 use Rattle.std.specs.Prelude.{◌&&◌}
-use Rattle.core_base.specs.declared.keys.Keys.TheVariants.{One}
 use Rattle.core_base.specs.declared.ops.Op.TheVariants as op
-use Rattle.core_base.specs.declared.wants.Want.TheVariants.{Shared}
 use Rattle.core_base.specs.Keys.{key_of}
-use Rattle.steps_base.specs.declared.acts.Act.{Act}
 use Rattle.steps_base.specs.declared.acts.Act.TheVariants as act
-use Rattle.steps_base.specs.declared.acts.Next.{Next}
-use Rattle.steps_base.specs.declared.acts.Next.TheVariants.{At, End as Over}
+use Rattle.steps_base.specs.declared.acts.Next.TheVariants.{End as Over}
 use Rattle.steps_base.specs.declared.acts.Reply.TheVariants as reply
 use Rattle.steps_base.specs.declared.acts.Whom.TheVariants.{First}
 use Rattle.spec_locks.specs.declared.outcomes.Answer.TheVariants as answer
-use Rattle.steps_base.specs.Moves.{AreOfWord, GoesIn, Hears, IsHeld, Move, MovesByAct, Sleeps, StaysPut}
-use Rattle.steps_base.specs.Moves.{RowWaits, inside_of, row_of, location_then}
-use Rattle.steps_base.specs.Profiles.{Hand, hand, in_hand}
-use Rattle.steps_base.specs.Locations.{Location, nowhere, location_by}
-use Rattle.spec_locks.specs.Codes.{has_parked}
-use Rattle.spec_locks.specs.Locks.{Leave as GivesBack}
-use Rattle.spec_locks.specs.Sites.{Case, End, Line, Main, Mark, Second}
-use Rattle.core_base.specs.declared.notes.Note.TheVariants.{HandOff, Normal}
-use Rattle.steps_base.specs.declared.acts.Reply.{Reply}
-use Rattle.steps_semaphore.specs.declared.tries.TryAt.{TryAt}
-use Rattle.steps_semaphore.specs.declared.release.ReleaseAt.{ReleaseAt}
+use Rattle.steps_base.specs.Locations.{nowhere}
+use Rattle.core_base.specs.declared.notes.Note.TheVariants.{HandOff}
 use Rattle.steps_semaphore.specs.declared.acquire.AcquireAt.TheVariants as acquire
 use Rattle.steps_semaphore.specs.declared.tries.TryAt.TheVariants as tries
 use Rattle.steps_semaphore.specs.declared.release.ReleaseAt.TheVariants as release
-use Rattle.steps_semaphore.specs.declared.places.SemaphorePlace.{SemaphorePlace}
-use Rattle.steps_semaphore.specs.declared.places.SemaphorePlace.TheVariants.{Acquire, Try, Release}
-use Rattle.steps_semaphore.specs.SemaphoreDeeds.{enter_deeds, semaphore_deeds, take_deeds}
+use Rattle.steps_semaphore.specs.declared.places.SemaphorePlace.TheVariants.{Try}
+use Rattle.steps_semaphore.specs.SemaphoreDeeds.{enter_deeds, take_deeds}
 use Rattle.steps_semaphore.specs.SemaphoreLaws.{MayHear, next_row}
-use Rattle.steps_semaphore.specs.SemaphoreProfiles.{semaphore_late_line, semaphore_profile}
-use Rattle.steps_semaphore.specs.SemaphoreSteps.{acquired, in_acquire, in_release, in_try, is_free}
-use Rattle.steps_semaphore.specs.SemaphoreSteps.{next_release, next_try, semaphore_act, semaphore_next}
-use Rattle.lot_laws.specs.SitesOf.{LateIsTimed}
 use Rattle.lot_laws.proofs.sites.FirstTaken.{TakesFirst}
 
 abbrev pub semaphore_move : SemaphorePlace → Move

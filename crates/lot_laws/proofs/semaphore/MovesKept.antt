@@ -1,31 +1,16 @@
 -- A thread inside the section of a semaphore takes the first that waits: every lock is a site again. No place
 -- is named.
-use Rattle.std.proofs.Common.{ℕ, Bool, true, false, Some, None, if◌then◌else◌, ◌==◌, ◌≡◌, ◌*◌, ◌<◌, List, []}
-use Rattle.std.proofs.Common.{◌∷◌, length, map, drop, refl, sym, ◌∙◌, ap, subst, arith, length-set}
-use Rattle.std.proofs.Common.{get_or-set_same, get_or-set_other}
-use Rattle.core_base.specs.declared.wants.Waiter.{Waiter}
-use Rattle.core_base.specs.declared.wants.Want.{Want}
-use Rattle.core_base.specs.declared.wants.Want.TheVariants.{Shared}
-use Rattle.core_base.specs.Lines.{threads_of, times}
-use Rattle.steps_base.specs.declared.acts.Reply.TheVariants.{TakenBy, Took}
-use Rattle.steps_base.specs.Moves.{Hears, Move, inside_of}
-use Rattle.steps_base.specs.Locations.{Location}
-use Rattle.spec_locks.specs.Locks.{HasTakenNobody, Knows, KnowsAll, Rules, Semaphore, TakeFirst, first_thread}
-use Rattle.spec_locks.specs.Locks.{putting}
+use Rattle.lot_laws.proofs.Names
+use Names.{ℕ, Bool, true, false, Some, None, if◌then◌else◌, ◌==◌, ◌≡◌, ◌*◌, ◌<◌, List, [], ◌∷◌, length, map}
+use Names.{drop, refl, sym, ◌∙◌, ap, subst, arith, length-set, get_or-set_same, get_or-set_other, Waiter}
+use Names.{Want, Shared, threads_of, times, TakenBy, Took, Hears, Move, inside_of, Location, HasTakenNobody}
+use Names.{Knows, KnowsAll, Rules, TakeFirst, first_thread, putting, queued_of, Case, Main, Place, next_place}
+use Names.{profile, State, place_at, places_told, put, queue_at, queues_without_first, state_after_reply}
+use Names.{told_count, taken_at, acts, role_on, location, location_at, ActsNeeded, AreWaiting, FitsItsLock}
+use Names.{Goes, IsInductive, TakesOne, after_acts, rules_in, locations_of, stood_in}
+use Rattle.spec_locks.specs.Locks.{Semaphore}
 use Rattle.spec_locks.specs.Locks as locks
-use Rattle.spec_locks.specs.Picks.{queued_of}
-use Rattle.spec_locks.specs.Sites.{Case, Main}
 use Rattle.steps_semaphore.specs.SemaphoreDeeds.{queued, take_deeds}
-use Rattle.lot_steps.specs.declared.places.Place.{Place}
-use Rattle.lot_steps.specs.Steps.{next_place, profile}
-use Rattle.lot_machine.specs.Machine.{State, place_at, places_told, put, queue_at, queues_without_first}
-use Rattle.lot_machine.specs.Machine.{state_after_reply}
-use Rattle.lot_machine.proofs.QueueLemmas.{told_count}
-use Rattle.lot_laws.specs.Refinement.{taken_at}
-use Rattle.lot_laws.specs.ThreadDeeds.{acts}
-use Rattle.lot_laws.specs.Locations.{role_on, location, location_at}
-use Rattle.lot_laws.specs.SitesOf.{ActsNeeded, AreWaiting, FitsItsLock, Goes, IsInductive, TakesOne}
-use Rattle.lot_laws.specs.SitesOf.{after_acts, rules_in, locations_of, stood_in}
 use Rattle.lot_laws.proofs.sites.ActsKept.{lock_by, site_by}
 use Rattle.lot_laws.proofs.machine.Parts.{IsOf, put_places, same, location_here}
 use Rattle.lot_laws.proofs.sites.MovesKept.{SleepsIfCalls, needed_by, own_by, site, sleeps_in}

@@ -1,30 +1,18 @@
 -- A thread in a call of a semaphore owes a wake from the step that gave its permit back on, where that saw
 -- waiters, or from entering the section, until it leaves it.
-use Rattle.std.proofs.Common.{ℕ, Bool, true, false, Some, if◌then◌else◌, ◌≡◌, inl, inr, refl, sym, ◌∙◌, ap}
-use Rattle.std.proofs.Common.{subst}
-use Rattle.steps_base.specs.declared.acts.Next.{Next}
+use Rattle.lot_laws.proofs.Names
+use Names.{ℕ, Bool, true, false, Some, if◌then◌else◌, ◌≡◌, inl, inr, refl, sym, ◌∙◌, ap, subst, Next, Reply}
+use Names.{outcome_of, LetsIn, Line, Main, has_parked, AcquireAt, TryAt, ReleaseAt, SemaphorePlace, Acquire}
+use Names.{Release, semaphore_profile, acquire_act, in_acquire, in_release, in_try, next_acquire}
+use Names.{next_release, next_try, release_act, semaphore_act, semaphore_next, try_act, act_of, profile}
+use Names.{semaphore_does, semaphore_goes, State, reply_to, word_at, tells_by, tells_of}
 use Rattle.steps_base.specs.declared.acts.Next.TheVariants as next
-use Rattle.steps_base.specs.declared.acts.Reply.{Reply}
-use Rattle.steps_base.specs.Acts.{outcome_of}
-use Rattle.steps_base.specs.Rows.{LetsIn}
 use Rattle.spec_locks.specs.declared.outcomes.Answer.TheVariants as answer
 use Rattle.spec_locks.specs.Locks as locks
-use Rattle.spec_locks.specs.Sites.{Line, Main}
-use Rattle.spec_locks.specs.Codes.{has_parked}
-use Rattle.steps_semaphore.specs.declared.acquire.AcquireAt.{AcquireAt}
 use Rattle.steps_semaphore.specs.declared.acquire.AcquireAt.TheVariants as acquire
-use Rattle.steps_semaphore.specs.declared.tries.TryAt.{TryAt}
-use Rattle.steps_semaphore.specs.declared.release.ReleaseAt.{ReleaseAt}
 use Rattle.steps_semaphore.specs.declared.release.ReleaseAt.TheVariants as release
-use Rattle.steps_semaphore.specs.declared.places.SemaphorePlace.{SemaphorePlace}
-use Rattle.steps_semaphore.specs.declared.places.SemaphorePlace.TheVariants.{Acquire, Try, Release}
-use Rattle.steps_semaphore.specs.SemaphoreProfiles.{semaphore_profile}
-use Rattle.steps_semaphore.specs.SemaphoreSteps.{acquire_act, in_acquire, in_release, in_try, next_acquire}
-use Rattle.steps_semaphore.specs.SemaphoreSteps.{next_release, next_try, release_act, semaphore_act}
-use Rattle.steps_semaphore.specs.SemaphoreSteps.{semaphore_next, still_retries, try_act}
-use Rattle.lot_steps.specs.Steps.{act_of, profile, semaphore_does, semaphore_goes}
-use Rattle.lot_machine.specs.Machine.{State, reply_to, word_at}
-use Rattle.lot_laws.specs.Owing.{tells_by, tells_of}
+use Rattle.steps_semaphore.specs.declared.places.SemaphorePlace.TheVariants.{Try}
+use Rattle.steps_semaphore.specs.SemaphoreSteps.{still_retries}
 use Rattle.lot_laws.proofs.promises.RowPromises.{RowOwesNext, RowOwesThen, owes_then}
 
 -- it looks nowhere first

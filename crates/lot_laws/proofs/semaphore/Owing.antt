@@ -1,18 +1,13 @@
 -- The places of a semaphore owe the same, whatever befalls their thread, and as its time is up.
-use Rattle.std.proofs.Common.{ℕ, Bool, true, false, ◌≡◌, Some, refl, sym, ap, subst}
+use Rattle.lot_laws.proofs.Names
+use Names.{ℕ, Bool, true, false, ◌≡◌, Some, refl, sym, ap, subst, Normal, Reply, TakenBy, MovedTo, HandedBy}
+use Names.{Late, Woken, SemaphorePlace, Acquire, Release, semaphore_profile, Semaphore, line_owed, next_place}
 use Rattle.core_base.specs.declared.keys.Line.{Line}
 use Rattle.core_base.specs.declared.keys.Line.TheVariants.{Main}
-use Rattle.core_base.specs.declared.notes.Note.TheVariants.{Normal}
-use Rattle.steps_base.specs.declared.acts.Reply.{Reply}
-use Rattle.steps_base.specs.declared.acts.Reply.TheVariants.{TakenBy, MovedTo, HandedBy, Late, Woken}
 use Rattle.steps_semaphore.specs.declared.acquire.AcquireAt.TheVariants as acquire
 use Rattle.steps_semaphore.specs.declared.tries.TryAt.TheVariants as tries
 use Rattle.steps_semaphore.specs.declared.release.ReleaseAt.TheVariants as release
-use Rattle.steps_semaphore.specs.declared.places.SemaphorePlace.{SemaphorePlace}
-use Rattle.steps_semaphore.specs.declared.places.SemaphorePlace.TheVariants.{Acquire, Try, Release}
-use Rattle.steps_semaphore.specs.SemaphoreProfiles.{semaphore_profile}
-use Rattle.lot_steps.specs.declared.places.Place.TheVariants.{Semaphore}
-use Rattle.lot_steps.specs.Steps.{line_owed, next_place}
+use Rattle.steps_semaphore.specs.declared.places.SemaphorePlace.TheVariants.{Try}
 use Rattle.lot_laws.proofs.promises.RowPromises.{Befalls, IsLateNext}
 
 -- a thread owes what it owed, with all that befalls it

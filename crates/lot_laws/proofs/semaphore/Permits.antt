@@ -1,13 +1,9 @@
 -- Deeds of threads of the world keep what holds of a semaphore's permits.
-use Rattle.std.proofs.Common.{ℕ, ◌≡◌, ◌<◌, List, [], ◌∷◌, length, refl, sym, ◌∙◌, subst}
-use Rattle.spec_locks.specs.Locks.{Rules, Semaphore}
-use Rattle.spec_locks.specs.Permits.{HasPermits}
-use Rattle.spec_locks.specs.Sites.{Deed, Site, IsSite, after_deed}
-use Rattle.steps_semaphore.specs.Tended.{IsTended, semaphore}
-use Rattle.steps_semaphore.proofs.TendedKept.{one_keeps, same_sharers}
-use Rattle.lot_laws.specs.ThreadDeeds.{acts}
+use Rattle.lot_laws.proofs.Names
+use Names.{ℕ, ◌≡◌, ◌<◌, List, [], ◌∷◌, length, refl, sym, ◌∙◌, subst, Rules, HasPermits, Deed, Site, IsSite}
+use Names.{after_deed, IsTended, semaphore, one_keeps, same_sharers, acts, ActsNeeded, AllBy, after_acts}
+use Rattle.spec_locks.specs.Locks.{Semaphore}
 use Rattle.lot_laws.specs.ThreadDeeds as deeds
-use Rattle.lot_laws.specs.SitesOf.{ActsNeeded, AllBy, after_acts}
 
 -- a thread's own deeds are its own
 pub all_by : (n t : ℕ) (ds : List Deed) → t < n → AllBy n (acts t ds)

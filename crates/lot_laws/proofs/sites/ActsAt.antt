@@ -1,38 +1,19 @@
 -- Each act of one thread keeps every lock of the world a site whose word says so, whatever the thread does
--- about other locks meanwhile: it is there as
--- it was.
-use Rattle.std.proofs.Common.{ℕ, Bool, true, Option, Some, None, if◌then◌else◌, ◌==◌, ◌||◌, ◌≡◌, ◌≢◌, ◌+◌}
-use Rattle.std.proofs.Common.{◌*◌, ◌/◌, ◌%◌, ◌≤◌, ◌<◌, ◌⊎◌, List, [], ◌∷◌, ◌++◌, length, replicate, get_or}
-use Rattle.std.proofs.Common.{set, map, drop, inl, inr, refl, sym, ◌∙◌, ap, subst, arith, length-set}
-use Rattle.std.proofs.Common.{get_or-set_same, get_or-set_other}
-use Rattle.std.proofs.lemmas.Bool.{cases_eq}
-use Rattle.std.proofs.lemmas.List.{length-map}
-use Rattle.std.proofs.Math.ListN.{get_or-map}
-use Rattle.core_base.specs.declared.keys.Keys.TheVariants.{One}
-use Rattle.core_base.specs.declared.ops.Op.{Op}
-use Rattle.core_base.specs.declared.wants.Waiter.{Waiter}
-use Rattle.core_base.specs.declared.wants.Want.{Want}
-use Rattle.core_base.specs.Words.{apply}
-use Rattle.core_base.specs.Lines.{waiter, without, times}
-use Rattle.core_base.proofs.Counts.{times_append, times_without, times_gone}
+-- about other locks meanwhile: it is there as it was.
+use Rattle.lot_laws.proofs.Names
+use Names.{ℕ, Bool, true, Option, Some, None, if◌then◌else◌, ◌==◌, ◌||◌, ◌≡◌, ◌≢◌, ◌+◌, ◌*◌, ◌/◌, ◌%◌, ◌≤◌}
+use Names.{◌<◌, ◌⊎◌, List, [], ◌∷◌, ◌++◌, length, replicate, get_or, set, map, drop, inl, inr, refl, sym, ◌∙◌}
+use Names.{ap, subst, arith, length-set, get_or-set_same, get_or-set_other, cases_eq, length-map, get_or-map}
+use Names.{One, Op, Waiter, Want, apply, waiter, without, times, times_append, times_without, times_gone}
+use Names.{Place, Idle, owners_after, shares_after, Rules, putting, Role, IsSite, Deed, Line, Main, Second}
+use Names.{In, FindNobody, has_readers, after_deed, code, fills, State, unlocked, place_at, word_at}
+use Names.{owners_at, share_at, filled_at, kind_at, queue_at, section_at, put, state_after_operation}
+use Names.{state_with_sections, queues_with_last, queues_without, queues_without_first, taken_at, acts}
+use Names.{location_at, nowhere, role_on, locations_of, TakesOne, ActsNeeded, IsInductive, SiteFollows, Goes}
+use Names.{FitsItsLock, AllAreWaiting, AreWaiting, rules_in, key_of, stood_in}
 use Rattle.spec_locks.specs.declared.kinds.Kind as kind
-use Rattle.lot_steps.specs.declared.places.Place.{Place}
-use Rattle.lot_steps.specs.declared.places.Place.TheVariants.{Idle}
-use Rattle.lot_steps.specs.Steps.{owners_after, shares_after}
-use Rattle.spec_locks.specs.Locks.{Rules, putting}
-use Rattle.spec_locks.specs.Sites.{Role, IsSite, Deed, Line, Main, Second, In, FindNobody, has_readers}
-use Rattle.spec_locks.specs.Sites.{after_deed}
-use Rattle.spec_locks.specs.Codes.{code, fills}
 use Rattle.lot_machine.specs.declared.locks.Lock.{Lock}
-use Rattle.lot_machine.specs.Machine.{State, unlocked, place_at, word_at, owners_at, share_at, filled_at}
-use Rattle.lot_machine.specs.Machine.{kind_at, queue_at, section_at, put, state_after_operation}
-use Rattle.lot_machine.specs.Machine.{state_with_sections, queues_with_last, queues_without}
-use Rattle.lot_machine.specs.Machine.{queues_without_first}
-use Rattle.lot_laws.specs.Refinement.{taken_at}
-use Rattle.lot_laws.specs.ThreadDeeds.{acts}
-use Rattle.lot_laws.specs.Locations.{Location, location_at, nowhere, role_on}
-use Rattle.lot_laws.specs.SitesOf.{locations_of, TakesOne, ActsNeeded, IsInductive, SiteFollows, Goes}
-use Rattle.lot_laws.specs.SitesOf.{FitsItsLock, AllAreWaiting, AreWaiting, rules_in, key_of, stood_in}
+use Rattle.lot_laws.specs.Locations.{Location}
 use Rattle.lot_laws.proofs.semaphore.Permits.{all_by}
 use Rattle.lot_laws.proofs.hands.Counts.{without_absent}
 use Rattle.lot_laws.proofs.machine.Parts.{base_at, parts_at, seen_in, same, differ, put_places, put_here}

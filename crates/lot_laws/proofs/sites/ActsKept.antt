@@ -1,21 +1,12 @@
 -- Each act of one thread in a call of one lock keeps every lock of the world a site whose word says so.
-use Rattle.std.proofs.Common.{ℕ, true, Some, None, ◌≡◌, ◌≢◌, ◌<◌, List, [], ◌∷◌, ◌++◌, length, sym, ◌∙◌, ap}
-use Rattle.core_base.specs.declared.keys.Keys.TheVariants.{One}
-use Rattle.core_base.specs.declared.ops.Op.{Op}
-use Rattle.core_base.specs.declared.wants.Want.{Want}
-use Rattle.core_base.specs.Words.{apply}
-use Rattle.core_base.specs.Lines.{waiter, without}
-use Rattle.lot_steps.specs.declared.places.Place.{Place}
-use Rattle.spec_locks.specs.Locks.{Rules, putting}
-use Rattle.spec_locks.specs.Sites.{Role, IsSite, Deed, Line, In, FindNobody, has_readers, after_deed}
-use Rattle.spec_locks.specs.Codes.{code}
-use Rattle.lot_machine.specs.Machine.{State, place_at, word_at, queue_at, section_at, put}
-use Rattle.lot_machine.specs.Machine.{state_after_operation, state_with_sections, queues_with_last}
-use Rattle.lot_machine.specs.Machine.{queues_without, queues_without_first}
-use Rattle.lot_laws.specs.Refinement.{taken_at}
-use Rattle.lot_laws.specs.ThreadDeeds.{acts}
-use Rattle.lot_laws.specs.Locations.{Location, location, location_at, nowhere, role_on}
-use Rattle.lot_laws.specs.SitesOf.{ActsNeeded, IsInductive, Goes, FitsItsLock, rules_in, key_of}
+use Rattle.lot_laws.proofs.Names
+use Names.{ℕ, true, Some, None, ◌≡◌, ◌≢◌, ◌<◌, List, [], ◌∷◌, ◌++◌, length, sym, ◌∙◌, ap, One, Op, Want}
+use Names.{apply, waiter, without, Place, Rules, putting, Role, IsSite, Deed, Line, In, FindNobody}
+use Names.{has_readers, after_deed, code, State, place_at, word_at, queue_at, section_at, put}
+use Names.{state_after_operation, state_with_sections, queues_with_last, queues_without, queues_without_first}
+use Names.{taken_at, acts, location, location_at, nowhere, role_on, ActsNeeded, IsInductive, Goes}
+use Names.{FitsItsLock, rules_in, key_of}
+use Rattle.lot_laws.specs.Locations.{Location}
 use Rattle.lot_laws.proofs.machine.Parts.{parts_at, seen_in, IsOf, location_here, location_elsewhere}
 use Rattle.lot_laws.proofs.sites.OneStep.{Steps}
 use Rattle.lot_laws.proofs.sites.StandsKept.{AlikeBeside, own_alike}

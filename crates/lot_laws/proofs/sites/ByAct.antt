@@ -1,41 +1,20 @@
 -- A thread in a call of one lock goes on by an act that is no step on the word: every lock is a site
 -- again, where the row of its place says where the act takes it. Beside that stands its reply, and what
 -- becomes of the calls of the others.
-use Rattle.std.proofs.Common.{ℕ, Bool, true, false, Option, Some, None, ◌==◌, ◌≡◌, ◌≢◌, ◌*◌, ◌<◌, List, []}
-use Rattle.std.proofs.Common.{◌∷◌, length, is_none, inl, inr, refl, sym, ◌∙◌, ap, subst, arith}
-use Rattle.core_base.specs.declared.keys.Keys.{Keys}
-use Rattle.core_base.specs.declared.keys.Keys.TheVariants.{One}
-use Rattle.core_base.specs.declared.notes.Note.TheVariants.{HandOff, Normal}
-use Rattle.core_base.specs.declared.wants.Waiter.{Waiter}
-use Rattle.core_base.specs.declared.wants.Want.{Want}
-use Rattle.core_base.specs.Lines.{first_of}
-use Rattle.steps_base.specs.declared.acts.Act.{Act}
+use Rattle.lot_laws.proofs.Names
+use Names.{ℕ, Bool, true, false, Option, Some, None, ◌==◌, ◌≡◌, ◌≢◌, ◌*◌, ◌<◌, List, [], ◌∷◌, length, is_none}
+use Names.{inl, inr, refl, sym, ◌∙◌, ap, subst, arith, Keys, One, Normal, Waiter, Want, first_of, Act, Check}
+use Names.{Reply, Done, Value, Parked, Took, Removed, Late, Wakes, holds, wakes_taken, IsNotLate, Location}
+use Names.{Accepts, AreLeaving, AreOfWord, GoesIn, GoesOut, Hears, LeavesLine, Move, Parks, TellsHanded}
+use Names.{location_then, parks_in, in_hand, case_of, Rules, Case, Clear, Deed, End, FindNobody, In}
+use Names.{LeaveLine, Line, Main, Mark, Out, Site, Place, next_place, profile, State, are_free, place_at, put}
+use Names.{queue_at, reply_to, section_at, state_after_act, word_at, IsWellFormed, main_key_there, acts, Goes}
+use Names.{IsInductive, hand_at, key_of, rules_in}
+use Rattle.core_base.specs.declared.notes.Note.TheVariants.{HandOff}
 use Rattle.steps_base.specs.declared.acts.Act.TheVariants as act
-use Rattle.steps_base.specs.declared.acts.Check.{Check}
-use Rattle.steps_base.specs.declared.acts.Reply.{Reply}
-use Rattle.steps_base.specs.declared.acts.Reply.TheVariants.{Done, Value, Parked, Took, Removed, Late}
-use Rattle.steps_base.specs.declared.acts.Wakes.{Wakes}
 use Rattle.steps_base.specs.declared.acts.Whom.TheVariants as whom
-use Rattle.steps_base.specs.Acts.{holds, wakes_taken}
-use Rattle.steps_base.specs.Calls.{IsNotLate}
-use Rattle.steps_base.specs.Locations.{Location}
-use Rattle.steps_base.specs.Moves.{Accepts, AreLeaving, AreOfWord, GoesIn, GoesOut, Hears, LeavesLine, Move}
-use Rattle.steps_base.specs.Moves.{Parks, TellsHanded, location_then, parks_in}
-use Rattle.steps_base.specs.Profiles.{in_hand}
-use Rattle.spec_locks.specs.Deeds.{case_of}
 use Rattle.spec_locks.specs.Locks as locks
-use Rattle.spec_locks.specs.Locks.{Rules}
-use Rattle.spec_locks.specs.Sites.{Case, Clear, Deed, End, FindNobody, In, LeaveLine, Line, Main, Mark, Out}
-use Rattle.spec_locks.specs.Sites.{Site}
-use Rattle.lot_steps.specs.declared.places.Place.{Place}
-use Rattle.lot_steps.specs.Steps.{next_place, profile}
-use Rattle.lot_machine.specs.Machine.{State, are_free, place_at, put, queue_at, reply_to, section_at}
-use Rattle.lot_machine.specs.Machine.{state_after_act, word_at}
-use Rattle.lot_machine.specs.Fits.{IsWellFormed}
-use Rattle.lot_machine.proofs.Shape.{main_key_there}
-use Rattle.lot_laws.specs.ThreadDeeds.{acts}
 use Rattle.lot_laws.specs.Locations.{hand}
-use Rattle.lot_laws.specs.SitesOf.{Goes, IsInductive, hand_at, key_of, rules_in}
 use Rattle.lot_laws.proofs.calls.OtherCalls.{IsCalm, WakesOwn}
 use Rattle.lot_laws.proofs.hands.Moved.{accepts, tells_handed, told_hears}
 use Rattle.lot_laws.proofs.machine.Parts.{IsOf}

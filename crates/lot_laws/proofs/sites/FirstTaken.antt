@@ -1,25 +1,12 @@
 -- The first waiter in the line of a lock, if there is one, comes into the hand of a thread inside its
 -- section, for the sorts of lock whose waiters are taken one at a time.
-use Rattle.std.proofs.Common.{ℕ, Bool, true, false, Option, Some, None, ◌==◌, ◌≡◌, ◌*◌, ◌<◌, List, [], ◌∷◌}
-use Rattle.std.proofs.Common.{length, map, drop, is_none, not, refl, sym, ◌∙◌, ap, subst}
-use Rattle.core_base.specs.declared.wants.Waiter.{Waiter}
-use Rattle.core_base.specs.Lines.{first_of}
-use Rattle.steps_base.specs.declared.acts.Reply.{Reply}
-use Rattle.steps_base.specs.declared.acts.Reply.TheVariants.{Took}
-use Rattle.steps_base.specs.Locations.{Location}
-use Rattle.steps_base.specs.Moves.{Hears, Move, inside_of, location_of, location_then}
-use Rattle.steps_base.specs.Profiles.{in_hand}
-use Rattle.spec_locks.specs.Locks.{HasTakenNobody, Rules, first_thread}
-use Rattle.spec_locks.specs.Picks.{queued_of}
-use Rattle.spec_locks.specs.Sites.{Deed, FindNobody, Main, Site, idle, is_empty}
-use Rattle.lot_steps.specs.declared.places.Place.{Place}
-use Rattle.lot_steps.specs.Steps.{next_place, profile}
-use Rattle.lot_machine.specs.Machine.{State, is_there, place_at, put, queue_at, queues_without_first}
-use Rattle.lot_machine.specs.Machine.{state_after_taking}
-use Rattle.lot_laws.specs.Refinement.{lock_state, taken_at}
-use Rattle.lot_laws.specs.ThreadDeeds.{acts}
-use Rattle.lot_laws.specs.Locations.{location}
-use Rattle.lot_laws.specs.SitesOf.{Goes, IsInductive, carried_at, rules_in}
+use Rattle.lot_laws.proofs.Names
+use Names.{ℕ, Bool, true, false, Option, Some, None, ◌==◌, ◌≡◌, ◌*◌, ◌<◌, List, [], ◌∷◌, length, map, drop}
+use Names.{is_none, not, refl, sym, ◌∙◌, ap, subst, Waiter, first_of, Reply, Took, Location, Hears, Move}
+use Names.{inside_of, location_of, location_then, in_hand, HasTakenNobody, Rules, first_thread, queued_of}
+use Names.{Deed, FindNobody, Main, Site, idle, is_empty, Place, next_place, profile, State, is_there}
+use Names.{place_at, put, queue_at, queues_without_first, state_after_taking, lock_state, taken_at, acts}
+use Names.{location, Goes, IsInductive, carried_at, rules_in}
 use Rattle.lot_laws.proofs.machine.AtPlaces.{in_no_hand}
 use Rattle.lot_laws.proofs.machine.Parts.{IsOf, free_of, nothing_at, of_single}
 use Rattle.lot_laws.proofs.sites.ActsKept.{finds_none, lock_by, nobody_goes}

@@ -1,32 +1,17 @@
 -- A step whose deeds are allowed leaves every lock a site, and its word says so.
-use Rattle.std.proofs.Common.{ℕ, Bool, true, false, Option, Some, None, if◌then◌else◌, ◌==◌, ◌||◌, ◌≡◌, ◌≢◌}
-use Rattle.std.proofs.Common.{◌+◌, ◌*◌, ◌^◌, ◌≤◌, ◌<◌, List, [], ◌∷◌, ◌++◌, length, replicate, get_or, set}
-use Rattle.std.proofs.Common.{map, inl, inr, refl, sym, ◌∙◌, ap, subst, length-set, get_or-set_same}
-use Rattle.std.proofs.Common.{get_or-set_other}
-use Rattle.std.proofs.lemmas.Bool.{cases_eq, eqb-true}
-use Rattle.core_base.specs.declared.ops.Op.{Op}
-use Rattle.core_base.specs.declared.wants.Waiter.{Waiter}
-use Rattle.core_base.specs.declared.wants.Want.{Want}
-use Rattle.core_base.specs.Words.{apply}
-use Rattle.core_base.specs.Lines.{waiter, first_of}
-use Rattle.lot_steps.specs.declared.places.Place.{Place}
-use Rattle.steps_base.specs.Owners.{shares_then}
-use Rattle.lot_steps.specs.Steps.{owners_after, shares_after}
-use Rattle.spec_locks.specs.Locks.{Rules, putting}
+use Rattle.lot_laws.proofs.Names
+use Names.{ℕ, Bool, true, false, Option, Some, None, if◌then◌else◌, ◌==◌, ◌||◌, ◌≡◌, ◌≢◌, ◌+◌, ◌*◌, ◌^◌, ◌≤◌}
+use Names.{◌<◌, List, [], ◌∷◌, ◌++◌, length, replicate, get_or, set, map, inl, inr, refl, sym, ◌∙◌, ap, subst}
+use Names.{length-set, get_or-set_same, get_or-set_other, cases_eq, eqb-true, Op, Waiter, Want, apply, waiter}
+use Names.{first_of, Place, shares_then, owners_after, shares_after, Rules, putting, queued_of, Site, IsSite}
+use Names.{Deed, Line, Main, Second, Case, has_readers, after_deed, code, fills, HasLimit, IsHandOff}
+use Names.{HasPermits, rules_of, State, place_at, word_at, owners_at, shares_at, share_at, shares_with}
+use Names.{filled_at, kind_at, queue_at, lock_state, taken_at, acts, role_on, ActsNeeded, AllBy, LimitHasRoom}
+use Names.{SameNumbers, IsInductive, SiteFollows, Goes, after_acts, site_of, rules_in, stood_in, FollowAll}
+use Names.{GoesAll}
 use Rattle.spec_locks.specs.Locks as locks
-use Rattle.spec_locks.specs.Picks.{queued_of}
-use Rattle.spec_locks.specs.Sites.{Site, IsSite, Deed, Line, Main, Second, Case, has_readers, after_deed}
-use Rattle.spec_locks.specs.Codes.{code, fills, HasLimit, IsHandOff}
-use Rattle.spec_locks.specs.Permits.{HasPermits}
-use Rattle.spec_locks.specs.Purposes.{rules_of}
-use Rattle.lot_machine.specs.Machine.{State, place_at, word_at, owners_at, shares_at, share_at, shares_with}
-use Rattle.lot_machine.specs.Machine.{filled_at, kind_at, queue_at}
-use Rattle.lot_laws.specs.Refinement.{lock_state, taken_at}
-use Rattle.lot_laws.specs.ThreadDeeds.{acts}
 use Rattle.lot_laws.specs.ThreadDeeds as deeds
-use Rattle.lot_laws.specs.Locations.{role_on}
-use Rattle.lot_laws.specs.SitesOf.{ActsNeeded, AllBy, LimitHasRoom, SameNumbers, IsInductive, SiteFollows}
-use Rattle.lot_laws.specs.SitesOf.{Goes, after_acts, site_of, rules_in, stood_in, Stands, FollowAll, GoesAll}
+use Rattle.lot_laws.specs.SitesOf.{Stands}
 use Rattle.lot_laws.proofs.machine.Parts.{Parts, parts_at, lock_in, seen_in, same, put_here, put_other}
 use Rattle.lot_laws.proofs.semaphore.Permits.{permits_by}
 use Rattle.lot_laws.proofs.sites.OneStep.{AreOrdinary, Steps, steps_by, noted, acts_keep, acts_limited}

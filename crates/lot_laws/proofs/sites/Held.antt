@@ -1,30 +1,17 @@
 -- A thread that stands at a lock is by its place in the hand of the one that has taken it, and of nobody
 -- while it stands in a line.
-use Rattle.std.proofs.Common.{ℕ, Bool, true, false, Option, Some, None, if◌then◌else◌, ◌≡◌, ◌≢◌, ◌≤◌, inl}
-use Rattle.std.proofs.Common.{inr, refl, sym, ◌∙◌, ap, subst}
-use Rattle.std.proofs.lemmas.Bool.{eqb-true}
-use Rattle.steps_base.specs.Owners.{is_thread}
-use Rattle.steps_base.specs.Profiles.{Profile, hand_owner}
-use Rattle.steps_base.specs.Locations.{nowhere, location_by}
-use Rattle.spec_locks.specs.Locks.{Taken, standing}
-use Rattle.spec_locks.specs.Sites.{Line, Main}
-use Rattle.steps_condvar.specs.declared.places.CondvarPlace.{CondvarPlace}
+use Rattle.lot_laws.proofs.Names
+use Names.{ℕ, Bool, true, false, Option, Some, None, if◌then◌else◌, ◌≡◌, ◌≢◌, ◌≤◌, inl, inr, refl, sym, ◌∙◌}
+use Names.{ap, subst, eqb-true, is_thread, Profile, hand_owner, location_by, Taken, standing, Line, Main}
+use Names.{CondvarPlace, NotifyAt, Stands, WaitAt, condvar_row, hand_of, is_listed, notify_row, wait_row}
+use Names.{Place, Condvar, beside_of, calls, is_lock, or_else, profile, profile_beside, taker, State}
+use Names.{place_at, lock_state, taken_at, location, location_at, IsInductive, holder}
+use Rattle.steps_base.specs.Locations.{nowhere}
 use Rattle.steps_condvar.specs.declared.places.CondvarPlace.TheVariants as condvar
-use Rattle.steps_condvar.specs.declared.notify.NotifyAt.{NotifyAt}
 use Rattle.steps_condvar.specs.declared.notify.NotifyAt.TheVariants as notify
-use Rattle.steps_condvar.specs.declared.wait.Stands.{Stands}
 use Rattle.steps_condvar.specs.declared.wait.Stands.TheVariants as stands
-use Rattle.steps_condvar.specs.declared.wait.WaitAt.{WaitAt}
 use Rattle.steps_condvar.specs.declared.wait.WaitAt.TheVariants as wait
-use Rattle.steps_condvar.specs.CondvarProfiles.{condvar_row, hand_of, is_listed, notify_row, wait_row}
-use Rattle.lot_steps.specs.declared.places.Place.{Place}
-use Rattle.lot_steps.specs.declared.places.Place.TheVariants.{Condvar}
-use Rattle.lot_steps.specs.Steps.{beside_of, calls, is_lock, or_else, profile, profile_beside, taker}
-use Rattle.lot_machine.specs.Machine.{State, place_at}
-use Rattle.lot_laws.specs.Refinement.{lock_state, taken_at}
-use Rattle.lot_laws.specs.Locations.{Location, location, location_at}
-use Rattle.lot_laws.specs.SitesOf.{IsInductive}
-use Rattle.lot_laws.specs.Promises.{holder}
+use Rattle.lot_laws.specs.Locations.{Location}
 use Rattle.lot_laws.proofs.machine.Parts.{blank_beside, held_tells, single_or_two, single_location}
 use Rattle.lot_laws.proofs.machine.Parts.{taken_held}
 use Rattle.lot_laws.proofs.machine.PlaceTest.{beside_facts, row_facts}

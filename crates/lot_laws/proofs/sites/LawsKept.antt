@@ -1,20 +1,13 @@
 -- A step on the word of a lock that is shared, by what the laws of its sort conclude of it: that its deeds
--- may be done, what its thread does then, the owners
--- and the word after it.
-use Rattle.std.proofs.Common.{ℕ, true, ◌||◌, ◌≡◌, ◌<◌, List, [], ◌∷◌, length, refl, sym, ◌∙◌, ap}
-use Rattle.core_base.specs.declared.ops.Op.{Op}
-use Rattle.core_base.specs.Words.{apply}
-use Rattle.lot_steps.specs.declared.places.Place.{Place}
-use Rattle.spec_locks.specs.Locks.{Rules, Sort, Mutex, Normal, Recursive, Semaphore, Once, Condvar}
-use Rattle.spec_locks.specs.Sites.{Site, IsSite, Deed, has_readers, after_deed}
-use Rattle.spec_locks.specs.Codes.{code, fills, parked_in, aside_in, has_parked, has_aside, TellsTrue}
+-- may be done, what its thread does then, the owners and the word after it.
+use Rattle.lot_laws.proofs.Names
+use Names.{ℕ, true, ◌||◌, ◌≡◌, ◌<◌, List, [], ◌∷◌, length, refl, sym, ◌∙◌, ap, Op, apply, Place, Rules, Sort}
+use Names.{Recursive, Site, IsSite, Deed, has_readers, after_deed, code, fills, parked_in, aside_in}
+use Names.{has_parked, has_aside, TellsTrue, words_tell_true, State, place_at, word_at, filled_at, put}
+use Names.{state_after_operation, taken_at, acts, location, role_on, ActsNeeded, IsInductive, Goes}
+use Names.{FitsItsLock, after_acts, rules_in}
+use Rattle.spec_locks.specs.Locks.{Mutex, Normal, Semaphore, Once, Condvar}
 use Rattle.spec_locks.specs.Deeds as laws
-use Rattle.spec_locks.proofs.CodeLaws.{words_tell_true}
-use Rattle.lot_machine.specs.Machine.{State, place_at, word_at, filled_at, put, state_after_operation}
-use Rattle.lot_laws.specs.Refinement.{taken_at}
-use Rattle.lot_laws.specs.ThreadDeeds.{acts}
-use Rattle.lot_laws.specs.Locations.{location, role_on}
-use Rattle.lot_laws.specs.SitesOf.{ActsNeeded, IsInductive, Goes, FitsItsLock, after_acts, rules_in}
 use Rattle.lot_laws.proofs.machine.Parts.{parts_at, lock_in, IsOf}
 use Rattle.lot_laws.proofs.sites.OneStep.{AreSingle, HasOneCase, Steps, steps_by, acts_keep, full_then}
 use Rattle.lot_laws.proofs.sites.OneStep.{fills_by}

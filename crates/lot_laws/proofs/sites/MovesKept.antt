@@ -1,56 +1,28 @@
 -- A thread goes on where its act takes it: every lock is a site again. No place is named: the row of a place
--- says where
--- the act takes its thread, and the laws of its sort of lock that its deeds may be done.
-use Rattle.std.proofs.Common.{ℕ, Bool, true, false, Option, Some, None, if◌then◌else◌, ◌==◌, ◌≡◌, ◌≢◌, ◌+◌}
-use Rattle.std.proofs.Common.{◌*◌, ◌≤◌, ◌<◌, List, [], ◌∷◌, length, map, drop, get_or, cond, not, inl, inr}
-use Rattle.std.proofs.Common.{refl, sym, ◌∙◌, ap, subst, arith}
-use Rattle.std.proofs.lemmas.Bool.{eqb-true}
-use Rattle.core_base.specs.declared.keys.Keys.TheVariants.{One}
-use Rattle.core_base.specs.declared.notes.Note.TheVariants.{Normal}
-use Rattle.core_base.specs.declared.ops.Op.{Op}
-use Rattle.core_base.specs.declared.wants.Waiter.{Waiter}
-use Rattle.core_base.specs.declared.wants.Want.{Want}
-use Rattle.core_base.specs.declared.wants.Want.TheVariants.{Exclusive}
-use Rattle.core_base.specs.Lines.{without, first_of, times}
-use Rattle.core_base.specs.Words.{apply}
-use Rattle.steps_base.specs.declared.acts.Check.{Check}
-use Rattle.steps_base.specs.declared.acts.Reply.{Reply}
-use Rattle.steps_base.specs.declared.acts.Wakes.{Wakes}
-use Rattle.steps_base.specs.declared.acts.Reply.TheVariants.{Done, Value, Parked, Took, Picked, Removed}
-use Rattle.steps_base.specs.declared.acts.Reply.TheVariants.{TakenBy, Woken}
+-- says where the act takes its thread, and the laws of its sort of lock that its deeds may be done.
+use Rattle.lot_laws.proofs.Names
+use Names.{ℕ, Bool, true, false, Option, Some, None, if◌then◌else◌, ◌==◌, ◌≡◌, ◌≢◌, ◌+◌, ◌*◌, ◌≤◌, ◌<◌, List}
+use Names.{[], ◌∷◌, length, map, drop, get_or, cond, not, inl, inr, refl, sym, ◌∙◌, ap, subst, arith}
+use Names.{eqb-true, One, Normal, Op, Waiter, Want, Exclusive, without, first_of, times, apply, Check, Reply}
+use Names.{Wakes, Done, Value, Parked, Took, Picked, Removed, TakenBy, Woken, holds, wakes_taken, Move, Hears}
+use Names.{StaysPut, GoesIn, Parks, Picks, TakesAside, LeavesLine, GoesOut, Sleeps, IsHeld, AreOfWord}
+use Names.{AreLeaving, parks_in, inside_of, location_of, location_then, Profile, Of, hand, in_hand}
+use Names.{taken_from, CallWaits, Location, location_by, want_in_line, Place, next_place, profile}
+use Names.{profile_beside, wants, taker, called_lock, is_lock, calls, beside_of, Idle, lock_picker}
+use Names.{lock_picked, without_lock_picked, is_thread, Rules, Pending, IsSomePending, Park, Aside, TakeAside}
+use Names.{TakePicked, Wake, is_recursive, HandOff, keep_from, one_if_some, putting, standing, queued_of}
+use Names.{Role, Pends, wakened, is_empty, Site, IsSite, Deed, Line, Main, Second, End, In, Out, Mark, Clear}
+use Names.{FindNobody, Case, has_readers, idle, code, State, place_at, word_at, queue_at, section_at, put}
+use Names.{state_with_sections, state_after_operation, state_after_telling, state_after_leave}
+use Names.{state_after_park, queues_with_last, queues_without, queues_without_first, is_there}
+use Names.{state_after_reply, state_after_taking, state_after_take_first, state_after_take, reply_to_take}
+use Names.{sharers_in_hand, successor_from, want_of_successor, taken_at, acts, location, location_at, role_on}
+use Names.{locations_of, ActsNeeded, AreWaiting, IsInductive, Goes, FitsItsLock, TakesOne, after_acts}
+use Names.{rules_in, key_of, stood_in, carried_at, hand_at}
 use Rattle.steps_base.specs.declared.acts.Whom as whom
-use Rattle.steps_base.specs.Acts.{holds, wakes_taken}
-use Rattle.steps_base.specs.Moves.{Move, Hears, StaysPut, GoesIn, Parks, Picks, TakesAside, LeavesLine}
-use Rattle.steps_base.specs.Moves.{GoesOut, Sleeps, IsHeld, AreOfWord, AreLeaving, parks_in, inside_of}
-use Rattle.steps_base.specs.Moves.{location_of, location_then}
-use Rattle.steps_base.specs.Profiles.{Profile, Of, hand, in_hand, taken_from}
-use Rattle.steps_rwlock_fair.specs.FairMoves.{CallWaits}
-use Rattle.steps_base.specs.Locations.{Location, location_by, nowhere, want_in_line}
-use Rattle.lot_steps.specs.declared.places.Place.{Place}
-use Rattle.lot_steps.specs.Steps.{next_place, profile, profile_beside, wants, taker, called_lock, is_lock}
-use Rattle.lot_steps.specs.Steps.{calls, beside_of}
-use Rattle.lot_steps.specs.declared.places.Place.TheVariants.{Idle}
-use Rattle.core_base.specs.Picks.{lock_picker, lock_picked, without_lock_picked}
-use Rattle.steps_base.specs.Owners.{is_thread}
-use Rattle.spec_locks.specs.Locks.{Rules, Pending, IsSomePending, Park, Aside, TakeAside, TakePicked, Wake}
-use Rattle.spec_locks.specs.Locks.{is_recursive, HandOff, keep_from, one_if_some, putting, standing}
+use Rattle.steps_base.specs.Locations.{nowhere}
 use Rattle.spec_locks.specs.Locks as locks
-use Rattle.spec_locks.specs.Picks.{queued_of}
-use Rattle.spec_locks.specs.Sites.{Role, Pends, wakened, is_empty, Site, IsSite, Deed, Line, Main, Second}
-use Rattle.spec_locks.specs.Sites.{End, In, Out, Mark, Clear, FindNobody, Case, has_readers, idle}
-use Rattle.spec_locks.specs.Codes.{code}
 use Rattle.spec_locks.specs.Deeds as laws
-use Rattle.lot_machine.specs.Machine.{State, place_at, word_at, queue_at, section_at, put}
-use Rattle.lot_machine.specs.Machine.{state_with_sections, state_after_operation, state_after_telling}
-use Rattle.lot_machine.specs.Machine.{state_after_leave, state_after_park, queues_with_last, queues_without}
-use Rattle.lot_machine.specs.Machine.{queues_without_first, is_there, state_after_reply, state_after_taking}
-use Rattle.lot_machine.specs.Machine.{state_after_take_first, state_after_take, reply_to_take}
-use Rattle.lot_machine.specs.Machine.{sharers_in_hand, successor_from, want_of_successor}
-use Rattle.lot_laws.specs.Refinement.{taken_at}
-use Rattle.lot_laws.specs.ThreadDeeds.{acts}
-use Rattle.lot_laws.specs.Locations.{location, location_at, role_on}
-use Rattle.lot_laws.specs.SitesOf.{locations_of, ActsNeeded, AreWaiting, IsInductive, Goes, FitsItsLock}
-use Rattle.lot_laws.specs.SitesOf.{TakesOne, after_acts, rules_in, key_of, stood_in, carried_at, hand_at}
 use Rattle.lot_laws.proofs.hands.Counts.{without_absent, first_times, none_first, first_out, aside_kept}
 use Rattle.lot_laws.proofs.machine.Parts.{free_of, held_calls, IsOf, IsLock, IsInHandOf, in_hand_where}
 use Rattle.lot_laws.proofs.machine.Parts.{held_tells, aparts, nothing_at, next_of, inside_is, parts_at}

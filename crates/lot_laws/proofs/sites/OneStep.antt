@@ -1,35 +1,21 @@
 -- A step of one thread and the site of the lock that it calls, for locks of any rules and places of any
 -- sort.
-use Rattle.std.proofs.Common.{ℕ, Bool, true, false, Option, Some, None, if◌then◌else◌, ◌==◌, ◌||◌, ◌≡◌, ◌≢◌}
-use Rattle.std.proofs.Common.{◌+◌, ◌*◌, ◌≤◌, ◌<◌, length, length-set, List, [], ◌∷◌, ◌++◌, inl, inr, map}
-use Rattle.std.proofs.Common.{cond, not, refl, sym, ◌∙◌, ap, arith}
-use Rattle.std.specs.Prelude.{sum}
-use Rattle.std.proofs.lemmas.Bool.{cases_eq}
-use Rattle.std.proofs.Math.Bool.{or-false}
-use Rattle.core_base.specs.declared.wants.Waiter.{Waiter}
-use Rattle.core_base.specs.declared.wants.Want.{Want}
+use Rattle.lot_laws.proofs.Names
+use Names.{ℕ, Bool, true, false, Option, Some, None, if◌then◌else◌, ◌==◌, ◌||◌, ◌≡◌, ◌≢◌, ◌+◌, ◌*◌, ◌≤◌, ◌<◌}
+use Names.{length, length-set, List, [], ◌∷◌, ◌++◌, inl, inr, map, cond, not, refl, sym, ◌∙◌, ap, arith, sum}
+use Names.{cases_eq, or-false, Waiter, Want, waiter, without, times, Place, OnceCase, Start, Finish, Fail}
+use Names.{Rest, TakeAll, LockState, LockCase, Pending, Rules, Sort, Recursive, OfOnce, once_after, putting}
+use Names.{readers, CondvarCase, Hide, queued_of, Site, IsSite, Deed, Main, Begin, End, In, Out, Mark, Clear}
+use Names.{FindNobody, MarkOwned, Bring, MarkBrought, Send, LeaveLine, Case, has_readers, is_empty, is_full}
+use Names.{after_deed, Needed, bit, packed, code, word_by, parked_in, aside_in, fills, HasLimit, IsHandOff}
+use Names.{shown_code, words_tell_true, limit_kept, deed_keeps, taken_at, acts, role_on, ActsNeeded}
+use Names.{after_acts}
 use Rattle.core_base.specs.declared.wants.Want.TheVariants as wants
-use Rattle.core_base.specs.Lines.{waiter, without, times}
-use Rattle.lot_steps.specs.declared.places.Place.{Place}
-use Rattle.spec_locks.specs.Onces.{OnceCase, Start, Finish, Fail, Rest, TakeAll}
-use Rattle.spec_locks.specs.Locks.{LockState, LockCase, Pending, Rules, Sort, Mutex, Normal, Recursive}
-use Rattle.spec_locks.specs.Locks.{Semaphore, Once, OfOnce, once_after, putting, readers, CondvarCase, Look}
-use Rattle.spec_locks.specs.Locks.{Show, Hide}
+use Rattle.spec_locks.specs.Locks.{Mutex, Normal}
+use Rattle.spec_locks.specs.Locks.{Semaphore, Once, Look}
+use Rattle.spec_locks.specs.Locks.{Show}
 use Rattle.spec_locks.specs.Locks as locks
-use Rattle.spec_locks.specs.Picks.{queued_of}
-use Rattle.spec_locks.specs.Sites.{Site, IsSite, Deed, Main, Begin, End, In, Out, Mark, Clear, FindNobody}
-use Rattle.spec_locks.specs.Sites.{MarkOwned, Bring, MarkBrought, Send, LeaveLine, Case, has_readers}
-use Rattle.spec_locks.specs.Sites.{is_empty, is_full, after_deed, Needed}
-use Rattle.spec_locks.specs.Codes.{bit, packed, code, word_by, parked_in, aside_in, fills, HasLimit}
-use Rattle.spec_locks.specs.Codes.{IsHandOff, shown_code}
-use Rattle.spec_locks.proofs.CodeLaws.{words_tell_true}
-use Rattle.spec_locks.proofs.Limits.{limit_kept}
-use Rattle.spec_locks.proofs.SiteKeeps.{deed_keeps}
-use Rattle.lot_laws.specs.Refinement.{taken_at}
-use Rattle.lot_laws.specs.ThreadDeeds.{acts}
 use Rattle.lot_laws.specs.ThreadDeeds as deeds
-use Rattle.lot_laws.specs.Locations.{role_on}
-use Rattle.lot_laws.specs.SitesOf.{ActsNeeded, after_acts}
 use Rattle.lot_laws.proofs.machine.Parts.{Parts, differ, lock_in, seen_in, put_here, put_other, put_of}
 use Rattle.lot_laws.proofs.machine.Parts.{put_same}
 

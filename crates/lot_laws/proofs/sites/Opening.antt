@@ -1,33 +1,17 @@
 -- In the opening state each lock is a site, and nobody stands anywhere.
-use Rattle.std.proofs.Common.{subst, ℕ, zero, suc, true, false, None, ◌&&◌, ◌≡◌, ◌+◌, ◌-◌, ◌*◌, ◌^◌, ◌≤◌, ◌<◌}
-use Rattle.std.proofs.Common.{List, [], ◌∷◌, length, get_or, map, replicate, sum, nat_le, All, inl, inr, refl}
-use Rattle.std.proofs.Common.{sym, ◌∙◌, ap, arith}
-use Rattle.std.proofs.lemmas.Bool.{cases_lt, leb-true}
-use Rattle.std.proofs.lemmas.List.{length-replicate, length-map}
-use Rattle.spec_locks.specs.declared.kinds.Kind.{Kind}
+use Rattle.lot_laws.proofs.Names
+use Names.{subst, ℕ, zero, suc, true, false, None, ◌&&◌, ◌≡◌, ◌+◌, ◌-◌, ◌*◌, ◌^◌, ◌≤◌, ◌<◌, List, [], ◌∷◌}
+use Names.{length, get_or, map, replicate, All, inl, inr, refl, sym, ◌∙◌, ap, arith, cases_lt, leb-true}
+use Names.{length-replicate, length-map, Kind, MOST_READERS, fits, Idle, Rules, opening_lock, HasPermits}
+use Names.{code, HasLimit, rules_of, Main, Site, IsSite, is_full, has_readers, opening_is_state, State}
+use Names.{first_word, opening, unlocked, place_at, kind_at, nowhere, location_at, IsCondvar, opening_condvar}
+use Names.{queued_of, profile_at, AreCondvars, condvar_of, inside_as, IsInductive, LimitHasRoom, site_of}
+use Names.{rules_in, key_of, carried_at, hand_at, idle_at, none_at, empty_at, nobody_owns, no_readers}
+use Names.{opening_shares, both, few_permits, new_words, new_site}
+use Rattle.std.proofs.Common.{sum, nat_le}
 use Rattle.spec_locks.specs.declared.kinds.Kind as kind
-use Rattle.spec_locks.specs.declared.kinds.TheConstants.{MOST_READERS}
-use Rattle.spec_locks.specs.Kinds.{fits}
-use Rattle.lot_steps.specs.declared.places.Place.TheVariants.{Idle}
-use Rattle.spec_locks.specs.Locks.{Rules, opening_lock}
 use Rattle.spec_locks.specs.Locks as sorts
-use Rattle.spec_locks.specs.Permits.{HasPermits}
-use Rattle.spec_locks.specs.Codes.{code, HasLimit}
-use Rattle.spec_locks.specs.Purposes.{rules_of}
-use Rattle.spec_locks.specs.Sites.{Main, Site, IsSite, is_full, has_readers}
-use Rattle.spec_locks.proofs.LockKeeps.{opening_is_state}
-use Rattle.lot_machine.specs.Machine.{State, first_word, opening, unlocked, place_at, kind_at}
-use Rattle.lot_laws.specs.Locations.{nowhere, location_at}
-use Rattle.spec_locks.specs.Condvars.{IsCondvar, opening_condvar}
-use Rattle.spec_locks.specs.Picks.{queued_of}
-use Rattle.lot_steps.specs.Steps.{profile_at}
-use Rattle.lot_laws.specs.SitesOf.{AreCondvars, condvar_of, inside_as, IsInductive, LimitHasRoom, site_of}
-use Rattle.lot_laws.specs.SitesOf.{rules_in, key_of, carried_at, hand_at}
 use Rattle.lot_laws.proofs.machine.Parts.{past_all, seen_by}
-use Rattle.lot_machine.proofs.Opening.{idle_at, none_at, empty_at, nobody_owns, no_readers, opening_shares}
-use Rattle.lot_machine.proofs.Shape.{both}
-use Rattle.lot_machine.proofs.NewLocks.{few_permits, new_words}
-use Rattle.lot_machine.specs.NewLocks.{new_site}
 
 -- where the limit leaves room for a reader
 opening_is_site : (k : Kind) (n : ℕ) → (is_full (rules_of k) (opening_lock n) ≡ true → ⊥)

@@ -1,37 +1,19 @@
 -- A thread takes those that are picked of the main queue of a reader-writer lock, the writer aside, or all
 -- that wait for a `Once`: what the machine does is the case of the lock.
-use Rattle.std.proofs.Common.{ℕ, Bool, true, false, Option, Some, None, if◌then◌else◌, ◌==◌, ◌||◌, ◌≡◌, ◌+◌}
-use Rattle.std.proofs.Common.{◌*◌, ◌≤◌, ◌<◌, List, [], ◌∷◌, length, map, drop, refl, sym, ◌∙◌, ap, subst}
-use Rattle.std.proofs.Common.{arith, length-set, get_or-set_same, get_or-set_other}
-use Rattle.std.proofs.lemmas.Bool.Decides.{nat_tests}
-use Rattle.core_base.specs.declared.lock_picker.LockPicker.{LockPicker}
-use Rattle.core_base.specs.declared.picks.Pick.{Pick}
-use Rattle.core_base.specs.declared.picks.Pick.TheVariants.{Unpark, Skip, Stop}
-use Rattle.core_base.specs.declared.wants.Waiter.{Waiter}
-use Rattle.core_base.specs.declared.wants.Want.{Want}
-use Rattle.core_base.specs.declared.wants.Want.TheVariants.{Exclusive}
-use Rattle.core_base.specs.Lines.{line, times, threads_of}
-use Rattle.core_base.specs.Picks.{picked, without_picked, lock_answer, next_picker, lock_picker, lock_picked}
-use Rattle.core_base.specs.Picks.{without_lock_picked}
-use Rattle.lot_steps.specs.declared.places.Place.{Place}
-use Rattle.lot_steps.specs.declared.places.Place.TheVariants.{Idle}
-use Rattle.steps_base.specs.declared.acts.Reply.TheVariants.{TakenBy}
+use Rattle.lot_laws.proofs.Names
+use Names.{ℕ, Bool, true, false, Option, Some, None, if◌then◌else◌, ◌==◌, ◌||◌, ◌≡◌, ◌+◌, ◌*◌, ◌≤◌, ◌<◌, List}
+use Names.{[], ◌∷◌, length, map, drop, refl, sym, ◌∙◌, ap, subst, arith, length-set, get_or-set_same}
+use Names.{get_or-set_other, nat_tests, LockPicker, Pick, Unpark, Skip, Stop, Waiter, Want, Exclusive, line}
+use Names.{times, threads_of, without_picked, lock_answer, next_picker, lock_picker, lock_picked}
+use Names.{without_lock_picked, Place, Idle, TakenBy, next_place, TakeAll, OfOnce, Rules, Sort, TakePicked}
+use Names.{TakeAside, is_recursive, putting, queued_of, Line, Main, Second, Case, pickers_pick, State}
+use Names.{place_at, queue_at, put, state_after_take, state_after_reply, queues_without_first, places_told}
+use Names.{told_count, taken_at, acts, location, role_on, locations_of, ActsNeeded, AreWaiting, TakesOne}
+use Names.{IsInductive, Goes, FitsItsLock, after_acts, rules_in, key_of}
+use Rattle.core_base.specs.Picks.{picked}
 use Rattle.steps_base.specs.declared.acts.Whom as whom
-use Rattle.lot_steps.specs.Steps.{next_place}
-use Rattle.spec_locks.specs.Onces.{TakeAll}
-use Rattle.spec_locks.specs.Locks.{OfOnce, Rules, Sort, TakePicked, TakeAside, is_recursive, putting}
 use Rattle.spec_locks.specs.Locks as locks
-use Rattle.spec_locks.specs.Picks.{queued_of}
-use Rattle.spec_locks.specs.Sites.{Line, Main, Second, Case}
-use Rattle.spec_locks.proofs.Picks.{pickers_pick}
-use Rattle.lot_machine.specs.Machine.{State, place_at, queue_at, put, state_after_take, state_after_reply}
-use Rattle.lot_machine.specs.Machine.{queues_without_first, places_told}
-use Rattle.lot_machine.proofs.QueueLemmas.{told_count}
-use Rattle.lot_laws.specs.Refinement.{taken_at}
-use Rattle.lot_laws.specs.ThreadDeeds.{acts}
-use Rattle.lot_laws.specs.Locations.{Location, location, role_on}
-use Rattle.lot_laws.specs.SitesOf.{locations_of, ActsNeeded, AreWaiting, TakesOne, IsInductive, Goes}
-use Rattle.lot_laws.specs.SitesOf.{FitsItsLock, after_acts, rules_in, key_of}
+use Rattle.lot_laws.specs.Locations.{Location}
 use Rattle.lot_laws.proofs.machine.Parts.{put_places, same, location_here, IsOf}
 use Rattle.lot_laws.proofs.sites.OneStep.{noted}
 use Rattle.lot_laws.proofs.sites.ActsKept.{lock_by, site_by}

@@ -1,41 +1,26 @@
 -- A mutex that is handed over, and every other lock, is a site again, whose word says so.
-use Rattle.std.proofs.Common.{ℕ, Bool, true, false, Option, Some, None, if◌then◌else◌, ◌==◌, ◌&&◌, ◌≡◌, ◌≢◌}
-use Rattle.std.proofs.Common.{◌+◌, ◌*◌, ◌<◌, ◌⊎◌, List, ◌++◌, length, replicate, get_or, set, inl, inr, refl}
-use Rattle.std.proofs.Common.{sym, ◌∙◌, ap, subst, arith, length-set, get_or-set_same, get_or-set_other}
+use Rattle.lot_laws.proofs.Names
+use Names.{ℕ, Bool, true, false, Option, Some, None, if◌then◌else◌, ◌==◌, ◌&&◌, ◌≡◌, ◌≢◌, ◌+◌, ◌*◌, ◌<◌, ◌⊎◌}
+use Names.{List, ◌++◌, length, replicate, get_or, set, inl, inr, refl, sym, ◌∙◌, ap, subst, arith, length-set}
+use Names.{get_or-set_same, get_or-set_other, Waiter, Owners, Place, Mutex, MutexPlace, Act, hand_off_word}
+use Names.{is_parked, bit, one_if_some, with_exclusive, next_place, putting, IsLockState, Exclusive, Has}
+use Names.{Role, Site, IsSite, sum, unshared_then, State, hand_over_told, shares_handed_over, unlocked}
+use Names.{place_at, word_at, owners_at, shares_at, kind_at, queue_at, put, section_at, state_after_reply}
+use Names.{state_after_telling, state_after_hand_over, state_after_act, reply_to, lock_state, mutex_role}
+use Names.{mutex_location, acts, queued, location_at, role_on, SameNumbers, TakesOne, rules_in, ActsNeeded}
+use Names.{IsInductive, SiteFollows, Goes, FitsItsLock, carried_at, hand_at, after_acts, cases_eq}
+use Names.{locations_of, Hands, is_mutex}
 use Rattle.core_base.specs.declared.ops.Op.TheVariants as op
-use Rattle.core_base.specs.declared.wants.Waiter.{Waiter}
 use Rattle.spec_locks.specs.declared.kinds.Kind as kind
-use Rattle.steps_base.specs.declared.owners.Owners.{Owners}
-use Rattle.lot_steps.specs.declared.places.Place.{Place}
-use Rattle.lot_steps.specs.declared.places.Place.TheVariants.{Mutex}
-use Rattle.steps_mutex.specs.declared.places.MutexPlace.{MutexPlace}
 use Rattle.steps_mutex.specs.declared.places.MutexPlace.TheVariants.{HandOff}
 use Rattle.steps_mutex.specs.declared.hand_off.HandOffAt.TheVariants as hand_off
-use Rattle.steps_base.specs.declared.acts.Act.{Act}
 use Rattle.steps_base.specs.declared.acts.Act as act
-use Rattle.steps_mutex.specs.MutexSteps.{hand_off_word, is_parked}
-use Rattle.spec_locks.specs.Codes.{bit}
-use Rattle.spec_locks.specs.Locks.{one_if_some}
-use Rattle.steps_base.specs.Owners.{with_exclusive}
-use Rattle.lot_steps.specs.Steps.{next_place}
-use Rattle.spec_locks.specs.Locks.{putting, IsLockState}
-use Rattle.core_base.specs.declared.wants.Want.TheVariants.{Exclusive}
-use Rattle.spec_locks.specs.Sites.{Has}
-use Rattle.spec_locks.specs.Sites.{Role, Site, IsSite}
 use Rattle.lot_laws.proofs.sites.ToldAt as told_at
 use Rattle.lot_laws.proofs.sites.ToldAt.{IsToldAt, HeldHere, same_hands}
 use Rattle.lot_laws.proofs.sites.ActsKept.{AlikeAt, follows_by, lock_by}
-use Rattle.std.specs.Prelude.{sum}
-use Rattle.lot_machine.specs.Machine.{unshared_then, State, hand_over_told, shares_handed_over, unlocked}
-use Rattle.lot_machine.specs.Machine.{place_at, word_at, owners_at, shares_at, kind_at, queue_at, put}
-use Rattle.lot_machine.specs.Machine.{section_at, state_after_reply, state_after_telling}
-use Rattle.lot_machine.specs.Machine.{state_after_hand_over, state_after_act, reply_to}
-use Rattle.lot_laws.specs.Refinement.{lock_state}
-use Rattle.lot_laws.specs.ThreadDeeds.{mutex_role, mutex_deeds, mutex_location, acts, queued}
-use Rattle.lot_laws.specs.Locations.{Location, hand, location_at, role_on}
+use Rattle.lot_laws.specs.ThreadDeeds.{mutex_deeds}
+use Rattle.lot_laws.specs.Locations.{Location, hand}
 use Rattle.lot_laws.specs.ThreadDeeds as deeds
-use Rattle.lot_laws.specs.SitesOf.{SameNumbers, TakesOne, rules_in, ActsNeeded, IsInductive, SiteFollows}
-use Rattle.lot_laws.specs.SitesOf.{Goes, FitsItsLock, carried_at, hand_at, after_acts}
 use Rattle.lot_laws.proofs.machine.Parts.{base_at, seen, goes_from, put_places, put_other, IsOf, own_stance}
 use Rattle.lot_laws.proofs.machine.Parts.{none_given, WantsAlone, aparts}
 use Rattle.lot_laws.proofs.hands.Handed.{told_one, successor_one, of_carries}
@@ -43,13 +28,10 @@ use Rattle.lot_laws.proofs.mutex.Waiters.{CallsMutex, IsHeldThere, calls_mutex_a
 use Rattle.lot_laws.proofs.mutex.Waiters.{holds_here}
 use Rattle.lot_laws.proofs.sites.Following as following
 use Rattle.lot_laws.proofs.sites.ToldAt.{HoldsHere, SameHands}
-use Rattle.std.proofs.lemmas.Bool.{cases_eq}
-use Rattle.lot_laws.specs.SitesOf.{locations_of, Hands}
 use Rattle.lot_laws.specs.Locations.{Hand}
 use Rattle.lot_laws.proofs.mutex.Hands.{handing, hands_acts}
 use Rattle.lot_laws.proofs.machine.Parts.{mutex, own_role}
 use Rattle.lot_laws.proofs.machine.KindsStay.{given_kinds, given_filled, given_shares}
-use Rattle.lot_laws.specs.SitesOf.{is_mutex}
 use Rattle.lot_laws.proofs.sites.StandsKept.{AlikeBeside, own_alike, calls_in, sections_same, lines_same}
 use Rattle.lot_laws.proofs.sites.StandsKept.{waits_same, hands_given}
 use Rattle.lot_laws.proofs.sites.StandsMoved.{mutex_rules, takes_one, stands_by}

@@ -1,24 +1,12 @@
 -- How the sections, the lines and the hands of the machine are kept, by the stations of threads. No place is
 -- named.
-use Rattle.std.proofs.Common.{ℕ, Bool, true, false, Option, Some, None, if◌then◌else◌, ◌==◌, ◌&&◌, ◌≡◌, ◌≢◌}
-use Rattle.std.proofs.Common.{◌≤◌, ◌↔◌, ◌⊎◌, List, [], ◌∷◌, ◌++◌, cond, not, inl, inr, refl, sym, ◌∙◌, ap}
-use Rattle.std.proofs.Common.{subst, arith}
-use Rattle.std.proofs.lemmas.Bool.{cases_eq, eqb-true}
-use Rattle.core_base.specs.declared.wants.Waiter.{Waiter}
-use Rattle.core_base.specs.Lines.{times, without}
-use Rattle.spec_locks.specs.Kinds.{is_plain_mutex}
-use Rattle.lot_steps.specs.declared.places.Place.{Place}
-use Rattle.lot_steps.specs.declared.places.Place.TheVariants.{Idle, Mutex, RwLock, Once, Condvar, Semaphore}
-use Rattle.spec_locks.specs.Locks.{putting}
-use Rattle.spec_locks.specs.Purposes.{rules_of}
-use Rattle.steps_rwlock.specs.RwLockDeeds.{Admits}
-use Rattle.spec_locks.specs.Sites.{Line, Main, Second}
-use Rattle.lot_machine.specs.Machine.{State, kind_at}
-use Rattle.lot_laws.specs.SitesOf.{is_mutex}
-use Rattle.lot_laws.specs.Refinement.{taken_at}
-use Rattle.lot_laws.specs.Locations.{Hand, Location, hand, role_on, location_at}
-use Rattle.lot_laws.specs.SitesOf.{Sections, Lines, AllAreWaiting, AreWaiting, HandsBy, FitsItsLock, key_of}
-use Rattle.lot_laws.specs.SitesOf.{stood_in}
+use Rattle.lot_laws.proofs.Names
+use Names.{ℕ, Bool, true, false, Option, Some, None, if◌then◌else◌, ◌==◌, ◌&&◌, ◌≡◌, ◌≢◌, ◌≤◌, ◌↔◌, ◌⊎◌, List}
+use Names.{[], ◌∷◌, ◌++◌, cond, not, inl, inr, refl, sym, ◌∙◌, ap, subst, arith, cases_eq, eqb-true, Waiter}
+use Names.{times, without, is_plain_mutex, Place, Idle, Mutex, RwLock, Once, Condvar, Semaphore, putting}
+use Names.{rules_of, Admits, Line, Main, Second, State, kind_at, is_mutex, taken_at, role_on, location_at}
+use Names.{Sections, Lines, AllAreWaiting, AreWaiting, HandsBy, FitsItsLock, key_of, stood_in}
+use Rattle.lot_laws.specs.Locations.{Hand, Location, hand}
 use Rattle.lot_laws.proofs.machine.Parts.{IsOf, put_here, put_other, same, location_elsewhere, role_elsewhere}
 use Rattle.lot_laws.proofs.machine.Parts.{taken_elsewhere}
 

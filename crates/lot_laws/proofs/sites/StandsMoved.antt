@@ -1,20 +1,12 @@
 -- The machine keeps more than its locks' being sites, where one thread goes elsewhere, or two.
-use Rattle.std.proofs.Common.{ℕ, true, Option, Some, None, ◌≡◌, ◌≢◌, List, inl, inr, refl, sym, ◌∙◌, ap}
-use Rattle.std.proofs.Common.{subst}
-use Rattle.std.proofs.lemmas.Bool.{cases_eq}
-use Rattle.core_base.specs.declared.wants.Waiter.{Waiter}
-use Rattle.core_base.specs.Lines.{times}
-use Rattle.spec_locks.specs.declared.kinds.Kind.{Kind}
+use Rattle.lot_laws.proofs.Names
+use Names.{ℕ, true, Option, Some, None, ◌≡◌, ◌≢◌, List, inl, inr, refl, sym, ◌∙◌, ap, subst, cases_eq, Waiter}
+use Names.{times, Kind, Place, Rules, putting, rules_of, Line, State, place_at, kind_at, section_at, queue_at}
+use Names.{is_mutex, location_at, Sections, Lines, AllAreWaiting, Hands, HandsBy, TakesOne, FitsItsLock}
+use Names.{rules_in, key_of, stood_in, locations_of}
 use Rattle.spec_locks.specs.declared.kinds.Kind as kind
-use Rattle.lot_steps.specs.declared.places.Place.{Place}
-use Rattle.spec_locks.specs.Locks.{Rules, putting}
-use Rattle.spec_locks.specs.Purposes.{rules_of}
-use Rattle.spec_locks.specs.Sites.{Line}
-use Rattle.lot_machine.specs.Machine.{State, place_at, kind_at, section_at, queue_at}
-use Rattle.lot_laws.specs.SitesOf.{is_mutex}
-use Rattle.lot_laws.specs.Locations.{Location, location_at}
-use Rattle.lot_laws.specs.SitesOf.{Stands, Sections, Lines, AllAreWaiting, Hands, HandsBy, TakesOne}
-use Rattle.lot_laws.specs.SitesOf.{FitsItsLock, rules_in, key_of, stood_in, locations_of}
+use Rattle.lot_laws.specs.Locations.{Location}
+use Rattle.lot_laws.specs.SitesOf.{Stands}
 use Rattle.lot_laws.proofs.machine.Parts.{put_here, put_other}
 use Rattle.lot_laws.proofs.machine.Parts.{mutex}
 use Rattle.lot_laws.proofs.sites.StandsKept.{AlikeBeside, part_else, sections_same, entered, left, lines_same}

@@ -1,33 +1,18 @@
 -- A thread takes waiters of a line of a lock, as many as it is to, where each may be in a call of another
 -- lock too, and the thread itself among them:
 -- every lock is a site again.
-use Rattle.std.proofs.Common.{ℕ, Bool, true, false, Option, Some, None, if◌then◌else◌, ◌==◌, ◌&&◌, ◌||◌, ◌≡◌}
-use Rattle.std.proofs.Common.{◌≢◌, ◌+◌, ◌*◌, ◌≤◌, ◌<◌, ◌⊎◌, replicate, List, [], ◌∷◌, length, get_or, set}
-use Rattle.std.proofs.Common.{map, inl, inr, refl, sym, ◌∙◌, ap, subst, arith}
-use Rattle.std.proofs.lemmas.Bool.{cases_eq}
-use Rattle.std.proofs.lemmas.Bool.Decides.{nat_tests}
-use Rattle.std.proofs.Math.Bool.{and-true, and-false}
-use Rattle.core_base.specs.declared.wants.Waiter.{Waiter}
-use Rattle.core_base.specs.Lines.{times, threads_of}
-use Rattle.lot_steps.specs.declared.places.Place.{Place}
-use Rattle.lot_steps.specs.declared.places.Place.TheVariants.{Idle}
-use Rattle.steps_base.specs.declared.acts.Reply.{Reply}
-use Rattle.steps_base.specs.declared.acts.Reply.TheVariants.{TakenBy}
-use Rattle.lot_steps.specs.Steps.{next_place}
-use Rattle.spec_locks.specs.Locks.{Rules, Taken, putting}
+use Rattle.lot_laws.proofs.Names
+use Names.{ℕ, Bool, true, false, Option, Some, None, if◌then◌else◌, ◌==◌, ◌&&◌, ◌||◌, ◌≡◌, ◌≢◌, ◌+◌, ◌*◌, ◌≤◌}
+use Names.{◌<◌, ◌⊎◌, replicate, List, [], ◌∷◌, length, get_or, set, map, inl, inr, refl, sym, ◌∙◌, ap, subst}
+use Names.{arith, cases_eq, nat_tests, and-true, and-false, Waiter, times, threads_of, Place, Idle, Reply}
+use Names.{TakenBy, next_place, Rules, Taken, putting, queued_of, Site, Deed, Line, Main, Second, code, State}
+use Names.{unlocked, shares_at, place_at, section_at, queue_at, kind_at, places_told, taken_at, acts}
+use Names.{location_at, role_on, ActsNeeded, TakesOne, Hands, IsInductive, Goes, FitsItsLock, Lines}
+use Names.{AllAreWaiting, AreWaiting, Sections, after_acts, rules_in, key_of, stood_in, carried_at, hand_at}
+use Names.{locations_of}
 use Rattle.spec_locks.specs.Locks as locks
-use Rattle.spec_locks.specs.Picks.{queued_of}
-use Rattle.spec_locks.specs.Sites.{Site, Deed, Line, Main, Second}
-use Rattle.spec_locks.specs.Codes.{code}
 use Rattle.spec_locks.specs.declared.kinds.Kind as kind
-use Rattle.lot_machine.specs.Machine.{State, unlocked, shares_at, place_at, section_at, queue_at, kind_at}
-use Rattle.lot_machine.specs.Machine.{places_told}
-use Rattle.lot_laws.specs.Refinement.{taken_at}
-use Rattle.lot_laws.specs.ThreadDeeds.{acts}
-use Rattle.lot_laws.specs.Locations.{Location, hand, location_at, role_on}
-use Rattle.lot_laws.specs.SitesOf.{ActsNeeded, TakesOne, Hands, IsInductive, Goes, FitsItsLock, Lines}
-use Rattle.lot_laws.specs.SitesOf.{AllAreWaiting, AreWaiting, Sections, after_acts, rules_in, key_of}
-use Rattle.lot_laws.specs.SitesOf.{stood_in, carried_at, hand_at, locations_of}
+use Rattle.lot_laws.specs.Locations.{Location, hand}
 use Rattle.lot_laws.proofs.semaphore.Permits.{all_by}
 use Rattle.lot_laws.proofs.machine.Parts.{parts_at, base_at, lock_in, seen_in, same, differ, put_here}
 use Rattle.lot_laws.proofs.machine.Parts.{put_other, set_puts, past_all}

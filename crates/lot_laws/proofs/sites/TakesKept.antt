@@ -1,29 +1,17 @@
 -- A thread in a call of one lock takes waiters of a line of it, as many as it is to, each in a call of that
 -- lock.
-use Rattle.std.proofs.Common.{ℕ, Bool, true, false, Option, Some, None, if◌then◌else◌, ◌≡◌, ◌≢◌, ◌+◌, ◌≤◌}
-use Rattle.std.proofs.Common.{◌<◌, List, [], ◌∷◌, length, map, refl, sym, ◌∙◌, ap, arith}
-use Rattle.core_base.specs.declared.wants.Waiter.{Waiter}
-use Rattle.core_base.specs.declared.wants.Want.{Want}
-use Rattle.core_base.specs.Lines.{times}
-use Rattle.lot_steps.specs.declared.places.Place.{Place}
-use Rattle.steps_base.specs.declared.acts.Reply.TheVariants.{TakenBy}
-use Rattle.lot_steps.specs.Steps.{next_place}
-use Rattle.spec_locks.specs.Locks.{Rules, putting}
+use Rattle.lot_laws.proofs.Names
+use Names.{ℕ, Bool, true, false, Option, Some, None, if◌then◌else◌, ◌≡◌, ◌≢◌, ◌+◌, ◌≤◌, ◌<◌, List, [], ◌∷◌}
+use Names.{length, map, refl, sym, ◌∙◌, ap, arith, Waiter, Want, times, Place, TakenBy, next_place, Rules}
+use Names.{putting, queued_of, Site, Deed, Line, State, place_at, queue_at, taken_at, acts, location}
+use Names.{location_at, nowhere, role_on, ActsNeeded, TakesOne, IsInductive, Goes, FitsItsLock, AreWaiting}
+use Names.{after_acts, rules_in, key_of, stood_in, locations_of, want_in_line, profile}
 use Rattle.spec_locks.specs.Locks as locks
-use Rattle.spec_locks.specs.Picks.{queued_of}
-use Rattle.spec_locks.specs.Sites.{Site, Deed, Line}
-use Rattle.lot_machine.specs.Machine.{State, place_at, queue_at}
-use Rattle.lot_laws.specs.Refinement.{taken_at}
-use Rattle.lot_laws.specs.ThreadDeeds.{acts}
-use Rattle.lot_laws.specs.Locations.{Location, hand, location, location_at, nowhere, role_on}
-use Rattle.lot_laws.specs.SitesOf.{ActsNeeded, TakesOne, IsInductive, Goes, FitsItsLock, AreWaiting}
-use Rattle.lot_laws.specs.SitesOf.{after_acts, rules_in, key_of, stood_in, locations_of}
+use Rattle.lot_laws.specs.Locations.{Location, hand}
 use Rattle.lot_laws.proofs.machine.Parts.{parts_at, lock_in, seen_in, IsOf, location_here}
 use Rattle.lot_laws.proofs.sites.OneStep.{AreSingle}
 use Rattle.lot_laws.proofs.sites.Following.{NoHandOff, with_line, lock_by}
 use Rattle.lot_laws.proofs.sites.StandsKept.{own_alike}
-use Rattle.steps_base.specs.Locations.{want_in_line}
-use Rattle.lot_steps.specs.Steps.{profile}
 pub use Rattle.lot_laws.proofs.sites.TakesAt.{member, member_times, at_most_one, told_by, told_places}
 pub use Rattle.lot_laws.proofs.sites.TakesAt.{told_once, AllAre}
 use Rattle.lot_laws.proofs.sites.TakesAt.{IsTakenAt, after_take}

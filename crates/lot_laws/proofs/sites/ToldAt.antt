@@ -1,20 +1,12 @@
 -- All that a thread has in hand at one lock are told one thing, and it goes on itself: where the threads
 -- stand then. They may be in calls of other locks too, and the thread itself may be among them.
-use Rattle.std.proofs.Common.{ℕ, Bool, true, false, Option, Some, None, if◌then◌else◌, ◌==◌, ◌&&◌, ◌≡◌, ◌≢◌}
-use Rattle.std.proofs.Common.{◌<◌, ◌⊎◌, length, get_or, map, inl, inr, refl, sym, ◌∙◌, ap, subst, arith}
-use Rattle.std.proofs.lemmas.Bool.{cases_eq, eqb-true}
-use Rattle.std.proofs.lemmas.List.{length-map}
-use Rattle.std.proofs.Math.Bool.{and-true, and-false}
-use Rattle.std.proofs.Math.ListN.{get_or-map}
-use Rattle.lot_steps.specs.declared.places.Place.{Place}
-use Rattle.lot_steps.specs.declared.places.Place.TheVariants.{Idle}
-use Rattle.steps_base.specs.declared.acts.Reply.{Reply}
-use Rattle.steps_base.specs.Owners.{is_thread}
-use Rattle.lot_steps.specs.Steps.{next_place, taker}
-use Rattle.spec_locks.specs.Locks.{putting}
-use Rattle.lot_machine.specs.Machine.{State, place_at, put, state_after_telling, place_after_telling}
-use Rattle.lot_laws.specs.Locations.{Location, Hand, hand, location_at}
-use Rattle.lot_laws.specs.SitesOf.{IsInductive, FitsItsLock, carried_at, hand_at}
+use Rattle.lot_laws.proofs.Names
+use Names.{ℕ, Bool, true, false, Option, Some, None, if◌then◌else◌, ◌==◌, ◌&&◌, ◌≡◌, ◌≢◌, ◌<◌, ◌⊎◌, length}
+use Names.{get_or, map, inl, inr, refl, sym, ◌∙◌, ap, subst, arith, cases_eq, eqb-true, length-map, and-true}
+use Names.{and-false, get_or-map, Place, Idle, Reply, is_thread, next_place, taker, putting, State, place_at}
+use Names.{put, state_after_telling, place_after_telling, location_at, IsInductive, FitsItsLock, carried_at}
+use Names.{hand_at}
+use Rattle.lot_laws.specs.Locations.{Location, Hand, hand}
 use Rattle.lot_laws.proofs.machine.Parts.{same, differ, put_places, put_here, put_other}
 use Rattle.lot_laws.proofs.sites.StandsKept.{AlikeBeside}
 use Rattle.lot_laws.proofs.sites.Following.{AlikeAt}

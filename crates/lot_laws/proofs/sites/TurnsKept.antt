@@ -1,44 +1,27 @@
 -- Each turn of a thread keeps every lock a site, and every thread in the line, the section and the hand that
 -- its place says.
-use Rattle.std.proofs.Common.{ℕ, Bool, true, false, Option, Some, None, if◌then◌else◌, ◌≡◌, ◌<◌, [], ◌∷◌}
-use Rattle.std.proofs.Common.{length, length-set, nat_lt, inl, inr, refl, subst, sym, ◌∙◌, ap}
-use Rattle.lot_laws.proofs.once.Kept.{once_goes_late, once_begins}
-use Rattle.lot_machine.specs.Machine.{can_close, can_do, can_go, state_after_close, state_after_go}
-use Rattle.lot_machine.specs.Machine.{state_after_going}
+use Rattle.lot_laws.proofs.Names
+use Names.{ℕ, Bool, true, false, Option, Some, None, if◌then◌else◌, ◌≡◌, ◌<◌, [], ◌∷◌, length, length-set}
+use Names.{nat_lt, inl, inr, refl, subst, sym, ◌∙◌, ap, once_first, semaphore_first, can_close, can_do}
+use Names.{can_go, state_after_close, state_after_go, state_after_going, mutex_profile, once_profile}
+use Names.{semaphore_profile, ltb-true, Exclusive, Call, MutexCall, Step, Turn, has_call, is_fair, Place}
+use Names.{Idle, Mutex, RwLock, Once, Condvar, Semaphore, MutexPlace, mutex_first, mutex_right, act_of}
+use Names.{is_idle, looking, late_key, key_in, Claim, Has, Begin, HasClaim, idle, State, place_at, owners_at}
+use Names.{kind_at, put, state_after_begin, can_begin, is_open_to, state_after_look, state_after_late_on}
+use Names.{is_free_under, state_after_turn, can_turn, is_possible, after, IsWellFormed, PlaceFits, lock_state}
+use Names.{taken_at, is_mutex, mutex_role, mutex_location, acts, begin_deed, nowhere, location, AreCondvars}
+use Names.{AreCounted, IsInductive, Goes, both, looking_well_formed, Admission, RwLockCallPlace, Plain}
+use Names.{Bump as BumpCall, call_late_line}
+use Rattle.lot_laws.proofs.book.Kept.{begins_with, goes_late}
+use Rattle.lot_laws.proofs.book.Pages.{booked}
 use Rattle.lot_laws.proofs.calls.Looking.{closing_inductive}
 use Rattle.lot_laws.proofs.calls.Closings.{closing, closing_counted, closing_may, closing_well_formed}
 use Rattle.lot_laws.proofs.calls.Closings.{closing_there}
 use Rattle.lot_laws.proofs.calls.Closures.{closes_one}
-use Rattle.steps_mutex.specs.MutexProfiles.{mutex_profile}
-use Rattle.steps_once.specs.OnceProfiles.{once_profile}
-use Rattle.steps_semaphore.specs.SemaphoreProfiles.{semaphore_profile}
-use Rattle.lot_laws.proofs.semaphore.Kept.{semaphore_begins, semaphore_goes_late}
-use Rattle.std.proofs.lemmas.Bool.{ltb-true}
-use Rattle.core_base.specs.declared.wants.Want.TheVariants.{Exclusive}
-use Rattle.spec_locks.specs.declared.calls.Call.{Call}
+use Rattle.lot_laws.proofs.semaphore.Page.{claim_held, claims_first, opens}
 use Rattle.spec_locks.specs.declared.calls.Call as calling
-use Rattle.spec_locks.specs.declared.calls.MutexCall.{MutexCall}
 use Rattle.spec_locks.specs.declared.calls.MutexCall.TheVariants as call
-use Rattle.spec_locks.specs.declared.calls.Step.{Step}
-use Rattle.spec_locks.specs.declared.calls.Turn.{Turn}
 use Rattle.spec_locks.specs.declared.calls.Turn as turn
-use Rattle.spec_locks.specs.Kinds.{has_call, is_fair}
-use Rattle.lot_steps.specs.declared.places.Place.{Place}
-use Rattle.lot_steps.specs.declared.places.Place.TheVariants.{Idle, Mutex, RwLock, Once, Condvar, Semaphore}
-use Rattle.steps_mutex.specs.declared.places.MutexPlace.{MutexPlace}
-use Rattle.steps_mutex.specs.MutexSteps.{mutex_first, mutex_right}
-use Rattle.lot_steps.specs.Steps.{act_of, is_idle, looking, late_key, key_in}
-use Rattle.spec_locks.specs.Sites.{Claim, Has, Begin, HasClaim, idle}
-use Rattle.lot_machine.specs.Machine.{State, place_at, owners_at, kind_at, put, state_after_begin, can_begin}
-use Rattle.lot_machine.specs.Machine.{is_open_to, state_after_look, state_after_late_on, is_free_under}
-use Rattle.lot_machine.specs.Machine.{state_after_turn, can_turn, is_possible, after}
-use Rattle.lot_machine.specs.Fits.{IsWellFormed, PlaceFits}
-use Rattle.lot_laws.specs.Refinement.{lock_state, taken_at}
-use Rattle.lot_laws.specs.SitesOf.{is_mutex}
-use Rattle.lot_laws.specs.ThreadDeeds.{mutex_role, mutex_location, acts, begin_deed}
-use Rattle.lot_laws.specs.Locations.{nowhere, location}
-use Rattle.lot_laws.specs.SitesOf.{AreCondvars, AreCounted, IsInductive, Goes}
-use Rattle.lot_machine.proofs.Shape.{both, looking_well_formed}
 use Rattle.lot_laws.proofs.machine.KindsStay.{calls_mutex, calls_readers, calls_once, calls_semaphore}
 use Rattle.lot_laws.proofs.machine.Parts.{parts_at, same, single_or_two, thread_is}
 use Rattle.lot_laws.proofs.machine.Parts.{mutex, own_role}
@@ -53,11 +36,8 @@ use Rattle.lot_laws.proofs.condvar.ActsRefine.{condvar_inductive}
 use Rattle.lot_laws.proofs.condvar.SameCondvars.{closing_condvars, looking_condvars}
 use Rattle.lot_laws.proofs.condvar.BeginsKept.{begins_at, condvar_begins, condvar_goes_late}
 use Rattle.lot_laws.proofs.calls.OwnPlace.{gone}
-use Rattle.lot_laws.proofs.rwlock.Kept.{rwlock_begins, rwlock_goes_late}
-use Rattle.steps_rwlock.specs.declared.places.Admission.{Admission}
-use Rattle.steps_rwlock_fair.specs.declared.places.RwLockCallPlace.{RwLockCallPlace}
-use Rattle.steps_rwlock_fair.specs.declared.places.RwLockCallPlace.TheVariants.{Plain, Bump as BumpCall}
-use Rattle.steps_rwlock_fair.specs.FairProfiles.{call_late_line}
+use Rattle.lot_laws.proofs.rwlock.Steps.{rwlock_begins}
+use Rattle.lot_laws.proofs.rwlock.Late.{late_row}
 use Rattle.core_base.specs.declared.keys.Line.{Line}
 
 pub idle_is : (p : Place) → is_idle p ≡ true → p ≡ Idle
@@ -126,15 +106,18 @@ module _ (w : State) (t : ℕ) (inductive : IsInductive w) (shape : IsWellFormed
         let parts = both (is_idle (place_at w t)) (is_open_to w t (calling.TheVariants.Once l c)) can in
         let open_to = both (nat_lt l (length w.locks)) _ parts.1 in
         let right = both (has_call (kind_at w l) (calling.TheVariants.Once l c)) _ open_to.1 in
-        goes_inductive w _ l _ inductive (once_begins w t l c inductive there (idle_is (place_at w t) parts.0)
-        (calls_once (kind_at w l) l c right.0))
+        goes_inductive w _ l _ inductive (begins_with w t l inductive there (idle_is (place_at w t) parts.0)
+        (Once l (once_first c)) refl refl (calls_once (kind_at w l) l c right.0) None refl refl tt)
     begun_kept (calling.TheVariants.Semaphore l c) can =
         let parts = both (is_idle (place_at w t)) (is_open_to w t (calling.TheVariants.Semaphore l c)) can in
         let open_to = both (nat_lt l (length w.locks)) _ parts.1 in
         let right = both (has_call (kind_at w l) (calling.TheVariants.Semaphore l c)) _ open_to.1 in
-        goes_inductive w _ l _ inductive (semaphore_begins w t l c inductive there
-        (idle_is (place_at w t) parts.0)
-        (calls_semaphore (kind_at w l) l c right.0) right.1)
+        goes_inductive w _ l _ inductive (begins_with w t l inductive there (idle_is (place_at w t) parts.0)
+        (Semaphore l (semaphore_first c)) refl refl (
+          calls_semaphore (kind_at w l) l c right.0,
+          (opens c).timed,
+        ) (claims_first c) (opens c).location (opens c).role
+        (claim_held (lock_state w l) t c right.1))
     begun_kept (calling.TheVariants.Condvar l c) can =
         let parts = both (is_idle (place_at w t)) (is_open_to w t (calling.TheVariants.Condvar l c)) can in
         goes_inductive w _ (begins_at l c) _ inductive (condvar_begins w t l inductive there
@@ -164,7 +147,8 @@ module _ (w : State) (t : ℕ) (inductive : IsInductive w) (shape : IsWellFormed
         → IsInductive (state_after_late_on w t (key_in (Some l) m))
     rwlock_late l a c is lt None e can = absurd cc
     rwlock_late l a c is lt (Some m) e can =
-        goes_inductive w _ l _ inductive (rwlock_goes_late w t l a c inductive shape there lt is m e can)
+        goes_inductive w _ l _ inductive (goes_late w t l (RwLock l a c) inductive shape there lt is
+        (booked w t l (RwLock l a c) inductive is tt (same l)) (same l) m (late_row a c ∙ e) can)
 
     late_kept : (p : Place) → place_at w t ≡ p → PlaceFits (length w.locks) p → is_free_under w (late_key p)
         ≡ true
@@ -195,19 +179,20 @@ module _ (w : State) (t : ℕ) (inductive : IsInductive w) (shape : IsWellFormed
             → is_free_under w (key_in (Some l) m) ≡ true
             → IsInductive (state_after_late_on w t (key_in (Some l) m))
         semaphore_late None e h = absurd cc
-        semaphore_late (Some m) e h = goes_inductive w _ l _ inductive (semaphore_goes_late w t l at inductive
+        semaphore_late (Some m) e h = goes_inductive w _ l _ inductive (goes_late w t l (Semaphore l at)
+            inductive
             shape
-            there fits is m e h)
+            there fits is (booked w t l (Semaphore l at) inductive is tt (same l)) (same l) m e h)
     late_kept (Once l at) is fits can = once_late (once_profile at).late_line refl can
       where
         once_late : (m : Option Line) → (once_profile at).late_line ≡ m → is_free_under w (key_in (Some l) m)
             ≡ true
             → IsInductive (state_after_late_on w t (key_in (Some l) m))
         once_late None e h = absurd cc
-        once_late (Some m) e h = goes_inductive w _ l _ inductive (once_goes_late w t l at inductive shape
-            there fits
-            is
-            m e h)
+        once_late (Some m) e h = goes_inductive w _ l _ inductive (goes_late w t l (Once l at) inductive shape
+            there
+            fits
+            is (booked w t l (Once l at) inductive is tt (same l)) (same l) m e h)
 
     -- its closure has answered, and it goes on after it
     closed_kept : AreCounted w → AreCondvars w → (succeeded : Bool) → can_close w t succeeded ≡ true

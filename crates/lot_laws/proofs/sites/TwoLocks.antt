@@ -1,25 +1,15 @@
 -- A step of one thread at two locks that nobody shares: both are sites again, and every other lock is as it
 -- was.
-use Rattle.std.proofs.Common.{ℕ, Bool, true, false, Option, Some, None, if◌then◌else◌, ◌==◌, ◌&&◌, ◌≡◌, ◌≢◌}
-use Rattle.std.proofs.Common.{◌+◌, ◌*◌, ◌<◌, List, [], length, replicate, get_or, set, inl, inr, refl, sym}
-use Rattle.std.proofs.Common.{◌∙◌, ap, subst, arith, length-set}
-use Rattle.std.proofs.lemmas.Bool.{cases_eq}
-use Rattle.core_base.specs.declared.wants.Waiter.{Waiter}
+use Rattle.lot_laws.proofs.Names
+use Names.{ℕ, Bool, true, false, Option, Some, None, if◌then◌else◌, ◌==◌, ◌&&◌, ◌≡◌, ◌≢◌, ◌+◌, ◌*◌, ◌<◌, List}
+use Names.{[], length, replicate, get_or, set, inl, inr, refl, sym, ◌∙◌, ap, subst, arith, length-set}
+use Names.{cases_eq, Waiter, Place, Idle, putting, rules_of, Deed, Main, Site, has_readers, code, HasLimit}
+use Names.{State, place_at, kind_at, shares_at, unlocked, word_at, lock_state, acts, ActsNeeded, AllBy}
+use Names.{FollowAll, IsInductive, SameNumbers, after_acts, key_of, rules_in, site_of}
 use Rattle.spec_locks.specs.declared.kinds.Kind as kind
-use Rattle.lot_steps.specs.declared.places.Place.{Place}
-use Rattle.lot_steps.specs.declared.places.Place.TheVariants.{Idle}
-use Rattle.spec_locks.specs.Locks.{putting}
 use Rattle.spec_locks.specs.Locks as locks
-use Rattle.spec_locks.specs.Purposes.{rules_of}
-use Rattle.spec_locks.specs.Sites.{Deed, Main, Site, has_readers}
-use Rattle.spec_locks.specs.Codes.{code, HasLimit}
-use Rattle.lot_machine.specs.Machine.{State, place_at, kind_at, shares_at, unlocked, word_at}
-use Rattle.lot_laws.specs.Refinement.{lock_state}
-use Rattle.lot_laws.specs.ThreadDeeds.{acts}
 use Rattle.lot_laws.specs.ThreadDeeds as deeds
 use Rattle.lot_laws.specs.Locations.{Location}
-use Rattle.lot_laws.specs.SitesOf.{ActsNeeded, AllBy, FollowAll, IsInductive, SameNumbers, after_acts, key_of}
-use Rattle.lot_laws.specs.SitesOf.{rules_in, site_of}
 use Rattle.lot_laws.proofs.semaphore.Permits.{all_by}
 use Rattle.lot_laws.proofs.machine.Parts.{Parts, parts_at, put_here, put_other, put_places, same, differ}
 use Rattle.lot_laws.proofs.machine.Parts.{seen_in}

@@ -1,25 +1,14 @@
 -- A thread leaves its section of a lock and lets go each thread that it has in hand there, one or many,
 -- itself among them or not: every lock is a site again.
-use Rattle.std.proofs.Common.{Option, ℕ, Bool, true, false, Some, None, if◌then◌else◌, ◌==◌, ◌&&◌, ◌≡◌, ◌≢◌}
-use Rattle.std.proofs.Common.{◌+◌, ◌*◌, ◌<◌, replicate, List, [], ◌∷◌, length, get_or, map, inl, inr, refl}
-use Rattle.std.proofs.Common.{sym, ◌∙◌, ap, subst, length-set, get_or-set_same, get_or-set_other}
-use Rattle.std.proofs.lemmas.Bool.{cases_eq}
-use Rattle.std.proofs.lemmas.List.{length-map}
-use Rattle.core_base.specs.declared.keys.Keys.TheVariants.{One}
-use Rattle.core_base.specs.declared.notes.Note.{Note}
-use Rattle.lot_steps.specs.declared.places.Place.{Place}
-use Rattle.steps_base.specs.declared.acts.Reply.TheVariants.{Woken}
-use Rattle.steps_base.specs.Moves.{AreLeaving}
-use Rattle.lot_steps.specs.Steps.{next_place}
-use Rattle.spec_locks.specs.Locks.{Rules, putting, keep_from}
-use Rattle.spec_locks.specs.Sites.{Deed, Line, End, Out, idle, wakened, leaves}
-use Rattle.lot_machine.specs.Machine.{State, place_at, filled_at, section_at, queue_at, put}
-use Rattle.lot_machine.specs.Machine.{state_with_sections, state_after_telling, place_after_telling}
-use Rattle.lot_laws.specs.Refinement.{taken_at}
-use Rattle.lot_laws.specs.ThreadDeeds.{acts}
-use Rattle.lot_laws.specs.Locations.{Location, hand, location_at, role_on}
-use Rattle.lot_laws.specs.SitesOf.{ActsNeeded, TakesOne, Hands, Sections, IsInductive, Goes, FitsItsLock}
-use Rattle.lot_laws.specs.SitesOf.{after_acts, rules_in, key_of, carried_at, hand_at, locations_of}
+use Rattle.lot_laws.proofs.Names
+use Names.{Option, ℕ, Bool, true, false, Some, None, if◌then◌else◌, ◌==◌, ◌&&◌, ◌≡◌, ◌≢◌, ◌+◌, ◌*◌, ◌<◌}
+use Names.{replicate, List, [], ◌∷◌, length, get_or, map, inl, inr, refl, sym, ◌∙◌, ap, subst, length-set}
+use Names.{get_or-set_same, get_or-set_other, cases_eq, length-map, One, Note, Place, Woken, AreLeaving}
+use Names.{next_place, Rules, putting, keep_from, Deed, Line, End, Out, idle, wakened, leaves, State}
+use Names.{place_at, filled_at, section_at, queue_at, put, state_with_sections, state_after_telling}
+use Names.{place_after_telling, taken_at, acts, location_at, role_on, ActsNeeded, TakesOne, Hands, Sections}
+use Names.{IsInductive, Goes, FitsItsLock, after_acts, rules_in, key_of, carried_at, hand_at, locations_of}
+use Rattle.lot_laws.specs.Locations.{Location, hand}
 use Rattle.lot_laws.proofs.semaphore.Permits.{all_by}
 use Rattle.lot_laws.proofs.machine.Parts.{Parts, parts_at, lock_in, seen_in, put_here, put_other, LetGo}
 use Rattle.lot_laws.proofs.machine.Parts.{stays, untaken}

@@ -1,20 +1,11 @@
 -- A thread in a call of one lock leaves its section and lets go each thread that it has in hand, one or many,
 -- each in a call of that lock.
-use Rattle.std.proofs.Common.{ℕ, Bool, true, false, Some, None, if◌then◌else◌, ◌≡◌, ◌≢◌, ◌<◌, List, length}
-use Rattle.std.proofs.Common.{sym, ◌∙◌, ap}
-use Rattle.core_base.specs.declared.keys.Keys.TheVariants.{One}
-use Rattle.core_base.specs.declared.notes.Note.{Note}
-use Rattle.lot_steps.specs.declared.places.Place.{Place}
-use Rattle.steps_base.specs.declared.acts.Reply.TheVariants.{Woken}
-use Rattle.lot_steps.specs.Steps.{next_place}
-use Rattle.spec_locks.specs.Locks.{Rules, keep_from}
-use Rattle.spec_locks.specs.Sites.{Deed, Line}
-use Rattle.lot_machine.specs.Machine.{State, place_at, put, state_with_sections, state_after_telling}
-use Rattle.lot_laws.specs.Refinement.{taken_at}
-use Rattle.lot_laws.specs.ThreadDeeds.{acts}
-use Rattle.lot_laws.specs.Locations.{Location, hand, location, location_at, nowhere, role_on}
-use Rattle.lot_laws.specs.SitesOf.{ActsNeeded, IsInductive, Goes, FitsItsLock, after_acts, rules_in, key_of}
-use Rattle.lot_laws.specs.SitesOf.{hand_at}
+use Rattle.lot_laws.proofs.Names
+use Names.{ℕ, Bool, true, false, Some, None, if◌then◌else◌, ◌≡◌, ◌≢◌, ◌<◌, List, length, sym, ◌∙◌, ap, One}
+use Names.{Note, Place, Woken, next_place, Rules, keep_from, Deed, Line, State, place_at, put}
+use Names.{state_with_sections, state_after_telling, taken_at, acts, location, location_at, nowhere, role_on}
+use Names.{ActsNeeded, IsInductive, Goes, FitsItsLock, after_acts, rules_in, key_of, hand_at}
+use Rattle.lot_laws.specs.Locations.{Location, hand}
 use Rattle.lot_laws.proofs.machine.Parts.{Parts, seen_in, IsOf, LetGo, next_of, location_here}
 use Rattle.lot_laws.proofs.hands.Handed.{of_carries}
 use Rattle.lot_laws.proofs.mutex.Waiters.{holds_here}

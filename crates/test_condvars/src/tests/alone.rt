@@ -148,7 +148,7 @@ fn gives_up<R: Wait>(rt: &R, room: &Room, token: &mut Token, clock: &TickClock) 
 }
 
 #[test]
-fn who_waits_gives_up_in_time(rt: HostRuntime) {
+fn a_waiter_gives_up_in_time(rt: HostRuntime) {
     let (room, mut token) = room_alone(&rt, rt.alloc());
     let clock = TickClock::starting_at(FAR);
     check(&rt, gives_up(&rt, &room, &mut token, &clock));

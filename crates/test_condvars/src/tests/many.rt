@@ -115,19 +115,19 @@ pub(super) fn notify_slow<R: Wait>(
 }
 
 #[test]
-fn two_who_wait_are_notified_under_the_mutex(rt: HostRuntime) {
+fn two_waiters_are_notified_under_the_mutex(rt: HostRuntime) {
     let part = Part::Notify(Whom::AllUnderMutex, 2);
     check_eq(&rt, play(&rt, rt.alloc(), 3, part), (true, 2));
 }
 
 #[test]
-fn ten_who_wait_are_notified_under_the_mutex(rt: HostRuntime) {
+fn ten_waiters_are_notified_under_the_mutex(rt: HostRuntime) {
     let part = Part::Notify(Whom::AllUnderMutex, 10);
     check_eq(&rt, play(&rt, rt.alloc(), 11, part), (true, 10));
 }
 
 #[test]
-fn ten_who_wait_are_notified_where_nobody_has_the_mutex(rt: HostRuntime) {
+fn ten_waiters_are_notified_where_nobody_has_the_mutex(rt: HostRuntime) {
     let part = Part::Notify(Whom::AllFree, 10);
     check_eq(&rt, play(&rt, rt.alloc(), 11, part), (true, 10));
 }

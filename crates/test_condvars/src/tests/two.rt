@@ -100,7 +100,7 @@ pub(super) fn notify<R: Wait>(
 }
 
 #[test]
-fn who_waits_is_notified_under_the_mutex(rt: HostRuntime) {
+fn a_waiter_is_notified_under_the_mutex(rt: HostRuntime) {
     check_eq(
         &rt,
         play(&rt, rt.alloc(), 2, Part::Meet(Way::UnderMutex)),
@@ -109,7 +109,7 @@ fn who_waits_is_notified_under_the_mutex(rt: HostRuntime) {
 }
 
 #[test]
-fn who_waits_is_notified_where_nobody_has_the_mutex(rt: HostRuntime) {
+fn a_waiter_is_notified_where_nobody_has_the_mutex(rt: HostRuntime) {
     check_eq(
         &rt,
         play(&rt, rt.alloc(), 2, Part::Meet(Way::Free)),
@@ -118,7 +118,7 @@ fn who_waits_is_notified_where_nobody_has_the_mutex(rt: HostRuntime) {
 }
 
 #[test]
-fn who_waits_lets_in_who_waited_for_the_mutex(rt: HostRuntime) {
+fn a_wait_lets_in_a_waiter_of_the_mutex(rt: HostRuntime) {
     check_eq(
         &rt,
         play(&rt, rt.alloc(), 2, Part::Meet(Way::InLine)),
@@ -127,7 +127,7 @@ fn who_waits_lets_in_who_waited_for_the_mutex(rt: HostRuntime) {
 }
 
 #[test]
-fn who_waits_with_a_limit_is_notified_in_time(rt: HostRuntime) {
+fn a_waiter_with_a_limit_is_notified_in_time(rt: HostRuntime) {
     check_eq(
         &rt,
         play(&rt, rt.alloc(), 2, Part::Meet(Way::Timed)),
@@ -153,7 +153,7 @@ pub(super) fn bump_until_notified<R: Wait>(rt: &R, room: &Room, token: &mut Toke
 }
 
 #[test]
-fn who_waits_is_moved_to_a_mutex_that_is_held(rt: HostRuntime) {
+fn a_waiter_is_moved_to_a_mutex_that_is_held(rt: HostRuntime) {
     check_eq(&rt, play(&rt, rt.alloc(), 2, Part::Bump), (true, 0));
 }
 
@@ -201,6 +201,6 @@ pub(super) fn come_with_another<R: Wait>(
 }
 
 #[test]
-fn those_who_wait_at_a_time_have_one_mutex(rt: HostRuntime) {
+fn waiters_at_a_time_have_one_mutex(rt: HostRuntime) {
     check_eq(&rt, play(&rt, rt.alloc(), 2, Part::Another), (true, 0));
 }

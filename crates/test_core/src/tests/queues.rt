@@ -165,7 +165,7 @@ fn taken_by<Q: Queues + Drop>(
     Ok(out)
 }
 
-fn picks_readers_and_the_first_who_wants_more<Q: Queues + Drop>(
+fn picks_readers_and_the_first_that_wants_more<Q: Queues + Drop>(
     rt: &impl Abort,
     alloc: Global,
 ) -> Result<(), Fail> {
@@ -323,7 +323,7 @@ fn answers_as_queues<Q: Queues + Drop>(rt: &impl Abort, alloc: Global) -> Result
     first_in_first_out::<Q>(rt, alloc);
     a_thread_stands_at_most_once::<Q>(rt, alloc);
     takes_all_after_what_was_taken::<Q>(rt, alloc);
-    picks_readers_and_the_first_who_wants_more::<Q>(rt, alloc)?;
+    picks_readers_and_the_first_that_wants_more::<Q>(rt, alloc)?;
     takes_by_turns_and_keeps_the_order::<Q>(rt, alloc);
     requeues_after_the_last::<Q>(rt, alloc);
     walks_a_line::<Q>(rt, alloc);

@@ -289,7 +289,7 @@ fn pick_of_three<R: Wait>(rt: &R, lot: &ParkingLot, token: &mut Token) -> (bool,
 }
 
 #[test]
-fn a_section_takes_who_is_picked(rt: HostRuntime) {
+fn a_section_takes_the_picked(rt: HostRuntime) {
     let (lot, mut token) = lot_of(&rt, rt.alloc(), 1, 3);
     check_eq(&rt, pick_of_three(&rt, &lot, &mut token), (true, true, 1));
     let did = Did::TakePicked {

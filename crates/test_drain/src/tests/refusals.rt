@@ -55,18 +55,28 @@ const OUTCOMES: [Outcome; 11] = [
     Outcome::Step,
 ];
 
-/// A lock's word, and the first of its owners, of those that wait, and of those that have
-/// a debt.
-type Shown = (
-    u64,
-    Option<(Owner, usize)>,
-    Option<(usize, Want)>,
-    Option<(Debt, usize)>,
-);
+/// A lock's word, and the first of its owners, of those that wait, and of those that have a debt.
+#[derive(Clone, Copy, Debug, PartialEq, Eq)]
+struct Shown {
+    word: u64,
+    owner: Option<(Owner, usize)>,
+    waiter: Option<(usize, Want)>,
+    debt: Option<(Debt, usize)>,
+}
 
-const OPENING: Option<Shown> = Some((0, None, None, None));
+const OPENING: Option<Shown> = Some(Shown {
+    word: 0,
+    owner: None,
+    waiter: None,
+    debt: None,
+});
 
-const UNLOCKING: Option<Shown> = Some((2, None, Some((1, Want::Exclusive)), Some((Debt::Owes, 0))));
+const UNLOCKING: Option<Shown> = Some(Shown {
+    word: 2,
+    owner: None,
+    waiter: Some((1, Want::Exclusive)),
+    debt: Some((Debt::Owes, 0)),
+});
 
 /// Looks at the mutex of a world.
 fn look<Q: Queues + Drop>(world: &World<Q>) -> Option<Shown> {
@@ -74,12 +84,12 @@ fn look<Q: Queues + Drop>(world: &World<Q>) -> Option<Shown> {
         return None;
     }
     let waiter = world.queue(0).next();
-    Some((
-        world.word(0),
-        world.owners(0).next(),
-        waiter.map(|waiter| (waiter.thread, waiter.want)),
-        world.debt(0).next(),
-    ))
+    Some(Shown {
+        word: world.word(0),
+        owner: world.owners(0).next(),
+        waiter: waiter.map(|waiter| (waiter.thread, waiter.want)),
+        debt: world.debt(0).next(),
+    })
 }
 
 /// The world after these steps. Where it is refused, it is made at the second try.

@@ -2,10 +2,14 @@
 
 use super::{Found, Turns, check_eq, search_by};
 use core_base::ListQueues;
+use lot_explore::{Walk, explore_from, explore_in};
 use lot_program::Deadlines;
-use state_search::Limits;
+use lot_program_text::parse;
+use state_search::{Limits, Unobserved, Verdict};
+use std::alloc::Global;
 use std::process::Abort;
 use std::test::Fail;
+use std::thread::Threads;
 
 /// Room for each program here.
 const ROOM: Limits = Limits {
@@ -194,4 +198,61 @@ fn where_no_deadline_passes_a_timed_call_waits_for_ever(rt: HostRuntime) {
     };
     check_eq(&rt, found(Deadlines::Pass), Found::Nothing(58));
     check_eq(&rt, found(Deadlines::Never), Found::Deadlock(4));
+}
+
+/// What a search tells.
+#[derive(Debug, Drop, PartialEq, Eq)]
+enum Told {
+    /// All states are fine: so many, each after fewer moves than `depth`.
+    Fine { states: usize, depth: usize },
+    /// These moves lead to a wrong state.
+    Wrong(Vec<usize>),
+    /// Something else.
+    Neither,
+}
+
+impl Told {
+    fn of(verdict: Verdict) -> Told {
+        match verdict {
+            Verdict::Holds { states, depth } => Told::Fine { states, depth },
+            Verdict::Broken { moves } => Told::Wrong(moves),
+            _ => Told::Neither,
+        }
+    }
+}
+
+/// Programs whose levels are shared among threads: one that is right, and one with a property that is broken.
+const WIDE: &[&str] = &[
+    "threads 3\nlock a mutex\nlock b mutex\nthread 0 1 2\n\
+     repeat 2\nlock a\nlock b\nunlock b\nunlock a\nend\n",
+    "threads 3\nlock a mutex\nlock b mutex\nvar x 0\nthread 0 1 2\n\
+     repeat 2\nlock a\nlock b\nadd x 1\nunlock b\nunlock a\nend\nalways x < 4\n",
+];
+
+// Asserts that a search of a program by steps tells the same in so many threads as in one.
+fn check_in<R: Threads + Abort + Sync>(rt: &R, alloc: Global, text: &str, threads: usize) {
+    let Ok(parsed) = parse(alloc, text) else {
+        return;
+    };
+    if !parsed.program.is_fit() {
+        return;
+    }
+    let Ok(walk) = Walk::<ListQueues>::new(alloc, &parsed.program) else {
+        return;
+    };
+    let limits = Limits {
+        states: 200_000,
+        bytes: None,
+    };
+    let one = Told::of(explore_from(alloc, &walk, limits, &mut Unobserved));
+    let many = Told::of(explore_in(rt, threads, alloc, &walk, limits, &mut Unobserved));
+    check_eq(rt, many, one);
+}
+
+#[test]
+fn several_threads_tell_what_one_does(rt: HostRuntime) {
+    for text in WIDE {
+        check_in(&rt, rt.alloc(), text, 2);
+        check_in(&rt, rt.alloc(), text, 4);
+    }
 }

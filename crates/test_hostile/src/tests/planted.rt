@@ -1,68 +1,77 @@
-//! Planted states, steps and answers that are wrong: the checker names what is wrong with each.
+//! Planted states and steps that are wrong: the checker names what is wrong with each.
 
 use super::check_eq;
 use core_base::Want;
-use spec_locks::{
-    Access, Answer, Call, CondvarCall, Downgrade, Kind, MutexCall, Outcome, RwLockCall, Step, Turn,
-};
+use spec_locks::{Kind, Outcome, Step, Turn};
 use std::alloc::{AllocError, Global};
 use std::test::Fail;
 use test_checker::{
-    Right, Seen, SeenLock, SeenOwner, SeenThread, SeenWaiter, Standing, Violation, Watch,
-    check_state, check_step,
+    Right, Seen, SeenLock, SeenOwner, SeenThread, SeenWaiter, Standing, Violation, check_state,
+    check_step,
 };
 
-/// A lock: its kind, its word, its owners, its waiters, those aside, those that owe, and those that try
-/// again.
-type Plan<'a> = (
-    Kind,
-    u64,
-    &'a [(Right, usize)],
-    &'a [(usize, Want)],
-    &'a [usize],
-    &'a [usize],
-    &'a [usize],
-);
+/// A lock of a planned state: its owners, its waiters, those aside, those that owe, and those that try again.
+#[derive(Clone, Copy)]
+pub(super) struct Plan<'a> {
+    pub(super) kind: Kind,
+    pub(super) word: u64,
+    pub(super) owners: &'a [(Right, usize)],
+    pub(super) waiters: &'a [(usize, Want)],
+    pub(super) aside: &'a [usize],
+    pub(super) owing: &'a [usize],
+    pub(super) retrying: &'a [usize],
+}
 
 /// Threads and locks.
-type Planned<'a> = (&'a [SeenThread], &'a [Plan<'a>]);
+#[derive(Clone, Copy)]
+pub(super) struct Planned<'a> {
+    pub(super) threads: &'a [SeenThread],
+    pub(super) locks: &'a [Plan<'a>],
+}
 
-const IDLE: SeenThread = SeenThread {
+pub(super) const IDLE: SeenThread = SeenThread {
     standing: Standing::Idle,
     taken_by: None,
 };
 
-const AWAKE: SeenThread = SeenThread {
+pub(super) const AWAKE: SeenThread = SeenThread {
     standing: Standing::Awake,
     taken_by: None,
 };
 
-const ASLEEP: SeenThread = SeenThread {
+pub(super) const ASLEEP: SeenThread = SeenThread {
     standing: Standing::Asleep,
     taken_by: None,
 };
 
 /// Taken by the thread 0.
-const HELD: SeenThread = SeenThread {
+pub(super) const HELD: SeenThread = SeenThread {
     standing: Standing::Asleep,
     taken_by: Some(0),
 };
 
 const MUTEX: Kind = Kind::Mutex;
 
-const NORMAL: Kind = Kind::RwLock { limit: 9 };
+pub(super) const NORMAL: Kind = Kind::RwLock { limit: 9 };
 
 const ONE_PERMIT: Kind = Kind::Semaphore { permits: 1 };
 
-const X: Want = Want::Exclusive;
+pub(super) const X: Want = Want::Exclusive;
 
 /// A mutex that nobody owns and nobody waits for.
-const FREE: Plan<'static> = (MUTEX, 0, &[], &[], &[], &[], &[]);
+pub(super) const FREE: Plan<'static> = Plan {
+    kind: MUTEX,
+    word: 0,
+    owners: &[],
+    waiters: &[],
+    aside: &[],
+    owing: &[],
+    retrying: &[],
+};
 
 fn lock_of(alloc: Global, plan: &Plan<'_>) -> Result<SeenLock, AllocError> {
-    let (kind, word, owners, waiters, aside, owing, retrying) = *plan;
     let mut rights = Vec::new(alloc);
-    for (right, thread) in owners {
+    for (right, thread) in plan.owners {
         rights.reserve(1)?;
         rights.push_reserved(SeenOwner {
             right: *right,
@@ -70,7 +79,7 @@ fn lock_of(alloc: Global, plan: &Plan<'_>) -> Result<SeenLock, AllocError> {
         });
     }
     let mut main = Vec::new(alloc);
-    for (thread, want) in waiters {
+    for (thread, want) in plan.waiters {
         main.reserve(1)?;
         main.push_reserved(SeenWaiter {
             thread: *thread,
@@ -78,177 +87,242 @@ fn lock_of(alloc: Global, plan: &Plan<'_>) -> Result<SeenLock, AllocError> {
         });
     }
     Ok(SeenLock {
-        kind,
-        word,
+        kind: plan.kind,
+        word: plan.word,
         is_filled: false,
         owners: rights,
         main,
-        aside: Vec::from_slice(alloc, aside)?,
-        owing: Vec::from_slice(alloc, owing)?,
-        retrying: Vec::from_slice(alloc, retrying)?,
+        aside: Vec::from_slice(alloc, plan.aside)?,
+        owing: Vec::from_slice(alloc, plan.owing)?,
+        retrying: Vec::from_slice(alloc, plan.retrying)?,
     })
 }
 
-fn seen(alloc: Global, planned: &Planned<'_>) -> Result<Seen, AllocError> {
-    let (threads, plans) = *planned;
+pub(super) fn seen(alloc: Global, planned: &Planned<'_>) -> Result<Seen, AllocError> {
     let mut locks = Vec::new(alloc);
-    for plan in plans {
+    for plan in planned.locks {
         let lock = lock_of(alloc, plan)?;
         locks.reserve(1)?;
         locks.push_reserved(lock);
     }
     Ok(Seen {
-        threads: Vec::from_slice(alloc, threads)?,
+        threads: Vec::from_slice(alloc, planned.threads)?,
         locks,
     })
 }
 
 /// States, and what is wrong with each.
 const STATES: &[(Planned<'static>, Option<Violation>)] = &[
-    ((&[IDLE, IDLE], &[FREE]), None),
     (
-        (
-            &[IDLE, ASLEEP],
-            &[(MUTEX, 3, &[(Right::Exclusive, 0)], &[(1, X)], &[], &[], &[])],
-        ),
+        Planned {
+            threads: &[IDLE, IDLE],
+            locks: &[FREE],
+        },
         None,
     ),
     (
-        (
-            &[IDLE, IDLE],
-            &[(
-                NORMAL,
-                24,
-                &[(Right::Exclusive, 0), (Right::Shared, 1)],
-                &[],
-                &[],
-                &[],
-                &[],
-            )],
-        ),
+        Planned {
+            threads: &[IDLE, ASLEEP],
+            locks: &[Plan {
+                word: 3,
+                owners: &[(Right::Exclusive, 0)],
+                waiters: &[(1, X)],
+                ..FREE
+            }],
+        },
+        None,
+    ),
+    (
+        Planned {
+            threads: &[IDLE, IDLE],
+            locks: &[Plan {
+                kind: NORMAL,
+                word: 24,
+                owners: &[(Right::Exclusive, 0), (Right::Shared, 1)],
+                ..FREE
+            }],
+        },
         Some(Violation::OwnersClash(0)),
     ),
     (
-        (
-            &[IDLE, AWAKE],
-            &[(
-                NORMAL,
-                28,
-                &[(Right::Pending, 1), (Right::Upgradable, 0)],
-                &[],
-                &[],
-                &[],
-                &[],
-            )],
-        ),
+        Planned {
+            threads: &[IDLE, AWAKE],
+            locks: &[Plan {
+                kind: NORMAL,
+                word: 28,
+                owners: &[(Right::Pending, 1), (Right::Upgradable, 0)],
+                ..FREE
+            }],
+        },
         Some(Violation::OwnersClash(0)),
     ),
     (
-        (
-            &[IDLE],
-            &[(MUTEX, 0, &[(Right::Shared, 0)], &[], &[], &[], &[])],
-        ),
+        Planned {
+            threads: &[IDLE],
+            locks: &[Plan {
+                owners: &[(Right::Shared, 0)],
+                ..FREE
+            }],
+        },
         Some(Violation::WrongSort(0)),
     ),
     (
-        (
-            &[IDLE, IDLE],
-            &[(
-                ONE_PERMIT,
-                0,
-                &[(Right::Shared, 0), (Right::Shared, 1)],
-                &[],
-                &[],
-                &[],
-                &[],
-            )],
-        ),
+        Planned {
+            threads: &[IDLE, IDLE],
+            locks: &[Plan {
+                kind: ONE_PERMIT,
+                owners: &[(Right::Shared, 0), (Right::Shared, 1)],
+                ..FREE
+            }],
+        },
         Some(Violation::TooMany(0)),
     ),
     (
-        (
-            &[IDLE],
-            &[(MUTEX, 0, &[(Right::Exclusive, 0)], &[], &[], &[], &[])],
-        ),
+        Planned {
+            threads: &[IDLE],
+            locks: &[Plan {
+                owners: &[(Right::Exclusive, 0)],
+                ..FREE
+            }],
+        },
         Some(Violation::WrongWord(0)),
     ),
     (
-        (
-            &[IDLE, ASLEEP],
-            &[(MUTEX, 1, &[(Right::Exclusive, 0)], &[(1, X)], &[], &[], &[])],
-        ),
+        Planned {
+            threads: &[IDLE, ASLEEP],
+            locks: &[Plan {
+                word: 1,
+                owners: &[(Right::Exclusive, 0)],
+                waiters: &[(1, X)],
+                ..FREE
+            }],
+        },
         Some(Violation::UnmarkedWaiter(0)),
     ),
     (
-        (
-            &[IDLE, ASLEEP],
-            &[(NORMAL, 18, &[(Right::Shared, 0)], &[], &[1], &[], &[])],
-        ),
+        Planned {
+            threads: &[IDLE, ASLEEP],
+            locks: &[Plan {
+                kind: NORMAL,
+                word: 18,
+                owners: &[(Right::Shared, 0)],
+                aside: &[1],
+                ..FREE
+            }],
+        },
         Some(Violation::WrongAside(0)),
     ),
     // A free mutex, a free reader-writer lock, a writer aside without readers, a free permit and a new
     // `Once`, whose waiters nobody wakes; and one whose debtor sleeps.
     (
-        (
-            &[IDLE, ASLEEP],
-            &[(MUTEX, 2, &[], &[(1, X)], &[], &[], &[])],
-        ),
+        Planned {
+            threads: &[IDLE, ASLEEP],
+            locks: &[Plan {
+                word: 2,
+                waiters: &[(1, X)],
+                ..FREE
+            }],
+        },
         Some(Violation::Forgotten(0)),
     ),
     (
-        (
-            &[IDLE, ASLEEP],
-            &[(NORMAL, 1, &[], &[(1, Want::Shared)], &[], &[], &[])],
-        ),
+        Planned {
+            threads: &[IDLE, ASLEEP],
+            locks: &[Plan {
+                kind: NORMAL,
+                word: 1,
+                waiters: &[(1, Want::Shared)],
+                ..FREE
+            }],
+        },
         Some(Violation::Forgotten(0)),
     ),
     (
-        (
-            &[IDLE, ASLEEP],
-            &[(NORMAL, 10, &[(Right::Pending, 1)], &[], &[1], &[], &[])],
-        ),
+        Planned {
+            threads: &[IDLE, ASLEEP],
+            locks: &[Plan {
+                kind: NORMAL,
+                word: 10,
+                owners: &[(Right::Pending, 1)],
+                aside: &[1],
+                ..FREE
+            }],
+        },
         Some(Violation::Forgotten(0)),
     ),
     (
-        (
-            &[IDLE, ASLEEP],
-            &[(ONE_PERMIT, 3, &[], &[(1, Want::Shared)], &[], &[], &[])],
-        ),
+        Planned {
+            threads: &[IDLE, ASLEEP],
+            locks: &[Plan {
+                kind: ONE_PERMIT,
+                word: 3,
+                waiters: &[(1, Want::Shared)],
+                ..FREE
+            }],
+        },
         Some(Violation::Forgotten(0)),
     ),
     (
-        (
-            &[IDLE, ASLEEP],
-            &[(Kind::Once, 8, &[], &[(1, Want::CallOnce)], &[], &[], &[])],
-        ),
+        Planned {
+            threads: &[IDLE, ASLEEP],
+            locks: &[Plan {
+                kind: Kind::Once,
+                word: 8,
+                waiters: &[(1, Want::CallOnce)],
+                ..FREE
+            }],
+        },
         Some(Violation::Forgotten(0)),
     ),
     (
-        (
-            &[ASLEEP, ASLEEP],
-            &[(MUTEX, 2, &[], &[(1, X)], &[], &[], &[0])],
-        ),
+        Planned {
+            threads: &[ASLEEP, ASLEEP],
+            locks: &[Plan {
+                word: 2,
+                waiters: &[(1, X)],
+                retrying: &[0],
+                ..FREE
+            }],
+        },
         Some(Violation::Forgotten(0)),
     ),
     (
-        (
-            &[IDLE, ASLEEP],
-            &[
-                (MUTEX, 3, &[(Right::Exclusive, 0)], &[(1, X)], &[], &[], &[]),
-                (MUTEX, 3, &[(Right::Exclusive, 0)], &[(1, X)], &[], &[], &[]),
+        Planned {
+            threads: &[IDLE, ASLEEP],
+            locks: &[
+                Plan {
+                    word: 3,
+                    owners: &[(Right::Exclusive, 0)],
+                    waiters: &[(1, X)],
+                    ..FREE
+                },
+                Plan {
+                    word: 3,
+                    owners: &[(Right::Exclusive, 0)],
+                    waiters: &[(1, X)],
+                    ..FREE
+                },
             ],
-        ),
+        },
         Some(Violation::StandsTwice(1)),
     ),
     (
-        (&[IDLE, ASLEEP], &[FREE]),
+        Planned {
+            threads: &[IDLE, ASLEEP],
+            locks: &[FREE],
+        },
         Some(Violation::SleepsNowhere(1)),
     ),
     (
-        (
-            &[IDLE, IDLE],
-            &[(MUTEX, 3, &[(Right::Exclusive, 0)], &[(1, X)], &[], &[], &[])],
-        ),
+        Planned {
+            threads: &[IDLE, IDLE],
+            locks: &[Plan {
+                word: 3,
+                owners: &[(Right::Exclusive, 0)],
+                waiters: &[(1, X)],
+                ..FREE
+            }],
+        },
         Some(Violation::WaitsIdle(1)),
     ),
 ];
@@ -263,368 +337,316 @@ fn states_are_named(rt: HostRuntime) -> Result<(), Fail> {
 }
 
 /// A turn of the thread 0 between two states, and what is wrong with it.
-type Pair<'a> = (Planned<'a>, Turn, Planned<'a>, Violation);
+#[derive(Clone, Copy)]
+struct Pair<'a> {
+    before: Planned<'a>,
+    turn: Turn,
+    after: Planned<'a>,
+    wrong: Violation,
+}
 
 const PAIRS: &[Pair<'static>] = &[
-    (
-        (&[AWAKE], &[FREE]),
-        Turn::Go,
-        (&[AWAKE], &[(Kind::Fair, 0, &[], &[], &[], &[], &[])]),
-        Violation::OtherWorld(0),
-    ),
-    (
-        (&[AWAKE], &[FREE]),
-        Turn::Late,
-        (&[AWAKE], &[(MUTEX, 2, &[], &[], &[], &[], &[])]),
-        Violation::TouchedWithoutAct(0),
-    ),
-    (
-        (&[AWAKE], &[FREE, FREE]),
-        Turn::Go,
-        (
-            &[AWAKE],
-            &[
-                (MUTEX, 2, &[], &[], &[], &[], &[]),
-                (MUTEX, 2, &[], &[], &[], &[], &[]),
-            ],
-        ),
-        Violation::TwoWords(1),
-    ),
-    (
-        (&[AWAKE], &[FREE]),
-        Turn::Go,
-        (&[AWAKE], &[(MUTEX, 2, &[], &[(0, X)], &[], &[], &[])]),
-        Violation::WordAndQueue(0),
-    ),
-    (
-        (&[AWAKE, IDLE], &[FREE]),
-        Turn::Go,
-        (&[AWAKE, AWAKE], &[FREE]),
-        Violation::MovedToo(1),
-    ),
-    (
-        (&[AWAKE, ASLEEP], &[FREE]),
-        Turn::Go,
-        (&[AWAKE, AWAKE], &[FREE]),
-        Violation::WokeByItself(1),
-    ),
-    (
-        (
-            &[AWAKE, ASLEEP, ASLEEP],
-            &[(MUTEX, 2, &[], &[(1, X), (2, X)], &[], &[], &[])],
-        ),
-        Turn::Go,
-        (
-            &[AWAKE, ASLEEP, ASLEEP],
-            &[(MUTEX, 2, &[], &[(2, X), (1, X)], &[], &[], &[])],
-        ),
-        Violation::OutOfOrder(0),
-    ),
-    (
-        (
-            &[AWAKE, ASLEEP],
-            &[(MUTEX, 2, &[], &[(1, X)], &[], &[], &[])],
-        ),
-        Turn::Go,
-        (&[AWAKE, ASLEEP], &[(MUTEX, 2, &[], &[], &[], &[], &[])]),
-        Violation::Vanished(1),
-    ),
-    (
-        (&[AWAKE, ASLEEP], &[FREE]),
-        Turn::Go,
-        (
-            &[AWAKE, ASLEEP],
-            &[(MUTEX, 0, &[], &[(1, X)], &[], &[], &[])],
-        ),
-        Violation::JoinedByOther(1),
-    ),
-    (
-        (
-            &[AWAKE, ASLEEP, ASLEEP],
-            &[(MUTEX, 2, &[], &[(1, X), (2, X)], &[], &[], &[])],
-        ),
-        Turn::Go,
-        (
-            &[AWAKE, ASLEEP, HELD],
-            &[(MUTEX, 2, &[], &[(1, X)], &[], &[], &[])],
-        ),
-        Violation::OutOfTurn(0),
-    ),
-    (
-        (&[AWAKE, AWAKE], &[FREE]),
-        Turn::Go,
-        (
-            &[AWAKE, AWAKE],
-            &[(MUTEX, 1, &[(Right::Exclusive, 1)], &[], &[], &[], &[])],
-        ),
-        Violation::RightFromNobody(1),
-    ),
-    (
-        (
-            &[AWAKE, AWAKE],
-            &[(MUTEX, 1, &[(Right::Exclusive, 1)], &[], &[], &[], &[])],
-        ),
-        Turn::Go,
-        (&[AWAKE, AWAKE], &[FREE]),
-        Violation::RightTaken(1),
-    ),
-    (
-        (
-            &[AWAKE, HELD, HELD],
-            &[(NORMAL, 8, &[(Right::Exclusive, 0)], &[], &[], &[0], &[])],
-        ),
-        Turn::Go,
-        (
-            &[AWAKE, HELD, HELD],
-            &[(NORMAL, 16, &[(Right::Shared, 1)], &[], &[], &[0], &[])],
-        ),
-        Violation::HandedToSome(2),
-    ),
-    (
-        (
-            &[AWAKE, AWAKE],
-            &[(NORMAL, 8, &[(Right::Pending, 1)], &[], &[], &[], &[])],
-        ),
-        Turn::Go,
-        (
-            &[AWAKE, AWAKE],
-            &[(
-                NORMAL,
-                24,
-                &[(Right::Pending, 1), (Right::Shared, 0)],
-                &[],
-                &[],
-                &[],
-                &[],
-            )],
-        ),
-        Violation::ReaderPassed(0),
-    ),
-    (
-        (&[AWAKE, AWAKE], &[FREE]),
-        Turn::Go,
-        (&[AWAKE, AWAKE], &[(MUTEX, 0, &[], &[], &[], &[1], &[])]),
-        Violation::DebtMoved(1),
-    ),
-    (
-        (&[AWAKE], &[(Kind::Once, 1, &[], &[], &[], &[], &[])]),
-        Turn::Go,
-        (&[AWAKE], &[(Kind::Once, 0, &[], &[], &[], &[], &[])]),
-        Violation::Undone(0),
-    ),
-    (
-        (&[AWAKE], &[(Kind::Condvar, 1, &[], &[], &[], &[], &[])]),
-        Turn::Go,
-        (&[AWAKE], &[(Kind::Condvar, 2, &[], &[], &[], &[], &[])]),
-        Violation::ShowsAnother(0),
-    ),
+    Pair {
+        before: Planned {
+            threads: &[AWAKE],
+            locks: &[FREE],
+        },
+        turn: Turn::Go,
+        after: Planned {
+            threads: &[AWAKE],
+            locks: &[Plan {
+                kind: Kind::Fair,
+                ..FREE
+            }],
+        },
+        wrong: Violation::OtherWorld(0),
+    },
+    Pair {
+        before: Planned {
+            threads: &[AWAKE],
+            locks: &[FREE],
+        },
+        turn: Turn::Late,
+        after: Planned {
+            threads: &[AWAKE],
+            locks: &[Plan { word: 2, ..FREE }],
+        },
+        wrong: Violation::TouchedWithoutAct(0),
+    },
+    Pair {
+        before: Planned {
+            threads: &[AWAKE],
+            locks: &[FREE, FREE],
+        },
+        turn: Turn::Go,
+        after: Planned {
+            threads: &[AWAKE],
+            locks: &[Plan { word: 2, ..FREE }, Plan { word: 2, ..FREE }],
+        },
+        wrong: Violation::TwoWords(1),
+    },
+    Pair {
+        before: Planned {
+            threads: &[AWAKE],
+            locks: &[FREE],
+        },
+        turn: Turn::Go,
+        after: Planned {
+            threads: &[AWAKE],
+            locks: &[Plan {
+                word: 2,
+                waiters: &[(0, X)],
+                ..FREE
+            }],
+        },
+        wrong: Violation::WordAndQueue(0),
+    },
+    Pair {
+        before: Planned {
+            threads: &[AWAKE, IDLE],
+            locks: &[FREE],
+        },
+        turn: Turn::Go,
+        after: Planned {
+            threads: &[AWAKE, AWAKE],
+            locks: &[FREE],
+        },
+        wrong: Violation::MovedToo(1),
+    },
+    Pair {
+        before: Planned {
+            threads: &[AWAKE, ASLEEP],
+            locks: &[FREE],
+        },
+        turn: Turn::Go,
+        after: Planned {
+            threads: &[AWAKE, AWAKE],
+            locks: &[FREE],
+        },
+        wrong: Violation::WokeByItself(1),
+    },
+    Pair {
+        before: Planned {
+            threads: &[AWAKE, ASLEEP, ASLEEP],
+            locks: &[Plan {
+                word: 2,
+                waiters: &[(1, X), (2, X)],
+                ..FREE
+            }],
+        },
+        turn: Turn::Go,
+        after: Planned {
+            threads: &[AWAKE, ASLEEP, ASLEEP],
+            locks: &[Plan {
+                word: 2,
+                waiters: &[(2, X), (1, X)],
+                ..FREE
+            }],
+        },
+        wrong: Violation::OutOfOrder(0),
+    },
+    Pair {
+        before: Planned {
+            threads: &[AWAKE, ASLEEP],
+            locks: &[Plan {
+                word: 2,
+                waiters: &[(1, X)],
+                ..FREE
+            }],
+        },
+        turn: Turn::Go,
+        after: Planned {
+            threads: &[AWAKE, ASLEEP],
+            locks: &[Plan { word: 2, ..FREE }],
+        },
+        wrong: Violation::Vanished(1),
+    },
+    Pair {
+        before: Planned {
+            threads: &[AWAKE, ASLEEP],
+            locks: &[FREE],
+        },
+        turn: Turn::Go,
+        after: Planned {
+            threads: &[AWAKE, ASLEEP],
+            locks: &[Plan {
+                waiters: &[(1, X)],
+                ..FREE
+            }],
+        },
+        wrong: Violation::JoinedByOther(1),
+    },
+    Pair {
+        before: Planned {
+            threads: &[AWAKE, ASLEEP, ASLEEP],
+            locks: &[Plan {
+                word: 2,
+                waiters: &[(1, X), (2, X)],
+                ..FREE
+            }],
+        },
+        turn: Turn::Go,
+        after: Planned {
+            threads: &[AWAKE, ASLEEP, HELD],
+            locks: &[Plan {
+                word: 2,
+                waiters: &[(1, X)],
+                ..FREE
+            }],
+        },
+        wrong: Violation::OutOfTurn(0),
+    },
+    Pair {
+        before: Planned {
+            threads: &[AWAKE, AWAKE],
+            locks: &[FREE],
+        },
+        turn: Turn::Go,
+        after: Planned {
+            threads: &[AWAKE, AWAKE],
+            locks: &[Plan {
+                word: 1,
+                owners: &[(Right::Exclusive, 1)],
+                ..FREE
+            }],
+        },
+        wrong: Violation::RightFromNobody(1),
+    },
+    Pair {
+        before: Planned {
+            threads: &[AWAKE, AWAKE],
+            locks: &[Plan {
+                word: 1,
+                owners: &[(Right::Exclusive, 1)],
+                ..FREE
+            }],
+        },
+        turn: Turn::Go,
+        after: Planned {
+            threads: &[AWAKE, AWAKE],
+            locks: &[FREE],
+        },
+        wrong: Violation::RightTaken(1),
+    },
+    Pair {
+        before: Planned {
+            threads: &[AWAKE, HELD, HELD],
+            locks: &[Plan {
+                kind: NORMAL,
+                word: 8,
+                owners: &[(Right::Exclusive, 0)],
+                owing: &[0],
+                ..FREE
+            }],
+        },
+        turn: Turn::Go,
+        after: Planned {
+            threads: &[AWAKE, HELD, HELD],
+            locks: &[Plan {
+                kind: NORMAL,
+                word: 16,
+                owners: &[(Right::Shared, 1)],
+                owing: &[0],
+                ..FREE
+            }],
+        },
+        wrong: Violation::HandedToSome(2),
+    },
+    Pair {
+        before: Planned {
+            threads: &[AWAKE, AWAKE],
+            locks: &[Plan {
+                kind: NORMAL,
+                word: 8,
+                owners: &[(Right::Pending, 1)],
+                ..FREE
+            }],
+        },
+        turn: Turn::Go,
+        after: Planned {
+            threads: &[AWAKE, AWAKE],
+            locks: &[Plan {
+                kind: NORMAL,
+                word: 24,
+                owners: &[(Right::Pending, 1), (Right::Shared, 0)],
+                ..FREE
+            }],
+        },
+        wrong: Violation::ReaderPassed(0),
+    },
+    Pair {
+        before: Planned {
+            threads: &[AWAKE, AWAKE],
+            locks: &[FREE],
+        },
+        turn: Turn::Go,
+        after: Planned {
+            threads: &[AWAKE, AWAKE],
+            locks: &[Plan {
+                owing: &[1],
+                ..FREE
+            }],
+        },
+        wrong: Violation::DebtMoved(1),
+    },
+    Pair {
+        before: Planned {
+            threads: &[AWAKE],
+            locks: &[Plan {
+                kind: Kind::Once,
+                word: 1,
+                ..FREE
+            }],
+        },
+        turn: Turn::Go,
+        after: Planned {
+            threads: &[AWAKE],
+            locks: &[Plan {
+                kind: Kind::Once,
+                ..FREE
+            }],
+        },
+        wrong: Violation::Undone(0),
+    },
+    Pair {
+        before: Planned {
+            threads: &[AWAKE],
+            locks: &[Plan {
+                kind: Kind::Condvar,
+                word: 1,
+                ..FREE
+            }],
+        },
+        turn: Turn::Go,
+        after: Planned {
+            threads: &[AWAKE],
+            locks: &[Plan {
+                kind: Kind::Condvar,
+                word: 2,
+                ..FREE
+            }],
+        },
+        wrong: Violation::ShowsAnother(0),
+    },
 ];
 
 #[test]
 fn steps_are_named(rt: HostRuntime) -> Result<(), Fail> {
-    for (number, (before, turn, after, wanted)) in PAIRS.iter().enumerate() {
-        let (before, after) = (seen(rt.alloc(), before)?, seen(rt.alloc(), after)?);
-        let turn = *turn;
+    for (number, pair) in PAIRS.iter().enumerate() {
+        let (before, after) = (
+            seen(rt.alloc(), &pair.before)?,
+            seen(rt.alloc(), &pair.after)?,
+        );
+        let turn = pair.turn;
         let step = Step { thread: 0, turn };
         let found = check_step(&before, step, Outcome::Step, &after).err();
-        check_eq(&rt, (number, found), (number, Some(*wanted)));
+        check_eq(&rt, (number, found), (number, Some(pair.wrong)));
         let found = check_step(&before, step, Outcome::NotNow, &after).err();
         check_eq(
             &rt,
             (number, found),
             (number, Some(Violation::ChangedByNothing)),
         );
-    }
-    Ok(())
-}
-
-const WAIT: Call = Call::Condvar {
-    lock: 1,
-    call: CondvarCall::Wait {
-        mutex: 0,
-        timed: false,
-    },
-};
-
-const NOTIFY_ONE: Call = Call::Condvar {
-    lock: 1,
-    call: CondvarCall::Notify { all: false },
-};
-
-const LOCK: Call = Call::Mutex {
-    lock: 0,
-    call: MutexCall::Lock,
-};
-
-const LOCK_TIMED: Call = Call::Mutex {
-    lock: 0,
-    call: MutexCall::LockTimed,
-};
-
-const TRY_LOCK: Call = Call::Mutex {
-    lock: 0,
-    call: MutexCall::TryLock,
-};
-
-/// A call of the thread 0 beside a free mutex and an empty condition variable, what it is told, and what
-/// is wrong with that.
-const ANSWERS: &[(Call, Answer, Violation)] = &[
-    (LOCK, Answer::Yes, Violation::StrangeAnswer(0)),
-    (LOCK, Answer::Ok, Violation::ToldWrong(0)),
-    (LOCK_TIMED, Answer::No, Violation::NeverLate(0)),
-    (WAIT, Answer::Ok, Violation::NeverNotified(0)),
-    (NOTIFY_ONE, Answer::Yes, Violation::WrongNumber(0)),
-    (TRY_LOCK, Answer::No, Violation::RefusedFree(0)),
-];
-
-const STILL: Planned<'static> = (
-    &[AWAKE],
-    &[FREE, (Kind::Condvar, 0, &[], &[], &[], &[], &[])],
-);
-
-#[test]
-fn answers_are_named(rt: HostRuntime) -> Result<(), Fail> {
-    let still = seen(rt.alloc(), &STILL)?;
-    for (call, answer, wanted) in ANSWERS {
-        let mut watch = Watch::new(rt.alloc(), 1)?;
-        let begins = Step {
-            thread: 0,
-            turn: Turn::Begin(*call),
-        };
-        let goes = Step {
-            thread: 0,
-            turn: Turn::Go,
-        };
-        check_eq(
-            &rt,
-            watch.follow(&still, begins, Outcome::Step, &still),
-            Ok(()),
-        );
-        let found = watch.follow(&still, goes, Outcome::End(*answer), &still);
-        check_eq(&rt, found.err(), Some(*wanted));
-    }
-    Ok(())
-}
-
-const RECURSIVE: Kind = Kind::Recursive { limit: 9 };
-
-const S: Want = Want::Shared;
-
-const U: Want = Want::Upgradable;
-
-/// A lock's kind, the right that the thread 0 keeps, its call, the wants of the threads from 1 on that
-/// wait, and which of these it takes.
-type Taking<'a> = (
-    Kind,
-    Option<Right>,
-    RwLockCall,
-    &'a [Want],
-    &'a [usize],
-    bool,
-);
-
-const UNWRITE: RwLockCall = RwLockCall::Release(Access::Exclusive);
-
-const UNWRITE_FAIR: RwLockCall = RwLockCall::ReleaseFair(Access::Exclusive);
-
-const TO_SHARED: RwLockCall = RwLockCall::Downgrade(Downgrade::ToShared);
-
-const TO_UPGRADABLE: RwLockCall = RwLockCall::Downgrade(Downgrade::ToUpgradable);
-
-/// Calls that take waiters, and whether each takes the right ones.
-const TAKINGS: &[Taking<'static>] = &[
-    (NORMAL, None, UNWRITE, &[S, X, S], &[1, 2], true),
-    (NORMAL, None, UNWRITE, &[S, X, S], &[1], false),
-    (NORMAL, None, UNWRITE, &[S, X, S], &[1, 2, 3], false),
-    (RECURSIVE, None, UNWRITE, &[S, X, S], &[1, 2, 3], true),
-    (RECURSIVE, None, UNWRITE, &[S, X, S], &[1, 2], false),
-    (NORMAL, None, UNWRITE, &[S, U, X, S], &[1, 2, 4], true),
-    (NORMAL, None, UNWRITE, &[S, U, X, S], &[1, 2, 3, 4], false),
-    (NORMAL, None, UNWRITE, &[X, X, S], &[1], true),
-    (RECURSIVE, None, UNWRITE, &[X, X, S], &[1, 2, 3], false),
-    (
-        NORMAL,
-        Some(Right::Exclusive),
-        UNWRITE_FAIR,
-        &[X, S],
-        &[1],
-        true,
-    ),
-    (
-        NORMAL,
-        Some(Right::Exclusive),
-        UNWRITE_FAIR,
-        &[X, S],
-        &[2],
-        false,
-    ),
-    (NORMAL, Some(Right::Shared), TO_SHARED, &[X, S], &[1], true),
-    (
-        NORMAL,
-        Some(Right::Upgradable),
-        TO_UPGRADABLE,
-        &[X, S],
-        &[2],
-        true,
-    ),
-    (
-        NORMAL,
-        Some(Right::Upgradable),
-        TO_UPGRADABLE,
-        &[U, S],
-        &[1, 2],
-        false,
-    ),
-];
-
-/// The moments before and after the step in which the thread 0 takes them.
-fn taking(alloc: Global, taking: &Taking<'_>) -> Result<(Seen, Seen), AllocError> {
-    let (kind, kept, _, wants, taken, _) = taking;
-    let (mut waiters, mut left) = (Vec::new(alloc), Vec::new(alloc));
-    let (mut before, mut after) = (Vec::new(alloc), Vec::new(alloc));
-    before.push(AWAKE)?;
-    after.push(AWAKE)?;
-    for (place, want) in wants.iter().enumerate() {
-        let thread = place.wrapping_add(1);
-        let is_taken = taken.iter().any(|other| *other == thread);
-        before.push(ASLEEP)?;
-        after.push(if is_taken { HELD } else { ASLEEP })?;
-        waiters.push((thread, *want))?;
-        if !is_taken {
-            left.push((thread, *want))?;
-        }
-    }
-    let mut owners = Vec::new(alloc);
-    if let Some(right) = kept {
-        owners.push((*right, 0))?;
-    }
-    let (owners, waiters, left) = (owners.as_slice(), waiters.as_slice(), left.as_slice());
-    let old = [(*kind, 1, owners, waiters, &[][..], &[0][..], &[][..])];
-    let new = [(*kind, 1, owners, left, &[][..], &[0][..], &[][..])];
-    Ok((
-        seen(alloc, &(before.as_slice(), &old))?,
-        seen(alloc, &(after.as_slice(), &new))?,
-    ))
-}
-
-#[test]
-fn picks_are_named(rt: HostRuntime) -> Result<(), Fail> {
-    for plan in TAKINGS {
-        let (_, _, call, _, _, is_right) = *plan;
-        let (before, after) = taking(rt.alloc(), plan)?;
-        let mut watch = Watch::new(rt.alloc(), before.threads.len())?;
-        let (thread, call) = (0, Call::RwLock { lock: 0, call });
-        let turn = Turn::Begin(call);
-        let begun = watch.follow(&before, Step { thread, turn }, Outcome::Step, &before);
-        check_eq(&rt, begun, Ok(()));
-        let turn = Turn::Go;
-        let found = watch.follow(&before, Step { thread, turn }, Outcome::Step, &after);
-        let wanted = if is_right {
-            None
-        } else {
-            Some(Violation::WrongPicks(0))
-        };
-        check_eq(&rt, found.err(), wanted);
     }
     Ok(())
 }

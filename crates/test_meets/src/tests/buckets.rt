@@ -152,7 +152,7 @@ pub fn wake_moved<R: Wait>(
 }
 
 #[test]
-fn who_was_moved_is_taken_or_late(rt: HostRuntime) {
+fn a_moved_waiter_is_taken_or_late(rt: HostRuntime) {
     // The lot has two seats, and two buckets.
     check(&rt, lie_apart(2, KEY, OTHER));
     let ((woken, late), taken) = play(&rt, rt.alloc(), (Part::SleepBriefly, Part::WakeMoved));
@@ -161,7 +161,7 @@ fn who_was_moved_is_taken_or_late(rt: HostRuntime) {
 }
 
 #[test]
-fn who_was_moved_and_not_taken_is_late(rt: HostRuntime) {
+fn a_moved_waiter_that_is_not_taken_is_late(rt: HostRuntime) {
     let (ended, _) = play(&rt, rt.alloc(), (Part::SleepBriefly, Part::Move));
     check_eq(&rt, ended, (0, 200));
 }

@@ -60,7 +60,7 @@ fn is_late<R: Wait + Abort, C: Clock>(rt: &R, alloc: Global, limit: (&C, u64)) {
 }
 
 #[test]
-fn who_is_not_woken_is_late(rt: HostRuntime) {
+fn a_sleeper_that_is_not_woken_is_late(rt: HostRuntime) {
     let clock = TickClock::starting_at(1000);
     is_late(&rt, rt.alloc(), (&clock, 1005));
     check_eq(&rt, clock.now(), 1006);
@@ -179,7 +179,7 @@ fn take_once_asked<R: Wait>(rt: &R, lot: &ParkingLot, ticket: Ticket, flags: &Fl
 }
 
 #[test]
-fn who_was_taken_is_not_late(rt: HostRuntime) {
+fn a_taken_waiter_is_not_late(rt: HostRuntime) {
     let (lot, mut token, mut others) = lot_of(&rt, rt.alloc(), 1, 2);
     let word = word_of(&rt, &lot, &mut token, WordKind::Mutex);
     let (first, second) = (ticket_of(&rt, &lot, &mut others), token.leave());

@@ -232,7 +232,7 @@ pub fn wake_until<R: Wait>(rt: &R, lot: &ParkingLot, token: &mut Token, done: &A
 }
 
 #[test]
-fn who_was_taken_is_woken_and_not_late(rt: HostRuntime) {
+fn a_taken_waiter_is_woken_and_not_late(rt: HostRuntime) {
     let ((woken, late), taken) = play(&rt, rt.alloc(), (Part::SleepBriefly, Part::WakeUntilDone));
     let ended = (woken, woken.saturating_add(late));
     check_eq(&rt, ended, (taken.0, ROUNDS));

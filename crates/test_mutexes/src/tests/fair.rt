@@ -176,7 +176,7 @@ pub(super) fn give_up<R: Wait>(
 }
 
 #[test]
-fn who_waits_gets_the_mutex_by_a_release(rt: HostRuntime) {
+fn a_waiter_gets_the_mutex_by_a_release(rt: HostRuntime) {
     for_rooms(
         &rt,
         rt.alloc(),
@@ -187,7 +187,7 @@ fn who_waits_gets_the_mutex_by_a_release(rt: HostRuntime) {
 }
 
 #[test]
-fn who_waits_is_handed_the_mutex(rt: HostRuntime) {
+fn a_waiter_is_handed_the_mutex(rt: HostRuntime) {
     for_rooms(
         &rt,
         rt.alloc(),
@@ -198,7 +198,7 @@ fn who_waits_is_handed_the_mutex(rt: HostRuntime) {
 }
 
 #[test]
-fn who_waits_has_the_mutex_during_a_bump(rt: HostRuntime) {
+fn a_waiter_has_the_mutex_during_a_bump(rt: HostRuntime) {
     for_rooms(
         &rt,
         rt.alloc(),

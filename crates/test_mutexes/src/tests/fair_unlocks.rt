@@ -69,7 +69,7 @@ pub(super) fn unlock_in_turn<R: Wait>(
 }
 
 #[test]
-fn who_waits_is_handed_a_fair_mutex_by_its_unlock(rt: HostRuntime) {
+fn a_waiter_is_handed_a_fair_mutex_by_its_unlock(rt: HostRuntime) {
     for_rooms(&rt, rt.alloc(), 2, Part::UnlockFair, (true, 0, 1));
 }
 

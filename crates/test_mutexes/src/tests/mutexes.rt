@@ -140,7 +140,7 @@ fn add_around<R: Wait>(rt: &R, mutex: &Mutex<u8>, token: &mut Token) -> [Option<
 }
 
 #[test]
-fn a_closure_is_not_run_beside_who_has_the_mutex(rt: HostRuntime) {
+fn a_closure_is_not_run_while_another_has_the_mutex(rt: HostRuntime) {
     let (mutex, mut token) = mutex_alone(&rt, rt.alloc(), 5);
     let sums = add_around(&rt, &mutex, &mut token);
     check_eq(&rt, sums, [Some(6), None, Some(7)]);

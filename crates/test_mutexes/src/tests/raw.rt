@@ -233,6 +233,6 @@ fn lock_held<R: Wait>(rt: &R, mutex: &RawMutex, token: &mut Token, held: &Atomic
 }
 
 #[test]
-fn a_release_wakes_who_waits(rt: HostRuntime) {
+fn a_release_wakes_a_waiter(rt: HostRuntime) {
     check_eq(&rt, play(&rt, rt.alloc(), Part::Meet), 2);
 }

@@ -101,14 +101,14 @@ fn gives_up_and_gets<M: lock_api::RawMutexTimed, R: Wait>(
 }
 
 #[test]
-fn who_waits_gives_up_in_time(rt: HostRuntime) {
+fn a_waiter_gives_up_in_time(rt: HostRuntime) {
     let (mutex, mut token) = mutex_alone(&rt, rt.alloc(), 0u64);
     let seen = gives_up_and_gets(&rt, &mutex, &mut token);
     check_eq(&rt, seen, [true, true, false]);
 }
 
 #[test]
-fn who_waits_for_a_fair_mutex_gives_up_in_time(rt: HostRuntime) {
+fn a_waiter_of_a_fair_mutex_gives_up_in_time(rt: HostRuntime) {
     let (mutex, mut token) = fair_mutex_alone(&rt, rt.alloc(), 0);
     let seen = gives_up_and_gets(&rt, &mutex, &mut token);
     check_eq(&rt, seen, [true, true, false]);

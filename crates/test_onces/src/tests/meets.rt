@@ -88,13 +88,13 @@ pub(super) fn let_go<R: Wait>(
 }
 
 #[test]
-fn who_comes_beside_a_run_waits_for_its_end(rt: HostRuntime) {
+fn a_call_during_a_run_waits_for_its_end(rt: HostRuntime) {
     let found = play(&rt, rt.alloc(), 4, Part::Meet { poisoned: false });
     check_eq(&rt, found, (true, true, 0));
 }
 
 #[test]
-fn who_comes_beside_a_forced_run_waits_for_it(rt: HostRuntime) {
+fn a_call_during_a_forced_run_waits_for_it(rt: HostRuntime) {
     let found = play(&rt, rt.alloc(), 4, Part::Meet { poisoned: true });
     check_eq(&rt, found, (true, true, 0));
 }

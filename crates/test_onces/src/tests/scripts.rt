@@ -169,7 +169,7 @@ const CALLS_FIRST: &[Line] = &[
 ];
 
 #[test]
-fn who_calls_first_runs(rt: HostRuntime) {
+fn the_first_call_runs(rt: HostRuntime) {
     plays_anew(&rt, rt.alloc(), CALLS_FIRST, 1);
 }
 
@@ -207,7 +207,7 @@ const WAITS_FOR_NO_RUN: &[Line] = &[
 ];
 
 #[test]
-fn who_waits_for_no_run_gives_up_in_time(rt: HostRuntime) {
+fn a_waiter_without_a_run_gives_up_in_time(rt: HostRuntime) {
     plays_anew(&rt, rt.alloc(), WAITS_FOR_NO_RUN, 0);
 }
 
@@ -219,7 +219,7 @@ const COMES_LATE: &[Line] = &[
 ];
 
 #[test]
-fn who_comes_late_is_told_of_the_run_before(rt: HostRuntime) {
+fn a_late_call_is_told_of_the_run_before(rt: HostRuntime) {
     plays_anew(&rt, rt.alloc(), COMES_LATE, 0);
 }
 

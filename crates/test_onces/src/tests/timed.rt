@@ -104,7 +104,7 @@ fn a_run_that_ends_in_time_is_waited_for(rt: HostRuntime) {
 }
 
 #[test]
-fn who_waits_is_told_of_a_run_that_fails(rt: HostRuntime) {
+fn a_waiter_is_told_of_a_run_that_fails(rt: HostRuntime) {
     let (content, done, _) = play(&rt, rt.alloc(), 4, Part::InTime { fails: true });
     check_eq(&rt, (content, done), (true, false));
 }

@@ -173,7 +173,7 @@ fn all_give_up(sort: Sort, rt: &impl Wait, alloc: Global) -> Result<bool, Fault>
 }
 
 #[test]
-fn who_waits_gives_up_in_time(rt: HostRuntime) -> Result<(), Fail> {
+fn a_waiter_gives_up_in_time(rt: HostRuntime) -> Result<(), Fail> {
     check(&rt, all_give_up(Sort::Normal, &rt, rt.alloc())?);
     check(&rt, all_give_up(Sort::Recursive, &rt, rt.alloc())?);
     Ok(())

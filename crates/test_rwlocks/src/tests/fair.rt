@@ -124,11 +124,11 @@ fn all_give<R: Threads + Wait + Abort + Sync>(rt: &R, alloc: Global, bumps: bool
 }
 
 #[test]
-fn who_waits_is_handed_the_lock(rt: HostRuntime) {
+fn a_waiter_is_handed_the_lock(rt: HostRuntime) {
     all_give(&rt, rt.alloc(), false);
 }
 
 #[test]
-fn who_waits_has_the_lock_during_a_bump(rt: HostRuntime) {
+fn a_waiter_has_the_lock_during_a_bump(rt: HostRuntime) {
     all_give(&rt, rt.alloc(), true);
 }

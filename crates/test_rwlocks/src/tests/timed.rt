@@ -169,7 +169,7 @@ fn upgrades_beside_a_reader<R: Wait>(
 }
 
 #[test]
-fn who_waits_gives_up_in_time(rt: HostRuntime) {
+fn a_waiter_gives_up_in_time(rt: HostRuntime) {
     let (lock, mut token) = lock_alone(&rt, rt.alloc(), 0, false);
     let within = come_beside_a_writer(&rt, &lock, &mut token, false);
     let until = come_beside_a_writer(&rt, &lock, &mut token, true);

@@ -120,7 +120,7 @@ const IS_WOKEN: &[Line] = &[
 ];
 
 #[test]
-fn who_is_woken_locks_its_mutex_again(rt: HostRuntime) {
+fn a_woken_waiter_locks_its_mutex_again(rt: HostRuntime) {
     plays(&rt, asleep(&rt, WAIT), IS_WOKEN);
 }
 
@@ -136,7 +136,7 @@ const IS_HANDED_ITS_MUTEX: &[Line] = &[
 ];
 
 #[test]
-fn who_is_moved_may_be_handed_its_mutex(rt: HostRuntime) {
+fn a_moved_waiter_may_be_handed_its_mutex(rt: HostRuntime) {
     plays(&rt, asleep(&rt, WAIT_TIMED), IS_HANDED_ITS_MUTEX);
 }
 

@@ -87,7 +87,7 @@ fn wakes(seen: u64) -> Option<Wakes> {
 }
 
 #[test]
-fn who_is_not_handed_the_lock_hears_a_normal_note(rt: HostRuntime) {
+fn a_waiter_that_is_not_handed_the_lock_hears_a_normal_note(rt: HostRuntime) {
     check(&rt, wakes(69) == Some(Wakes::All(Note::Normal)));
     check(&rt, wakes(53).is_none());
 }

@@ -30,7 +30,7 @@ const RUNS: &[Line] = &[
 ];
 
 #[test]
-fn a_call_runs_its_closure_and_wakes_who_waits(rt: HostRuntime) {
+fn a_call_runs_its_closure_and_wakes_waiters(rt: HostRuntime) {
     plays(&rt, first(OnceCall::CallOnce { forced: false }), RUNS);
 }
 
@@ -72,7 +72,7 @@ const SEES_A_RUN: &[Line] = &[
 ];
 
 #[test]
-fn who_waits_for_a_run_shows_it_or_looks_again(rt: HostRuntime) {
+fn a_waiter_of_a_run_shows_it_or_looks_again(rt: HostRuntime) {
     plays(&rt, first(OnceCall::Wait { forced: false }), SEES_A_RUN);
 }
 
@@ -94,7 +94,7 @@ const IS_WOKEN: &[Line] = &[
 ];
 
 #[test]
-fn who_waits_sleeps_until_it_is_woken(rt: HostRuntime) {
+fn a_waiter_sleeps_until_it_is_woken(rt: HostRuntime) {
     let asleep = follow(&rt, first(OnceCall::Wait { forced: false }), SLEEPS);
     plays(&rt, asleep, IS_WOKEN);
 }
@@ -114,7 +114,7 @@ const GIVES_UP_BESIDE: &[Line] = &[
 ];
 
 #[test]
-fn who_has_a_deadline_gives_up_its_sleep(rt: HostRuntime) {
+fn a_deadline_ends_a_sleep(rt: HostRuntime) {
     let timed = follow(&rt, first(OnceCall::WaitTimed), SLEEPS);
     for script in [GIVES_UP_ALONE, GIVES_UP_BESIDE] {
         plays(&rt, timed, script);
@@ -135,6 +135,6 @@ const IS_IN_TIME: &[Line] = &[
 ];
 
 #[test]
-fn who_has_a_deadline_answers_yes_in_time(rt: HostRuntime) {
+fn a_call_with_a_deadline_answers_yes_in_time(rt: HostRuntime) {
     plays(&rt, first(OnceCall::WaitTimed), IS_IN_TIME);
 }

@@ -92,7 +92,7 @@ const LOOKS_ONCE_MORE: &[Line] = &[Hears(Reply::Value(1)), LooksAgain, Does(LOAD
 const LOOKS_NO_MORE: &[Line] = &[Hears(Reply::Value(3)), LooksNoMore];
 
 #[test]
-fn who_is_woken_retries_and_may_look_again(rt: HostRuntime) {
+fn a_woken_thread_retries_and_may_look_again(rt: HostRuntime) {
     let woken = follow(&rt, TAKEN, IS_WOKEN);
     plays(&rt, woken, LOOKS_ONCE_MORE);
     plays(&rt, woken, LOOKS_NO_MORE);
@@ -199,7 +199,7 @@ const OWES_WHO_WAITS: &[Line] = &[
 ];
 
 #[test]
-fn the_end_of_a_run_owes_a_wake_to_who_waits(rt: HostRuntime) {
+fn the_end_of_a_run_owes_its_waiters_a_wake(rt: HostRuntime) {
     let running = Owners::NOBODY.with_phase(Phase::InProgress(1));
     let closed = CLOSES.owners_after(1, 12, running).phase;
     check(&rt, matches!(closed, Phase::Done));

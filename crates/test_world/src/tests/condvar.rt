@@ -1,7 +1,7 @@
 //! Worlds of condition variables.
 use super::check;
 use super::scripts::Line::{Calls, GoesOn, IsWaitedFor, Rests, Shows, Takes};
-use super::scripts::{DONE, Line, plays, plays_anew, surprise, world_of};
+use super::scripts::{BARE, DONE, Line, Shown, plays, plays_anew, surprise, world_of};
 use core_base::{ListQueues, Want};
 use lot_world::{Answer, Call, Debt, Kind, MutexCall, Outcome, Owner, Turn, World};
 use spec_locks::CondvarCall;
@@ -116,10 +116,23 @@ const IS_NOTIFIED: &[Line] = &[
     Calls(0, LOCK, DONE),
     Calls(0, WAIT, Outcome::Sleep),
     Rests(MUTEX, 0, None),
-    Shows(CONDVAR, (1, None, Some((0, Want::Wait)), None)),
+    Shows(
+        CONDVAR,
+        Shown {
+            word: 1,
+            waiter: Some((0, Want::Wait)),
+            ..BARE
+        },
+    ),
     GoesOn(0, Outcome::NotNow),
     Calls(1, NOTIFY_ONE, Outcome::End(Answer::Yes)),
-    Shows(MUTEX, (0, None, None, Some((Debt::Retries, 0)))),
+    Shows(
+        MUTEX,
+        Shown {
+            debt: Some((Debt::Retries, 0)),
+            ..BARE
+        },
+    ),
     Rests(CONDVAR, 0, None),
     GoesOn(0, DONE),
     Calls(1, NOTIFY_ONE, Outcome::End(Answer::No)),
@@ -147,12 +160,23 @@ const TAKES_ITSELF: &[Line] = &[
     Takes(0, Turn::Go, Outcome::Step),
     Shows(
         MUTEX,
-        (2, None, Some((0, Want::Exclusive)), Some((Debt::Owes, 0))),
+        Shown {
+            word: 2,
+            waiter: Some((0, Want::Exclusive)),
+            debt: Some((Debt::Owes, 0)),
+            ..BARE
+        },
     ),
     Takes(0, Turn::Go, Outcome::Step),
     Takes(0, Turn::Go, Outcome::Step),
     Takes(0, Turn::Go, Outcome::Step),
-    Shows(MUTEX, (0, None, None, Some((Debt::Retries, 0)))),
+    Shows(
+        MUTEX,
+        Shown {
+            debt: Some((Debt::Retries, 0)),
+            ..BARE
+        },
+    ),
     Takes(0, Turn::Go, DONE),
     Rests(MUTEX, 1, Some((Owner::Exclusive, 0))),
 ];
@@ -199,12 +223,12 @@ fn a_timed_wait_gives_up_in_the_queue_where_it_stands(rt: HostRuntime) {
 // The first of three has been told to try again, and the second is the first that waits.
 const FIRST_IS_WOKEN: Line = Shows(
     MUTEX,
-    (
-        2,
-        None,
-        Some((1, Want::Exclusive)),
-        Some((Debt::Retries, 0)),
-    ),
+    Shown {
+        word: 2,
+        waiter: Some((1, Want::Exclusive)),
+        debt: Some((Debt::Retries, 0)),
+        ..BARE
+    },
 );
 
 const IS_UNLOCKED: &[Line] = &[Rests(MUTEX, 0, None)];
@@ -259,7 +283,14 @@ fn beside_an_unlocked_mutex_the_first_is_woken_and_the_rest_are_moved(rt: HostRu
     plays(&rt, &mut world, OVERTAKEN);
 }
 
-const SHOWS_THE_SECOND: Line = Shows(CONDVAR, (3, None, Some((1, Want::Wait)), None));
+const SHOWS_THE_SECOND: Line = Shows(
+    CONDVAR,
+    Shown {
+        word: 3,
+        waiter: Some((1, Want::Wait)),
+        ..BARE
+    },
+);
 
 const WAITS_WITH_THE_FIRST: &[Line] = &[
     Calls(0, LOCK, DONE),

@@ -1,6 +1,6 @@
 //! Reader-writer locks that are handed over.
 use super::scripts::Line::{Calls, GoesOn, Rests, Shows};
-use super::scripts::{DONE, Line, plays, plays_anew, world_of};
+use super::scripts::{BARE, DONE, Line, Shown, plays, plays_anew, world_of};
 use super::{check, check_eq};
 use core_base::{ListQueues, Want};
 use lot_world::{Call, Kind, Outcome, Owner, World};
@@ -112,28 +112,28 @@ const GIVES_WAY: &[Line] = &[
     GoesOn(1, DONE),
     Shows(
         0,
-        (
-            21,
-            Some((Owner::Upgradable, 1)),
-            Some((2, Want::Exclusive)),
-            None,
-        ),
+        Shown {
+            word: 21,
+            owner: Some((Owner::Upgradable, 1)),
+            waiter: Some((2, Want::Exclusive)),
+            ..BARE
+        },
     ),
     // Another fair release, of the lesser right: the next writer has it at once.
     Calls(1, END_UPGRADABLE, DONE),
     Shows(
         0,
-        (
-            9,
-            Some((Owner::Exclusive, 2)),
-            Some((0, Want::Exclusive)),
-            None,
-        ),
+        Shown {
+            word: 9,
+            owner: Some((Owner::Exclusive, 2)),
+            waiter: Some((0, Want::Exclusive)),
+            ..BARE
+        },
     ),
 ];
 
 #[test]
-fn a_bump_enters_again_after_those_to_whom_it_gave_way(rt: HostRuntime) {
+fn a_bump_enters_again_after_those_that_it_let_in(rt: HostRuntime) {
     plays_anew(&rt, rt.alloc(), &[LOCK], 3, GIVES_WAY);
 }
 

@@ -1,6 +1,6 @@
 //! Worlds of mutexes.
 use super::scripts::Line::{Calls, GoesOn, IsWaitedFor, Rests, Settles, Shows, Takes};
-use super::scripts::{DONE, Line, plays, plays_anew, runs, world_of};
+use super::scripts::{BARE, DONE, Line, Shown, plays, plays_anew, runs, world_of};
 use super::{check, check_eq};
 use core_base::{ListQueues, Want};
 use lot_steps::Owners;
@@ -46,10 +46,21 @@ const WAKES_A_WAITER: &[Line] = &[
     Takes(0, Turn::Go, Outcome::Step),
     Shows(
         0,
-        (2, None, Some((1, Want::Exclusive)), Some((Debt::Owes, 0))),
+        Shown {
+            word: 2,
+            waiter: Some((1, Want::Exclusive)),
+            debt: Some((Debt::Owes, 0)),
+            ..BARE
+        },
     ),
     GoesOn(0, DONE),
-    Shows(0, (0, None, None, Some((Debt::Retries, 1)))),
+    Shows(
+        0,
+        Shown {
+            debt: Some((Debt::Retries, 1)),
+            ..BARE
+        },
+    ),
     GoesOn(1, DONE),
     Rests(0, 1, Some((Owner::Exclusive, 1))),
 ];
@@ -85,7 +96,7 @@ const LISTED: &[(Owner, usize)] = &[
 ];
 
 #[test]
-fn who_shares_is_listed_after_the_owners(rt: HostRuntime) {
+fn sharers_are_listed_after_the_owners(rt: HostRuntime) {
     let owners = Owners {
         upgradable: Some(2),
         ..Owners::NOBODY
@@ -112,12 +123,12 @@ const HANDS_OVER: &[Line] = &[
     Takes(1, Turn::Begin(UNLOCK), Outcome::NotNow),
     Shows(
         0,
-        (
-            3,
-            Some((Owner::Exclusive, 1)),
-            Some((2, Want::Exclusive)),
-            Some((Debt::Owes, 0)),
-        ),
+        Shown {
+            word: 3,
+            owner: Some((Owner::Exclusive, 1)),
+            waiter: Some((2, Want::Exclusive)),
+            debt: Some((Debt::Owes, 0)),
+        },
     ),
     // The one after it is next.
     Takes(0, Turn::Go, DONE),

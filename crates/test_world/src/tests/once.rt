@@ -1,6 +1,6 @@
 //! Worlds of a `Once`.
 use super::scripts::Line::{Calls, GoesOn, Rests, Shows, Takes};
-use super::scripts::{DONE, Line, plays_anew};
+use super::scripts::{BARE, DONE, Line, Shown, plays_anew};
 use super::{check, check_eq};
 use core_base::{Note, Want};
 use lot_steps::{Answer, Call, Kind, Place, Reply};
@@ -40,7 +40,7 @@ const RUNS_NEW: Outcome = Outcome::Closure(OnceState::New);
 const RUNS_POISONED: Outcome = Outcome::Closure(OnceState::Poisoned);
 
 #[test]
-fn who_waits_for_a_run_tries_again_when_woken(rt: HostRuntime) {
+fn a_waiter_of_a_run_tries_again_when_woken(rt: HostRuntime) {
     let taken = Place::Once {
         lock: 3,
         at: OncePlace::Look {
@@ -77,21 +77,41 @@ fn a_run_that_fails_poisons_until_one_is_forced(rt: HostRuntime) {
 
 const WAITS_BEFORE: &[Line] = &[
     Calls(0, WAIT, Outcome::Sleep),
-    Shows(0, (8, None, Some((0, Want::Wait)), None)),
+    Shows(
+        0,
+        Shown {
+            word: 8,
+            waiter: Some((0, Want::Wait)),
+            ..BARE
+        },
+    ),
     Calls(1, RUN, RUNS_NEW),
     Shows(
         0,
-        (12, Some((Owner::Running, 1)), Some((0, Want::Wait)), None),
+        Shown {
+            word: 12,
+            owner: Some((Owner::Running, 1)),
+            waiter: Some((0, Want::Wait)),
+            ..BARE
+        },
     ),
     Takes(1, Turn::Ok, Outcome::Step),
-    Shows(0, (1, None, Some((0, Want::Wait)), Some((Debt::Owes, 1)))),
+    Shows(
+        0,
+        Shown {
+            word: 1,
+            waiter: Some((0, Want::Wait)),
+            debt: Some((Debt::Owes, 1)),
+            ..BARE
+        },
+    ),
     GoesOn(1, DONE),
     GoesOn(0, DONE),
     Rests(0, 1, None),
 ];
 
 #[test]
-fn who_waits_before_the_run_sees_it_done(rt: HostRuntime) {
+fn a_waiter_from_before_the_run_sees_it_done(rt: HostRuntime) {
     plays_anew(&rt, rt.alloc(), &[Kind::Once], 2, WAITS_BEFORE);
 }
 
@@ -123,17 +143,34 @@ const WAKES_ALL: &[Line] = &[
     Takes(0, Turn::Err, Outcome::Step),
     Shows(
         0,
-        (2, None, Some((1, Want::CallOnce)), Some((Debt::Owes, 0))),
+        Shown {
+            word: 2,
+            waiter: Some((1, Want::CallOnce)),
+            debt: Some((Debt::Owes, 0)),
+            ..BARE
+        },
     ),
     GoesOn(0, Outcome::End(Answer::Failed)),
-    Shows(0, (2, None, None, Some((Debt::Retries, 1)))),
+    Shows(
+        0,
+        Shown {
+            word: 2,
+            debt: Some((Debt::Retries, 1)),
+            ..BARE
+        },
+    ),
     GoesOn(1, POISONED),
     GoesOn(2, POISONED),
     GoesOn(4, RUNS_POISONED),
     GoesOn(3, Outcome::Sleep),
     Shows(
         0,
-        (12, Some((Owner::Running, 4)), Some((3, Want::Wait)), None),
+        Shown {
+            word: 12,
+            owner: Some((Owner::Running, 4)),
+            waiter: Some((3, Want::Wait)),
+            ..BARE
+        },
     ),
     Takes(4, Turn::Ok, Outcome::Step),
     GoesOn(4, DONE),
@@ -160,7 +197,12 @@ const BESIDE_NINE: &[Line] = &[
     Takes(0, Turn::Ok, Outcome::Step),
     Shows(
         0,
-        (1, None, Some((1, Want::CallOnce)), Some((Debt::Owes, 0))),
+        Shown {
+            word: 1,
+            waiter: Some((1, Want::CallOnce)),
+            debt: Some((Debt::Owes, 0)),
+            ..BARE
+        },
     ),
     GoesOn(0, DONE),
     GoesOn(1, DONE),
@@ -189,12 +231,12 @@ const GIVES_UP: &[Line] = &[
     GoesOn(2, Outcome::End(Answer::No)),
     Shows(
         0,
-        (
-            12,
-            Some((Owner::Running, 0)),
-            Some((1, Want::CallOnce)),
-            None,
-        ),
+        Shown {
+            word: 12,
+            owner: Some((Owner::Running, 0)),
+            waiter: Some((1, Want::CallOnce)),
+            ..BARE
+        },
     ),
     Takes(0, Turn::Err, Outcome::Step),
     GoesOn(0, Outcome::End(Answer::Failed)),
@@ -204,6 +246,6 @@ const GIVES_UP: &[Line] = &[
 ];
 
 #[test]
-fn who_waits_with_a_deadline_leaves_the_bit_to_others(rt: HostRuntime) {
+fn a_waiter_with_a_deadline_leaves_the_bit_to_others(rt: HostRuntime) {
     plays_anew(&rt, rt.alloc(), &[Kind::Once], 3, GIVES_UP);
 }

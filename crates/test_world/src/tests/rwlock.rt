@@ -73,7 +73,7 @@ const MAIN: Act = Act::Enter(Keys::One(0));
 const SECOND: Act = Act::Enter(Keys::One(1));
 
 #[test]
-fn who_is_not_kept_out_enters(rt: HostRuntime) {
+fn a_thread_that_is_not_kept_out_enters(rt: HostRuntime) {
     comes_to(&rt, enters(NORMAL, Access::Exclusive, 0), (8, OK));
     comes_to(&rt, enters(NORMAL, Access::Shared, 16), (32, OK));
     comes_to(&rt, enters(NORMAL, Access::Upgradable, 16), (36, OK));
@@ -83,7 +83,7 @@ fn who_is_not_kept_out_enters(rt: HostRuntime) {
 }
 
 #[test]
-fn who_is_kept_out_goes_into_the_main_queue(rt: HostRuntime) {
+fn a_thread_that_is_kept_out_goes_into_the_main_queue(rt: HostRuntime) {
     comes_to(&rt, enters(NORMAL, Access::Shared, 8), (9, MAIN));
     comes_to(&rt, enters(NORMAL, Access::Exclusive, 21), (21, MAIN));
     comes_to(&rt, enters(NORMAL, Access::Shared, 24), (25, MAIN));

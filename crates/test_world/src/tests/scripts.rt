@@ -12,14 +12,23 @@ use std::process::Abort;
 
 pub const DONE: Outcome = Outcome::End(Answer::Ok);
 
-/// The view of a lock: its word, the first of its owners, of its waiters, and of the threads that
-/// owe it a wake or try it again.
-type Shown = (
-    u64,
-    Option<(Owner, usize)>,
-    Option<(usize, Want)>,
-    Option<(Debt, usize)>,
-);
+/// The view of a lock: its word, the first of its owners, of its waiters, and of the threads that owe it a wake
+/// or try it again.
+#[derive(Clone, Copy, Debug, PartialEq, Eq)]
+pub struct Shown {
+    pub word: u64,
+    pub owner: Option<(Owner, usize)>,
+    pub waiter: Option<(usize, Want)>,
+    pub debt: Option<(Debt, usize)>,
+}
+
+/// A lock that nobody owns, waits for or owes anything.
+pub const BARE: Shown = Shown {
+    word: 0,
+    owner: None,
+    waiter: None,
+    debt: None,
+};
 
 /// An event of a script, and its outcome.
 #[derive(Clone, Copy)]
@@ -54,22 +63,22 @@ fn look<Q: Queues + Drop>(world: &World<Q>, lock: usize) -> Option<Shown> {
         return None;
     }
     let waiter = world.queue(lock).next();
-    Some((
-        world.word(lock),
-        world.owners(lock).next(),
-        waiter.map(|waiter| (waiter.thread, waiter.want)),
-        world.debt(lock).next(),
-    ))
+    Some(Shown {
+        word: world.word(lock),
+        owner: world.owners(lock).next(),
+        waiter: waiter.map(|waiter| (waiter.thread, waiter.want)),
+        debt: world.debt(lock).next(),
+    })
 }
 
 /// Returns the view of a mutex that one thread owns and another waits for.
 fn waited_for(owner: usize, waiter: usize) -> Shown {
-    (
-        3,
-        Some((Owner::Exclusive, owner)),
-        Some((waiter, Want::Exclusive)),
-        None,
-    )
+    Shown {
+        word: 3,
+        owner: Some((Owner::Exclusive, owner)),
+        waiter: Some((waiter, Want::Exclusive)),
+        debt: None,
+    }
 }
 
 /// Whether a line goes as it says, and what its thread is told, if it has one.
@@ -87,7 +96,12 @@ fn goes<Q: Queues + Drop>(world: &mut World<Q>, line: Line) -> (bool, Option<Out
             return (look(world, lock) == Some(waited_for(owner, waiter)), None);
         }
         Line::Rests(lock, word, owner) => {
-            return (look(world, lock) == Some((word, owner, None, None)), None);
+            let wanted = Shown {
+                word,
+                owner,
+                ..BARE
+            };
+            return (look(world, lock) == Some(wanted), None);
         }
     };
     (told == wanted, Some(told))

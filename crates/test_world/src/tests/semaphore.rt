@@ -1,6 +1,6 @@
 //! Worlds of a semaphore.
 use super::scripts::Line::{Calls, GoesOn, Rests, Shows, Takes};
-use super::scripts::{DONE, Line, plays_anew};
+use super::scripts::{BARE, DONE, Line, Shown, plays_anew};
 use core_base::Want;
 use lot_steps::{Answer, Call, Kind};
 use lot_world::{Debt, Outcome, Owner, Turn};
@@ -36,17 +36,25 @@ const WAKES_BESIDE_A_FREE_PERMIT: &[Line] = &[
     Takes(0, Turn::Go, Outcome::Step),
     Takes(1, Turn::Begin(RELEASE), Outcome::Step),
     Takes(1, Turn::Go, Outcome::Step),
-    Shows(0, (5, None, Some((2, Want::Shared)), Some((Debt::Owes, 0)))),
+    Shows(
+        0,
+        Shown {
+            word: 5,
+            waiter: Some((2, Want::Shared)),
+            debt: Some((Debt::Owes, 0)),
+            ..BARE
+        },
+    ),
     GoesOn(0, DONE),
     GoesOn(2, DONE),
     Shows(
         0,
-        (
-            3,
-            Some((Owner::Shared, 2)),
-            Some((3, Want::Shared)),
-            Some((Debt::Owes, 1)),
-        ),
+        Shown {
+            word: 3,
+            owner: Some((Owner::Shared, 2)),
+            waiter: Some((3, Want::Shared)),
+            debt: Some((Debt::Owes, 1)),
+        },
     ),
     GoesOn(1, DONE),
     GoesOn(3, DONE),
@@ -70,7 +78,12 @@ const GIVES_UP: &[Line] = &[
     GoesOn(2, Outcome::End(Answer::No)),
     Shows(
         0,
-        (1, Some((Owner::Shared, 0)), Some((1, Want::Shared)), None),
+        Shown {
+            word: 1,
+            owner: Some((Owner::Shared, 0)),
+            waiter: Some((1, Want::Shared)),
+            ..BARE
+        },
     ),
     Calls(0, RELEASE, DONE),
     GoesOn(1, DONE),
@@ -81,7 +94,7 @@ const GIVES_UP: &[Line] = &[
 ];
 
 #[test]
-fn who_gives_up_leaves_the_bit_to_others(rt: HostRuntime) {
+fn a_thread_that_gives_up_leaves_the_bit_to_others(rt: HostRuntime) {
     plays_anew(
         &rt,
         rt.alloc(),

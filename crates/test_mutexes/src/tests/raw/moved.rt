@@ -77,6 +77,6 @@ pub(super) fn hold_and_move<R: Wait>(
 }
 
 #[test]
-fn who_was_moved_elsewhere_and_is_late_leaves_that_queue(rt: HostRuntime) {
+fn a_moved_waiter_that_is_late_leaves_its_new_queue(rt: HostRuntime) {
     check_eq(&rt, play(&rt, rt.alloc(), Part::Move), 2);
 }

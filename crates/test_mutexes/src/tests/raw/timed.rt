@@ -19,7 +19,7 @@ const ROUNDS: u64 = 200;
 const LINGER: u32 = 8 * SHORT_PAUSE;
 
 #[test]
-fn who_holds_a_mutex_waits_for_it_in_vain(rt: HostRuntime) {
+fn an_owner_waits_for_its_own_mutex_in_vain(rt: HostRuntime) {
     let (lot, mutex, mut token, _others) = seats(&rt, rt.alloc(), 0);
     let clock = TickClock::new();
     let guard = mutex.lock(&rt, &mut token);
@@ -96,7 +96,7 @@ pub(super) fn wait_for_held<R: Wait>(
 }
 
 #[test]
-fn a_release_wakes_who_waits_with_a_limit(rt: HostRuntime) {
+fn a_release_wakes_a_waiter_with_a_limit(rt: HostRuntime) {
     for deadline in [Some(u64::MAX), None] {
         check_eq(&rt, play(&rt, rt.alloc(), Part::MeetTimed(deadline)), 2);
     }

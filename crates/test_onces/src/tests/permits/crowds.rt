@@ -264,7 +264,7 @@ fn two_hold_a_permit_at_once(rt: HostRuntime) {
 }
 
 #[test]
-fn a_release_wakes_who_waits(rt: HostRuntime) {
+fn a_release_wakes_a_waiter(rt: HostRuntime) {
     let (content, _, _) = play(&rt, rt.alloc(), 2, 1, Part::Wake);
     check_eq(&rt, content, true);
 }

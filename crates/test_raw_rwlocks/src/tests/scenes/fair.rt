@@ -65,7 +65,7 @@ const TIMED: [Coming; 3] = [
 ];
 
 #[test]
-fn who_waits_with_a_deadline_is_handed_the_lock(rt: HostRuntime) {
+fn a_waiter_with_a_deadline_is_handed_the_lock(rt: HostRuntime) {
     play(
         Sort::Normal,
         &rt,
@@ -90,7 +90,7 @@ fn who_waits_with_a_deadline_is_handed_the_lock(rt: HostRuntime) {
 // An exclusive owner hands the lock to all that read, on a lock that no more may share than there
 // are threads.
 #[test]
-fn all_who_are_handed_the_lock_have_it(rt: HostRuntime) {
+fn all_that_are_handed_the_lock_have_it(rt: HostRuntime) {
     let readers = [Coming::Reader, Coming::Reader, Coming::Reader];
     let handed = scene(Manner::Handed, readers, 3, 0);
     play_within(Sort::Normal, &rt, rt.alloc(), handed, 5);
@@ -139,7 +139,7 @@ fn goes_alone<R: Wait>(rt: &R, lock: &AnyRwLock, token: &mut Token) -> [bool; 3]
 }
 
 #[test]
-fn who_is_alone_keeps_its_right_as_it_bumps(rt: HostRuntime) -> Result<(), Fail> {
+fn a_lone_owner_keeps_its_right_as_it_bumps(rt: HostRuntime) -> Result<(), Fail> {
     let (lock, mut token) = lock_alone(Sort::Normal, rt.alloc(), 2)?;
     check_eq(&rt, goes_alone(&rt, &lock, &mut token), [true, true, true]);
     Ok(())

@@ -85,7 +85,7 @@ fn a_writer_that_keeps_the_upgradable_right_lets_readers_in(rt: HostRuntime) {
 }
 
 #[test]
-fn who_downgrades_the_upgradable_right_lets_another_have_it(rt: HostRuntime) {
+fn a_downgrade_of_the_upgradable_right_lets_another_have_it(rt: HostRuntime) {
     let scene = Scene {
         manner: Manner::UpgradableToReader,
         coming: READERS,
@@ -97,7 +97,7 @@ fn who_downgrades_the_upgradable_right_lets_another_have_it(rt: HostRuntime) {
 }
 
 #[test]
-fn who_gives_the_upgradable_right_up_lets_another_have_it(rt: HostRuntime) {
+fn a_release_of_the_upgradable_right_lets_another_have_it(rt: HostRuntime) {
     let coming = [Coming::Upgradable, Coming::Writer, Coming::Upgradable];
     let scene = Scene {
         manner: Manner::UpgradableGone,
@@ -130,7 +130,7 @@ fn the_last_reader_lets_the_writer_in(rt: HostRuntime) {
 }
 
 #[test]
-fn who_reads_a_recursive_lock_reads_again_beside_a_waiting_writer(rt: HostRuntime) {
+fn a_recursive_reader_reads_again_while_a_writer_waits(rt: HostRuntime) {
     let scene = Scene {
         manner: Manner::ReaderAgain,
         coming: WRITERS,

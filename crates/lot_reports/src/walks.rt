@@ -1,7 +1,7 @@
 //! Walks by moves that are known.
 use core_base::ListQueues;
 use lot_explore::Walk;
-use lot_findings::Source;
+use lot_findings::{Finding, Source};
 use state_search::NoRoom;
 use std::alloc::Global;
 
@@ -34,4 +34,18 @@ pub fn walk_on(walk: &mut Walk<'_, ListQueues>, moves: &[usize]) -> Result<(), N
         walk.turn(*by)?;
     }
     Ok(())
+}
+
+/// Returns what is found where some moves lead from the start of a program.
+///
+/// # Errors
+///
+/// `NoRoom`, where memory was refused.
+pub fn finding_by<'a>(
+    alloc: Global,
+    source: Source<'a>,
+    moves: &[usize],
+) -> Result<Finding<'a>, NoRoom> {
+    let walk = walk_by(alloc, source, moves)?;
+    Finding::new(alloc, source, walk)
 }

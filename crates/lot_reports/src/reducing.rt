@@ -1,5 +1,5 @@
 //! Programs without the lines that a finding doesn't need.
-use crate::arguments::{Arguments, GrainName};
+use crate::grain::Turns;
 use core_base::ListQueues;
 use lot_explore::{Walk, Wrong, shrink};
 use lot_findings::line_of;
@@ -30,14 +30,14 @@ struct Manner {
 /// `NoRoom`, where memory was refused, and where the program is not as its text says.
 pub fn without_lines(
     alloc: Global,
-    asked: Arguments<'_>,
+    turns: Turns,
     text: &str,
     walk: &Walk<'_, ListQueues>,
     wrong: Wrong,
 ) -> Result<Reduced, NoRoom> {
     let manner = Manner::of(alloc, walk, wrong)?;
     let mut reduced = Reduced {
-        parsed: program_of(alloc, asked, text, &[])?,
+        parsed: program_of(alloc, turns, text, &[])?,
         moves: Vec::from_slice(alloc, walk.moves()).map_err(|_| NoRoom)?,
     };
     let last = text.lines().count();
@@ -45,7 +45,7 @@ pub fn without_lines(
         let Ok(line) = u32::try_from(last - back) else {
             return Err(NoRoom);
         };
-        if let Some(less) = reduced.without(alloc, asked, text, line, &manner)? {
+        if let Some(less) = reduced.without(alloc, turns, text, line, &manner)? {
             reduced = less;
         }
     }
@@ -92,12 +92,12 @@ impl Reduced {
     fn without(
         &self,
         alloc: Global,
-        asked: Arguments<'_>,
+        turns: Turns,
         text: &str,
         line: u32,
         manner: &Manner,
     ) -> Result<Option<Reduced>, NoRoom> {
-        let mut parsed = program_of(alloc, asked, text, self.parsed.left_out.as_slice())?;
+        let mut parsed = program_of(alloc, turns, text, self.parsed.left_out.as_slice())?;
         if !parsed.leave_out(line).map_err(|_| NoRoom)? {
             return Ok(None);
         }
@@ -126,33 +126,16 @@ impl Reduced {
 // Reads a program, and leaves lines out of it. Its turns are those of the whole program.
 fn program_of(
     alloc: Global,
-    asked: Arguments<'_>,
+    turns: Turns,
     text: &str,
     left_out: &[u32],
 ) -> Result<ProgramText, NoRoom> {
     let mut parsed = parse(alloc, text).map_err(|_| NoRoom)?;
-    parsed.program.deadlines = asked.deadlines;
-    set_grain(alloc, &mut parsed.program, asked.grain)?;
+    turns.set(alloc, &mut parsed.program)?;
     for line in left_out {
         parsed.leave_out(*line).map_err(|_| NoRoom)?;
     }
     Ok(parsed)
-}
-
-/// Sets the grain of a program's turns.
-///
-/// # Errors
-///
-/// `NoRoom`, where memory was refused.
-pub fn set_grain(alloc: Global, program: &mut Program, grain: GrainName) -> Result<(), NoRoom> {
-    match grain {
-        GrainName::Step => Ok(()),
-        GrainName::Call => {
-            program.by_calls(alloc);
-            Ok(())
-        }
-        GrainName::Auto => program.by_cut_calls(alloc),
-    }
 }
 
 // Takes moves in a program, and passes over those that are impossible there. Returns those that it needs, where

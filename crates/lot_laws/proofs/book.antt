@@ -1,0 +1,5 @@
+pub mod Page
+pub mod Kept
+pub mod Pages
+pub mod Steps
+pub mod At
