@@ -7,7 +7,7 @@ use Rattle.run_base.specs.MutexFitting.{mutex_ownership}
 use Rattle.run_base.specs.Paths.{mutex_at, step}
 use Rattle.run_base.specs.Telling.{owns_of, steps_of}
 use Rattle.core_words.specs.declared.owners.Ownership.{Ownership}
-use Rattle.run_locks.specs.MutexCourses.{locked_and_parked}
+use Rattle.run_base.specs.MutexCourses.{locked_and_parked}
 use Rattle.parking_lot_core.specs.Tokens.{told_of}
 use Rattle.parking_lot_core.specs.declared.tokens.Token.{Token}
 

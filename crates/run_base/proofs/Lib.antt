@@ -24,5 +24,6 @@ pub mod Standing
 pub mod Tellings
 pub mod Turning
 pub mod TurnsOn
+pub mod Coming
 pub mod TakesFew
 pub mod Afterwards

@@ -3,7 +3,7 @@ use Rattle.std.proofs.Common.{ℕ, ◌≡◌, true, None, Some, List, Option, re
 use Rattle.core_base.specs.declared.ops.Op.{Op}
 use Rattle.steps_base.specs.declared.acts.Act.{Act}
 use Rattle.steps_base.specs.declared.acts.Act as act
-use Rattle.steps_base.specs.declared.acts.Reply.TheVariants.{Value}
+use Rattle.steps_base.specs.declared.acts.Reply.TheVariants.{Done, Value}
 use Rattle.steps_base.specs.declared.acts.Reply.{Reply}
 use Rattle.spec_locks.specs.declared.outcomes.Answer.{Answer}
 use Rattle.lot_steps.specs.Steps.{act_of, next_act, next_place}
@@ -71,6 +71,14 @@ module _ (up : Type 0) (lot : ParkingLot) (words : Words) (p : Place) (old new :
         (subst (λ (b : Act). Became up (kind_in words) (at_in words) (sleeper_at p) (stage_of old section) b
         reply (stage_of new now)) (sym is) became),
   )
+
+-- a thread that accepts the lock that it was handed does nothing
+pub accepts : (up : Type 0) (lot : ParkingLot) (words : Words) (p : Place) (token : Token)
+    (section : Option Section) → act_of p ≡ act.TheVariants.Accept → IsAtPlace up lot words p token section
+    → HasTurned up lot words p Done token section token section
+accepts up lot words p token section is at =
+    turned_by up lot words p token token section section act.TheVariants.Accept Done is refl at (at.0, refl)
+    at.2 refl refl tt (refl, refl)
 
 -- a sleeper has its place still where it is queued
 pub slept_on : (up : Type 0) (lot : ParkingLot) (words : Words) (p : Place) (old new : Token)

@@ -11,6 +11,7 @@ pub mod CondvarFitting
 pub mod RwLockFitting
 pub mod Fitting
 pub mod Turns
+pub mod MutexCourses
 pub mod Calls
 pub mod RwLockCalls
 pub mod Drawing

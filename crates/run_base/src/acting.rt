@@ -5,6 +5,8 @@ ghost use Rattle.core_base.specs.Lines.{queued_under, waiter, line, lines, witho
 ghost use Rattle.steps_base.specs.declared.acts.Act.TheVariants.{Sleep};
 ghost use Rattle.core_base.specs.declared.keys.Keys.TheVariants.{One};
 ghost use Rattle.core_base.specs.declared.ops.Op.TheVariants.{Load};
+ghost use Rattle.steps_base.specs.declared.acts.Reply.TheVariants.{Picked};
+ghost use Rattle.steps_base.specs.declared.acts.Whom.TheVariants as whoms;
 ghost use Rattle.steps_base.specs.Acts.{holds};
 ghost use Rattle.lot_steps.specs.Steps.{HasKeys};
 ghost use Rattle.core_words.specs.Lots.{IsWordOf};
@@ -48,7 +50,7 @@ pub(crate) fn note_of(wakes: Wakes) -> Note
 }
 
 // Loads the word inside the section, and where the check holds stands after the last of the queue.
-fn park<'a>(
+pub(crate) fn park<'a>(
     lot: &ParkingLot,
     token: &mut Token,
     word: Word,
@@ -110,7 +112,7 @@ pub(crate) fn stand<'a>(
 
 // One step on the word, with which the lock goes to those that were taken. The right that each of
 // them wants is laid in its record. Where an exchange finds another value nothing is handed over.
-fn hand_over<R: Wait>(
+pub(crate) fn hand_over<R: Wait>(
     rt: &R,
     lot: &ParkingLot,
     token: &mut Token,
@@ -213,7 +215,30 @@ pub(crate) fn leave<R: Wait>(
     }
 }
 
+/// Takes the waiters that a lock lets in: how many of them want to share, the want of the first that
+/// wants more, and whether none is left.
 #[tactic(auto, using(crate::proofs::TakesFew::picked_few, crate::proofs::TakesFew::few_waiters))]
+pub(crate) fn take_wanted(
+    lot: &ParkingLot,
+    section: &mut Option<Section>,
+    key: Key,
+    start: Option<Want>,
+    recursive: bool,
+) -> (usize, Option<Want>, bool)
+    requires { MayTakeAt lot.now key section.old }
+    ensures took { IsSectionOf lot.now section.new × TookBy key (whoms.Picked start recursive)
+        (Picked result.0 result.1 result.2) (section_view section.old) (section_view section.new) }
+    ensures told { TellsTake key (whoms.Picked start recursive) (Picked result.0 result.1 result.2)
+        section.old section.new }
+    ensures tells { told_within section.new ≡ told_within section.old
+        ++ taking key (whoms.Picked start recursive) (length (threads_taken section.new))
+        (length (line_in key section.new)) }
+{
+    let none_left = take_picked(lot, section, key, start, recursive);
+    let (sharers, successor) = tell_wants(section);
+    (sharers, successor, none_left)
+}
+
 fn take(lot: &ParkingLot, section: &mut Option<Section>, key: Key, whom: Whom) -> Reply
     requires { MayTakeAt lot.now key section.old }
     ensures took { IsSectionOf lot.now section.new
@@ -232,8 +257,7 @@ fn take(lot: &ParkingLot, section: &mut Option<Section>, key: Key, whom: Whom) -
             Reply::Took { any, none_left }
         }
         Whom::Picked { start, recursive } => {
-            let none_left = take_picked(lot, section, key, start, recursive);
-            let (sharers, successor) = tell_wants(section);
+            let (sharers, successor, none_left) = take_wanted(lot, section, key, start, recursive);
             Reply::Picked {
                 sharers,
                 successor,

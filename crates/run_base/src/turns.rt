@@ -2,21 +2,22 @@
 //! and all else by `run_from`.
 ghost use Rattle.core_base.specs.Clocks.{IsUp};
 ghost use Rattle.steps_base.specs.declared.acts.Act.TheVariants as acts;
-ghost use Rattle.steps_base.specs.declared.acts.Reply.TheVariants.{Done, Requeued, Took, Value};
+ghost use Rattle.steps_base.specs.declared.acts.Reply.TheVariants.{Done, Parked, Picked, Requeued, Took, Value};
 ghost use Rattle.steps_base.specs.declared.acts.Whom.TheVariants as whom;
-ghost use Rattle.std.specs.Prelude.{◌≡◌, IsTrue};
+ghost use Rattle.std.specs.Prelude.{◌≡◌, IsTrue, MatchBool};
 ghost use Rattle.lot_steps.specs.Steps.{act_of, next_place};
 ghost use Rattle.parking_lot_core.specs.Places.{IsPlaceOf};
 ghost use Rattle.run_base.specs.Queued.{HasPlace, is_queued};
+ghost use Rattle.run_base.specs.Stages.{waiting_of};
 ghost use Rattle.run_base.specs.Telling.{StandsLast, TellsQueues, TellsRequeue, TellsTake};
 ghost use Rattle.run_base.specs.Turns.{HasActed, HasTurned, IsAtPlace, MayAct};
 
 pub use crate::acting::end;
-use crate::acting::{enter, leave, note_of, sleep, stand};
+use crate::acting::{enter, hand_over, leave, note_of, park, sleep, stand, take_wanted};
 use crate::sleepers::sleeper_at;
 use crate::taking::{requeue, take_first};
 use crate::words::Words;
-use lot_steps::{Place, Reply, Wakes};
+use lot_steps::{Check, Place, Reply, Wakes};
 use parking_lot_core::{
     Clock, Key, Keys, Op, ParkingLot, QueuePlace, Requeue, Section, Token, Want,
 };
@@ -41,6 +42,27 @@ pub fn turn_word<C: Clock>(
     lot.word(token, words.of(lock), op)
 }
 
+/// A turn with one operation on the word of a lock, by which the lock goes to those that were taken.
+/// It answers what the word was.
+#[inline]
+pub fn turn_hand_over<R: Wait, C: Clock>(
+    rt: &R,
+    lot: &ParkingLot,
+    token: &mut Token,
+    words: Words,
+    _limit: Option<(&C, u64)>,
+    section: &mut Option<Section>,
+    lock: usize,
+    op: Op,
+) -> u64
+    requires { MayAct (IsUp C.tells _limit) lot.now words
+        (acts.HandOver lock op) token.old section.old }
+    ensures { HasActed (IsUp C.tells _limit.entry) lot.now words (acts.HandOver lock op) (Value result)
+        token.old section.old token.new section.new }
+{
+    hand_over(rt, lot, token, words.of(lock), section, op)
+}
+
 /// A turn that enters a section.
 #[inline]
 pub fn turn_enter<'a, R: Wait, C: Clock>(
@@ -57,6 +79,32 @@ pub fn turn_enter<'a, R: Wait, C: Clock>(
         token.old section.old token.new section.new }
 {
     enter(rt, lot, token, section, keys);
+}
+
+/// A turn that loads the word, and where the check holds stands after the last of a queue. It
+/// answers whether it stands, and gives the thread's place there.
+#[inline]
+pub fn turn_park<'a, C: Clock>(
+    lot: &ParkingLot,
+    token: &mut Token,
+    words: Words,
+    _limit: Option<(&C, u64)>,
+    section: &mut Option<Section<'a>>,
+    queue: &mut Option<QueuePlace<'a>>,
+    lock: usize,
+    key: Key,
+    check: Check,
+    want: Want,
+) -> bool
+    requires { MayAct (IsUp C.tells _limit) lot.now words
+        (acts.Park lock key check want) token.old section.old }
+    ensures done { HasActed (IsUp C.tells _limit.entry) lot.now words (acts.Park lock key check want)
+        (Parked result) token.old section.old token.new section.new }
+    ensures stands { MatchBool result (StandsLast key token.old.number want section.old section.new)
+        (waiting_of section.new ≡ waiting_of section.old) }
+    ensures place { IsTrue result → HasPlace lot.now token.old.number queue.new }
+{
+    park(lot, token, words.of(lock), section, queue, key, check, want)
 }
 
 /// A turn that stands after the last of a queue. It gives the thread's place there.
@@ -98,6 +146,30 @@ pub fn turn_take_first<C: Clock>(
     ensures told { TellsTake key whom.First (Took result.0 result.1) section.old section.new }
 {
     take_first(lot, section, key)
+}
+
+/// A turn that takes the waiters that a lock lets in: how many of them want to share, the want of the
+/// first that wants more, and whether none is left.
+#[inline]
+pub fn turn_take_wanted<C: Clock>(
+    lot: &ParkingLot,
+    _token: &Token,
+    _words: Words,
+    _limit: Option<(&C, u64)>,
+    section: &mut Option<Section>,
+    key: Key,
+    start: Option<Want>,
+    recursive: bool,
+) -> (usize, Option<Want>, bool)
+    requires { MayAct (IsUp C.tells _limit) lot.now _words
+        (acts.Take key (whom.Picked start recursive)) _token.now section.old }
+    ensures done { HasActed (IsUp C.tells _limit.entry) lot.now _words
+        (acts.Take key (whom.Picked start recursive)) (Picked result.0 result.1 result.2)
+        _token.now section.old _token.now section.new }
+    ensures told { TellsTake key (whom.Picked start recursive) (Picked result.0 result.1 result.2)
+        section.old section.new }
+{
+    take_wanted(lot, section, key, start, recursive)
 }
 
 /// A turn that moves waiters from one queue to another, and may take the first. How many these are,

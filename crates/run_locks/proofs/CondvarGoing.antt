@@ -1,5 +1,5 @@
 -- The straight course of a wait and of a notification: where each turn leads, and that it ends no call.
-use Rattle.std.proofs.Common.{ℕ, ◌≡◌, ◌≢◌, ◌==◌, ◌<◌, ◌||◌, ◌+◌, Bool, true, false, List, Option, None, Some}
+use Rattle.std.proofs.Common.{ℕ, ◌≡◌, ◌≢◌, ◌==◌, ◌<◌, ◌||◌, ◌+◌, Bool, true, false, List, None, Some}
 use Rattle.std.proofs.Common.{refl, sym, subst, if◌then◌else◌, ne_eqb, eq-eqb, arith}
 use Rattle.std.specs.Prelude.{◌*◌, ◌^◌, not, nat_lt}
 use Rattle.steps_base.specs.declared.acts.Reply.{Reply}
@@ -7,7 +7,6 @@ use Rattle.steps_base.specs.declared.acts.Reply.TheVariants.{Done, Value, Parked
 use Rattle.steps_base.specs.declared.acts.Reply.TheVariants.{Removed, TakenBy, MovedTo, HandedBy, Late, Woken}
 use Rattle.steps_base.specs.declared.acts.Reply.TheVariants.{Closed}
 use Rattle.core_base.specs.declared.notes.Note.TheVariants.{Normal, HandOff}
-use Rattle.spec_locks.specs.declared.outcomes.Answer.{Answer}
 use Rattle.spec_locks.specs.declared.outcomes.OnceState.{OnceState}
 use Rattle.steps_condvar.specs.CondvarSteps.{is_shown, waited}
 use Rattle.steps_condvar.specs.declared.notify.NotifyAt.TheVariants as notify
@@ -21,17 +20,11 @@ use Rattle.lot_steps.specs.Steps.{next_act, next_place}
 use Rattle.lot_steps.specs.declared.places.Place.{Place}
 use Rattle.lot_steps.specs.declared.places.Place.TheVariants.{Idle, Mutex, RwLock, Once, Condvar, Semaphore}
 use Rattle.core_words.specs.declared.owners.Ownership.{Ownership}
-use Rattle.parking_lot_core.specs.declared.lot.ParkingLot.{ParkingLot}
-use Rattle.parking_lot_core.specs.declared.sections.Section.{Section}
-use Rattle.parking_lot_core.specs.declared.tokens.Token.{Token}
-use Rattle.run_base.specs.Fitting.{IsStopped, ReachedBy, call_purpose, answer_of}
-use Rattle.run_base.specs.Stages.{Stage, section_view, stage_of}
-use Rattle.run_base.specs.Turns.{HasTurned, IsAtPlace}
+use Rattle.run_base.specs.Fitting.{IsStopped, call_purpose, answer_of}
+use Rattle.run_base.specs.Stages.{Stage}
 use Rattle.run_base.specs.declared.driver.Stop.TheVariants.{Paused}
-use Rattle.run_base.specs.declared.words.Words.{Words}
-use Rattle.run_base.proofs.Ending.{outside}
 use Rattle.run_locks.specs.CondvarCourses.{IsOfCondvar, locks_at, notify_at, releases_at, wait_at}
-use Rattle.run_locks.specs.MutexCourses.{taken_on}
+use Rattle.run_base.specs.MutexCourses.{taken_on}
 use Rattle.run_locks.proofs.CondvarCalling.{notify_never_pauses, wait_never_pauses}
 
 -- no call of a condition variable runs a closure
@@ -51,17 +44,6 @@ never_pauses up base (Condvar c (Notify all m at)) q state st of s = notify_neve
 -- a number whose keys are numbers
 pub keyed : (n : ℕ) → n < 2 ^ 63 → 2 * n + 1 < 2 ^ 64
 keyed n small = omega arith
-
--- a thread that ended a call is outside all sections
-pub turn_outside : (up : Type 0) (lot : ParkingLot) (words : Words) (p : Place) (reply : Reply)
-    (old new : Token) (section now : Option Section) (answer : Answer) → IsAtPlace up lot words p old section
-    → HasTurned up lot words p reply old section new now → answer_of (next_act p reply) ≡ Some answer
-    → section_view now ≡ None
-turn_outside up lot words p reply old new section now answer at turned some =
-    let over = subst (λ (o : Option Answer). ReachedBy up at.4.0 (call_purpose p) (next_place p reply) o
-    (stage_of new now)) some (turned.3 at.4.0 at.4.1) in
-    outside up at.4.0 (stage_of new now).owns (call_purpose p) answer (section_view now)
-    (stage_of new now).last (stage_of new now).steps over
 
 module _ (c m : ℕ) where
   -- the mutex isn't free

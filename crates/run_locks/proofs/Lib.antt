@@ -1,8 +1,7 @@
 pub mod CondvarCalling
 pub mod CondvarNotifying
-pub mod Coming
 pub mod CondvarGoing
-pub mod MutexGoing
+pub mod WakeGoing
 pub mod RwLockBumpFull
 pub mod RwLockCalling
 pub mod RwLockCourses

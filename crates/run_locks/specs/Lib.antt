@@ -1,6 +1,6 @@
 pub mod CondvarCalls
-pub mod MutexCourses
 pub mod CondvarCourses
+pub mod WakeCourses
 pub mod RwLockRefusals
 pub mod Courses
 pub mod Halves

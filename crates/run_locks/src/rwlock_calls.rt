@@ -22,6 +22,8 @@ ghost use Rattle.run_base.specs.Telling.{owns_of};
 ghost use Rattle.run_base.specs.Words.{single_word, kind_in, at_in};
 
 use crate::rwlock_courses::{Course, Settings, answer_with, course_of, opening};
+use crate::wake_courses::wake_through;
+use core_base::Line;
 use lot_steps::{Place, Reply, advance};
 use parking_lot_core::pauses::{SHORT_PAUSE, pause};
 use parking_lot_core::{Clock, Op, ParkingLot, Token, Word};
@@ -30,6 +32,7 @@ use run_base::words::Words;
 use spec_locks::{Access, Answer, Downgrade, Patience};
 use std::sync::Wait;
 use steps_rwlock::places::{RwLockAt, RwLockPlace};
+use steps_rwlock::release::WakeAt;
 use steps_rwlock::{Admission, RwLockPurpose};
 use steps_rwlock_fair::RwLockCallPlace;
 
@@ -64,10 +67,27 @@ pub(crate) fn run_out<R: Wait, C: Clock>(
         → Fits (IsUp C.tells limit.entry) base start (stage_of token.old None)
         → IsOver (IsUp C.tells limit.entry) base (call_purpose start) result (stage_of token.new None) }
 {
-    match run(rt, lot, token, Words::alone(word), limit, start) {
-        Stop::Ended(answer) => answer,
-        // No call of a lock runs a closure.
-        Stop::Paused { .. } => unreachable!(),
+    let words = Words::alone(word);
+    match start {
+        Place::RwLock {
+            lock,
+            admission,
+            at: RwLockCallPlace::Plain(
+                RwLockPlace {
+                    purpose,
+                    retries: false,
+                    at: RwLockAt::Wake {
+                        line: Line::Main,
+                        at: WakeAt::Enter,
+                    },
+                },
+            ),
+        } => wake_through(rt, lot, token, words, limit, lock, admission, purpose),
+        _ => match run(rt, lot, token, words, limit, start) {
+            Stop::Ended(answer) => answer,
+            // No call of a lock runs a closure.
+            Stop::Paused { .. } => unreachable!(),
+        },
     }
 }
 

@@ -10,7 +10,7 @@ ghost use Rattle.steps_mutex.specs.MutexSteps.{is_locked};
 ghost use Rattle.steps_mutex.specs.declared.lock.LockAt.TheVariants as lock;
 ghost use Rattle.steps_mutex.specs.declared.unlock.UnlockAt.TheVariants as unlock;
 ghost use Rattle.run_locks.specs.CondvarCourses.{locks_at, releases_at, wait_at};
-ghost use Rattle.run_locks.specs.MutexCourses.{taken_on};
+ghost use Rattle.run_base.specs.MutexCourses.{taken_on};
 
 use crate::condvar_courses::{Pair, rest};
 use core_base::main_key;

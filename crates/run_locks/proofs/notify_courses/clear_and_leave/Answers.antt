@@ -3,7 +3,7 @@ use Rattle.steps_base.specs.declared.acts.Reply.TheVariants.{Value}
 use Rattle.steps_condvar.specs.CondvarSteps.{moved_one}
 use Rattle.steps_condvar.specs.declared.notify.NotifyAt.TheVariants as notify
 use Rattle.run_locks.specs.CondvarCourses.{notify_at}
-use Rattle.run_locks.proofs.Coming.{begins, comes, may_do, named}
+use Rattle.run_base.proofs.Coming.{begins, comes, may_do, named}
 use Rattle.run_locks.proofs.notify_courses.clear_and_leave.Goals as goal
 
 pub turn_word-requires : goal.turn_word-requires

@@ -3,8 +3,8 @@ use Rattle.steps_base.specs.declared.acts.Reply.TheVariants.{Done}
 use Rattle.steps_condvar.specs.CondvarSteps.{notified}
 use Rattle.steps_condvar.specs.declared.notify.NotifyAt.TheVariants as notify
 use Rattle.run_locks.specs.CondvarCourses.{notify_at}
-use Rattle.run_locks.proofs.Coming.{begins, leaves_both, over}
-use Rattle.run_locks.proofs.CondvarGoing.{turn_outside}
+use Rattle.run_base.proofs.Coming.{begins, leaves_both, over}
+use Rattle.run_base.proofs.Coming.{turn_outside}
 use Rattle.run_locks.proofs.notify_courses.leave_both.Goals as goal
 
 pub turn_leave-requires : goal.turn_leave-requires

@@ -5,7 +5,7 @@ use Rattle.steps_mutex.specs.MutexSteps.{is_locked}
 use Rattle.lot_steps.specs.Steps.{next_place}
 use Rattle.lot_steps.specs.declared.places.Place.{Place}
 use Rattle.run_locks.specs.CondvarCourses.{notify_at}
-use Rattle.run_locks.proofs.Coming.{begins, comes, may_do, named}
+use Rattle.run_base.proofs.Coming.{begins, comes, may_do, named}
 use Rattle.run_locks.proofs.CondvarGoing.{marks_on, set_again, set_on}
 use Rattle.std.proofs.lemmas.Bool.{false≢true}
 use Rattle.run_base.specs.Queued.{is_queued}

@@ -2,7 +2,7 @@ use Rattle.std.proofs.Common.{nat_lt, ◌≡◌, Bool, true, false, refl, ap, ru
 use Rattle.steps_base.specs.declared.acts.Reply.TheVariants.{Requeued, Value}
 use Rattle.steps_condvar.specs.declared.notify.NotifyAt.TheVariants as notify
 use Rattle.run_locks.specs.CondvarCourses.{notify_at}
-use Rattle.run_locks.proofs.Coming.{begins, comes, may_do, moves, named}
+use Rattle.run_base.proofs.Coming.{begins, comes, may_do, moves, named}
 use Rattle.run_locks.proofs.CondvarGoing.{rest_moved}
 use Rattle.run_locks.proofs.notify_courses.move_all.Goals as goal
 

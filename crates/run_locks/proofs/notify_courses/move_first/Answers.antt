@@ -3,7 +3,7 @@ use Rattle.steps_base.specs.declared.acts.Reply.TheVariants.{Requeued, Took}
 use Rattle.steps_condvar.specs.CondvarSteps.{moved_one}
 use Rattle.steps_condvar.specs.declared.notify.NotifyAt.TheVariants as notify
 use Rattle.run_locks.specs.CondvarCourses.{notify_at}
-use Rattle.run_locks.proofs.Coming.{begins, comes, may_do, moves, named, takes_first}
+use Rattle.run_base.proofs.Coming.{begins, comes, may_do, moves, named, takes_first}
 use Rattle.run_locks.proofs.CondvarGoing.{one_moved, one_taken}
 use Rattle.run_locks.proofs.notify_courses.move_first.Goals as goal
 

@@ -2,7 +2,7 @@ use Rattle.std.proofs.Common.{◌≡◌, Bool, true, false, None, refl, sym, ap,
 use Rattle.steps_base.specs.declared.acts.Reply.TheVariants.{Done, Value}
 use Rattle.steps_condvar.specs.declared.notify.NotifyAt.TheVariants as notify
 use Rattle.run_locks.specs.CondvarCourses.{notify_at}
-use Rattle.run_locks.proofs.Coming.{begins, comes, enters_both, may_do, named}
+use Rattle.run_base.proofs.Coming.{begins, comes, enters_both, may_do, named}
 use Rattle.run_locks.proofs.CondvarGoing.{again_on, hides_on, keyed, looks_on}
 use Rattle.run_locks.proofs.notify_courses.notify_through.Goals as goal
 

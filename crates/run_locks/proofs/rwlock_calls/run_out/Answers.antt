@@ -22,8 +22,8 @@ unreachable-requires g c = let base = c.requires.fits.0 in
     (call_purpose c.args.start) stop (stage_of c.run.new.token None)) c.in-Paused.is
     (c.run.ensures.stopped base c.requires.fits.1) in
     let words = subst (λ (words : Words). AreWordsAfter (Paused c.in-Paused.place c.in-Paused.state)
-    (kind_in words) (at_in words)) c.alone.ensures
-    (subst (λ (stop : Stop). AreWordsAfter stop (kind_in c.alone.result) (at_in c.alone.result))
+    (kind_in words) (at_in words)) c.alone-words.ensures
+    (subst (λ (stop : Stop). AreWordsAfter stop (kind_in c.alone-words.result) (at_in c.alone-words.result))
     c.in-Paused.is c.run.ensures.words) in
     let other : c.args.word.kind ≡ RwLock = c.requires.kind in
     never_closes (IsUp g.C.Clock.tells c.args.limit) base (call_purpose c.args.start) c.in-Paused.place

@@ -3,8 +3,8 @@ use Rattle.core_base.specs.Clocks.{IsUp}
 use Rattle.steps_base.specs.declared.acts.Reply.TheVariants.{Value}
 use Rattle.steps_mutex.specs.declared.unlock.UnlockAt.TheVariants as unlock
 use Rattle.run_locks.specs.CondvarCourses.{releases_at, wait_at}
-use Rattle.run_locks.specs.MutexCourses.{taken_on}
-use Rattle.run_locks.proofs.Coming.{begins, comes, may_do, named}
+use Rattle.run_base.specs.MutexCourses.{taken_on}
+use Rattle.run_base.proofs.Coming.{begins, comes, may_do, named}
 use Rattle.run_locks.proofs.wait_courses.clear_and_sleep.Goals as goal
 
 pub turn_word-requires : goal.turn_word-requires

@@ -10,7 +10,7 @@ use Rattle.lot_steps.specs.declared.places.Place.{Place}
 use Rattle.run_base.specs.Fitting.{answer_of}
 use Rattle.run_base.specs.Turns.{HasTurned}
 use Rattle.run_locks.specs.CondvarCourses.{IsOfCondvar, locks_at, wait_at}
-use Rattle.run_locks.proofs.Coming.{begins, named, turns_to}
+use Rattle.run_base.proofs.Coming.{begins, named, turns_to}
 use Rattle.run_locks.proofs.CondvarGoing.{sleeps_on}
 use Rattle.run_base.specs.Queued.{is_queued}
 use Rattle.run_locks.proofs.wait_courses.fall_asleep.Goals as goal

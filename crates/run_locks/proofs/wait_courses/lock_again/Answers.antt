@@ -5,7 +5,7 @@ use Rattle.steps_mutex.specs.declared.lock.LockAt.TheVariants as lock
 use Rattle.lot_steps.specs.Steps.{next_act}
 use Rattle.run_base.specs.Fitting.{answer_of}
 use Rattle.run_locks.specs.CondvarCourses.{locks_at, wait_at}
-use Rattle.run_locks.proofs.Coming.{begins, comes, over}
+use Rattle.run_base.proofs.Coming.{begins, comes, over}
 use Rattle.run_locks.proofs.CondvarGoing.{locks_on}
 use Rattle.run_locks.proofs.wait_courses.lock_again.Goals as goal
 

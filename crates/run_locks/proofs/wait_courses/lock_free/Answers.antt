@@ -8,7 +8,7 @@ use Rattle.steps_mutex.specs.declared.lock.LockAt.TheVariants as lock
 use Rattle.lot_steps.specs.Steps.{act_of, next_place}
 use Rattle.lot_steps.specs.declared.places.Place.{Place}
 use Rattle.run_locks.specs.CondvarCourses.{locks_at, wait_at}
-use Rattle.run_locks.proofs.Coming.{begins, comes, may_do, named, over}
+use Rattle.run_base.proofs.Coming.{begins, comes, may_do, named, over}
 use Rattle.run_locks.proofs.CondvarGoing.{decides_again, takes_free}
 use Rattle.std.proofs.lemmas.Bool.{false≢true}
 use Rattle.run_base.specs.Queued.{is_queued}

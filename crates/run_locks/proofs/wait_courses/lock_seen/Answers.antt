@@ -4,7 +4,7 @@ use Rattle.steps_base.specs.declared.acts.Reply.TheVariants.{Value}
 use Rattle.steps_mutex.specs.MutexSteps.{is_locked}
 use Rattle.steps_mutex.specs.declared.lock.LockAt.TheVariants as lock
 use Rattle.run_locks.specs.CondvarCourses.{locks_at, wait_at}
-use Rattle.run_locks.proofs.Coming.{begins, comes, named}
+use Rattle.run_base.proofs.Coming.{begins, comes, named}
 use Rattle.run_locks.proofs.CondvarGoing.{decides_on}
 use Rattle.std.proofs.lemmas.Bool.{false≢true}
 use Rattle.run_base.specs.Queued.{is_queued}

@@ -6,7 +6,7 @@ use Rattle.steps_condvar.specs.declared.wait.WaitAt.TheVariants as wait
 use Rattle.steps_mutex.specs.MutexSteps.{is_parked}
 use Rattle.steps_mutex.specs.declared.unlock.UnlockAt.TheVariants as unlock
 use Rattle.run_locks.specs.CondvarCourses.{releases_at, wait_at}
-use Rattle.run_locks.proofs.Coming.{begins, comes}
+use Rattle.run_base.proofs.Coming.{begins, comes}
 use Rattle.run_locks.proofs.CondvarGoing.{released_on, releases_on}
 use Rattle.run_locks.proofs.wait_courses.release.Goals as goal
 

@@ -7,7 +7,7 @@ use Rattle.steps_base.specs.declared.acts.Reply.TheVariants.{Done, Value}
 use Rattle.steps_condvar.specs.declared.wait.WaitAt.TheVariants as wait
 use Rattle.steps_mutex.specs.declared.unlock.UnlockAt.TheVariants as unlock
 use Rattle.run_locks.specs.CondvarCourses.{releases_at, wait_at}
-use Rattle.run_locks.proofs.Coming.{begins, comes, enters_one, leaves_one, may_do, named}
+use Rattle.run_base.proofs.Coming.{begins, comes, enters_one, leaves_one, may_do, named}
 use Rattle.run_locks.proofs.CondvarGoing.{keyed, shows_on}
 use Rattle.std.proofs.lemmas.Bool.{false≢true}
 use Rattle.run_base.specs.Queued.{is_queued}

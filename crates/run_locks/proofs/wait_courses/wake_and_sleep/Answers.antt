@@ -5,7 +5,7 @@ use Rattle.steps_condvar.specs.declared.wait.Stands.TheVariants.{Listed}
 use Rattle.steps_condvar.specs.declared.wait.WaitAt.TheVariants as wait
 use Rattle.steps_mutex.specs.declared.unlock.UnlockAt.TheVariants as unlock
 use Rattle.run_locks.specs.CondvarCourses.{releases_at, wait_at}
-use Rattle.run_locks.proofs.Coming.{begins, comes, leaves_one, may_do}
+use Rattle.run_base.proofs.Coming.{begins, comes, leaves_one, may_do}
 use Rattle.run_locks.proofs.wait_courses.wake_and_sleep.Goals as goal
 
 pub turn_leave-requires : goal.turn_leave-requires

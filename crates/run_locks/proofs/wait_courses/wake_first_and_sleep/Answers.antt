@@ -3,8 +3,8 @@ use Rattle.core_base.specs.Clocks.{IsUp}
 use Rattle.steps_base.specs.declared.acts.Reply.TheVariants.{Done, Took}
 use Rattle.steps_mutex.specs.declared.unlock.UnlockAt.TheVariants as unlock
 use Rattle.run_locks.specs.CondvarCourses.{releases_at, wait_at}
-use Rattle.run_locks.specs.MutexCourses.{taken_on}
-use Rattle.run_locks.proofs.Coming.{begins, comes, enters_one, may_do, takes_first}
+use Rattle.run_base.specs.MutexCourses.{taken_on}
+use Rattle.run_base.proofs.Coming.{begins, comes, enters_one, may_do, takes_first}
 use Rattle.run_locks.proofs.CondvarGoing.{took_on}
 use Rattle.run_locks.proofs.wait_courses.wake_first_and_sleep.Goals as goal
 

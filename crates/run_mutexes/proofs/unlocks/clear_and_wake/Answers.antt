@@ -4,8 +4,8 @@ use Rattle.spec_locks.specs.declared.outcomes.Answer.TheVariants.{Ok}
 use Rattle.run_base.specs.Turns.{HasEnded, IsAtPlace}
 use Rattle.run_base.proofs.TurnsOn.{turn_leads, turn_then}
 use Rattle.steps_mutex.specs.declared.unlock.UnlockAt.TheVariants as unlock
-use Rattle.run_locks.specs.MutexCourses.{taken_on, unlocks_at}
-use Rattle.run_locks.proofs.unlocks.clear_and_wake.Goals as goal
+use Rattle.run_base.specs.MutexCourses.{taken_on, unlocks_at}
+use Rattle.run_mutexes.proofs.unlocks.clear_and_wake.Goals as goal
 
 pub turn_word-requires : goal.turn_word-requires
 turn_word-requires g c = let none : c.args.none_left ≡ true = search rules in (

@@ -8,9 +8,9 @@ use Rattle.core_base.specs.declared.notes.Note.TheVariants.{Normal}
 use Rattle.spec_locks.specs.declared.outcomes.Answer.TheVariants.{Ok}
 use Rattle.run_base.proofs.TurnsOn.{turn_ends}
 use Rattle.steps_mutex.specs.declared.unlock.UnlockAt.TheVariants as unlock
-use Rattle.run_locks.specs.MutexCourses.{unlocks_at}
-use Rattle.run_locks.proofs.CondvarGoing.{turn_outside}
-use Rattle.run_locks.proofs.unlocks.leave_and_wake.Goals as goal
+use Rattle.run_base.specs.MutexCourses.{unlocks_at}
+use Rattle.run_base.proofs.Coming.{turn_outside}
+use Rattle.run_mutexes.proofs.unlocks.leave_and_wake.Goals as goal
 
 pub turn_leave-requires : goal.turn_leave-requires
 turn_leave-requires g c = (

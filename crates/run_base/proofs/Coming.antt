@@ -1,22 +1,25 @@
 -- How a call comes from one place to another, turn by turn, and what its turns do by the keys that the code
 -- computes.
-use Rattle.std.proofs.Common.{ℕ, ◌≡◌, ◌∙◌, None, Some, Option, refl, sym, subst}
+use Rattle.std.proofs.Common.{ℕ, ◌≡◌, ◌∙◌, Bool, None, Some, Option, refl, sym, subst}
 use Rattle.core_base.specs.declared.keys.Keys.TheVariants.{One, Two}
 use Rattle.core_base.specs.declared.requeues.Requeue.{Requeue as Moved}
+use Rattle.core_base.specs.declared.wants.Want.{Want}
 use Rattle.steps_base.specs.declared.acts.Act.{Act}
 use Rattle.steps_base.specs.declared.acts.Act.TheVariants.{Enter, Leave, Requeue, Take}
 use Rattle.steps_base.specs.declared.acts.Reply.{Reply}
 use Rattle.steps_base.specs.declared.acts.Wakes.{Wakes}
-use Rattle.steps_base.specs.declared.acts.Whom.TheVariants.{First}
+use Rattle.steps_base.specs.declared.acts.Whom.TheVariants.{First, Picked}
 use Rattle.spec_locks.specs.declared.outcomes.Answer.{Answer}
 use Rattle.lot_steps.specs.Steps.{act_of, next_act, next_place}
 use Rattle.lot_steps.specs.declared.places.Place.{Place}
 use Rattle.parking_lot_core.specs.declared.lot.ParkingLot.{ParkingLot}
 use Rattle.parking_lot_core.specs.declared.sections.Section.{Section}
 use Rattle.parking_lot_core.specs.declared.tokens.Token.{Token}
-use Rattle.run_base.specs.Fitting.{answer_of}
+use Rattle.run_base.specs.Fitting.{ReachedBy, answer_of, call_purpose}
+use Rattle.run_base.specs.Stages.{section_view, stage_of}
 use Rattle.run_base.specs.Turns.{HasActed, HasEnded, HasTurned, IsAtPlace, MayAct}
 use Rattle.run_base.specs.declared.words.Words.{Words}
+use Rattle.run_base.proofs.Ending.{outside}
 use Rattle.run_base.proofs.TurnsOn.{turn_ends, turn_leads, turn_then}
 
 -- a call has come from one place to another: what fits there the thread has, and whatever ends the call there
@@ -74,6 +77,17 @@ module _ {up : Type 0} {lot : ParkingLot} {words : Words} {p : Place} {old : Tok
         came.ends answer new (turn_ends up lot words q reply mid new there now (done q came.at is) came.at
         answer some)
 
+-- a thread that ended a call is outside all sections
+pub turn_outside : (up : Type 0) (lot : ParkingLot) (words : Words) (p : Place) (reply : Reply)
+    (old new : Token) (section now : Option Section) (answer : Answer) → IsAtPlace up lot words p old section
+    → HasTurned up lot words p reply old section new now → answer_of (next_act p reply) ≡ Some answer
+    → section_view now ≡ None
+turn_outside up lot words p reply old new section now answer at turned some =
+    let over = subst (λ (o : Option Answer). ReachedBy up at.4.0 (call_purpose p) (next_place p reply) o
+    (stage_of new now)) some (turned.3 at.4.0 at.4.1) in
+    outside up at.4.0 (stage_of new now).owns (call_purpose p) answer (section_view now)
+    (stage_of new now).last (stage_of new now).steps over
+
 -- an act by the keys that it is about, and by those that were computed
 module _ {a n : ℕ} (e : a ≡ n) where
   pub enters_one : Enter (One n) ≡ Enter (One a)
@@ -84,6 +98,11 @@ module _ {a n : ℕ} (e : a ≡ n) where
 
   pub leaves_one : {w v : Wakes} → w ≡ v → Leave (One n) v ≡ Leave (One a) w
   leaves_one h i = Leave (One (sym e i)) (sym h i)
+
+-- a take of those that a lock lets in, by what was computed
+pub takes_wanted : {a n : ℕ} {start wanted : Option Want} {recursive : Bool} → a ≡ n → start ≡ wanted
+    → Take n (Picked wanted recursive) ≡ Take a (Picked start recursive)
+takes_wanted {recursive} e h i = Take (sym e i) (Picked (sym h i) recursive)
 
 module _ {a b n m : ℕ} (e : a ≡ n) (f : b ≡ m) where
   pub enters_both : Enter (Two n m) ≡ Enter (Two a b)

@@ -11,7 +11,7 @@ ghost use Rattle.run_base.specs.Turns.{HasEnded, IsAtPlace};
 ghost use Rattle.steps_mutex.specs.declared.unlock.UnlockAt.TheVariants as unlock;
 ghost use Rattle.core_words.specs.declared.views.WordStep.{WordStep};
 ghost use Rattle.parking_lot_core.specs.Tokens.{IsSameThread};
-ghost use Rattle.run_locks.specs.MutexCourses.{locked_and_parked, taken_on, unlocks_at};
+ghost use Rattle.run_base.specs.MutexCourses.{locked_and_parked, taken_on, unlocks_at};
 
 use core_base::main_key;
 use lot_steps::Wakes;

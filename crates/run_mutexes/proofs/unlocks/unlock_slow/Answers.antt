@@ -5,8 +5,8 @@ use Rattle.run_base.specs.Courses.{Courses, trail_of}
 use Rattle.run_base.specs.Words.{at_in}
 use Rattle.run_base.proofs.Afterwards.{alone_at, path_after}
 use Rattle.steps_mutex.specs.declared.unlock.UnlockAt.TheVariants as unlock
-use Rattle.run_locks.specs.MutexCourses.{unlocks_at}
-use Rattle.run_locks.proofs.unlocks.unlock_slow.Goals as goal
+use Rattle.run_base.specs.MutexCourses.{unlocks_at}
+use Rattle.run_mutexes.proofs.unlocks.unlock_slow.Goals as goal
 
 pub returns-clause-path : goal.returns-clause-path
 returns-clause-path g c = λ before same saw untold. let n = c.args.word.number in

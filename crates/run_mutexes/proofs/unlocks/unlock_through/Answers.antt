@@ -6,9 +6,9 @@ use Rattle.core_base.specs.declared.keys.Keys.TheVariants.{One}
 use Rattle.spec_locks.specs.declared.outcomes.Answer.TheVariants.{Ok}
 use Rattle.run_base.proofs.TurnsOn.{turn_leads, turn_then}
 use Rattle.steps_mutex.specs.declared.unlock.UnlockAt.TheVariants as unlock
-use Rattle.run_locks.specs.MutexCourses.{taken_on, unlocks_at}
-use Rattle.run_locks.proofs.MutexGoing.{taken_here, taken_goes_on}
-use Rattle.run_locks.proofs.unlocks.unlock_through.Goals as goal
+use Rattle.run_base.specs.MutexCourses.{taken_on, unlocks_at}
+use Rattle.run_mutexes.proofs.MutexGoing.{taken_here, taken_goes_on}
+use Rattle.run_mutexes.proofs.unlocks.unlock_through.Goals as goal
 
 pub turn_enter-requires : goal.turn_enter-requires
 turn_enter-requires g c = (

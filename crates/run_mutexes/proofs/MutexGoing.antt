@@ -4,7 +4,7 @@ use Rattle.steps_base.specs.declared.acts.Reply.TheVariants.{Took}
 use Rattle.steps_mutex.specs.declared.unlock.UnlockAt.TheVariants as unlock
 use Rattle.lot_steps.specs.Steps.{next_act, next_place}
 use Rattle.run_base.specs.Fitting.{answer_of}
-use Rattle.run_locks.specs.MutexCourses.{taken_on, unlocks_at}
+use Rattle.run_base.specs.MutexCourses.{taken_on, unlocks_at}
 
 module _ (m : ℕ) (any : Bool) where
   pub taken_here : (none_left : Bool) → next_place (unlocks_at m unlock.Take) (Took any none_left)

@@ -1,0 +1,2 @@
+pub mod LockGoing
+pub mod MutexGoing
