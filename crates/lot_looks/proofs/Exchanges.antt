@@ -45,7 +45,8 @@ use Rattle.steps_rwlock.specs.declared.purposes.RwLockPurpose.TheVariants as pur
 use Rattle.steps_rwlock.specs.declared.release.WakeAt.{WakeAt}
 use Rattle.steps_rwlock.specs.declared.release.WakeAt.TheVariants as waking
 use Rattle.steps_rwlock.specs.RwLockProfiles.{gone_to}
-use Rattle.steps_rwlock.specs.RwLockSteps.{act_at, decided, decided_act, exchange, give_op, park_act, plus, rollback_op}
+use Rattle.steps_rwlock.specs.RwLockSteps.{act_at, decided, decided_act, exchange, give_op, park_act, plus}
+use Rattle.steps_rwlock.specs.RwLockSteps.{rollback_op}
 use Rattle.steps_rwlock.specs.RwLockSteps.{wake_act}
 use Rattle.steps_rwlock_fair.specs.declared.hand_over.HandOverAt.{HandOverAt}
 use Rattle.steps_rwlock_fair.specs.declared.hand_over.HandOverAt.TheVariants as handing
@@ -64,7 +65,8 @@ use Rattle.lot_steps.specs.declared.places.Place.{Place}
 use Rattle.lot_steps.specs.declared.places.Place.TheVariants.{Idle, Mutex, RwLock, Once, Condvar, Semaphore}
 use Rattle.lot_steps.specs.Steps.{in_condvar, in_mutex, in_once, in_rwlock, in_semaphore}
 use Rattle.lot_looks.specs.Looks.{EachExchangeIsKnown, call_looked, call_tries, condvar_looked, condvar_tries}
-use Rattle.lot_looks.specs.Looks.{is_exchange, freeing, mutex_looked, mutex_tries, once_looked, once_looked_by}
+use Rattle.lot_looks.specs.Looks.{is_exchange, freeing, mutex_looked, mutex_tries, once_looked}
+use Rattle.lot_looks.specs.Looks.{once_looked_by}
 use Rattle.lot_looks.specs.Looks.{rwlock_looked, rwlock_looked_by, rwlock_tries, semaphore_looked}
 
 -- if this act is an exchange, a look comes before it, or it is a try
@@ -221,7 +223,8 @@ module _ (l : ℕ) (a : Admission) where
   place_known p at.Look h = cc
   place_known p (at.Count seen) h = counts (has_aside seen) h
     where
-      counts : (b : Bool) → Known (if b then act.Enter (keys.One (2 * l + 1)) else exchange l seen (plus seen 2))
+      counts : (b : Bool) → Known (if b then act.Enter (keys.One (2 * l + 1)) else exchange l seen
+          (plus seen 2))
           (if b then None else Some at.Look) false
       counts true h = cc
       counts false h = inl refl
@@ -237,7 +240,8 @@ module _ (l : ℕ) (a : Admission) where
   call_there bumps p (Some to) = refl
 
   hands : (x : Access) (b : Bool) (to : HandOverAt)
-      → Known (hand_over_act l a x to) (call_looked a (call.HandOver x b to)) (call_tries (call.HandOver x b to))
+      → Known (hand_over_act l a x to) (call_looked a (call.HandOver x b to))
+      (call_tries (call.HandOver x b to))
   hands x b handing.Load h = cc
   hands access.Shared b (handing.Free seen) h = inr refl
   hands access.Upgradable b (handing.Free seen) h = inl refl
@@ -340,6 +344,7 @@ each_is_known Idle may h = cc
 each_is_known (Mutex l p) may h = through (in_mutex l) (in_mutex_there l) _ _ _ (mutex_known l p) h
 each_is_known (RwLock l a c) may h = through (in_rwlock l a) (in_rwlock_there l a) _ _ _ (call_known l a c) h
 each_is_known (Once l p) may h = through (in_once l) (in_once_there l) _ _ _ (once_known l p) h
-each_is_known (Condvar l p) may h = through (in_condvar l) (in_condvar_there l) _ _ _ (condvar_known l p may) h
+each_is_known (Condvar l p) may h = through (in_condvar l) (in_condvar_there l) _ _ _ (condvar_known l p may)
+    h
 each_is_known (Semaphore l p) may h =
     through (in_semaphore l) (in_semaphore_there l) _ _ _ (semaphore_known l p) h

@@ -1,7 +1,8 @@
 -- A thread looks at a word, and exchanges it by what it saw. Between the two another thread may change the
 -- word:
 -- then the exchange misses. What runs without such misses come to.
-use Rattle.std.specs.Prelude.{ℕ, Bool, true, false, Option, Some, None, if◌then◌else◌, ◌==◌, ◌≡◌, ◌&&◌, ◌⊎◌, not}
+use Rattle.std.specs.Prelude.{ℕ, Bool, true, false, Option, Some, None, if◌then◌else◌, ◌==◌, ◌≡◌, ◌&&◌}
+use Rattle.std.specs.Prelude.{◌⊎◌, not}
 use Rattle.std.specs.Prelude.{is_some, List, [], ◌∷◌, ◌++◌, map}
 use Rattle.core_base.specs.declared.ops.Op.{Op}
 use Rattle.core_base.specs.declared.ops.Op.TheVariants as op

@@ -12,7 +12,8 @@ turn_leave-requires g c =
     let at = wakes_at c.args.lock c.args._admission c.args.purpose in
     let up = IsUp g.C.Clock.tells c.args.limit in
     let lot = c.args.lot.now in let words = c.args.words in
-    let here = begins up lot words (at (waking.Leave c.args.any)) c.args.token.now c.args.section c.requires in
+    let here = begins up lot words (at (waking.Leave c.args.any)) c.args.token.now c.args.section c.requires
+    in
     let is = leaves_one c.main_key.ensures c.taken-wakes.ensures in
     may_do here is
 
@@ -21,7 +22,8 @@ end-requires g c =
     let at = wakes_at c.args.lock c.args._admission c.args.purpose in
     let up = IsUp g.C.Clock.tells c.args.limit in
     let lot = c.args.lot.now in let words = c.args.words in
-    let here = begins up lot words (at (waking.Leave c.args.any)) c.args.token.now c.args.section c.requires in
+    let here = begins up lot words (at (waking.Leave c.args.any)) c.args.token.now c.args.section c.requires
+    in
     let is = leaves_one c.main_key.ensures c.taken-wakes.ensures in
     turn_outside up lot words (at (waking.Leave c.args.any)) Done c.args.token.now c.turn_leave.new.token
     c.args.section c.turn_leave.new.section (ends_with c.args.purpose) c.requires
@@ -32,7 +34,8 @@ returns g c =
     let at = wakes_at c.args.lock c.args._admission c.args.purpose in
     let up = IsUp g.C.Clock.tells c.args.limit in
     let lot = c.args.lot.now in let words = c.args.words in
-    let here = begins up lot words (at (waking.Leave c.args.any)) c.args.token.now c.args.section c.requires in
+    let here = begins up lot words (at (waking.Leave c.args.any)) c.args.token.now c.args.section c.requires
+    in
     let is = leaves_one c.main_key.ensures c.taken-wakes.ensures in
     over here Done c.turn_leave.new.token c.turn_leave.new.section c.turn_leave.ensures is
     c.answer_after.result (ap Some (sym c.answer_after.ensures))

@@ -15,10 +15,12 @@ use Rattle.run_mutexes.proofs.calls.lock_timed_after_others.Goals as goal
 pub returns-clause-path : goal.returns-clause-path
 returns-clause-path g c = λ before same saw untold. let n = c.args.word.number in
     let courses = subst (λ (k : ℕ). Courses (at_in c.alone-words.result) c.args.token.now.number
-    (locks_at k entry.LockTimed lock.Load) (trail_of c.args.token.now None) (trail_of c.lock_through.new.token None)
+    (locks_at k entry.LockTimed lock.Load) (trail_of c.args.token.now None)
+    (trail_of c.lock_through.new.token None)
     c.lock_through.result) c.number-mutex.ensures c.lock_through.ensures.2 in
     path_after n LockTimed 3 before c.args.token.now c.lock_through.new.token c.lock_through.result
-    (subst (λ (at : ℕ → ℕ). Courses at c.args.token.now.number (locks_at c.args.word.number entry.LockTimed lock.Load)
+    (subst (λ (at : ℕ → ℕ). Courses at c.args.token.now.number (locks_at c.args.word.number entry.LockTimed
+    lock.Load)
     (trail_of c.args.token.now None) (trail_of c.lock_through.new.token None) c.lock_through.result)
     (ap at_in c.alone-words.ensures ∙ alone_at c.args.word c.requires.own.2) courses) same saw untold
 
