@@ -1,6 +1,5 @@
--- A thread looks at a word, and exchanges it by what it saw. Between the two another thread may change the
--- word:
--- then the exchange misses. What runs without such misses come to.
+-- A thread looks at a word, and exchanges it by the value that it saw. Another thread may change the word
+-- between the two; then the exchange misses. A run without such misses leads as far as any other.
 use Rattle.std.specs.Prelude.{ℕ, Bool, true, false, Option, Some, None, if◌then◌else◌, ◌==◌, ◌≡◌, ◌&&◌}
 use Rattle.std.specs.Prelude.{◌⊎◌, not}
 use Rattle.std.specs.Prelude.{is_some, List, [], ◌∷◌, ◌++◌, map}
