@@ -81,6 +81,10 @@ through g keeps y o b known h = elim (known h) [
   | inr is ↦ inr is
 ]
 
+-- nothing is both
+not_both : (b : Bool) → b ≡ false → b ≡ true → ⊥
+not_both b none some = let f : false ≡ true = sym none ∙ some in cc
+
 -- ---------------------------------------------------------------- mutexes
 
 mutex_known : (l : ℕ) (p : MutexPlace) → Known (mutex_act l p) (mutex_looked p) (mutex_tries p)
@@ -204,10 +208,6 @@ module _ (l : ℕ) (a : Admission) where
   rolls (purpose.Downgrade d) = refl
   rolls (purpose.Upgrade how) = refl
 
-  -- what is no exchange is known
-  no_exchange : {A : Type 0} (y : Act) (o : Option A) (b : Bool) → is_exchange y ≡ false → Known y o b
-  no_exchange y o b none h = absurd (let f : false ≡ true = sym none ∙ h in cc)
-
   place_known : (p : RwLockPlace) (to : RwLockAt)
       → Known (act_at l a p to) (rwlock_looked a p to) (rwlock_tries to)
   place_known p at.First h = inr refl
@@ -219,7 +219,7 @@ module _ (l : ℕ) (a : Admission) where
       decides decisions.Mark h = inl refl
       decides decisions.Park h = cc
       decides (decisions.Refuse answer) h = cc
-  place_known p (at.Park to) h = no_exchange _ _ _ (parks _ lines.Main to) h
+  place_known p (at.Park to) h = absurd (not_both _ (parks _ lines.Main to) h)
   place_known p at.Look h = cc
   place_known p (at.Count seen) h = counts (has_aside seen) h
     where
@@ -229,10 +229,10 @@ module _ (l : ℕ) (a : Admission) where
       counts true h = cc
       counts false h = inl refl
   place_known p at.Marked h = cc
-  place_known p (at.Aside to) h = no_exchange _ _ _ (parks _ lines.Second to) h
-  place_known p at.RollBack h = no_exchange _ _ _ (rolls p.purpose) h
-  place_known p at.GiveWay h = no_exchange _ _ _ (gives p.purpose) h
-  place_known p (at.Wake m to) h = no_exchange _ _ _ (wakes p.purpose m to) h
+  place_known p (at.Aside to) h = absurd (not_both _ (parks _ lines.Second to) h)
+  place_known p at.RollBack h = absurd (not_both _ (rolls p.purpose) h)
+  place_known p at.GiveWay h = absurd (not_both _ (gives p.purpose) h)
+  place_known p (at.Wake m to) h = absurd (not_both _ (wakes p.purpose m to) h)
 
   call_there : (bumps : Bool) (p : RwLockPlace) (o : Option RwLockAt)
       → is_some (in_call bumps (gone_to p o)) ≡ is_some o
@@ -259,14 +259,16 @@ module _ (l : ℕ) (a : Admission) where
   accepts access.Exclusive = refl
 
   call_known : (c : RwLockCallPlace) → Known (call_act l a c) (call_looked a c) (call_tries c)
-  call_known (call.Plain p) h = through (λ o. in_call false (gone_to p o)) (call_there false p) _ _ _
+  call_known (call.Plain p) h = through (λ o. in_call false (gone_to p o)) (call_there false p)
+      (act_at l a p p.at) (rwlock_looked a p p.at) (rwlock_tries p.at)
       (place_known p p.at) h
-  call_known (call.Bump p) h = through (λ o. in_call true (gone_to p o)) (call_there true p) _ _ _
+  call_known (call.Bump p) h = through (λ o. in_call true (gone_to p o)) (call_there true p)
+      (act_at l a p p.at) (rwlock_looked a p p.at) (rwlock_tries p.at)
       (place_known p p.at) h
   call_known (call.Glance x) h = cc
   call_known (call.HandOver x b to) h = hands x b to h
   call_known (call.Handed x how b (handed.Asleep by alone)) h = cc
-  call_known (call.Handed x how b handed.Accept) h = no_exchange _ _ _ (accepts x) h
+  call_known (call.Handed x how b handed.Accept) h = absurd (not_both _ (accepts x) h)
 
 -- ---------------------------------------------------------------- condition variables
 
@@ -304,7 +306,8 @@ condvar_known l (condvar.Wait m timed wait.GiveUp) reached h = cc
 condvar_known l (condvar.Wait m timed wait.RemoveMoved) reached h = cc
 condvar_known l (condvar.Wait m timed (wait.GiveUpMoved none_left)) reached h = cc
 condvar_known l (condvar.Wait m timed (wait.Lock timed_out at)) reached h =
-    through (in_lock m timed timed_out) (lock_there m timed timed_out) _ _ _ (mutex_known m at) h
+    through (in_lock m timed timed_out) (lock_there m timed timed_out) (mutex_act m at) (mutex_looked at)
+    (mutex_tries at) (mutex_known m at) h
 condvar_known l (condvar.Look all) reached h = cc
 condvar_known l (condvar.Notify all m notify.Enter) reached h = cc
 condvar_known l (condvar.Notify all m notify.Again) reached h = cc
@@ -341,10 +344,15 @@ in_semaphore_there l (Some p) = refl
 
 pub each_is_known : EachExchangeIsKnown
 each_is_known Idle may h = cc
-each_is_known (Mutex l p) may h = through (in_mutex l) (in_mutex_there l) _ _ _ (mutex_known l p) h
-each_is_known (RwLock l a c) may h = through (in_rwlock l a) (in_rwlock_there l a) _ _ _ (call_known l a c) h
-each_is_known (Once l p) may h = through (in_once l) (in_once_there l) _ _ _ (once_known l p) h
-each_is_known (Condvar l p) may h = through (in_condvar l) (in_condvar_there l) _ _ _ (condvar_known l p may)
+each_is_known (Mutex l p) may h = through (in_mutex l) (in_mutex_there l) (mutex_act l p) (mutex_looked p)
+    (mutex_tries p) (mutex_known l p) h
+each_is_known (RwLock l a c) may h = through (in_rwlock l a) (in_rwlock_there l a) (call_act l a c)
+    (call_looked a c) (call_tries c) (call_known l a c) h
+each_is_known (Once l p) may h = through (in_once l) (in_once_there l) (once_act l p) (once_looked p) false
+    (once_known l p) h
+each_is_known (Condvar l p) may h = through (in_condvar l) (in_condvar_there l) (condvar_act l p)
+    (condvar_looked p) (condvar_tries p) (condvar_known l p may)
     h
 each_is_known (Semaphore l p) may h =
-    through (in_semaphore l) (in_semaphore_there l) _ _ _ (semaphore_known l p) h
+    through (in_semaphore l) (in_semaphore_there l) (semaphore_act l p) (semaphore_looked p) false
+    (semaphore_known l p) h
