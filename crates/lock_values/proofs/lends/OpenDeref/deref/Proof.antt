@@ -1,7 +1,7 @@
 -- `deref` hands out what a `&` to the open place holds of the value.
 use Rattle.atomic_table.proofs.Names.{◌≡◌, ℕ, ◌+◌, List, [], ◌∷◌, ◌++◌, sym, refl, a_type, named, Val, vptr}
 use Rattle.atomic_table.proofs.Names.{inst_fn, SProp, emp, Lft, Fml, ftrue, fsep, flft, ‵, raw, ◌⊛◌, ◌$◌, ◌∵◌}
-use Rattle.atomic_table.proofs.Names.{!, qed, by, move, keep, split, join, fsplit, fjoin, use0, use1}
+use Rattle.atomic_table.proofs.Names.{ !, qed, by, move, keep, split, join, fsplit, fjoin, use0, use1}
 use Rattle.atomic_table.proofs.Names.{rewrite}
 use Rattle.atomic_table.proofs.Names.{feq_i, stop, fld, addr, returns, enter, alloc_all, pass_all, free_all}
 use Rattle.atomic_table.proofs.Names.{look_at, through, sets, sub, whole, tables, yes, RattleType, owns}
