@@ -1,7 +1,5 @@
 mod checked;
 mod disturbed;
-mod planted;
-mod planted_answers;
 mod scripts;
 mod walks;
 
