@@ -230,7 +230,7 @@ const TAKINGS: &[Taking<'static>] = &[
 ];
 
 /// The moments before and after the step in which the thread 0 takes them.
-fn taking(alloc: Global, taking: &Taking<'_>) -> Result<(Seen, Seen), AllocError> {
+fn moments(alloc: Global, taking: &Taking<'_>) -> Result<(Seen, Seen), AllocError> {
     let (mut waiters, mut left) = (Vec::new(alloc), Vec::new(alloc));
     let (mut before, mut after) = (Vec::new(alloc), Vec::new(alloc));
     before.push(AWAKE)?;
@@ -281,7 +281,7 @@ fn seen_alone(alloc: Global, threads: &[SeenThread], lock: Plan<'_>) -> Result<S
 #[test]
 fn picks_are_named(rt: HostRuntime) -> Result<(), Fail> {
     for plan in TAKINGS {
-        let (before, after) = taking(rt.alloc(), plan)?;
+        let (before, after) = moments(rt.alloc(), plan)?;
         let mut watch = Watch::new(rt.alloc(), before.threads.len())?;
         let call = plan.call;
         let (thread, call) = (0, Call::RwLock { lock: 0, call });
