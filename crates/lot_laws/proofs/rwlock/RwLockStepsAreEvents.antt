@@ -4,7 +4,7 @@ use Rattle.lot_laws.proofs.Names
 use Names.{ℕ, Bool, true, false, Option, Some, ◌≡◌, ◌≢◌, ◌<◌, ◌*◌, ◌+◌, List, [], ◌∷◌, length, refl, sym, ◌∙◌}
 use Names.{ap, subst, append-nil, Op, Act, Value, takes_effect, Location, Admission, RwLockPlace, MayStand}
 use Names.{rwlock_move, rwlock_hears, rwlock_act, rwlock_acts_move, MovesByAct, RwLockCallPlace, Plain}
-use Names.{Glance, HandOver, Bump, Handed, CallStands, in_hand_of, call_deeds, CallTells, CallMoves}
+use Names.{PeekQueue, HandOver, Bump, Handed, CallStands, in_hand_of, call_deeds, CallTells, CallMoves}
 use Names.{call_hears, call_move, call_profile, call_act, fair_acts_move, Idle, RwLock, called_lock}
 use Names.{next_place, case_of, event_by, LockCase, Begin, Deed, State, can_do, kind_at, owners_at, place_at}
 use Names.{put, queue_at, reply_to, share_at, shares_at, state_after_hand_over_by, word_at, IsWellFormed}
@@ -17,17 +17,17 @@ use Rattle.steps_rwlock_fair.specs.declared.hand_over.HandOverAt.TheVariants as 
 use Rattle.steps_rwlock_fair.specs.declared.handed.HandedAt.TheVariants as handed
 use Rattle.lot_laws.proofs.sites.ActsKept.{lock_by}
 use Rattle.lot_laws.proofs.machine.AtPlaces.{in_no_hand}
-use Rattle.lot_laws.proofs.calls.Events.{Happens, OthersFollow, happens, others_follow}
+use Rattle.lot_laws.proofs.calls.CallEvents.{IsEvent, OthersFollow, happens, others_follow}
 use Rattle.lot_laws.proofs.hands.HandsOn.{g, hands_fails, hands_tell, whom}
 use Rattle.lot_laws.proofs.hands.HandsOnEvents.{hands_happen, hands_others}
-use Rattle.lot_laws.proofs.rwlock.Kept.{admits}
+use Rattle.lot_laws.proofs.rwlock.RwLockStaysASite.{admits}
 use Rattle.lot_laws.proofs.promises.LineActs.{TakesHere, takes_here}
 use Rattle.lot_laws.proofs.machine.PlaceTest.{call_facts}
 use Rattle.lot_laws.proofs.calls.OtherCalls.{Stay, IsCalm, WakesOwn, calm, hands_nothing, lonely, no_hand_off}
 use Rattle.lot_laws.proofs.calls.OtherCalls.{wakes_own}
 use Rattle.lot_laws.proofs.promises.PlacePromises.{location_own}
-use Rattle.lot_laws.proofs.rwlock.Kept.{GoesFrom, admits_by, first_fits, stands}
-use Rattle.lot_laws.proofs.book.Kept.{begins_with, goes_on, whom_by}
+use Rattle.lot_laws.proofs.rwlock.RwLockStaysASite.{GoesFrom, admits_by, first_fits, stands}
+use Rattle.lot_laws.proofs.book.LockStaysASite.{begins_with, goes_on, whom_by}
 use Rattle.lot_laws.proofs.book.Pages.{booked}
 use Rattle.lot_laws.proofs.machine.Parts.{same}
 use Rattle.lot_laws.proofs.sites.SitesKept.{go_by}
@@ -50,7 +50,7 @@ gives_counted l k a (HandOver x b (handing.Leave any given)) op may e = absurd c
 gives_counted l k a (HandOver x b to) op may e = absurd cc
 gives_counted l k a (Plain p) op may e = absurd (plain_gives l k a p op may e)
 gives_counted l k a (Bump p) op may e = absurd (plain_gives l k a p op may.0 e)
-gives_counted l k a (Glance x) op may e = absurd cc
+gives_counted l k a (PeekQueue x) op may e = absurd cc
 gives_counted l k a (Handed x how b (handed.Asleep u alone)) op may e = absurd cc
 gives_counted l k a (Handed access.Exclusive how b handed.Accept) op may e = absurd cc
 gives_counted l k a (Handed access.Shared how b handed.Accept) op may e = absurd cc
@@ -74,7 +74,7 @@ module _ (w : State) (t l : ℕ) (a : Admission) (c : RwLockCallPlace) where
   pub record GoesOnBy (y : Act) : Type 0 where
     pub whom : Option ℕ
     pub tells : CallTells (rules_in w l) a (lock_by w l (rules_in w l)) t l c whom (reply_to w t y)
-    pub happened : Happens w (then_by y) t (event_by l (case_by whom y))
+    pub happened : IsEvent w (then_by y) t (event_by l (case_by whom y))
     pub others : OthersFollow w (then_by y) t (event_by l (case_by whom y))
 
 module _ (w : State) (t l : ℕ) (a : Admission) (c : RwLockCallPlace) (inductive : IsInductive w)
@@ -96,7 +96,7 @@ module _ (w : State) (t l : ℕ) (a : Admission) (c : RwLockCallPlace) (inductiv
 
   -- nobody else claims anything
   happens_by : (y : Act) (whom : Option ℕ) → goes whom y → tells whom y
-      → Happens w (then_by w t l a c y) t (event_by l (case_by w t l a c whom y))
+      → IsEvent w (then_by w t l a c y) t (event_by l (case_by w t l a c whom y))
   happens_by y whom went told = happens w (then_by w t l a c y) t l (call_profile a c).carries
       (deeds_by w t l a c whom y) [] inductive (subst (Goes w (then_by w t l a c y) l)
       (sym (append-nil (acts t (deeds_by w t l a c whom y)))) went) tt told.one
@@ -109,7 +109,7 @@ module _ (w : State) (t l : ℕ) (a : Admission) (c : RwLockCallPlace) (inductiv
     abbrev own_case : Option LockCase
     own_case = case_by w t l a c from.whom y
 
-    own_happened : Happens w (then_by w t l a c y) t (event_by l own_case)
+    own_happened : IsEvent w (then_by w t l a c y) t (event_by l own_case)
     own_happened = happens_by y from.whom from.goes from.tells
 
     -- those in its hand are woken, and nobody else's call changes
@@ -153,7 +153,7 @@ module _ (w : State) (t l : ℕ) (a : Admission) (c : RwLockCallPlace) (inductiv
       abbrev case : Option LockCase
       case = case_by w t l a c heir (act.HandOver l op)
 
-      happened : Happens w afterwards t (event_by l case)
+      happened : IsEvent w afterwards t (event_by l case)
       happened = happens_by (act.HandOver l op) heir
           (subst (λ q. Goes w (put (state_after_hand_over_by (takes_effect op (word_at w l)) w t
           (RwLock l a c) l op) t (next_place q (Value (word_at w l)))) l

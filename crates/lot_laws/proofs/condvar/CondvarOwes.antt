@@ -23,7 +23,7 @@ use Rattle.steps_condvar.specs.declared.wait.Stands.TheVariants as stands
 use Rattle.steps_condvar.specs.declared.wait.WaitAt.TheVariants as wait
 use Rattle.steps_condvar.specs.CondvarProfiles.{has_given_up}
 use Rattle.spec_locks.specs.Locks as locks
-use Rattle.lot_laws.proofs.calls.Events.{rights}
+use Rattle.lot_laws.proofs.calls.CallEvents.{rights}
 use Rattle.lot_laws.proofs.condvar.Replies.{fits_here, rules_beside}
 use Rattle.lot_laws.proofs.condvar.OwnStand.{IsStill, is_release, own_place, went_is, went_place}
 use Rattle.lot_laws.proofs.promises.PlacePromises.{LetsBy}

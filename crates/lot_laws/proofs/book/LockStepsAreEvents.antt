@@ -12,10 +12,11 @@ use Names.{carried_at, rules_in}
 use Rattle.spec_locks.specs.declared.outcomes.Outcome.TheVariants as outcome
 use Rattle.steps_base.specs.declared.acts.Act.TheVariants as act
 use Rattle.steps_base.specs.declared.acts.Next.TheVariants as next
-use Rattle.lot_laws.proofs.book.Kept.{Book, ComesBy, GoesFrom, Tied, goes_on, k, own, whom_by}
+use Rattle.lot_laws.proofs.book.LockStaysASite.{Book, ComesBy, GoesFrom, Tied, goes_on, k, own, whom_by}
 use Rattle.lot_laws.proofs.book.Page.{Says}
-use Rattle.lot_laws.proofs.calls.Events.{GoesAs, Happens, LeadsTo, OthersFollow, goes_by, goes_event, happens}
-use Rattle.lot_laws.proofs.calls.Events.{others_follow}
+use Rattle.lot_laws.proofs.calls.CallEvents.{GoesAs, IsEvent, LeadsTo, OthersFollow, goes_by, goes_event}
+use Rattle.lot_laws.proofs.calls.CallEvents.{happens}
+use Rattle.lot_laws.proofs.calls.CallEvents.{others_follow}
 use Rattle.lot_laws.proofs.calls.OtherCalls.{WakesOwn, hands_nothing, wakes_own}
 use Rattle.lot_laws.proofs.machine.AtPlaces.{in_no_hand}
 use Rattle.lot_laws.proofs.machine.Parts.{IsSingle, of_single, same}
@@ -53,7 +54,7 @@ module _ (w : State) (t l : ℕ) (p : Place) (inductive : IsInductive w) (shape 
   abbrev case : Option LockCase
   case = case_of v.row.carries (v.deeds (whom_by w (act_of p)) told)
 
-  happened : Happens w afterwards t (event_by l case)
+  happened : IsEvent w afterwards t (event_by l case)
   happened = happens w afterwards t l v.row.carries (v.deeds (whom_by w (act_of p)) told) [] inductive
       (subst (Goes w afterwards l) (sym (append-nil (acts t (v.deeds (whom_by w (act_of p)) told))))
       kept.goes) tt

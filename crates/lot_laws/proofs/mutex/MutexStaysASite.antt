@@ -27,7 +27,7 @@ use Rattle.steps_mutex.specs.declared.hand_off.HandOffAt.TheVariants as hand_off
 use Rattle.steps_mutex.specs.MutexLaws.{Follows, IsAt, LeavesMutex, MayHear}
 use Rattle.steps_mutex.specs.MutexLaws.{role_next}
 use Rattle.lot_laws.specs.ThreadDeeds.{Act as OneDeed}
-use Rattle.lot_laws.proofs.calls.Events.{AreClaims}
+use Rattle.lot_laws.proofs.calls.CallEvents.{AreClaims}
 use Rattle.lot_laws.specs.Locations.{hand}
 use Rattle.lot_laws.proofs.calls.LockEvents.{Befalls}
 use Rattle.lot_laws.proofs.calls.OtherCalls.{WakesOwn, befalls, befalls_nobody}
@@ -38,18 +38,18 @@ use Rattle.lot_laws.proofs.machine.Parts.{next_of, of_single, own_stance, role_h
 use Rattle.lot_laws.proofs.mutex.Acts.{IsOfWord, OwnedBy, owned_by, works_at}
 use Rattle.lot_laws.proofs.mutex.Hands.{accepts as has_now, first_goes, first_sleeps, first_stands, hands_to}
 use Rattle.lot_laws.proofs.mutex.Hands.{tries}
-use Rattle.lot_laws.proofs.mutex.Moves.{MutexMoves, StoresNothing, Works, mutex_acts_move, mutex_hears}
-use Rattle.lot_laws.proofs.mutex.Moves.{mutex_late_move, mutex_move, owner_alone}
+use Rattle.lot_laws.proofs.mutex.MutexMoves.{MutexMoves, StoresNothing, Works, mutex_acts_move, mutex_hears}
+use Rattle.lot_laws.proofs.mutex.MutexMoves.{mutex_late_move, mutex_move, owner_alone}
 use Rattle.lot_laws.proofs.mutex.Waiters.{CallsMutex, IsHeldThere, WasGivenThere, calls_mutex_at, given_there}
 use Rattle.lot_laws.proofs.mutex.Waiters.{held_there}
-use Rattle.lot_laws.proofs.book.Kept.{goes_on}
+use Rattle.lot_laws.proofs.book.LockStaysASite.{goes_on}
 use Rattle.lot_laws.proofs.book.Pages.{booked, semaphore_timed}
 use Rattle.lot_laws.proofs.once.Page.{keeps_all as once_keeps}
 use Rattle.lot_laws.proofs.semaphore.Page.{keeps_all as semaphore_keeps}
 use Rattle.lot_laws.proofs.sites.ByAct.{AreCalm, GoesBy, IsBrief, accepted, calm_case, into, left_main}
 use Rattle.lot_laws.proofs.sites.ByAct.{line_there, none_is, on_time, out_of, parked, section_there}
 use Rattle.lot_laws.proofs.sites.ByAct.{tells_all, took_first}
-use Rattle.lot_laws.proofs.rwlock.Steps.{rwlock_goes_on}
+use Rattle.lot_laws.proofs.rwlock.RwLockStepsAreEvents.{rwlock_goes_on}
 use Rattle.lot_laws.proofs.sites.ActsKept.{goes_inductive, lock_by}
 use Rattle.lot_laws.proofs.sites.FirstTaken.{TakesFirst}
 use Rattle.lot_laws.proofs.sites.FirstTaken as first

@@ -22,7 +22,7 @@ use Rattle.spec_locks.specs.declared.outcomes.Answer as answer
 use Rattle.steps_mutex.specs.MutexSteps.{in_lock, looked}
 use Rattle.lot_laws.proofs.machine.AtPlaces.{coded_for, owns}
 use Rattle.lot_laws.proofs.promises.RowPromises.{LetsIn, RowSees, RowOwesNext, IsLateNext, Befalls}
-use Rattle.lot_laws.proofs.mutex.Rows.{lock_owes, shut}
+use Rattle.lot_laws.proofs.mutex.MutexRows.{lock_owes, shut}
 use Rattle.lot_laws.specs.ThreadDeeds.{mutex_row}
 use Rattle.steps_mutex.specs.MutexSteps.{is_timed}
 use Rattle.spec_locks.specs.Locks as locks

@@ -5,7 +5,7 @@ use Names.{ℕ, Bool, true, false, Option, Some, None, if◌then◌else◌, ◌=
 use Names.{length, get_or-set_same, refl, sym, ◌∙◌, ap, subst, arith, is_closure, nat_tests, Access}
 use Names.{RwLockCall, Kind, Act, Next, Reply, outcome_of, Hand, Profile, hand, taken_from, Location}
 use Names.{Admission, RwLockPlace, has_access, from_of, rwlock_next, wanted, RwLockCallPlace, RwLockPurpose}
-use Names.{Ok, Done, HandedBy, Picked, Value, Woken, Normal, Plain, Glance, HandOver, Bump, Handed}
+use Names.{Ok, Done, HandedBy, Picked, Value, Woken, Normal, Plain, PeekQueue, HandOver, Bump, Handed}
 use Names.{HandOverAt, CallMoves, call_hears, call_move, any_taken, bump_next, call_act, call_next}
 use Names.{enters_again, freed_next, given, gives_up_at, gives_way, hand_over_next, has_room, looked}
 use Names.{plain_next, took, unless_given, fair_acts_move, never_given, call_first, call_right, CallOpens}
@@ -15,8 +15,8 @@ use Names.{GoesOn, HasRight, new_call, has_readers, State, can_do, owners_at, pl
 use Names.{state_after_act, IsWellFormed, performed_counts, call_state, lock_state, locks_of, taken_at}
 use Names.{AreCounted, FitsItsLock, IsInductive, rules_in}
 use Rattle.lot_laws.proofs.calls.Closures.{call_runs_none, closure_told}
-use Rattle.lot_laws.proofs.rwlock.Kept.{admits, stands}
-use Rattle.lot_laws.proofs.calls.Events.{RunsNothing, begins_nothing, runs_nothing}
+use Rattle.lot_laws.proofs.rwlock.RwLockStaysASite.{admits, stands}
+use Rattle.lot_laws.proofs.calls.CallEvents.{RunsNothing, begins_nothing, runs_nothing}
 use Rattle.spec_locks.specs.declared.calls.Access.TheVariants as access
 use Rattle.spec_locks.specs.declared.calls.Call.TheVariants as call
 use Rattle.spec_locks.specs.declared.calls.RwLockCall.TheVariants as rwlock_call
@@ -30,11 +30,11 @@ use Rattle.core_base.specs.declared.notes.Note.TheVariants.{HandOff}
 use Rattle.steps_rwlock_fair.specs.declared.hand_over.HandOverAt.TheVariants as handing
 use Rattle.steps_rwlock_fair.specs.declared.handed.HandedAt.TheVariants as handed
 use Rattle.steps_rwlock_fair.specs.FairSteps.{released}
-use Rattle.lot_laws.proofs.calls.Events.{LeadsTo, goes_by}
+use Rattle.lot_laws.proofs.calls.CallEvents.{LeadsTo, goes_by}
 use Rattle.lot_laws.proofs.machine.Parts.{IsSingle, is_owner, thread_is}
 use Rattle.lot_laws.proofs.promises.PlacePromises.{waiting_stands}
 use Rattle.lot_laws.proofs.promises.RowPromises.{IsWaiting, RowPromises, WasHanded, is_acting}
-use Rattle.lot_laws.proofs.rwlock.Steps.{GoesOnBy, case_by, rwlock_goes_on}
+use Rattle.lot_laws.proofs.rwlock.RwLockStepsAreEvents.{GoesOnBy, case_by, rwlock_goes_on}
 use Rattle.lot_laws.proofs.rwlock.CallRows.{call_promises}
 use Rattle.lot_laws.proofs.sites.SitesKept.{go_by}
 
@@ -131,8 +131,8 @@ own_next l a (Bump p) told own awake =
     by_next q (next.At p2) = never_given a l p2.at
     by_next (purpose.Release x) (next.End answer) = in_no_hand_now a (enters_again x) (enters_again_bare a x)
     by_next q (next.End answer) = tt
-own_next l a (Glance x) (Value seen) own awake = gives_up_awake l a x (gives_way a x seen)
-own_next l a (Glance x) told own awake = in_no_hand_now a (Glance x) refl
+own_next l a (PeekQueue x) (Value seen) own awake = gives_up_awake l a x (gives_way a x seen)
+own_next l a (PeekQueue x) told own awake = in_no_hand_now a (PeekQueue x) refl
 own_next l a (HandOver x b to) told own awake = handing_awake l a x b to told
 own_next l a (Handed x how b (handed.Asleep u alone)) told own awake = absurd (awake refl)
 own_next l a (Handed x how b handed.Accept) Done own awake = tt

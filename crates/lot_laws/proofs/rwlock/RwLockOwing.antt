@@ -7,7 +7,8 @@ use Names.{outcome_of, in_line, Admission, RwLockPlace, RwLockAt, RwLockPurpose,
 use Names.{plus, decided, patience_of, patience_at, entered, looked_by, missed, came_in, came_in_for}
 use Names.{exchanged_next, after_count, rolled_back, gave_way_by, park_next, parks_at, looks_again, clears}
 use Names.{wake_next, next_at, rwlock_act, rwlock_next, act_at, Admits, rwlock_role, pends, StandsAt}
-use Names.{MayStand, RwLockCallPlace, Plain, Glance, HandOver, Bump, Handed, HandOverAt, HandedAt, call_first}
+use Names.{MayStand, RwLockCallPlace, Plain, PeekQueue, HandOver, Bump, Handed, HandOverAt, HandedAt}
+use Names.{call_first}
 use Names.{bump_ended, bump_next, given, glances, hand_over_next, handed_by, handed_next, handed_woken}
 use Names.{plain_next, unless_given, woken_with, call_profile, rwlock_profile, owes_at, late_line_at}
 use Names.{purpose_by, count_in, has_aside, has_parked, parked_in, aside_in, Rules, Sort, has_readers, RwLock}
@@ -33,8 +34,8 @@ use Rattle.steps_rwlock.specs.RwLockProfiles.{is_timed}
 use Rattle.spec_locks.specs.Locks as sorts
 use Rattle.lot_laws.proofs.calls.PlainCalls.{plain_goes, plain_does}
 use Rattle.lot_laws.proofs.promises.RowPromises.{LetsIn, RowOwesNext, IsLateNext, Befalls}
-use Rattle.lot_laws.proofs.rwlock.Rows.{of, row_of, IsBefore, lesser, shut, shut_before, parking_inside}
-use Rattle.lot_laws.proofs.rwlock.Rows.{some_line}
+use Rattle.lot_laws.proofs.rwlock.RwLockRows.{of, row_of, IsBefore, lesser, shut, shut_before, parking_inside}
+use Rattle.lot_laws.proofs.rwlock.RwLockRows.{some_line}
 
 -- ---------------------------------------------------------------- effects on another thread
 
@@ -264,7 +265,7 @@ module _ (l : ℕ) (a : Admission) (r : Reply) (k : ℕ) where
   stays_owing x b to (reply.HandedBy v c) h = refl
   stays_owing x b to r h = absurd h
 
-  glance_stays : (x : Access) (r : Reply) → Befalls r → glances a x r ≡ next.At (Glance x)
+  glance_stays : (x : Access) (r : Reply) → Befalls r → glances a x r ≡ next.At (PeekQueue x)
   glance_stays x (reply.Woken n) h = refl
   glance_stays x (reply.TakenBy v) h = refl
   glance_stays x (reply.MovedTo key) h = refl
@@ -277,7 +278,7 @@ module _ (l : ℕ) (a : Admission) (r : Reply) (k : ℕ) where
       (given_owed a false p r) (befalls_at l a k p p.at r b)
   rwlock_befallen (Bump p) b = if_given p (given true p r) (bump_next p.purpose (rwlock_next a p r))
       (given_owed a true p r) (bump_owed l a p.purpose (rwlock_next a p r) k ∙ befalls_at l a k p p.at r b)
-  rwlock_befallen (Glance x) b = ap (λ n. line_owed (rwlock_goes l a n) k) (glance_stays x r b)
+  rwlock_befallen (PeekQueue x) b = ap (λ n. line_owed (rwlock_goes l a n) k) (glance_stays x r b)
   rwlock_befallen (HandOver x y to) b = ap (λ n. line_owed (rwlock_goes l a n) k) (stays_owing x y to r b)
   rwlock_befallen (Handed x how y to) b = handed_next_owes x how y to r b ∙ sym (nothing (l == k))
 
@@ -630,6 +631,6 @@ pub rwlock_late : (l : ℕ) (a : Admission) (c : RwLockCallPlace) (m : Line) →
     → IsLateNext (next_place (RwLock l a c) reply.Late) m
 rwlock_late l a (Plain p) m h = plain_late l a p p.at m h
 rwlock_late l a (Bump p) m h = bump_late l a p p.at m h
-rwlock_late l a (Glance x) m h = absurd cc
+rwlock_late l a (PeekQueue x) m h = absurd cc
 rwlock_late l a (HandOver x b to) m h = absurd cc
 rwlock_late l a (Handed x how b to) m h = absurd cc

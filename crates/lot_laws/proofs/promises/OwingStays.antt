@@ -22,11 +22,11 @@ use Rattle.lot_laws.proofs.machine.Befallen.{others_keep_it}
 use Rattle.lot_laws.proofs.rwlock.GoesOn.{goes_on_waking, takes_next}
 use Rattle.lot_laws.proofs.sites.TurnsKept.{idle_is, after_inductive}
 use Rattle.lot_laws.proofs.calls.SingleCalls.{call_none}
-use Rattle.lot_laws.proofs.condvar.Owes.{SeesBy, calm_owing, first_calm, two_goes_late, went_owing}
+use Rattle.lot_laws.proofs.condvar.CondvarOwes.{SeesBy, calm_owing, first_calm, two_goes_late, went_owing}
 use Rattle.lot_laws.proofs.machine.Parts.{IsLock, IsSingle, next_of, next_single, calls_none, of_lock_of}
 use Rattle.lot_laws.proofs.machine.Parts.{of_own, single_or_two}
 use Rattle.lot_laws.proofs.calls.Looking.{looking_inductive, calls_same}
-use Rattle.lot_laws.proofs.calls.Events.{rights as rights_at}
+use Rattle.lot_laws.proofs.calls.CallEvents.{rights as rights_at}
 use Rattle.lot_laws.proofs.promises.RowPromises.{CallsOneLock, RowFinds, RowLooks, releases_for}
 use Rattle.lot_laws.proofs.promises.RowPromises.{downgrades_for}
 use Rattle.lot_laws.proofs.promises.PlacePromises.{LetsBy, row_promises, row_calls_one, calls_one_lock}

@@ -4,7 +4,8 @@ use Rattle.lot_laws.proofs.Names
 use Names.{ℕ, Bool, true, false, Option, Some, None, if◌then◌else◌, ◌==◌, ◌≡◌, ◌≢◌, ◌⊎◌, ◌≤◌, List, [], ◌∷◌}
 use Names.{◌++◌, inl, inr, refl, sym, ◌∙◌, ap, subst, arith, line_of, moved_of, taken_of, Nothing, Moves}
 use Names.{gives_up, joined_by, KnowsRights, OfOnce, Sort, CondvarCase, Hide, Enters, Releases, Converts}
-use Names.{Bumps, CallsOnce, Awaits, lock_for, Recall, Blank, Saw, SawOwner, HasMoved, WasMoved, WasNotified}
+use Names.{Bumps, CallsOnce, Awaits, lock_for, CondvarMemory, Blank, Saw, SawOwner, HasMoved, WasMoved}
+use Names.{WasNotified}
 use Names.{Waits, Notifies, is_closure, Begins, cases_eq, eqb-true, nat_tests, Want, Answer, Outcome, Next}
 use Names.{Profile, call_by, MayCome, ComesTo, rights_where, called_lock, profile, Place, Idle, Purpose}
 use Names.{IsMadeOf, rules_of, InProgress, OnceCase, Start, Finish, Fail, Rest, TakeAll, OnceState, LockState}
@@ -57,7 +58,7 @@ Allows w t (AtLock l case) = Needs (rules_in w l) case (lock_state w l) t
 Allows w t (Moves c m all owned number) = Unit {0}
 
 -- the locks go through an event of t that they allow
-pub record Happens (w v : State) (t : ℕ) (e : Event) : Type 0 where
+pub record IsEvent (w v : State) (t : ℕ) (e : Event) : Type 0 where
   pub led : (k : ℕ) → lock_state v k ≡ locks_after (locks_of w) t e k
   pub needs : Allows w t e
   pub kinds : (k : ℕ) → kind_at v k ≡ kind_at w k
@@ -69,7 +70,7 @@ pub happens_at : (w v : State) (t l : ℕ) (c : Option LockCase) → IsInductive
     → ((k : ℕ) → kind_at v k ≡ kind_at w k)
     → lock_state v l ≡ after_event (rules_in w l) (event_by l c) (lock_state w l) t
     → ((k : ℕ) → k ≢ l → lock_state v k ≡ lock_state w k)
-    → EventNeeds (rules_in w l) (event_by l c) (lock_state w l) t → Happens w v t (event_by l c)
+    → EventNeeds (rules_in w l) (event_by l c) (lock_state w l) t → IsEvent w v t (event_by l c)
 happens_at w v t l None before after kinds here other needs =
     record {
       led = λ k. elim (cases_eq k l) [ inl e ↦ rw e here | inr ne ↦ other k ne ];
@@ -92,7 +93,7 @@ pub happens_moving : (w v : State) (t c m : ℕ) (all owned : Bool) (number : �
     → ((k : ℕ) → kind_at v k ≡ kind_at w k)
     → c ≢ m → lock_state v c ≡ left_after all (lock_state w c)
     → lock_state v m ≡ joined_by owned t (moved_of all (lock_state w c).queue) (lock_state w m)
-    → ((k : ℕ) → k ≢ c → k ≢ m → lock_state v k ≡ lock_state w k) → Happens w v t (Moves c m all owned number)
+    → ((k : ℕ) → k ≢ c → k ≢ m → lock_state v k ≡ lock_state w k) → IsEvent w v t (Moves c m all owned number)
 happens_moving w v t c m all owned number before after kinds apart left joined other = record {
   led = λ k. put_is (putting (lock_state w) c (left_after all (lock_state w c))) m _ k (lock_state v k)
       (λ e. rw e joined) (λ nm. put_is (lock_state w) c _ k (lock_state v k) (λ e. rw e left)
@@ -141,7 +142,7 @@ module _ (r : Rules) where
 pub happens : (w v : State) (t l : ℕ) (hand : Option Bool) (ds : List Deed) (claims : List Act)
     → IsInductive w
     → Goes w v l (acts t ds ++ claims) → AreClaims claims → AreOneCase ds
-    → (hand ≢ Some false → HasTakenNobody (lock_state w l) t) → Happens w v t (event_of l hand ds)
+    → (hand ≢ Some false → HasTakenNobody (lock_state w l) t) → IsEvent w v t (event_of l hand ds)
 happens w v t l hand ds claims inductive goes begin one free = happens_at w v t l (case_of hand ds) inductive
     (goes_inductive w v l (acts t ds ++ claims) inductive goes) goes.follows.kinds
     (ap (λ (s : Site). s.lock) goes.follows.site ∙ deeds_then (rules_in w l) t ds claims (site_of w l) begin
@@ -159,7 +160,7 @@ pub happens_sending : (w v : State) (t c m : ℕ) (all owned : Bool) (number : �
     ≡ acts t
     (Bring (taken_of owned (moved_of all (lock_state w c).queue))
     (line_of owned (moved_of all (lock_state w c).queue)) ∷ [])
-    → ((k : ℕ) → k ≢ c → k ≢ m → ds k ≡ []) → Happens w v t (Moves c m all owned number)
+    → ((k : ℕ) → k ≢ c → k ≢ m → ds k ≡ []) → IsEvent w v t (Moves c m all owned number)
 happens_sending w v t c m all owned number ds before after f apart sent brought others =
     happens_moving w v t c m all owned number before after f.kinds apart
     (locks_led c ∙ ap (λ done. (after_acts (rules_in w c) done (site_of w c)).lock) sent)
@@ -206,7 +207,7 @@ same_purpose (AtLock l case) x = by_case case
     by_case : (case : LockCase) → (going_on (AtLock l case) x).purpose ≡ x.purpose
     by_case locks.Late = late_purpose x.recalls
       where
-        late_purpose : (recalls : Recall) → (gives_up l recalls x).purpose ≡ x.purpose
+        late_purpose : (recalls : CondvarMemory) → (gives_up l recalls x).purpose ≡ x.purpose
         late_purpose Blank = refl
         late_purpose (Saw m) = refl
         late_purpose (SawOwner m owned) = refl
@@ -257,7 +258,7 @@ runs_nothing sorts l (CallsOnce k forced) own knows other = other (subst (λ j. 
 runs_nothing sorts l (Awaits k forced timed) own knows other = other (subst (λ j. sorts j ≡ Once) own knows)
 runs_nothing sorts l p own knows other = tt
 
-pub never_starts : (p : Purpose) (g : Option ℕ) (r : Bool) (q : Recall) (l : ℕ) (forced : Bool)
+pub never_starts : (p : Purpose) (g : Option ℕ) (r : Bool) (q : CondvarMemory) (l : ℕ) (forced : Bool)
     → RunsNothing p
     → IsMadeOf p g r q l (OfOnce (Start forced)) → ⊥
 never_starts (Enters k x how) g r q l forced h m = m.1
@@ -301,7 +302,7 @@ CallLed w v t e call o =
     ⊎ ((a : Answer) × (o ≡ outcome.TheVariants.End a) × (place_at v t ≡ Idle)
     × AnswerHolds call.purpose (locks_of v) t (going_on e call) a)
 
-module _ (w v : State) (t : ℕ) (e : Event) (h : Happens w v t e) (call : CallState) (is : call_at w t ≡ call)
+module _ (w v : State) (t : ℕ) (e : Event) (h : IsEvent w v t e) (call : CallState) (is : call_at w t ≡ call)
     (o : Outcome) where
   own_call : CallLed w v t e call o
       → call_state (place_at v t) (rights v t) ≡ unless_ended o (woken (locks_of w) t e t (going_on e call))
@@ -351,11 +352,11 @@ module _ (w v : State) (t : ℕ) (e : Event) (h : Happens w v t e) (call : CallS
 
 -- ---------------------------------------------------------------- one lock's part
 
-module _ (w v : State) (t l : ℕ) (c : Option LockCase) (h : Happens w v t (event_by l c)) where
+module _ (w v : State) (t l : ℕ) (c : Option LockCase) (h : IsEvent w v t (event_by l c)) where
   pub led_here : lock_state v l ≡ after_event (rules_in w l) (event_by l c) (lock_state w l) t
   led_here = by_case c h
     where
-      by_case : (c : Option LockCase) → Happens w v t (event_by l c)
+      by_case : (c : Option LockCase) → IsEvent w v t (event_by l c)
           → lock_state v l ≡ after_event (rules_in w l) (event_by l c) (lock_state w l) t
       by_case None h = h.led l
       by_case (Some case) h = h.led l ∙ put_here (lock_state w) l (after_event (rules_in w l) (AtLock l case)
@@ -364,7 +365,7 @@ module _ (w v : State) (t l : ℕ) (c : Option LockCase) (h : Happens w v t (eve
   pub led_elsewhere : (k : ℕ) → k ≢ l → lock_state v k ≡ lock_state w k
   led_elsewhere k ne = by_case c h
     where
-      by_case : (c : Option LockCase) → Happens w v t (event_by l c) → lock_state v k ≡ lock_state w k
+      by_case : (c : Option LockCase) → IsEvent w v t (event_by l c) → lock_state v k ≡ lock_state w k
       by_case None h = h.led k
       by_case (Some case) h = h.led k ∙ put_other (lock_state w) l (after_event (rules_in w l) (AtLock l case)
           (lock_state w l) t) k ne
@@ -372,7 +373,7 @@ module _ (w v : State) (t l : ℕ) (c : Option LockCase) (h : Happens w v t (eve
   needs_here : EventNeeds (rules_in w l) (event_by l c) (lock_state w l) t
   needs_here = by_case c h
     where
-      by_case : (c : Option LockCase) → Happens w v t (event_by l c) → EventNeeds (rules_in w l)
+      by_case : (c : Option LockCase) → IsEvent w v t (event_by l c) → EventNeeds (rules_in w l)
           (event_by l c) (lock_state w l) t
       by_case None h = tt
       by_case (Some case) h = h.needs

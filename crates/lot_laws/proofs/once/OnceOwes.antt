@@ -15,7 +15,7 @@ use Rattle.steps_once.specs.declared.give_up.GiveUpAt.TheVariants as give_up
 use Rattle.steps_once.specs.declared.run.RunAt.TheVariants as run
 use Rattle.steps_once.specs.declared.places.OncePlace.TheVariants.{Look}
 use Rattle.steps_once.specs.OnceSteps.{still_retries}
-use Rattle.lot_laws.proofs.once.Rows.{gives_up_quietly, lets_nobody, look_owes}
+use Rattle.lot_laws.proofs.once.OnceRows.{gives_up_quietly, lets_nobody, look_owes}
 use Rattle.lot_laws.proofs.promises.RowPromises.{RowOwesNext, RowOwesThen, owes_then}
 
 -- it looks nowhere first

@@ -2,7 +2,8 @@
 use Rattle.lot_laws.proofs.Names
 use Names.{ℕ, true, false, Option, Some, None, ◌≡◌, ◌⊎◌, inl, inr, refl, sym, ◌∙◌, ap, subst, Want, Exclusive}
 use Names.{Upgradable, Shared, Outcome, is_parked, line_owed, Knows, Sort, parked_in, aside_in, word_by, Line}
-use Names.{Main, Second, has_readers, Recall, Purpose, Enters, Releases, Converts, Bumps, CallsOnce, Awaits}
+use Names.{Main, Second, has_readers, CondvarMemory, Purpose, Enters, Releases, Converts, Bumps, CallsOnce}
+use Names.{Awaits}
 use Names.{Waits, Notifies, State, place_at, word_at, kind_at, owner_at, lock_state, call_at, is_mutex}
 use Names.{rules_in, Owes, IsInside, IsWait, ReleasesLock, LetsOthersIn, SeesWaiters, OwesSince, OnlyLooks}
 use Names.{LooksFirst, line_let_in, tells_by, sort_at, WakesWaiters, IsKept, IsLookedAfterIn, IsOpenNow}
@@ -21,7 +22,8 @@ only_exclusive Exclusive h = refl
 only_exclusive x h = absurd h
 
 -- each thread that wakes the waiters of a mutex releases it, waits with it, or notifies and has seen it
-wakes_one : (sort : ℕ → Sort) (q : Option Purpose) (g : Option ℕ) (r : Recall) (l : ℕ) → sort l ≡ locks.Mutex
+wakes_one : (sort : ℕ → Sort) (q : Option Purpose) (g : Option ℕ) (r : CondvarMemory) (l : ℕ)
+    → sort l ≡ locks.Mutex
     → KnowsRights sort q
     → WakesWaiters locks.Mutex q g r l → WakesOne q r l
 wakes_one sort None g r l e knows h = h

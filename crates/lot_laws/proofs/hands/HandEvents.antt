@@ -8,9 +8,9 @@ use Names.{readers, rights_of, AtLock, after_wake, is_taken_by, State, place_at,
 use Names.{taken_at, rules_in}
 use Rattle.lot_laws.specs.ThreadDeeds.{Act}
 use Rattle.lot_laws.proofs.machine.Parts.{past_all, put_same, same, IsSingle}
-use Rattle.lot_laws.proofs.calls.Events.{AreClaims, Happens, OthersFollow, rights, rights_led}
+use Rattle.lot_laws.proofs.calls.CallEvents.{AreClaims, IsEvent, OthersFollow, rights, rights_led}
 use Rattle.lot_laws.proofs.hands.Rights.{given, given_right, handed_have, others_have}
-use Rattle.lot_laws.proofs.hands.Kept.{claim_of, claims_given}
+use Rattle.lot_laws.proofs.hands.HandsStay.{claim_of, claims_given}
 use Rattle.lot_laws.proofs.calls.LockEvents.{Befalls, recalls_nothing, unmoved}
 
 -- ---------------------------------------------------------------- claims
@@ -44,7 +44,7 @@ IsHandedCall l t alone x p = (r : ℕ → Rights) → call_state (next_place p (
     (putting r l (given_right alone x (r l))) ≡ record (call_state p r) { retries = None }
 
 module _ (w v : State) (t l : ℕ) (right : Want) (successor : Option Queued)
-    (h : Happens w v t (AtLock l (HandOff right successor))) (alone : Bool)
+    (h : IsEvent w v t (AtLock l (HandOff right successor))) (alone : Bool)
     (unshared : alone ≡ (readers (given (rules_in w l) (lock_state w l) t right successor
     (h.before.sites.site l).state h.needs) == 0)) where
   led_to : (u : ℕ) (x : Rights) → rights_of (handed t right successor (lock_state w l)) u ≡ x → (k : ℕ)

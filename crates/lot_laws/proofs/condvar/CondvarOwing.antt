@@ -10,7 +10,7 @@ use Rattle.steps_base.specs.declared.acts.Next.TheVariants as next
 use Rattle.steps_condvar.specs.declared.notify.NotifyAt.TheVariants as notify
 use Rattle.steps_condvar.specs.declared.wait.WaitAt.TheVariants as wait
 use Rattle.lot_laws.proofs.machine.Parts.{same}
-use Rattle.lot_laws.proofs.mutex.Owing.{mutex_befallen}
+use Rattle.lot_laws.proofs.mutex.MutexOwing.{mutex_befallen}
 use Rattle.lot_laws.proofs.promises.RowPromises.{Befalls}
 
 -- while it locks its mutex again, it owes there what such a call owes

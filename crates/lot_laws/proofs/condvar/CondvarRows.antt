@@ -8,7 +8,7 @@ use Names.{next_lock, next_unlock, still_retries, RwLockCallPlace, call_next, On
 use Names.{CondvarPlace, Wait, Look, Notify, WaitAt, condvar_profile, condvar_row, mutex_side, condvar_next}
 use Names.{in_wait, mutex_beside, relocked, Place, Idle, Mutex, RwLock, Once, Condvar, Semaphore}
 use Names.{condvar_goes, is_lock, mutex_goes, profile, next_place, once_goes, profile_at, rwlock_goes}
-use Names.{semaphore_goes, CondvarStage}
+use Names.{semaphore_goes, CondvarPhase}
 use Rattle.core_base.specs.declared.notes.Note.TheVariants as note
 use Rattle.steps_base.specs.declared.acts.Next.TheVariants as next
 use Rattle.steps_mutex.specs.declared.places.MutexPlace.TheVariants as mutex
@@ -24,7 +24,7 @@ use Rattle.lot_laws.proofs.promises.RowPromises.{Befalls}
 
 -- ---------------------------------------------------------------- by the place
 
-abbrev pub stage_of : Place → ℕ → Option CondvarStage
+abbrev pub stage_of : Place → ℕ → Option CondvarPhase
 stage_of (Condvar c at) k = if c == k then (condvar_row at).stage else None
 stage_of p k = None
 

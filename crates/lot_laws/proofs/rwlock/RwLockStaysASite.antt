@@ -6,7 +6,7 @@ use Names.{apply, Want, IsNotLate, RwLockCall, Kind, Patience, Act, Next, Reply,
 use Names.{Late, TakenBy, Woken, Wakes, StaysPut, Picks, TakesAside, TellsHanded, takes_aside, row_of}
 use Names.{Profile, hand, in_hand, taken_from, Location, location_by, shares_then, Admission, RwLockPlace}
 use Names.{RwLockAt, patience_of, Admits, late_line_at, HasDeadline, MayBeTold, admission_of_kind}
-use Names.{RwLockCallPlace, Plain, Glance, HandOver, Bump, Handed, CallMayBeTold, CallMayHear, CallStands}
+use Names.{RwLockCallPlace, Plain, PeekQueue, HandOver, Bump, Handed, CallMayBeTold, CallMayHear, CallStands}
 use Names.{CallStandsNext, IsInCall, call_deeds, call_role, call_role_next, CallMoves, call_hears, call_move}
 use Names.{call_late_line, call_profile, fair_acts_move, fair_late_moves, fair_sleepers_move}
 use Names.{fair_sections_tell, fair_steps_tell, fair_steps_code, fair_steps_follow, handed_move}
@@ -59,7 +59,7 @@ goes_row l a (next.End answer) = refl
 
 pub role_row : (a : Admission) (c : RwLockCallPlace) → (call_profile a c).role ≡ call_role c
 role_row a (Plain p) = refl
-role_row a (Glance x) = refl
+role_row a (PeekQueue x) = refl
 role_row a (HandOver x b to) = refl
 role_row a (Bump p) = refl
 role_row a (Handed x how b to) = refl
@@ -116,21 +116,21 @@ module _ (a : Admission) where
   pub call_told_other : (c : RwLockCallPlace) (told : Reply) → IsOther told → CallMayBeTold a c told
   call_told_other (Plain p) told h = told_other a p p.at told h
   call_told_other (Bump p) told h = told_other a p p.at told h
-  call_told_other (Glance x) told h = tt
+  call_told_other (PeekQueue x) told h = tt
   call_told_other (HandOver x b to) told h = tt
   call_told_other (Handed x how b to) told h = tt
 
   pub call_told_value : (c : RwLockCallPlace) (v : ℕ) → v < 2 ^ 64 → CallMayBeTold a c (Value v)
   call_told_value (Plain p) v h = told_value a p p.at v h
   call_told_value (Bump p) v h = told_value a p p.at v h
-  call_told_value (Glance x) v h = tt
+  call_told_value (PeekQueue x) v h = tt
   call_told_value (HandOver x b to) v h = tt
   call_told_value (Handed x how b to) v h = tt
 
   pub call_told_late : (c : RwLockCallPlace) (m : Line) → call_late_line c ≡ Some m → CallMayBeTold a c Late
   call_told_late (Plain p) m h = told_late a p p.at (patience_of p.purpose) refl m h
   call_told_late (Bump p) m h = told_late a p p.at (patience_of p.purpose) refl m h
-  call_told_late (Glance x) m h = tt
+  call_told_late (PeekQueue x) m h = tt
   call_told_late (HandOver x b to) m h = tt
   call_told_late (Handed x how b to) m h = tt
 
@@ -139,7 +139,7 @@ module _ (a : Admission) where
       → CallMayBeTold a c Done
   call_told_done r s t (Plain p) whom h = told_done a p r s t p.at whom h
   call_told_done r s t (Bump p) whom h = told_done a p r s t p.at whom h
-  call_told_done r s t (Glance x) whom h = tt
+  call_told_done r s t (PeekQueue x) whom h = tt
   call_told_done r s t (HandOver x b to) whom h = tt
   call_told_done r s t (Handed x how b to) whom h = tt
 

@@ -18,8 +18,9 @@ use Rattle.steps_mutex.specs.declared.hand_off.HandOffAt.TheVariants as hand_off
 use Rattle.steps_mutex.specs.declared.places.MutexPlace.TheVariants.{HandOff}
 use Rattle.spec_locks.specs.Locks as locks
 use Rattle.lot_laws.proofs.machine.AtPlaces.{in_no_hand}
-use Rattle.lot_laws.proofs.calls.Events.{GoesAs, Happens, LeadsTo, OthersFollow, RunsNothing, begins_nothing}
-use Rattle.lot_laws.proofs.calls.Events.{goes_by, happens, others_follow, put_is, rights, runs_nothing}
+use Rattle.lot_laws.proofs.calls.CallEvents.{GoesAs, IsEvent, LeadsTo, OthersFollow, RunsNothing}
+use Rattle.lot_laws.proofs.calls.CallEvents.{begins_nothing}
+use Rattle.lot_laws.proofs.calls.CallEvents.{goes_by, happens, others_follow, put_is, rights, runs_nothing}
 use Rattle.lot_laws.proofs.calls.Closures.{closure_told}
 use Rattle.lot_laws.proofs.calls.LockEvents.{hands_others}
 use Rattle.lot_laws.proofs.calls.OtherCalls.{WakesOwn, hands_nothing, wakes_own}
@@ -29,7 +30,8 @@ use Rattle.lot_laws.proofs.machine.PlaceTest.{mutex_row_facts}
 use Rattle.lot_laws.proofs.promises.LineActs.{takes_here}
 use Rattle.lot_laws.proofs.promises.PlacePromises.{waiting_stands}
 use Rattle.lot_laws.proofs.promises.RowPromises.{IsWaiting}
-use Rattle.lot_laws.proofs.mutex.Kept.{GoesFrom, are_claims, claims_at, goes_mutex, rules_are, sort_is}
+use Rattle.lot_laws.proofs.mutex.MutexStaysASite.{GoesFrom, are_claims, claims_at, goes_mutex, rules_are}
+use Rattle.lot_laws.proofs.mutex.MutexStaysASite.{sort_is}
 use Rattle.lot_laws.proofs.sites.SitesKept.{go_by}
 
 in_line : ◌≡◌ {A = Option Line} (Some Main) None → ⊥
@@ -59,7 +61,7 @@ module _ (w : State) (t l : ℕ) (at : MutexPlace) (inductive : IsInductive w) (
   abbrev case : Option LockCase
   case = case_of (mutex_row at).carries (mutex_deeds at kept.whom told)
 
-  happened : Happens w afterwards t (event_by l case)
+  happened : IsEvent w afterwards t (event_by l case)
   happened = happens w afterwards t l (mutex_row at).carries (mutex_deeds at kept.whom told)
       (claims_at at kept.whom) inductive kept.goes (are_claims at kept.whom) kept.tells.one
       (λ none. in_no_hand w inductive t l (λ h. none (sym carries ∙ h)))
@@ -73,7 +75,7 @@ module _ (w : State) (t l : ℕ) (at : MutexPlace) (inductive : IsInductive w) (
         (takes_here l (location (Mutex l at)) (mutex_act l at) (mutex_row_facts l at).line) case
         (subst (λ h. WakesOwn h (mutex_act l at) case) (sym carries) own))
     | inr on ↦ subst (λ c. OthersFollow w afterwards t (event_by l c)) (sym on.1)
-        (hands_others w afterwards t l kept.whom (subst (λ c. Happens w afterwards t (event_by l c)) on.1
+        (hands_others w afterwards t l kept.whom (subst (λ c. IsEvent w afterwards t (event_by l c)) on.1
         happened)
         (rules_are w t l at inductive shape there lt is) on.3 on.0 on.2)
   ]
@@ -156,7 +158,7 @@ module _ (w : State) (t l : ℕ) (e : Entry) (again : Bool) (inductive : IsInduc
       })
     where
       locks_stay : (k : ℕ) → lock_state decided k ≡ lock_state w k
-      locks_stay k = let h : Happens w decided t Nothing = happened w t l (Lock e again lock.Load) inductive
+      locks_stay k = let h : IsEvent w decided t Nothing = happened w t l (Lock e again lock.Load) inductive
           shape there lt is refl in h.led k
 
       rights_stay : (u : ℕ) → rights decided u ≡ rights w u

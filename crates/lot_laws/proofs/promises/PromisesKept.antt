@@ -37,8 +37,8 @@ use Rattle.lot_laws.proofs.promises.PlacePromises.{row_promises, location_own, r
 use Rattle.lot_laws.proofs.promises.PlacePromises.{calls_one_lock, role_calls, location_calls, stands_waiting}
 use Rattle.lot_laws.proofs.promises.PlacePromises.{waiting_stands, call_own, inside_own}
 use Rattle.lot_laws.proofs.calls.SingleCalls.{call_none, single_call}
-use Rattle.lot_laws.proofs.condvar.Promises.{StandsAt, two_know, two_one, two_owe_main, two_purpose}
-use Rattle.lot_laws.proofs.condvar.Promises.{two_retry, two_wait}
+use Rattle.lot_laws.proofs.condvar.CondvarPromises.{StandsAt, two_know, two_one, two_owe_main, two_purpose}
+use Rattle.lot_laws.proofs.condvar.CondvarPromises.{two_retry, two_wait}
 use Rattle.lot_laws.proofs.machine.Parts.{IsOfTwo, condvar_apart, fits_two, single_or_two}
 use Rattle.lot_laws.proofs.promises.PlacePromises.{stands_there, there_stands}
 use Rattle.lot_laws.proofs.condvar.Asleep.{WasHandedBeside, two_asleep, two_hand_none}
