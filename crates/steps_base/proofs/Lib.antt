@@ -1,1 +1,2 @@
 pub mod RowCheck
+pub mod Moving
