@@ -4,7 +4,6 @@ pub mod Steps
 pub mod Opening
 pub mod Fresh
 pub mod Going
-pub mod Apart
 pub mod Fields
 pub mod Sent
 pub mod Excludes
