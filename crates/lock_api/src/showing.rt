@@ -1,5 +1,5 @@
 //! Mutexes that are shown.
-ghost use Rattle.std.specs.Prelude.{◌≡◌, ◌⊎◌, IfSome, MatchOption};
+ghost use Rattle.std.specs.Prelude.{◌≡◌, ◌⊎◌, ◌+◌, IfSome, MatchOption};
 ghost use Rattle.lock_raw.specs.Answers.{answer_by};
 ghost use Rattle.lock_raw.specs.Counts.{CountedAgain, SawFull, SawOthers, first_count};
 ghost use Rattle.lock_api.specs.Guards.{lock_of};
@@ -38,6 +38,8 @@ impl<R: RawMutexCounted, G: GetThreadId<R>, T> ReentrantMutex<R, G, T> {
         requires { R.is_token_of (R.lot_of self.now.0) token.old }
         ensures token { R.is_token_of (R.lot_of self.now.0) token.new × R.stays token.old token.new }
         ensures guard { IfSome result.guard (λ guard. guard.mutex.now ≡ self.now) }
+        ensures named { IfSome result.guard
+            (λ guard. R.thread_of guard.share ≡ R.number_of token.old + 1) }
         ensures path { MatchOption result.guard
             (StayedOut (SawOthers (R.saw_count self.now.0) (R.number_of token.old))
             (R.walked self.now.0 TryLock answers.No) token.old token.new
