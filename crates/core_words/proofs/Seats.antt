@@ -142,7 +142,11 @@ splits_off words family id v x there nothing apart = splits words family id v (w
         total-without (λ (y : Ownership). cond (eqb y.at r) (weight y.owner) 0)
             x v.owns there,
       );
-      says = λ r. omega (arith, total-without (λ (y : Ownership). cond (eqb y.at r) y.count 0) x v.owns there);
+      says = λ r. omega (
+        arith,
+        total-without (λ (y : Ownership). cond (eqb y.at r) y.count 0) x v.owns
+            there,
+      );
       did = λ r. omega arith;
       drawn = λ weight. omega arith;
       out = λ r. omega arith;
