@@ -134,9 +134,8 @@ impl<R: RawMutexCounted, G: GetThreadId<R>, T> ReentrantMutex<R, G, T> {
     ///
     /// As of `lock`.
     #[inline]
-    pub fn try_lock<W: Wait>(
+    pub fn try_lock(
         &self,
-        _rt: &W,
         token: &mut R::Token,
     ) -> Result<Option<ReentrantMutexGuard<'_, R, G, T>>, Fault>
         requires { R.is_token_of (R.lot_of self.now.0) token.old }
@@ -245,9 +244,8 @@ impl<'a, R: RawMutexCounted, G: GetThreadId<R>, T> ReentrantMutexGuard<'a, R, G,
     ///
     /// `LockCountFull` with the guard, where this thread has locked the mutex 4294967295 times.
     #[inline]
-    pub fn again<W: Wait>(
+    pub fn again(
         self,
-        _rt: &W,
         token: &mut R::Token,
     ) -> Result<
         (

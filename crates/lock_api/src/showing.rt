@@ -12,7 +12,6 @@ use crate::mutex::Mutex;
 use crate::reentrant::{ReentrantMutex, ReentrantMutexGuard};
 use lock_raw::{GetThreadId, RawMutex, RawMutexCounted};
 use lock_values::{LockName, Shown};
-use std::sync::Wait;
 
 impl<R: RawMutex, T> Mutex<R, T> {
     /// Shows the mutex, by one try: its value where nobody owns it, and `<locked>` where somebody
@@ -30,11 +29,7 @@ impl<R: RawMutex, T> Mutex<R, T> {
 impl<R: RawMutexCounted, G: GetThreadId<R>, T> ReentrantMutex<R, G, T> {
     /// Shows the mutex, by one try: its value where no other thread has it, and `<locked>` where
     /// another does, or where this one has locked it as often as can be counted.
-    pub fn show<W: Wait>(
-        &self,
-        rt: &W,
-        token: &mut R::Token,
-    ) -> Shown<ReentrantMutexGuard<'_, R, G, T>>
+    pub fn show(&self, token: &mut R::Token) -> Shown<ReentrantMutexGuard<'_, R, G, T>>
         requires { R.is_token_of (R.lot_of self.now.0) token.old }
         ensures token { R.is_token_of (R.lot_of self.now.0) token.new × R.stays token.old token.new }
         ensures guard { IfSome result.guard (λ guard. guard.mutex.now ≡ self.now) }
@@ -52,7 +47,7 @@ impl<R: RawMutexCounted, G: GetThreadId<R>, T> ReentrantMutex<R, G, T> {
             (R.stored_count self.now.0 0 (first_count (R.number_of token.old)))
             token.old token.new) }
     {
-        let guard = match self.try_lock(rt, token) {
+        let guard = match self.try_lock(token) {
             Ok(guard) => guard,
             Err(_) => None,
         };

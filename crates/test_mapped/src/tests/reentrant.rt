@@ -74,7 +74,7 @@ fn tried<'a, T, R: Wait + Abort>(
     ensures guard { IfSome result (λ guard. (guard.mutex.now ≡ mutex.now)
         × (thread_of guard.share ≡ token.old.number + 1)) }
 {
-    match mutex.try_lock(rt, token) {
+    match mutex.try_lock(token) {
         Ok(taken) => taken,
         Err(_) => panic!(rt; "full"),
     }
@@ -166,7 +166,7 @@ fn locked_by_a_guard<R: Wait + Abort>(
     let Ok(guard) = mutex.lock(rt, one) else {
         panic!(rt; "full");
     };
-    let (guard, another) = match guard.again(rt, one) {
+    let (guard, another) = match guard.again(one) {
         Ok(guards) => guards,
         Err((_, guard)) => {
             end(rt, one, guard);
@@ -259,10 +259,10 @@ fn shown_to_two<R: Wait + Abort>(
     requires { IsTokenOf (lot_of mutex.now.0) one.old × IsTokenOf (lot_of mutex.now.0) other.old }
 {
     let guard = locked(rt, mutex, one);
-    let shown = mutex.show(rt, one);
+    let shown = mutex.show(one);
     let own = text_of(rt, alloc, &shown);
     shown.close(rt, one);
-    let shown = mutex.show(rt, other);
+    let shown = mutex.show(other);
     let others = text_of(rt, alloc, &shown);
     shown.close(rt, other);
     end(rt, one, guard);
