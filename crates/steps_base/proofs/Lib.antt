@@ -1,3 +1,1 @@
 pub mod RowCheck
-pub mod Moving
-pub mod Deeds
