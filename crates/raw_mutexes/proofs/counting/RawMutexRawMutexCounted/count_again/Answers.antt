@@ -8,7 +8,7 @@ pub returns-clause-share : goal.returns-clause-share
 returns-clause-share c = let mutex = c.args.self.now in let n = mutex.word.number in let old =
     c.args.token.now in let looked = c.look_count-seen.new.token in let new = c.count_again-share.new.token in
     let seen = c.look_count-seen.result in
-    let share : IsShareOf (lot_of mutex) mutex.word record { share = c.count_again-share.result; } =
+    let share : IsShareOf (lot_of mutex) mutex.word record { share = c.count_again-share.result } =
     search rules in
     let saw : SawCount n seen old looked = search rules in
     let named : Names old.number seen = search rules in
