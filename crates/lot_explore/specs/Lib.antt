@@ -1,4 +1,5 @@
 pub mod Counts
+pub mod Parts
 pub mod Replays
 pub mod Deadlocks
 pub mod Walks

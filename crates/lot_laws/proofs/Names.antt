@@ -1,4 +1,5 @@
--- The names that proofs of this crate take from its specs and from the crates below, each under one spelling. A
+-- The names that proofs of this crate take from its specs and from the crates below, each under one
+-- spelling. A
 -- file that means another thing by such a name imports it from its own module.
 
 -- The standard library.
@@ -68,7 +69,7 @@ pub use Rattle.spec_locks.specs.Codes.{count_in, fills, has_aside, has_parked, h
 pub use Rattle.spec_locks.specs.Codes.{is_done, is_marked, is_poisoned, is_running, leaves_readers, packed}
 pub use Rattle.spec_locks.specs.Codes.{parked_in, rw_code, shown_code, word_by, writers}
 pub use Rattle.spec_locks.specs.Condvars.{AllOf, BeginsWait, Clears, CondvarDeed, CondvarNeeded, CondvarSite}
-pub use Rattle.spec_locks.specs.Condvars.{CondvarStage, EndsWait, GoIn, GoOut, HideAndTakeAll, Inside}
+pub use Rattle.spec_locks.specs.Condvars.{CondvarPhase, EndsWait, GoIn, GoOut, HideAndTakeAll, Inside}
 pub use Rattle.spec_locks.specs.Condvars.{IsAsInside, IsCondvar, IsInsideNot, IsSettledAt, LeaveList}
 pub use Rattle.spec_locks.specs.Condvars.{MayGoOut, MissIt, Misses, MoveAll, MoveFirst, MoveFits, NothingToDo}
 pub use Rattle.spec_locks.specs.Condvars.{SeeAgain, SeeOther, Sees, SeesOther, Show, ShowNone, StageHolds}
@@ -98,7 +99,8 @@ pub use Rattle.spec_locks.specs.Permits.{HasPermits, debt, debts, sum_to, wakes_
 pub use Rattle.spec_locks.specs.Picks.{queued_of}
 pub use Rattle.spec_locks.specs.Purposes.{Awaits, Blank, Bumps, CallsOnce, Converts, Enters, HasMoved}
 pub use Rattle.spec_locks.specs.Purposes.{IsMadeOf, IsReleasing, MayWait, Notifies, NotifiesBeside, Purpose}
-pub use Rattle.spec_locks.specs.Purposes.{Recall, Releases, Saw, SawOwner, Waits, WasMoved, WasNotified}
+pub use Rattle.spec_locks.specs.Purposes.{CondvarMemory, Releases, Saw, SawOwner, Waits, WasMoved}
+pub use Rattle.spec_locks.specs.Purposes.{WasNotified}
 pub use Rattle.spec_locks.specs.Purposes.{condvar_purpose, lock_for, mutex_purpose, once_purpose, purpose_of}
 pub use Rattle.spec_locks.specs.Purposes.{rules_of, rwlock_purpose, semaphore_purpose}
 pub use Rattle.spec_locks.specs.Runs.{Agrees, AnswerHolds, AreFree, AreLockStates, AtLock, Begins, CallState}
@@ -313,7 +315,7 @@ pub use Rattle.steps_rwlock_fair.specs.FairSteps.{unless_given, with_taken, woke
 pub use Rattle.steps_rwlock_fair.specs.declared.hand_over.HandOverAt.{HandOverAt}
 pub use Rattle.steps_rwlock_fair.specs.declared.handed.HandedAt.{HandedAt}
 pub use Rattle.steps_rwlock_fair.specs.declared.places.RwLockCallPlace.{RwLockCallPlace}
-pub use Rattle.steps_rwlock_fair.specs.declared.places.RwLockCallPlace.TheVariants.{Bump, Glance, HandOver}
+pub use Rattle.steps_rwlock_fair.specs.declared.places.RwLockCallPlace.TheVariants.{Bump, PeekQueue, HandOver}
 pub use Rattle.steps_rwlock_fair.specs.declared.places.RwLockCallPlace.TheVariants.{Handed, Plain}
 pub use Rattle.steps_semaphore.proofs.SemaphoreCode.{semaphore_steps_code}
 pub use Rattle.steps_semaphore.proofs.SemaphoreFit.{semaphore_steps_follow}
@@ -328,7 +330,7 @@ pub use Rattle.steps_semaphore.specs.SemaphoreSteps.{is_free, next_acquire, next
 pub use Rattle.steps_semaphore.specs.SemaphoreSteps.{release_act, semaphore_act, semaphore_first}
 pub use Rattle.steps_semaphore.specs.SemaphoreSteps.{semaphore_looking, semaphore_next, semaphore_right}
 pub use Rattle.steps_semaphore.specs.SemaphoreSteps.{try_act}
-pub use Rattle.steps_semaphore.specs.Tended.{IsTended, semaphore}
+pub use Rattle.steps_semaphore.specs.PermitInvariant.{IsTended, semaphore}
 pub use Rattle.steps_semaphore.specs.declared.acquire.AcquireAt.{AcquireAt}
 pub use Rattle.steps_semaphore.specs.declared.places.SemaphorePlace.{SemaphorePlace}
 pub use Rattle.steps_semaphore.specs.declared.places.SemaphorePlace.TheVariants.{Acquire, Release}

@@ -1,4 +1,4 @@
-pub mod Steps
+pub mod AloneSteps
 pub mod OnceEnds
 pub mod SemaphoreEnds
 pub mod Semaphore

@@ -1,5 +1,5 @@
 pub mod Page
-pub mod Kept
+pub mod LockStaysASite
 pub mod Pages
-pub mod Steps
+pub mod LockStepsAreEvents
 pub mod At

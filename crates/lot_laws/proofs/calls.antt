@@ -6,7 +6,7 @@ pub mod Beside
 pub mod OwnPlace
 pub mod Looking
 pub mod SingleCalls
-pub mod Events
+pub mod CallEvents
 pub mod LockEvents
 pub mod OtherCalls
 pub mod Begins

@@ -1,5 +1,5 @@
 pub mod Handed
-pub mod Kept
+pub mod HandsStay
 pub mod Rights
 pub mod AnyPicked
 pub mod Moved
@@ -11,7 +11,7 @@ pub mod HandsOn
 pub mod HandsOnEvents
 pub mod Counts
 pub mod OwnHand
-pub mod Events
+pub mod HandEvents
 pub mod CountsPut
 pub mod CountsTaken
 pub mod CountsKept

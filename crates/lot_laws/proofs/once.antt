@@ -1,7 +1,7 @@
 pub mod MovesKept
 pub mod Page
-pub mod Owing
-pub mod Rows
-pub mod Owes
+pub mod OnceOwing
+pub mod OnceRows
+pub mod OnceOwes
 pub mod Runs
 pub mod Marks

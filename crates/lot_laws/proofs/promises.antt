@@ -5,9 +5,9 @@ pub mod Debtors
 pub mod ExclusiveOwners
 pub mod LineActs
 pub mod PlaceSteps
-pub mod Promises
+pub mod PromisesKept
 pub mod Fair
-pub mod Owing
+pub mod OwingStays
 pub mod RowLaws
 pub mod Headline
 pub mod LeavesOthers

@@ -1,11 +1,11 @@
-pub mod Kept
+pub mod RwLockStaysASite
 pub mod Page
-pub mod Rows
+pub mod RwLockRows
 pub mod CallRows
-pub mod Owing
+pub mod RwLockOwing
 pub mod CallOwing
-pub mod Events
-pub mod Steps
+pub mod RwLockEvents
+pub mod RwLockStepsAreEvents
 pub mod Late
 pub mod FairHands
 pub mod GoesOn

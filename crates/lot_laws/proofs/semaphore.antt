@@ -1,7 +1,7 @@
 pub mod Permits
 pub mod Page
-pub mod Moves
+pub mod SemaphoreMoves
 pub mod MovesKept
-pub mod Owing
-pub mod Owes
+pub mod SemaphoreOwing
+pub mod SemaphoreOwes
 pub mod Debtors

@@ -8,7 +8,7 @@ use Rattle.spec_locks.specs.declared.outcomes.Outcome.TheVariants as told
 use Rattle.steps_mutex.specs.MutexSteps.{is_parked}
 use Rattle.lot_steps.specs.Steps.{act_of, owes_on}
 use Rattle.spec_locks.specs.Locks.{one_if_some, standing}
-use Rattle.spec_locks.specs.Purposes.{Notifies, Purpose, Recall, Releases, Waits}
+use Rattle.spec_locks.specs.Purposes.{Notifies, Purpose, CondvarMemory, Releases, Waits}
 use Rattle.spec_locks.specs.Sites.{Main}
 use Rattle.lot_machine.specs.Machine.{State, place_at, word_at, kind_at}
 use Rattle.lot_laws.specs.Refinement.{owner_at, lock_state, call_at}
@@ -22,7 +22,7 @@ IsMutexWord v o = (v ≡ one_if_some o) ⊎ (v ≡ one_if_some o + 2)
 
 -- a call that is to wake a waiter of the mutex: it releases the mutex, or waits with it on a
 -- condition variable, or notifies one that it has seen to show the mutex
-abbrev pub WakesOne : Option Purpose → Recall → ℕ → Type 0
+abbrev pub WakesOne : Option Purpose → CondvarMemory → ℕ → Type 0
 WakesOne (Some (Releases k x fair)) recalls l = (k ≡ l) × (x ≡ Exclusive) × (fair ≡ false)
 WakesOne (Some (Waits k m timed)) recalls l = m ≡ l
 WakesOne (Some (Notifies k all)) recalls l = mutex_seen recalls ≡ Some l

@@ -22,7 +22,7 @@ use Rattle.lot_machine.specs.Fits.{IsWellFormed}
 use Rattle.spec_locks.specs.Bypass.{AllReleaseFairly}
 use Rattle.lot_laws.specs.Refinement.{RunsClosure, lock_state, locks_of}
 use Rattle.spec_locks.specs.Onces.{InProgress}
-use Rattle.spec_locks.specs.Condvars.{CondvarSite, Inside, IsCondvar, NothingToDo, CondvarStage}
+use Rattle.spec_locks.specs.Condvars.{CondvarSite, Inside, IsCondvar, NothingToDo, CondvarPhase}
 use Rattle.lot_steps.specs.Steps.{profile_at}
 use Rattle.spec_locks.specs.declared.kinds.Kind.{Kind}
 use Rattle.spec_locks.specs.declared.kinds.Kind as kind
@@ -202,12 +202,12 @@ AreCounted w =
 
 -- ---------------------------------------------------------------- condition variables
 
-abbrev pub stage_or : Option CondvarStage → CondvarStage
+abbrev pub stage_or : Option CondvarPhase → CondvarPhase
 stage_or None = NothingToDo
 stage_or (Some stage) = stage
 
 -- the thread inside the section, and its aim by its place
-abbrev pub inside_as : Option ℕ → (ℕ → Option CondvarStage) → Option Inside
+abbrev pub inside_as : Option ℕ → (ℕ → Option CondvarPhase) → Option Inside
 inside_as None stage = None
 inside_as (Some t) stage = Some (record { thread = t; stage = stage_or (stage t) })
 

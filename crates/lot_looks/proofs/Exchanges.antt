@@ -265,7 +265,7 @@ module _ (l : ℕ) (a : Admission) where
   call_known (call.Bump p) h = through (λ o. in_call true (gone_to p o)) (call_there true p)
       (act_at l a p p.at) (rwlock_looked a p p.at) (rwlock_tries p.at)
       (place_known p p.at) h
-  call_known (call.Glance x) h = cc
+  call_known (call.PeekQueue x) h = cc
   call_known (call.HandOver x b to) h = hands x b to h
   call_known (call.Handed x how b (handed.Asleep by alone)) h = cc
   call_known (call.Handed x how b handed.Accept) h = absurd (not_both _ (accepts x) h)

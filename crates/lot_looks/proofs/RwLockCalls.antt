@@ -34,7 +34,8 @@ use Rattle.steps_rwlock_fair.specs.declared.hand_over.Taken.{Taken}
 use Rattle.steps_rwlock_fair.specs.declared.handed.HandedAt.{HandedAt}
 use Rattle.steps_rwlock_fair.specs.declared.handed.HandedAt.TheVariants as handed
 use Rattle.steps_rwlock_fair.specs.declared.places.RwLockCallPlace.{RwLockCallPlace}
-use Rattle.steps_rwlock_fair.specs.declared.places.RwLockCallPlace.TheVariants.{Plain, Bump, Glance, HandOver}
+use Rattle.steps_rwlock_fair.specs.declared.places.RwLockCallPlace.TheVariants.{Plain, Bump, PeekQueue}
+use Rattle.steps_rwlock_fair.specs.declared.places.RwLockCallPlace.TheVariants.{HandOver}
 use Rattle.steps_rwlock_fair.specs.declared.places.RwLockCallPlace.TheVariants.{Handed}
 use Rattle.steps_rwlock_fair.specs.FairSteps.{any_taken, bump_ended, bump_next, freed_next, call_act}
 use Rattle.steps_rwlock_fair.specs.FairSteps.{call_next, call_owners, call_shares, entering, given}
@@ -533,7 +534,7 @@ module _ (l : ℕ) (a : Admission) where
   gave_then access.Exclusive true = refl
   gave_then x false = refl
 
-  glances : (x : Access) (r : Reply) → Then (call_next a (Glance x) r) ≡ None
+  glances : (x : Access) (r : Reply) → Then (call_next a (PeekQueue x) r) ≡ None
   glances x (Value v) = gave_then x (gives_way a x v)
   glances x r = refl
 
@@ -549,7 +550,7 @@ module _ (l : ℕ) (a : Admission) where
   place : (c : RwLockCallPlace) → IsSaneCall c → HasLookedBy (call_table l a) c (call_looked a c)
   place (Plain p) sane = enters false p sane
   place (Bump p) sane = enters true p sane
-  place (Glance x) sane = never (call_table l a) (Glance x) (glances x)
+  place (PeekQueue x) sane = never (call_table l a) (PeekQueue x) (glances x)
   place (HandOver x bumps to) sane = hands x bumps to sane
   place (Handed x how bumps to) sane = never (call_table l a) (Handed x how bumps to)
       (handed_then x how bumps to)
@@ -708,8 +709,8 @@ module _ (l : ℕ) (a : Admission) where
       fits_so : (r : Reply) → FitsReply (call_table l a) r → FitsReply (rwlock_table l a) r
       fits_so (Value v) few = few
       fits_so r few = tt
-  keeps (Glance x) (Value v) few sane = gave_sane x (gives_way a x v)
-  keeps (Glance x) r few sane = tt
+  keeps (PeekQueue x) (Value v) few sane = gave_sane x (gives_way a x v)
+  keeps (PeekQueue x) r few sane = tt
   keeps (HandOver x bumps to) r few sane = hands_sane x bumps to r sane
   keeps (Handed x how bumps to) r few sane = handed_sane x how bumps to r
 

@@ -143,7 +143,7 @@ accepts_own l access.Upgradable = refl
 pub call_own : (l : ℕ) (a : Admission) (c : RwLockCallPlace) → IsOwn l (call_act l a c)
 call_own l a (places.Plain p) = rwlock_own l a p p.at
 call_own l a (places.Bump p) = rwlock_own l a p p.at
-call_own l a (places.Glance x) = refl
+call_own l a (places.PeekQueue x) = refl
 call_own l a (places.HandOver x b to) = hands_over_own l a x to
 call_own l a (places.Handed x how b (handed.Asleep u alone)) = refl
 call_own l a (places.Handed x how b handed.Accept) = accepts_own l x

@@ -15,7 +15,8 @@ use Rattle.steps_rwlock.specs.declared.places.RwLockAt.TheVariants as at
 use Rattle.steps_rwlock.specs.RwLockSteps.{rwlock_act}
 use Rattle.steps_rwlock.specs.RwLockProfiles.{rwlock_looking, looking_at, gone_to}
 use Rattle.steps_rwlock_fair.specs.declared.places.RwLockCallPlace.{RwLockCallPlace}
-use Rattle.steps_rwlock_fair.specs.declared.places.RwLockCallPlace.TheVariants.{Plain, Glance, HandOver, Bump}
+use Rattle.steps_rwlock_fair.specs.declared.places.RwLockCallPlace.TheVariants.{Plain, PeekQueue, HandOver}
+use Rattle.steps_rwlock_fair.specs.declared.places.RwLockCallPlace.TheVariants.{Bump}
 use Rattle.steps_rwlock_fair.specs.declared.places.RwLockCallPlace.TheVariants.{Handed}
 use Rattle.steps_rwlock_fair.specs.FairSteps.{call_act}
 use Rattle.steps_rwlock_fair.specs.FairProfiles.{call_looking, in_call}
@@ -86,7 +87,7 @@ call_loads l a (Bump p) d is = by_place (rwlock_looking a p) refl is
     by_place None e is = absurd cc
     by_place (Some p2) e is = let there : Bump p2 ≡ d = cc in subst (λ x. call_act l a x ≡ Word l Load) there
         (rwlock_loads l a p p2 e)
-call_loads l a (Glance x) d is = absurd cc
+call_loads l a (PeekQueue x) d is = absurd cc
 call_loads l a (HandOver x b to) d is = absurd cc
 call_loads l a (Handed x how b to) d is = absurd cc
 

@@ -388,11 +388,11 @@ call_kept a (fair.Plain p) r b = plain_kept a p.purpose p.retries p.at r b
 call_kept a (fair.Bump p) r b = bump_kept a p.purpose p.retries p.at r b
 call_kept a (fair.HandOver x bumps to) r b = hand_over_kept a x bumps to r b
 call_kept a (fair.Handed x how bumps to) r b = handed_kept a x how bumps to r b
-call_kept a (fair.Glance x) (TakenBy t) b = omega arith
-call_kept a (fair.Glance x) (MovedTo key) b = omega arith
-call_kept a (fair.Glance x) (HandedBy t alone) b = omega arith
-call_kept a (fair.Glance x) (Woken n) b = omega arith
-call_kept a (fair.Glance x) r b = absurd b
+call_kept a (fair.PeekQueue x) (TakenBy t) b = omega arith
+call_kept a (fair.PeekQueue x) (MovedTo key) b = omega arith
+call_kept a (fair.PeekQueue x) (HandedBy t alone) b = omega arith
+call_kept a (fair.PeekQueue x) (Woken n) b = omega arith
+call_kept a (fair.PeekQueue x) r b = absurd b
 
 plain_late : (l : ℕ) (a : Admission) (q : RwLockPurpose) (again : Bool) (to : RwLockAt) (key : ℕ)
     → late_key (RwLock l a (fair.Plain (place q again to))) ≡ Some key
@@ -415,7 +415,7 @@ call_late l a (fair.Plain p) key h = plain_late l a p.purpose p.retries p.at key
 call_late l a (fair.Bump p) key h = bump_late l a p.purpose p.retries p.at key h
 call_late l a (fair.HandOver x bumps to) key h = absurd cc
 call_late l a (fair.Handed x how bumps to) key h = absurd cc
-call_late l a (fair.Glance x) key h = absurd cc
+call_late l a (fair.PeekQueue x) key h = absurd cc
 
 -- ---------------------------------------------------------------- every place
 

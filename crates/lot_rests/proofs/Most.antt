@@ -125,7 +125,7 @@ call_work_most (fair.HandOver x bumps to) = let a = hand_over_work_most x bumps 
     after_most bumps 10 in omega arith
 call_work_most (fair.Handed x how bumps handed.Accept) = omega arith
 call_work_most (fair.Handed x how bumps to) = omega arith
-call_work_most (fair.Glance x) = omega arith
+call_work_most (fair.PeekQueue x) = omega arith
 
 pub work_most : (p : Place) → work p ≤ 21
 work_most Idle = omega arith

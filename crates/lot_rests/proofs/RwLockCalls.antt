@@ -30,7 +30,8 @@ use Rattle.steps_rwlock_fair.specs.declared.hand_over.Taken.{Taken}
 use Rattle.steps_rwlock_fair.specs.declared.handed.HandedAt.{HandedAt}
 use Rattle.steps_rwlock_fair.specs.declared.handed.HandedAt.TheVariants as handed
 use Rattle.steps_rwlock_fair.specs.declared.places.RwLockCallPlace.{RwLockCallPlace}
-use Rattle.steps_rwlock_fair.specs.declared.places.RwLockCallPlace.TheVariants.{Plain, Glance, HandOver, Bump}
+use Rattle.steps_rwlock_fair.specs.declared.places.RwLockCallPlace.TheVariants.{Plain, PeekQueue, HandOver}
+use Rattle.steps_rwlock_fair.specs.declared.places.RwLockCallPlace.TheVariants.{Bump}
 use Rattle.steps_rwlock_fair.specs.declared.places.RwLockCallPlace.TheVariants.{Handed}
 use Rattle.steps_rwlock_fair.specs.FairSteps.{accept_act, any_taken, bump_next, call_act, call_next}
 use Rattle.steps_rwlock_fair.specs.FairSteps.{enters_again, exchange_act, freed_next, given, gives_up_at}
@@ -257,6 +258,6 @@ module _ (w : State) (t l : ℕ) (readers : has_readers (rules_of (kind_at w l))
   pub call_row : (c : RwLockCallPlace) → can_do w (call_act l a c) ≡ true → Leads c (call_act l a c)
   call_row (Plain p) can = plain_row p can
   call_row (Bump p) can = bump_row p can
-  call_row (Glance x) can = inl (gives_less x (gives_way a x word))
+  call_row (PeekQueue x) can = inl (gives_less x (gives_way a x word))
   call_row (HandOver x bumps to) can = hand_over_row x bumps to
   call_row (Handed x how bumps to) can = handed_row x how bumps to can

@@ -217,7 +217,7 @@ hand_over_ways word at = 0
 abbrev pub call_ways : Admission → ℕ → RwLockCallPlace → ℕ
 call_ways a word (fair.Plain p) = rwlock_ways a word p p.at
 call_ways a word (fair.Bump p) = rwlock_ways a word p p.at
-call_ways a word (fair.Glance x) = 0
+call_ways a word (fair.PeekQueue x) = 0
 call_ways a word (fair.HandOver x bumps to) = hand_over_ways word to
 call_ways a word (fair.Handed x how bumps to) = 0
 

@@ -241,7 +241,7 @@ bump_work p = work_after (is_release p.purpose) 10 + rwlock_work p.at
 abbrev pub call_work : RwLockCallPlace → ℕ
 call_work (fair.Plain p) = plain_work p
 call_work (fair.Bump p) = bump_work p
-call_work (fair.Glance x) = 21
+call_work (fair.PeekQueue x) = 21
 call_work (fair.HandOver x bumps to) = work_after bumps 10 + hand_over_work to
 call_work (fair.Handed x how bumps to) = handed_work to
 

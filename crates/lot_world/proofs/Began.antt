@@ -34,7 +34,8 @@ use Rattle.steps_rwlock.specs.RwLockCalls.{StandsAt}
 use Rattle.steps_rwlock.specs.RwLockSteps.{from_of, to_of, wanted}
 use Rattle.steps_rwlock.specs.RwLockProfiles as rows
 use Rattle.steps_rwlock_fair.specs.declared.places.RwLockCallPlace.{RwLockCallPlace}
-use Rattle.steps_rwlock_fair.specs.declared.places.RwLockCallPlace.TheVariants.{Plain, Glance, HandOver, Bump}
+use Rattle.steps_rwlock_fair.specs.declared.places.RwLockCallPlace.TheVariants.{Plain, PeekQueue, HandOver}
+use Rattle.steps_rwlock_fair.specs.declared.places.RwLockCallPlace.TheVariants.{Bump}
 use Rattle.steps_rwlock_fair.specs.declared.places.RwLockCallPlace.TheVariants.{Handed}
 use Rattle.steps_rwlock_fair.specs.declared.hand_over.HandOverAt.{HandOverAt}
 use Rattle.steps_rwlock_fair.specs.declared.hand_over.HandOverAt.TheVariants as handing
@@ -308,7 +309,7 @@ module _ (rights : ℕ → Rights) (few : IsFew (rights 0)) where
         none
     call_began (Bump p) stands just had none = bump_began p.purpose p.retries p.at stands.0.place stands.1
         just had none
-    call_began (Glance x) stands just had none =
+    call_began (PeekQueue x) stands just had none =
         (just, λ y fair is free. absurd (no_bump (wanted x) y fair is))
     call_began (HandOver x b to) stands just had none = hand_over_began x b to just had none
     call_began (Handed x how b to) stands just had none = handed_began x how b to just had none

@@ -22,7 +22,7 @@ use Rattle.lot_machine.proofs.Shape.{after_size, both}
 use Rattle.lot_laws.specs.Refinement.{call_at, locks_of}
 use Rattle.lot_laws.specs.SitesOf.{rules_in, site_of}
 use Rattle.lot_laws.proofs.machine.KindsStay.{after_kinds, calls_mutex, calls_readers}
-use Rattle.lot_laws.proofs.rwlock.Steps.{rwlock_begins}
+use Rattle.lot_laws.proofs.rwlock.RwLockStepsAreEvents.{rwlock_begins}
 use Rattle.lot_laws.proofs.sites.TurnsKept.{idle_is}
 use Rattle.lot_world.specs.Drained.{as_now}
 use Rattle.lot_world.proofs.AsNow.{another}

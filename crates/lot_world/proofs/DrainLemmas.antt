@@ -8,7 +8,7 @@ use Rattle.spec_locks.specs.declared.outcomes.Outcome.TheVariants as outcome
 use Rattle.spec_locks.specs.Locks.{rights_of}
 use Rattle.lot_machine.specs.Machine.{State, after, go_of, kind_at, place_at, section_at, step_outcome}
 use Rattle.lot_laws.specs.Refinement.{lock_state}
-use Rattle.lot_laws.proofs.alone.Steps.{after_stuck}
+use Rattle.lot_laws.proofs.alone.AloneSteps.{after_stuck}
 use Rattle.lot_world.specs.Schedules.{Progress, one_more, run_alone, alone_by, where_inside, out_of_second}
 use Rattle.lot_world.specs.Schedules.{is_up, first_up, releases, first_begin, or_else, first_release}
 use Rattle.lot_world.specs.Schedules.{next_turn, turn_taken, where_some, turns}

@@ -15,7 +15,7 @@ use Rattle.spec_locks.specs.Locks.{Settle, Leave, Convert, Park, Aside, TakeFirs
 use Rattle.spec_locks.specs.Locks.{Wake, HandOff, Late, Rollback, OfOnce, OfCondvar, SeeOwner, Look}
 use Rattle.spec_locks.specs.Locks.{after_case, one_if_some, putting, rights_of, with_right, without_right}
 use Rattle.spec_locks.specs.Purposes.{Purpose, Enters, Releases, Converts, Bumps, CallsOnce, Awaits, Waits}
-use Rattle.spec_locks.specs.Purposes.{Notifies, Recall, lock_for}
+use Rattle.spec_locks.specs.Purposes.{Notifies, CondvarMemory, lock_for}
 use Rattle.spec_locks.specs.declared.calls.Patience.{Patience}
 use Rattle.spec_locks.specs.declared.calls.Patience.TheVariants.{Patient, Timed, Try}
 use Rattle.spec_locks.specs.Runs.{Agrees, AnswerHolds, AreLockStates, AtLock, CallState, Event, GoesOn}
@@ -42,7 +42,7 @@ either_same : (b : Bool) (c d : CallState) → SameBeginning c d → SameBeginni
 either_same true c d h = h
 either_same false c d h = same c
 
-gives_up_same : (l : ℕ) (recalls : Recall) (c : CallState) → SameBeginning c (gives_up l recalls c)
+gives_up_same : (l : ℕ) (recalls : CondvarMemory) (c : CallState) → SameBeginning c (gives_up l recalls c)
 gives_up_same l Rattle.spec_locks.specs.Purposes.WasMoved c = record { purpose = refl; former = refl }
 gives_up_same l recalls c = record { purpose = refl; former = refl }
 

@@ -15,7 +15,7 @@ use Rattle.spec_locks.specs.Onces.{Start, Rest, Fail}
 use Rattle.spec_locks.specs.Locks.{LockState, Rights, count, one_if_thread, rights_of, with_right}
 use Rattle.spec_locks.specs.Locks as locks
 use Rattle.spec_locks.specs.Picks.{queued_of}
-use Rattle.spec_locks.specs.Purposes.{Purpose, Recall, Releases, WasMoved}
+use Rattle.spec_locks.specs.Purposes.{Purpose, CondvarMemory, Releases, WasMoved}
 use Rattle.spec_locks.specs.Runs.{AtLock, CallState, Event, GoesOn, LocksState, Moves, Nothing, gives_up}
 use Rattle.spec_locks.specs.Runs.{going_on, no_rights, unless_ended, woken}
 use Rattle.spec_locks.specs.Sites.{Main, has_readers, is_full}
@@ -176,7 +176,8 @@ woken_released w t (AtLock l case) u c = refl
 woken_released w t (Moves l m all owned n) u c = either_same (λ x. x.released) _ c _ refl
 woken_released w t Nothing u c = refl
 
-gives_up_released : (l : ℕ) (recalls : Recall) (c : CallState) → (gives_up l recalls c).released ≡ c.released
+gives_up_released : (l : ℕ) (recalls : CondvarMemory) (c : CallState)
+    → (gives_up l recalls c).released ≡ c.released
 gives_up_released l WasMoved c = refl
 gives_up_released l recalls c = refl
 

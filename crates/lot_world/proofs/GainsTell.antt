@@ -22,7 +22,8 @@ use Rattle.steps_rwlock.specs.declared.places.RwLockAt.TheVariants as at
 use Rattle.steps_rwlock.specs.RwLockSteps.{wanted}
 use Rattle.steps_rwlock.specs.RwLockProfiles.{is_pending, without_pending}
 use Rattle.steps_rwlock_fair.specs.declared.places.RwLockCallPlace.{RwLockCallPlace}
-use Rattle.steps_rwlock_fair.specs.declared.places.RwLockCallPlace.TheVariants.{Plain, Glance, HandOver, Bump}
+use Rattle.steps_rwlock_fair.specs.declared.places.RwLockCallPlace.TheVariants.{Plain, PeekQueue, HandOver}
+use Rattle.steps_rwlock_fair.specs.declared.places.RwLockCallPlace.TheVariants.{Bump}
 use Rattle.steps_rwlock_fair.specs.declared.places.RwLockCallPlace.TheVariants.{Handed}
 use Rattle.steps_rwlock_fair.specs.declared.handed.HandedAt.{HandedAt}
 use Rattle.steps_rwlock_fair.specs.declared.handed.HandedAt.TheVariants as handed
@@ -283,7 +284,7 @@ pub rwlock_tells : (a : Admission) (c : RwLockCallPlace) (rights : ℕ → Right
     → (has_only (gain_of (place.RwLock 0 a c)) (rights 0) ≡ true) ↔ HasNoneBefore
     (call_state (place.RwLock 0 a c) rights)
 rwlock_tells a (Plain p) rights few = plain_tells a p.purpose p.retries p.at rights few
-rwlock_tells a (Glance x) rights few = always
+rwlock_tells a (PeekQueue x) rights few = always
 rwlock_tells a (HandOver x false to) rights few = always
 rwlock_tells a (HandOver x true to) rights few = given_tells x (has_given to) rights
 rwlock_tells a (Bump p) rights few = bumping_tells a p.purpose p.retries p.at rights few
@@ -323,7 +324,7 @@ pub rwlock_pends : (a : Admission) (c : RwLockCallPlace) (rights : ℕ → Right
     → ((may_pend (place.RwLock 0 a c) || ((rights 0).pending == 0)) ≡ true)
     ↔ PendsInCall (call_state (place.RwLock 0 a c) rights).purpose (rights 0)
 rwlock_pends a (Plain p) rights = plain_pends a p.purpose p.retries p.at rights
-rwlock_pends a (Glance x) rights = always
+rwlock_pends a (PeekQueue x) rights = always
 rwlock_pends a (HandOver x false to) rights = pends_tells (rights 0).pending
 rwlock_pends a (HandOver x true to) rights = always
 rwlock_pends a (Bump p) rights = always

@@ -16,7 +16,8 @@ use Rattle.steps_rwlock.specs.declared.places.RwLockAt.TheVariants as at
 use Rattle.steps_rwlock.specs.declared.purposes.RwLockPurpose.{RwLockPurpose}
 use Rattle.steps_rwlock.specs.declared.purposes.RwLockPurpose.TheVariants as purpose
 use Rattle.steps_rwlock.specs.RwLockDeeds.{role_at, retried_want}
-use Rattle.steps_rwlock_fair.specs.declared.places.RwLockCallPlace.TheVariants.{Plain, Glance, HandOver, Bump}
+use Rattle.steps_rwlock_fair.specs.declared.places.RwLockCallPlace.TheVariants.{Plain, PeekQueue, HandOver}
+use Rattle.steps_rwlock_fair.specs.declared.places.RwLockCallPlace.TheVariants.{Bump}
 use Rattle.steps_rwlock_fair.specs.declared.places.RwLockCallPlace.TheVariants.{Handed}
 use Rattle.steps_rwlock_fair.specs.declared.hand_over.HandOverAt.TheVariants as handing
 use Rattle.lot_steps.specs.declared.places.Place.{Place}
@@ -140,7 +141,7 @@ leaves_second w t (RwLock l a (Plain p)) stands h = plain_falls w t l a p.purpos
     (retried_want p) h
 leaves_second w t (RwLock l a (Bump p)) stands h = bump_falls w t l a p.purpose p.retries p.at
     (retried_want p) h
-leaves_second w t (RwLock l a (Glance x)) stands h = absurd cc
+leaves_second w t (RwLock l a (PeekQueue x)) stands h = absurd cc
 leaves_second w t (RwLock l a (HandOver x b handing.Load)) stands h = absurd cc
 leaves_second w t (RwLock l a (HandOver x b (handing.Free seen))) stands h = absurd cc
 leaves_second w t (RwLock l a (HandOver x b handing.Enter)) stands h = absurd cc

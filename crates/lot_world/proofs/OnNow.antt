@@ -35,14 +35,14 @@ use Rattle.lot_laws.specs.Refinement.{taken_at}
 use Rattle.lot_laws.specs.ThreadDeeds.{acts}
 use Rattle.lot_laws.specs.ThreadDeeds as deeds
 use Rattle.lot_laws.specs.SitesOf.{AreCounted, FitsItsLock, Goes, IsInductive, is_mutex, rules_in, site_of}
-use Rattle.lot_laws.proofs.hands.Kept.{claim_of, claims_given}
+use Rattle.lot_laws.proofs.hands.HandsStay.{claim_of, claims_given}
 use Rattle.lot_laws.proofs.hands.HandsOn.{hands_fails, hands_goes, hands_tell, whom}
 use Rattle.steps_base.specs.Moves.{claim_handed}
 use Rattle.lot_laws.proofs.machine.KindsStay.{after_kinds}
 use Rattle.lot_laws.proofs.sites.SitesKept.{go_by}
 use Rattle.lot_laws.proofs.calls.OwnPlace.{goes_from_there}
-use Rattle.lot_laws.proofs.rwlock.Steps.{gives_counted, goes_unhanded}
-use Rattle.lot_laws.proofs.rwlock.Kept.{stands}
+use Rattle.lot_laws.proofs.rwlock.RwLockStepsAreEvents.{gives_counted, goes_unhanded}
+use Rattle.lot_laws.proofs.rwlock.RwLockStaysASite.{stands}
 use Rattle.lot_world.specs.Drained.{as_now}
 use Rattle.lot_world.proofs.AsNow.{another}
 use Rattle.lot_world.specs.Quiet.{IsDraining}

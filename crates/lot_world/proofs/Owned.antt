@@ -33,7 +33,8 @@ use Rattle.steps_rwlock.specs.RwLockSteps.{from_of, to_of, wanted}
 use Rattle.steps_rwlock.specs.RwLockProfiles.{before, has_released, is_pending, is_waking, stands_at}
 use Rattle.steps_rwlock.specs.RwLockProfiles as rows
 use Rattle.steps_rwlock_fair.specs.declared.places.RwLockCallPlace.{RwLockCallPlace}
-use Rattle.steps_rwlock_fair.specs.declared.places.RwLockCallPlace.TheVariants.{Plain, Glance, HandOver, Bump}
+use Rattle.steps_rwlock_fair.specs.declared.places.RwLockCallPlace.TheVariants.{Plain, PeekQueue, HandOver}
+use Rattle.steps_rwlock_fair.specs.declared.places.RwLockCallPlace.TheVariants.{Bump}
 use Rattle.steps_rwlock_fair.specs.declared.places.RwLockCallPlace.TheVariants.{Handed}
 use Rattle.steps_rwlock_fair.specs.declared.hand_over.HandOverAt.{HandOverAt}
 use Rattle.steps_rwlock_fair.specs.FairCalls.{IsOfBump}
@@ -257,7 +258,7 @@ module _ (rights : ℕ → Rights) (a : Admission) where
       → ReleasesOne (RwLock 0 a c) rights → IsFew (rights 0)
   call_few (Plain p) stands few one_right = plain_few p.purpose p.retries p.at few one_right
   call_few (Bump p) stands few one_right = bump_few p.purpose p.retries p.at stands.1 few
-  call_few (Glance x) stands few one_right = one (wanted x) (rights 0) few
+  call_few (PeekQueue x) stands few one_right = one (wanted x) (rights 0) few
   call_few (HandOver x b to) stands few one_right = hand_over_few x b to (has_given to) refl few one_right
   call_few (Handed x how b to) stands few one_right = handed_few x how b to few
 
@@ -339,7 +340,7 @@ queued_own_nothing (RwLock l a (Plain p)) rights stands of s few = queued_plain 
 queued_own_nothing (RwLock l a (Bump p)) rights stands of s few = queued_bump rights l a p.purpose p.retries
     p.at stands.0.place s few
 queued_own_nothing (RwLock l a (Handed x how b to)) rights stands of s few = absurd cc
-queued_own_nothing (RwLock l a (Glance x)) rights stands of s few = absurd cc
+queued_own_nothing (RwLock l a (PeekQueue x)) rights stands of s few = absurd cc
 queued_own_nothing (RwLock l a (HandOver x b to)) rights stands of s few = absurd cc
 queued_own_nothing (Once l to) rights stands of s few = absurd stands
 queued_own_nothing (Semaphore l to) rights stands of s few = absurd stands

@@ -33,7 +33,8 @@ use Rattle.steps_rwlock.specs.declared.purposes.RwLockPurpose.{RwLockPurpose}
 use Rattle.steps_rwlock.specs.declared.purposes.RwLockPurpose.TheVariants as purpose
 use Rattle.steps_rwlock.specs.RwLockProfiles.{purpose_by}
 use Rattle.steps_rwlock_fair.specs.declared.places.RwLockCallPlace.{RwLockCallPlace}
-use Rattle.steps_rwlock_fair.specs.declared.places.RwLockCallPlace.TheVariants.{Plain, Glance, HandOver, Bump}
+use Rattle.steps_rwlock_fair.specs.declared.places.RwLockCallPlace.TheVariants.{Plain, PeekQueue, HandOver}
+use Rattle.steps_rwlock_fair.specs.declared.places.RwLockCallPlace.TheVariants.{Bump}
 use Rattle.steps_rwlock_fair.specs.declared.places.RwLockCallPlace.TheVariants.{Handed}
 use Rattle.steps_rwlock_fair.specs.FairProfiles.{call_profile}
 use Rattle.lot_steps.specs.declared.places.Place.{Place}
@@ -62,7 +63,7 @@ plain_own l (purpose.Upgrade how) = refl
 call_own : (l : ℕ) (a : Admission) (c : RwLockCallPlace) → lock_for ((call_profile a c).purpose l) ≡ l
 call_own l a (Plain p) = plain_own l p.purpose
 call_own l a (Bump p) = refl
-call_own l a (Glance x) = refl
+call_own l a (PeekQueue x) = refl
 call_own l a (HandOver x true to) = refl
 call_own l a (HandOver x false to) = refl
 call_own l a (Handed x how true to) = refl
@@ -148,7 +149,7 @@ no_closure (Mutex l mutex.Bump) stands = refl
 no_closure (Mutex l (mutex.HandOff bumps to)) stands = hand_off_plain l to
 no_closure (RwLock l a (Plain p)) stands = act_plain l a p.purpose p.retries p.at
 no_closure (RwLock l a (Bump p)) stands = act_plain l a p.purpose p.retries p.at
-no_closure (RwLock l a (Glance x)) stands = refl
+no_closure (RwLock l a (PeekQueue x)) stands = refl
 no_closure (RwLock l a (HandOver x b to)) stands = hand_over_plain l a x to
 no_closure (RwLock l a (Handed x how b to)) stands = handed_plain l x to
 no_closure (Once l to) stands = absurd stands

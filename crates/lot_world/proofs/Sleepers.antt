@@ -33,7 +33,8 @@ use Rattle.steps_rwlock.specs.RwLockDeeds.{role_at, retried_want}
 use Rattle.steps_rwlock.specs.RwLockProfiles.{stands_at}
 use Rattle.steps_rwlock.specs.RwLockProfiles as rows
 use Rattle.steps_rwlock_fair.specs.FairCalls.{IsOfBump}
-use Rattle.steps_rwlock_fair.specs.declared.places.RwLockCallPlace.TheVariants.{Plain, Glance, HandOver, Bump}
+use Rattle.steps_rwlock_fair.specs.declared.places.RwLockCallPlace.TheVariants.{Plain, PeekQueue, HandOver}
+use Rattle.steps_rwlock_fair.specs.declared.places.RwLockCallPlace.TheVariants.{Bump}
 use Rattle.steps_rwlock_fair.specs.declared.places.RwLockCallPlace.TheVariants.{Handed}
 use Rattle.steps_rwlock_fair.specs.declared.handed.HandedAt.{HandedAt}
 use Rattle.steps_rwlock_fair.specs.declared.handed.HandedAt.TheVariants as handed
@@ -192,7 +193,7 @@ sleepers_rest (Mutex l (mutex.HandOff bumps to)) stands h = absurd (hand_off_wak
 sleepers_rest (RwLock l a (Plain p)) stands h = rwlock_rests l a p.purpose p.retries p.at h (retried_want p)
 sleepers_rest (RwLock l a (Bump p)) stands h = rwlock_rests l a p.purpose p.retries p.at h (retried_want p)
 sleepers_rest (RwLock l a (Handed x how b to)) stands h = handed_rests l a x how b to h
-sleepers_rest (RwLock l a (Glance x)) stands h = absurd cc
+sleepers_rest (RwLock l a (PeekQueue x)) stands h = absurd cc
 sleepers_rest (RwLock l a (HandOver x b to)) stands h = absurd (handing_wakes l a x to h)
 sleepers_rest (Once l to) stands h = absurd stands
 sleepers_rest (Semaphore l to) stands h = absurd stands
@@ -312,7 +313,7 @@ sleepers_own_nothing l (RwLock k a (Bump p)) rights stands of s h few =
     subst (λ j. act_at j a p p.at ≡ act.Sleep → rights l ≡ no_rights) (sym (same_lock k l of))
     (λ g. main_bump l a p.purpose p.retries p.at rights stands.0.place s g few) h
 sleepers_own_nothing l (RwLock k a (Handed x how b to)) rights stands of s h few = absurd cc
-sleepers_own_nothing l (RwLock k a (Glance x)) rights stands of s h few = absurd cc
+sleepers_own_nothing l (RwLock k a (PeekQueue x)) rights stands of s h few = absurd cc
 sleepers_own_nothing l (RwLock k a (HandOver x b to)) rights stands of s h few = absurd cc
 sleepers_own_nothing l (Once k to) rights stands of s h few = absurd stands
 sleepers_own_nothing l (Semaphore k to) rights stands of s h few = absurd stands
@@ -397,7 +398,7 @@ pending_own_nothing l (RwLock k a (Bump p)) rights stands of s h few =
     (sym (same_lock k l of)) (λ g. aside_bump l a p.purpose p.retries p.at rights stands.0.place stands.1 s g
     few) h
 pending_own_nothing l (RwLock k a (Handed x how b to)) rights stands of s h few = absurd cc
-pending_own_nothing l (RwLock k a (Glance x)) rights stands of s h few = absurd cc
+pending_own_nothing l (RwLock k a (PeekQueue x)) rights stands of s h few = absurd cc
 pending_own_nothing l (RwLock k a (HandOver x b to)) rights stands of s h few = absurd cc
 pending_own_nothing l (Once k to) rights stands of s h few = absurd stands
 pending_own_nothing l (Semaphore k to) rights stands of s h few = absurd stands
@@ -486,7 +487,7 @@ sleepers_stand (RwLock l a (Bump p)) stands h = let s = plain_stands l a p.purpo
       somewhere = s.somewhere;
     }
 sleepers_stand (RwLock l a (Handed x how b to)) stands h = handed_stands l a x how b to h
-sleepers_stand (RwLock l a (Glance x)) stands h = absurd cc
+sleepers_stand (RwLock l a (PeekQueue x)) stands h = absurd cc
 sleepers_stand (RwLock l a (HandOver x b to)) stands h = absurd (handing_wakes l a x to h)
 sleepers_stand (Once l to) stands h = absurd stands
 sleepers_stand (Semaphore l to) stands h = absurd stands

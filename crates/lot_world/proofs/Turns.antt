@@ -15,7 +15,8 @@ use Rattle.steps_base.specs.declared.acts.Whom.TheVariants as whom
 use Rattle.spec_locks.specs.Locks.{Rights, rights_of}
 use Rattle.spec_locks.specs.Onces.{Start}
 use Rattle.spec_locks.specs.Locks.{LockCase, OfOnce}
-use Rattle.spec_locks.specs.Purposes.{Purpose, MayWait, Recall, Enters, Releases, Converts, Bumps, CallsOnce}
+use Rattle.spec_locks.specs.Purposes.{Purpose, MayWait, CondvarMemory, Enters, Releases, Converts, Bumps}
+use Rattle.spec_locks.specs.Purposes.{CallsOnce}
 use Rattle.spec_locks.specs.Purposes.{Awaits, Waits, Notifies, IsMadeOf, lock_for}
 use Rattle.spec_locks.specs.Runs.{AtLock, Begins, CallState, Event, GoesOn, LocksState, MayDo, MayHappen}
 use Rattle.spec_locks.specs.Runs.{Moves, Nothing, going_on, unless_ended, woken}
@@ -181,7 +182,7 @@ same : (t : ℕ) → (t == t) ≡ true
 same t = grind (arith, nat_tests)
 
 -- a call is made of such cases
-abbrev MadeOf : Option Purpose → Option ℕ → Bool → Recall → ℕ → LockCase → Type 0
+abbrev MadeOf : Option Purpose → Option ℕ → Bool → CondvarMemory → ℕ → LockCase → Type 0
 MadeOf None gave_up released recalls k case = ⊥
 MadeOf (Some q) gave_up released recalls k case = IsMadeOf q gave_up released recalls k case
 
@@ -192,7 +193,7 @@ stands_there (x ∷ xs) (suc t) busy = let ih : t < length xs = stands_there xs 
 
 -- a call of the lock begins no run of a `Once`
 never_starts : (q : Option Purpose) (former rights : Rights) → HasFew q former rights
-    → (gave_up : Option ℕ) (released : Bool) (recalls : Recall) (k : ℕ) (forced : Bool)
+    → (gave_up : Option ℕ) (released : Bool) (recalls : CondvarMemory) (k : ℕ) (forced : Bool)
     → MadeOf q gave_up released recalls k (OfOnce (Start forced)) → ⊥
 never_starts None former rights few gave_up released recalls k forced made = made
 never_starts (Some (Enters l x how)) former rights few gave_up released recalls k forced made = made.1

@@ -45,7 +45,8 @@ use Rattle.steps_rwlock.specs.RwLockSteps.{act_at, came_in_for, after_count, dec
 use Rattle.steps_rwlock.specs.RwLockSteps.{exchanged_next, looked, looked_by, missed, next_at, park_next}
 use Rattle.steps_rwlock.specs.RwLockSteps.{patience_at, rwlock_next}
 use Rattle.steps_rwlock_fair.specs.declared.places.RwLockCallPlace.{RwLockCallPlace}
-use Rattle.steps_rwlock_fair.specs.declared.places.RwLockCallPlace.TheVariants.{Plain, Glance, HandOver, Bump}
+use Rattle.steps_rwlock_fair.specs.declared.places.RwLockCallPlace.TheVariants.{Plain, PeekQueue, HandOver}
+use Rattle.steps_rwlock_fair.specs.declared.places.RwLockCallPlace.TheVariants.{Bump}
 use Rattle.steps_rwlock_fair.specs.declared.places.RwLockCallPlace.TheVariants.{Handed}
 use Rattle.steps_rwlock_fair.specs.declared.handed.HandedAt.{HandedAt}
 use Rattle.steps_rwlock_fair.specs.declared.handed.HandedAt.TheVariants as handed
@@ -459,7 +460,7 @@ sleepers_wait (Mutex l (mutex.HandOff bumps to)) stands h = absurd (hand_off_wak
 sleepers_wait (RwLock l a (Plain p)) stands h = sleeping l a p.purpose p.retries p.at stands.place h
 sleepers_wait (RwLock l a (Bump p)) stands h = sleeping l a p.purpose p.retries p.at stands.0.place h
 sleepers_wait (RwLock l a (Handed x how b to)) stands h = refl
-sleepers_wait (RwLock l a (Glance x)) stands h = absurd cc
+sleepers_wait (RwLock l a (PeekQueue x)) stands h = absurd cc
 sleepers_wait (RwLock l a (HandOver x b to)) stands h = absurd (handing_wakes l a x to h)
 sleepers_wait (Once l to) stands h = refl
 sleepers_wait (Semaphore l to) stands h = refl
@@ -674,7 +675,7 @@ call_busy a (Plain p) r w h = rw (given_none false p r w)
     (plain_busy (rwlock_next a p r) (next_busy a p.purpose p.retries p.at r w h))
 call_busy a (Bump p) r w h = rw (given_none true p r w) (bump_busy p.purpose (rwlock_next a p r)
     (next_busy a p.purpose p.retries p.at r w h))
-call_busy a (Glance x) r w h = glance_busy a x r h
+call_busy a (PeekQueue x) r w h = glance_busy a x r h
 call_busy a (HandOver x b to) r w h = hand_over_busy a x b to r h
 call_busy a (Handed x how b to) r w h = absurd cc
 

@@ -18,7 +18,8 @@ use Rattle.steps_rwlock.specs.declared.purposes.RwLockPurpose.TheVariants as pur
 use Rattle.steps_rwlock.specs.declared.places.RwLockAt.{RwLockAt}
 use Rattle.steps_rwlock.specs.RwLockProfiles.{is_pending, is_waking}
 use Rattle.steps_rwlock_fair.specs.declared.places.RwLockCallPlace.{RwLockCallPlace}
-use Rattle.steps_rwlock_fair.specs.declared.places.RwLockCallPlace.TheVariants.{Plain, Glance, HandOver, Bump}
+use Rattle.steps_rwlock_fair.specs.declared.places.RwLockCallPlace.TheVariants.{Plain, PeekQueue, HandOver}
+use Rattle.steps_rwlock_fair.specs.declared.places.RwLockCallPlace.TheVariants.{Bump}
 use Rattle.steps_rwlock_fair.specs.declared.places.RwLockCallPlace.TheVariants.{Handed}
 use Rattle.steps_rwlock_fair.specs.declared.handed.HandedAt.{HandedAt}
 use Rattle.steps_rwlock_fair.specs.declared.handed.HandedAt.TheVariants as handed
@@ -81,7 +82,7 @@ handed_gain access.Shared at = Right access.Shared
 
 abbrev pub call_gain : RwLockCallPlace → Option Gain
 call_gain (Plain p) = plain_gain p.purpose p.at
-call_gain (Glance x) = None
+call_gain (PeekQueue x) = None
 call_gain (HandOver x bumps at) = nothing_if (bumps && has_given at)
 call_gain (Bump p) = bump_gain p.purpose p.at
 call_gain (Handed x how bumps at) = Some (handed_gain x at)
@@ -111,7 +112,7 @@ plain_may_pend (purposes.Upgrade how) = true
 
 abbrev pub call_may_pend : RwLockCallPlace → Bool
 call_may_pend (Plain p) = plain_may_pend p.purpose
-call_may_pend (Glance x) = true
+call_may_pend (PeekQueue x) = true
 call_may_pend (HandOver x bumps at) = bumps
 call_may_pend (Bump p) = true
 call_may_pend (Handed x how bumps at) = true

@@ -14,7 +14,8 @@ use Rattle.steps_rwlock.specs.declared.purposes.RwLockPurpose.{RwLockPurpose}
 use Rattle.steps_rwlock.specs.declared.purposes.RwLockPurpose.TheVariants as purpose
 use Rattle.steps_rwlock_fair.specs.FairCalls.{CallStands}
 use Rattle.steps_rwlock_fair.specs.declared.places.RwLockCallPlace.{RwLockCallPlace}
-use Rattle.steps_rwlock_fair.specs.declared.places.RwLockCallPlace.TheVariants.{Plain, Glance, HandOver, Bump}
+use Rattle.steps_rwlock_fair.specs.declared.places.RwLockCallPlace.TheVariants.{Plain, PeekQueue, HandOver}
+use Rattle.steps_rwlock_fair.specs.declared.places.RwLockCallPlace.TheVariants.{Bump}
 use Rattle.steps_rwlock_fair.specs.declared.places.RwLockCallPlace.TheVariants.{Handed}
 use Rattle.lot_steps.specs.declared.places.Place.{Place}
 use Rattle.lot_steps.specs.declared.places.Place.TheVariants.{Idle, Mutex, RwLock, Once, Condvar, Semaphore}
@@ -75,7 +76,7 @@ waits_for (purpose.Downgrade d) to = false
 
 abbrev pub waits_rwlock : RwLockCallPlace → Bool
 waits_rwlock (Plain p) = waits_for p.purpose p.at
-waits_rwlock (Glance x) = false
+waits_rwlock (PeekQueue x) = false
 waits_rwlock (HandOver x bumps to) = false
 waits_rwlock (Bump p) = waits_for p.purpose p.at
 waits_rwlock (Handed x how bumps to) = true

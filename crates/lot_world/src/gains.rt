@@ -45,7 +45,7 @@ pub(crate) fn may_pend(place: Place) -> bool
         Place::RwLock { at, .. } => match at {
             RwLockCallPlace::Plain(place) => !matches!(place.purpose, RwLockPurpose::Release(_)),
             RwLockCallPlace::HandOver { bumps, .. } => bumps,
-            RwLockCallPlace::Glance(_) | RwLockCallPlace::Bump(_) => true,
+            RwLockCallPlace::PeekQueue(_) | RwLockCallPlace::Bump(_) => true,
             RwLockCallPlace::Handed { .. } => true,
         },
         Place::Once { .. } | Place::Condvar { .. } | Place::Semaphore { .. } => true,
@@ -79,7 +79,7 @@ fn call_gain(at: RwLockCallPlace) -> Option<Gain>
             RwLockPurpose::Release(_) => None,
             RwLockPurpose::Downgrade(_) | RwLockPurpose::Upgrade(_) => None,
         },
-        RwLockCallPlace::Glance(_) => None,
+        RwLockCallPlace::PeekQueue(_) => None,
         RwLockCallPlace::HandOver {
             bumps: true,
             at: HandOverAt::Leave { .. },

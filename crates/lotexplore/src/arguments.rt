@@ -55,6 +55,8 @@ pub struct Arguments<'a> {
     /// The file of the schedule that comes first.
     pub from: Option<&'a str>,
     pub way: Way,
+    /// The part of the search that is asked for, as `2/8`.
+    pub split: Option<&'a str>,
     pub limits: Limits,
     /// How many threads share a search; 0 are as many as there are processors.
     pub jobs: usize,
@@ -94,6 +96,7 @@ fn arguments_in<'a>(matches: &ArgMatches<'a>) -> Arguments<'a> {
         program: matches.get_str("program"),
         from: matches.get_str("from"),
         way: way_in(matches),
+        split: matches.get_str("split"),
         limits: Limits {
             states: matches.get_one::<u32>("states").unwrap_or(0),
             bytes: matches.get_one::<u64>("bytes"),
@@ -222,9 +225,25 @@ fn with_walks<'a>(alloc: Global, command: Command<'a>) -> Result<Command<'a>, Er
             "The seed of the first walk, 0 if nothing is said",
         ))?
         .arg(file(alloc, "from", "Begins after the schedule of a file"))?
+        .arg(split(alloc)?)?
         .arg(settle.conflicts_with("step")?)?
         .arg(step.requires_arg("program")?)?;
     Ok(command)
+}
+
+// The argument that shares a search out.
+fn split<'a>(alloc: Global) -> Result<Arg<'a>, Error> {
+    let split = Arg::new(alloc, "split")
+        .long("split")
+        .value_name("K/N")
+        .help("Searches the K-th of N parts, which are parted by the first turns");
+    let split = split
+        .conflicts_with("random")?
+        .conflicts_with("from")?
+        .conflicts_with("settle")?
+        .conflicts_with("step")?
+        .conflicts_with("all")?;
+    Ok(split)
 }
 
 // The arguments that say how much is tried.

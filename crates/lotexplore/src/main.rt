@@ -11,6 +11,7 @@ mod printing;
 mod report;
 mod searches;
 mod settling;
+mod splitting;
 mod status;
 mod warnings;
 mod watch;

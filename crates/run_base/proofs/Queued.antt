@@ -345,7 +345,7 @@ call_needs : (l : ℕ) (a : Admission) (c : RwLockCallPlace) → needs_place (fa
     → call_queued a c ≡ true
 call_needs l a (places.Plain p) needs = rw_needs l a p p.at refl needs
 call_needs l a (places.Bump p) needs = rw_needs l a p p.at refl needs
-call_needs l a (places.Glance x) needs = none_needed refl needs
+call_needs l a (places.PeekQueue x) needs = none_needed refl needs
 call_needs l a (places.HandOver x b to) needs = none_needed (hands_over_needs l a x to) needs
 call_needs l a (places.Handed x how b (handed.Asleep by alone)) needs = refl
 call_needs l a (places.Handed access.Exclusive how b handed.Accept) needs = none_needed refl needs

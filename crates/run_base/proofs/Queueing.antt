@@ -593,8 +593,8 @@ pub call_on : (l : â„•) (a : Admission) (c : RwLockCallPlace) (reply : Reply) â†
 call_on l a (places.Plain p) reply may = entering_on l a false p reply fair.plain_next (plain_same a) may
 call_on l a (places.Bump p) reply may = entering_on l a true p reply (fair.bump_next p.purpose)
     (bump_same a p.purpose) may
-call_on l a (places.Glance x) (Value seen) may = never (glance_off a x (fair.gives_way a x seen))
-call_on l a (places.Glance x) reply may = never refl
+call_on l a (places.PeekQueue x) (Value seen) may = never (glance_off a x (fair.gives_way a x seen))
+call_on l a (places.PeekQueue x) reply may = never refl
 call_on l a (places.HandOver x b to) reply may = never (hands_over_off a x b to reply)
 call_on l a (places.Handed x how b (handed.Asleep by alone)) reply may = absurd may
 call_on l a (places.Handed x how b handed.Accept) Done may = never refl

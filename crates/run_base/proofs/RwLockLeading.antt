@@ -9,7 +9,7 @@ use Rattle.steps_rwlock.specs.declared.purposes.RwLockPurpose.TheVariants as pur
 use Rattle.steps_rwlock_fair.specs.FairSteps.{handed_act}
 use Rattle.steps_rwlock_fair.specs.declared.handed.HandedAt.{HandedAt}
 use Rattle.steps_rwlock_fair.specs.declared.handed.HandedAt.TheVariants as handed
-use Rattle.steps_rwlock_fair.specs.declared.places.RwLockCallPlace.TheVariants.{Bump, Glance, HandOver}
+use Rattle.steps_rwlock_fair.specs.declared.places.RwLockCallPlace.TheVariants.{Bump, PeekQueue, HandOver}
 use Rattle.steps_rwlock_fair.specs.declared.places.RwLockCallPlace.TheVariants.{Handed}
 use Rattle.run_base.specs.RwLockFitting.{FitsBump, FitsHanded, IsRwLockOver, OwnsRight}
 use Rattle.run_base.proofs.RwLockBumping.{bump_leads}
@@ -153,7 +153,7 @@ rwlock_place_leads up l a base (Handed x how b to) st f = (
   (λ r is. absurd cc),
   handed_leads up l a base how b st x to f,
 )
-rwlock_place_leads up l a base (Glance x) st f = absurd f
+rwlock_place_leads up l a base (PeekQueue x) st f = absurd f
 
 -- none runs a closure
 no_closure_at : (up : Type 0) (l : ℕ) (a : Admission) (base : List Ownership) (c : RwLockCallPlace)
@@ -170,7 +170,7 @@ no_closure_at up l a base (Handed access.Shared how b handed.Accept) st f = refl
 no_closure_at up l a base (Handed access.Upgradable how b handed.Accept) st f = refl
 no_closure_at up l a base (Handed access.Exclusive how b to) st f = absurd f
 no_closure_at up l a base (Handed x how b to) st f = absurd f
-no_closure_at up l a base (Glance x) st f = absurd f
+no_closure_at up l a base (PeekQueue x) st f = absurd f
 
 pub rwlock_no_closure : (up : Type 0) (l : ℕ) (a : Admission) (base : List Ownership) (c : RwLockCallPlace)
     (st : Stage) (state : OnceState) → FitsCall up l base a c st → act_of (RwLock l a c) ≡ act.Closure state

@@ -285,7 +285,7 @@ FitsHanded l base x to st = ⊥
 abbrev pub rwlock_purpose_in : RwLockCallPlace → RwLockPurpose
 rwlock_purpose_in (places.Plain p) = p.purpose
 rwlock_purpose_in (places.Bump p) = purpose.Enter (access_of p.purpose) Patient
-rwlock_purpose_in (places.Glance x) = purpose.Enter x Patient
+rwlock_purpose_in (places.PeekQueue x) = purpose.Enter x Patient
 rwlock_purpose_in (places.HandOver x b to) = purpose.Enter x Patient
 rwlock_purpose_in (places.Handed x how b to) = purpose.Enter x how
 
@@ -324,7 +324,7 @@ module _ (up : Type 0) where
   abbrev pub FitsCall : ℕ → List Ownership → Admission → RwLockCallPlace → Stage → Type 0
   FitsCall l base a (places.Plain p) st = FitsRwLock l base a p st
   FitsCall l base a (places.Bump p) st = IsOfBump p.purpose p.retries × FitsBump l base a p p.at st
-  FitsCall l base a (places.Glance x) st = ⊥
+  FitsCall l base a (places.PeekQueue x) st = ⊥
   FitsCall l base a (places.HandOver x b to) st =
       IsHandingPlace x to × (a.limit < 2 ^ 60 - 1) × FitsHandOver l base a x to st
   FitsCall l base a (places.Handed x how b to) st = FitsHanded l base x to st

@@ -36,7 +36,8 @@ use Rattle.steps_rwlock_fair.specs.declared.hand_over.Taken.{Taken}
 use Rattle.steps_rwlock_fair.specs.declared.handed.HandedAt.{HandedAt}
 use Rattle.steps_rwlock_fair.specs.declared.handed.HandedAt.TheVariants as handed
 use Rattle.steps_rwlock_fair.specs.declared.places.RwLockCallPlace.{RwLockCallPlace}
-use Rattle.steps_rwlock_fair.specs.declared.places.RwLockCallPlace.TheVariants.{Plain, Glance, HandOver, Bump}
+use Rattle.steps_rwlock_fair.specs.declared.places.RwLockCallPlace.TheVariants.{Plain, PeekQueue, HandOver}
+use Rattle.steps_rwlock_fair.specs.declared.places.RwLockCallPlace.TheVariants.{Bump}
 use Rattle.steps_rwlock_fair.specs.declared.places.RwLockCallPlace.TheVariants.{Handed}
 use Rattle.lot_steps.specs.Steps.{in_rwlock, looking}
 use Rattle.lot_steps.specs.declared.places.Place.{Place}
@@ -57,7 +58,7 @@ module _ (a : Admission) (x : Access) where
   -- it gives its right up, and enters again
   abbrev IsOfBump : RwLockCallPlace → Type 0
   IsOfBump (Plain p) = ⊥
-  IsOfBump (Glance y) = y ≡ x
+  IsOfBump (PeekQueue y) = y ≡ x
   IsOfBump (HandOver y b to) = (y ≡ x) × (b ≡ true)
   IsOfBump (Bump p) = IsCalling a leaves p ⊎ IsCalling a enters p
   IsOfBump (Handed y how b to) = (purpose.Enter y how ≡ enters) × (b ≡ true)
@@ -214,8 +215,8 @@ module _ (a : Admission) (x : Access) where
 
   bump_keeps : (c : RwLockCallPlace) (told : Reply) → IsOfBump c → KeepsBump told (call_next a c told)
   bump_keeps (Plain p) told w = absurd w
-  bump_keeps (Glance y) (reply.Value seen) w = glance_keeps y seen w
-  bump_keeps (Glance y) told w = w
+  bump_keeps (PeekQueue y) (reply.Value seen) w = glance_keeps y seen w
+  bump_keeps (PeekQueue y) told w = w
   bump_keeps (HandOver y b to) told w = subst (λ (z : Access). KeepsBump told (hand_over_next a z b to told))
       (sym w.0) (subst (λ (d : Bool). KeepsBump told (hand_over_next a x d to told)) (sym w.1)
       (handing_keeps to told))
@@ -246,7 +247,7 @@ module _ (a : Admission) (x : Access) where
 
   bump_going : (l : ℕ) (c : RwLockCallPlace) → IsOfBump c → IsGoing (call_act l a c)
   bump_going l (Plain p) w = absurd w
-  bump_going l (Glance y) w = tt
+  bump_going l (PeekQueue y) w = tt
   bump_going l (HandOver y b to) w = handing_act l y to
   bump_going l (Bump p) (inl w) = act_going a leaves l p w
   bump_going l (Bump p) (inr w) = act_going a enters l p w
@@ -261,7 +262,7 @@ module _ (a : Admission) (x : Access) where
   looks_on : (l : ℕ) (c : RwLockCallPlace) (r : Place) → looking (RwLock l a c) ≡ Some r → IsOfBump c
       → IsIn a x Patient IsOfBump r
   looks_on l (Plain p) r e w = absurd w
-  looks_on l (Glance y) r e w = absurd cc
+  looks_on l (PeekQueue y) r e w = absurd cc
   looks_on l (HandOver y b to) r e w = absurd cc
   looks_on l (Handed y how b to) r e w = absurd cc
   looks_on l (Bump p) r e w = by_place (rwlock_looking a p) refl e
@@ -279,4 +280,4 @@ bump_sees_full x l a old new w = walked_full a x Patient (IsOfBump a x) (
   bump_keeps a x,
   bump_going a x,
   looks_on a x,
-) l old.number (RwLock l a (Glance x)) old new (refl, refl) w
+) l old.number (RwLock l a (PeekQueue x)) old new (refl, refl) w

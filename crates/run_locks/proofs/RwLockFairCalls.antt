@@ -21,7 +21,7 @@ use Rattle.steps_rwlock.specs.declared.purposes.RwLockPurpose.TheVariants as pur
 use Rattle.steps_rwlock_fair.specs.FairSteps.{gives_up_at, gives_way, glance_next}
 use Rattle.steps_rwlock_fair.specs.declared.hand_over.HandOverAt.TheVariants as handing
 use Rattle.steps_rwlock_fair.specs.declared.places.RwLockCallPlace.{RwLockCallPlace}
-use Rattle.steps_rwlock_fair.specs.declared.places.RwLockCallPlace.TheVariants.{Glance, HandOver}
+use Rattle.steps_rwlock_fair.specs.declared.places.RwLockCallPlace.TheVariants.{PeekQueue, HandOver}
 use Rattle.steps_base.specs.declared.acts.Reply.TheVariants.{Value}
 use Rattle.lot_steps.specs.Steps.{next_place, rwlock_does, rwlock_goes}
 use Rattle.lot_steps.specs.declared.places.Place.{Place}
@@ -225,10 +225,10 @@ module _ (l : ℕ) (a : Admission) (x : Access) (seen : ℕ) (old mid : Token)
     (saw : steps_of mid ≡ steps_of old ++ step (rwlock_at l) Load seen)
     (untold : told_of mid ≡ told_of old) (answer : Answer) where
   abbrev glance : Place
-  glance = RwLock l a (Glance x)
+  glance = RwLock l a (PeekQueue x)
 
   unqueued : is_queued (next_place glance (Value seen)) ≡ false
-  unqueued = unqueued_call l a (Glance x) seen tt refl
+  unqueued = unqueued_call l a (PeekQueue x) seen tt refl
 
   looked : trail_of mid None ≡ joined (trail_of old None) (one (rwlock_at l) Load seen)
   looked = one_more old mid (rwlock_at l) Load seen saw untold

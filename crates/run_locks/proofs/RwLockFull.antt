@@ -48,7 +48,8 @@ use Rattle.steps_rwlock_fair.specs.FairSteps.{handed_woken, plain_next, unless_g
 use Rattle.steps_rwlock_fair.specs.declared.handed.HandedAt.{HandedAt}
 use Rattle.steps_rwlock_fair.specs.declared.handed.HandedAt.TheVariants as handed
 use Rattle.steps_rwlock_fair.specs.declared.places.RwLockCallPlace.{RwLockCallPlace}
-use Rattle.steps_rwlock_fair.specs.declared.places.RwLockCallPlace.TheVariants.{Plain, Glance, HandOver, Bump}
+use Rattle.steps_rwlock_fair.specs.declared.places.RwLockCallPlace.TheVariants.{Plain, PeekQueue, HandOver}
+use Rattle.steps_rwlock_fair.specs.declared.places.RwLockCallPlace.TheVariants.{Bump}
 use Rattle.steps_rwlock_fair.specs.declared.places.RwLockCallPlace.TheVariants.{Handed}
 use Rattle.lot_steps.specs.Steps.{in_rwlock, looking, next_act, next_place, rwlock_does, rwlock_goes}
 use Rattle.lot_steps.specs.declared.places.Place.{Place}
@@ -443,7 +444,7 @@ module _ (a : Admission) (q : RwLockPurpose) where
   call_keeps (Handed x y b to) told w = subst (λ (d : Bool). KeepsCall told (handed_next x y d to told))
       (sym w.1) (handed_keeps x y to told w.0)
   call_keeps (Bump p) told w = absurd w
-  call_keeps (Glance x) told w = absurd w
+  call_keeps (PeekQueue x) told w = absurd w
   call_keeps (HandOver x b to) told w = absurd w
 
   pub accepting_act : (l : ℕ) (x : Access) (to : HandedAt) → IsGoing (handed_act l x to)
@@ -456,7 +457,7 @@ module _ (a : Admission) (q : RwLockPurpose) where
   call_going l (Plain p) w = act_going l p w
   call_going l (Handed x y b to) w = accepting_act l x to
   call_going l (Bump p) w = absurd w
-  call_going l (Glance x) w = absurd w
+  call_going l (PeekQueue x) w = absurd w
   call_going l (HandOver x b to) w = absurd w
 
   -- ---------------------------------------------------------------- where it looks once more
@@ -624,7 +625,7 @@ module _ (x : Access) (how : Patience) (a : Admission) where
       → IsCall a (purpose.Enter x how) c → IsIn a x how (IsCall a (purpose.Enter x how)) r
   looks_on l (Handed y z d to) r e w = absurd cc
   looks_on l (Bump p) r e w = absurd w
-  looks_on l (Glance y) r e w = absurd w
+  looks_on l (PeekQueue y) r e w = absurd w
   looks_on l (HandOver y d to) r e w = absurd w
   looks_on l (Plain p) r e w = by_place (rwlock_looking a p) refl e
     where

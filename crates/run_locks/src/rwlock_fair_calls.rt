@@ -152,7 +152,7 @@ pub fn bump<R: Wait>(
         (stage_of token.new None) }
 {
     let seen = lot.word(token, *word, Op::Load);
-    match RwLockCallPlace::Glance(access).next(*admission, Reply::Value(seen)) {
+    match RwLockCallPlace::PeekQueue(access).next(*admission, Reply::Value(seen)) {
         Next::End(answer) => answer,
         Next::At(at) => rest(rt, lot, token, word, admission, &at),
     }

@@ -7,7 +7,7 @@ use Rattle.std.proofs.lemmas.Bool.Decides.{nat_tests}
 use Rattle.std.specs.Prelude.{drop, map}
 use Rattle.spec_locks.specs.Locks.{Queued, Mutex, KnowsAll, putting, times, without}
 use Rattle.spec_locks.specs.Sites.{Apart}
-use Rattle.spec_locks.specs.Condvars.{CondvarStage, NothingToDo, ToStandLast, SeesOther, Misses, Sees, Takes}
+use Rattle.spec_locks.specs.Condvars.{CondvarPhase, NothingToDo, ToStandLast, SeesOther, Misses, Sees, Takes}
 use Rattle.spec_locks.specs.Condvars.{Clears, Inside, CondvarSite, AllOf, IsSettledAt, IsSettled, StageHolds}
 use Rattle.spec_locks.specs.Condvars.{IsAsInside, IsCondvar, BeginsWait, EndsWait, GoIn, GoOut, Show}
 use Rattle.spec_locks.specs.Condvars.{SeeOther, StandLast, SeeAgain, MissIt, HideAndTakeAll, MoveFirst}
@@ -35,7 +35,7 @@ module _ (c : CondvarSite) (f : ℕ → Option ℕ) (agree : (u : ℕ) → 1 ≤
     still_settled None k = k
     still_settled (Some m) k = (k.0, still_all m k.1)
 
-    still_at : (t : ℕ) (stage : CondvarStage) → f t ≡ c.waits_with t → StageHolds c t stage
+    still_at : (t : ℕ) (stage : CondvarPhase) → f t ≡ c.waits_with t → StageHolds c t stage
         → StageHolds d t stage
     still_at t NothingToDo e k = still_settled c.shown k
     still_at t (ToStandLast m) e k = (k.0, e ∙ k.1, still_all m k.2)
@@ -57,7 +57,7 @@ put_other f t u x ne = grind (arith, nat_tests)
 
 module _ (c : CondvarSite) (t : ℕ) (h : IsCondvar c) where
   -- tells what t knows by its stage
-  known : (stage : CondvarStage) → IsInsideAt c t stage → StageHolds c t stage
+  known : (stage : CondvarPhase) → IsInsideAt c t stage → StageHolds c t stage
   known stage e = subst (λ (i : Option Inside). IsAsInside c i) e h.inside
 
   settled_at : (o : Option ℕ) → c.shown ≡ o → IsSettled c → IsSettledAt o c
@@ -98,7 +98,7 @@ module _ (c : CondvarSite) (t : ℕ) (h : IsCondvar c) where
   gone None go k = absurd go
   gone (Some i) go k = by_stage i.stage go.1 k
     where
-      by_stage : (stage : CondvarStage) → MayLeaveSection stage → StageHolds c i.thread stage → IsSettled c
+      by_stage : (stage : CondvarPhase) → MayLeaveSection stage → StageHolds c i.thread stage → IsSettled c
       by_stage NothingToDo g k = k
       by_stage (SeesOther m) g k = k.0
       by_stage (Misses m) g k = k.0

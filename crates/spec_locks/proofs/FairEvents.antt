@@ -17,7 +17,7 @@ use Rattle.spec_locks.specs.Locks.{Settle, Leave, Convert, Park, Aside, TakeFirs
 use Rattle.spec_locks.specs.Locks.{Wake, HandOff, Late, Rollback, OfOnce, OfCondvar, SeeOwner, IsLockState}
 use Rattle.spec_locks.specs.Locks.{Owns, after_case, keep_from, left_after, let_go, putting, taking, times}
 use Rattle.spec_locks.specs.Purposes.{Purpose, Enters, Releases, Converts, Bumps, CallsOnce, Awaits, Waits}
-use Rattle.spec_locks.specs.Purposes.{Notifies, Recall, IsMadeOf}
+use Rattle.spec_locks.specs.Purposes.{Notifies, CondvarMemory, IsMadeOf}
 use Rattle.spec_locks.specs.Runs.{LocksState, AreLockStates, Event, Nothing, AtLock, Moves, Does, GoesOn}
 use Rattle.spec_locks.specs.Runs.{MayDo, MayHappen, Turned, is_among, joined_by, locks_after, rules_at}
 use Rattle.spec_locks.specs.Bypass.{AllReleaseFairly, IsFairRelease, LetsGoWhileSomeWait, ReleasesFairly}
@@ -36,7 +36,7 @@ fair_bump : (k l : ℕ) (x : Want) → l ≡ k → Exclusive ≡ x → IsFairRel
 fair_bump k l x e wants = subst (λ y. IsFairRelease (Some (Bumps k y)) l) wants (sym e)
 
 -- a call that lets the mutex go
-leave_call : (q : Purpose) (gave_up : Option ℕ) (released : Bool) (r : Recall) (l : ℕ)
+leave_call : (q : Purpose) (gave_up : Option ℕ) (released : Bool) (r : CondvarMemory) (l : ℕ)
     → IsMadeOf q gave_up released r l (Leave Exclusive)
     → ReleasesFairly (Some q) l → IsFairRelease (Some q) l
 leave_call (Releases k x fair) g b r l made fairly = fair_release k l x fair made.0 made.1 fairly
@@ -52,7 +52,8 @@ leave_call (Notifies k all) g b r l (inl made) fairly = absurd made.1
 leave_call (Notifies k all) g b r l (inr made) fairly = absurd made
 
 -- The event hands it over.
-hand_call : (q : Purpose) (gave_up : Option ℕ) (released : Bool) (r : Recall) (l : ℕ) (y : Option Queued)
+hand_call : (q : Purpose) (gave_up : Option ℕ) (released : Bool) (r : CondvarMemory) (l : ℕ)
+    (y : Option Queued)
     → IsMadeOf q gave_up released r l (HandOff Exclusive y)
     → ReleasesFairly (Some q) l → IsFairRelease (Some q) l
 hand_call (Releases k x fair) g b r l y made fairly = fair_release k l x fair made.0 made.1.1 fairly

@@ -24,7 +24,8 @@ use Rattle.spec_locks.specs.Locks.{SeeOwner, Look, Show, Hide, Taken, readers, h
 use Rattle.spec_locks.specs.Locks.{one_if_thread, standing, times}
 use Rattle.spec_locks.specs.Locks as locks
 use Rattle.spec_locks.specs.Purposes.{Purpose, Enters, Releases, Converts, Bumps, CallsOnce, Awaits, Waits}
-use Rattle.spec_locks.specs.Purposes.{Notifies, Recall, Blank, Saw, SawOwner, HasMoved, WasMoved, WasNotified}
+use Rattle.spec_locks.specs.Purposes.{Notifies, CondvarMemory, Blank, Saw, SawOwner, HasMoved, WasMoved}
+use Rattle.spec_locks.specs.Purposes.{WasNotified}
 use Rattle.spec_locks.specs.Sites.{Line, Main, Second, counts_some}
 use Rattle.spec_locks.specs.Runs.{LocksState, CallState, Event, Nothing, AtLock, Moves, AnswerHolds, Agrees}
 use Rattle.spec_locks.specs.Runs.{AreFree, Does, GoesOn, IsNotified, IsStep, IsTimely, MayBegin, MayDo, MayGo}
@@ -138,7 +139,7 @@ module _ (w : LocksState) (full : ℕ → Bool) (safe : IsSafe w full) where
     nobody_inside : (key u : ℕ) → w.inside key ≡ Some u → ⊥
     nobody_inside key u h = let k = inside_goes key u h in not_up u k.0 (k.1.0, k.1.1)
 
-    called_to_wake : (sort : Sort) (o : Option Purpose) (gave_up : Option ℕ) (recalls : Recall) (l : ℕ)
+    called_to_wake : (sort : Sort) (o : Option Purpose) (gave_up : Option ℕ) (recalls : CondvarMemory) (l : ℕ)
         → WakesWaiters sort o gave_up recalls l → o ≢ None
     called_to_wake sort None gave_up recalls l h = absurd h
     called_to_wake sort (Some p) gave_up recalls l h = λ e. cc
@@ -249,7 +250,7 @@ module _ (w v : LocksState) (t : ℕ) where
   }
 
   -- its time is up
-  recalls_late : (l : ℕ) (r : Recall) → (w.calls t).recalls ≡ r → (w.calls t).late ≡ true
+  recalls_late : (l : ℕ) (r : CondvarMemory) → (w.calls t).recalls ≡ r → (w.calls t).late ≡ true
       → Recalls w t (gives_up l r (w.calls t))
   recalls_late l WasMoved e late = record {
     purpose = refl;
@@ -461,7 +462,7 @@ headline_guarantees kinds threads steps told h =
 
 -- ---------------------------------------------------------------- no lost notification
 
-moved_nobody : (s : LockState) (r : Recall) → MovedNobody s r → (s.shown ≡ None)
+moved_nobody : (s : LockState) (r : CondvarMemory) → MovedNobody s r → (s.shown ≡ None)
     ⊎ ((k : ℕ) × (s.shown ≡ Some k) × (r ≢ Saw k))
 moved_nobody s Blank h = inl h
 moved_nobody s (Saw m) h = by_shown s.shown refl

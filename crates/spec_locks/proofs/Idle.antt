@@ -13,7 +13,8 @@ use Rattle.spec_locks.specs.declared.outcomes.Outcome as outcome
 use Rattle.spec_locks.specs.Onces.{Start}
 use Rattle.spec_locks.specs.Condvars.{moved_of}
 use Rattle.spec_locks.specs.Locks.{LockCase, Wake, HandOff, Late, OfOnce, OfCondvar, Look}
-use Rattle.spec_locks.specs.Purposes.{Purpose, Recall, Blank, Saw, SawOwner, HasMoved, WasMoved, WasNotified}
+use Rattle.spec_locks.specs.Purposes.{Purpose, CondvarMemory, Blank, Saw, SawOwner, HasMoved, WasMoved}
+use Rattle.spec_locks.specs.Purposes.{WasNotified}
 use Rattle.spec_locks.specs.Runs.{LocksState, CallState, AreLockStates, Event, Nothing, AtLock, Moves, Does}
 use Rattle.spec_locks.specs.Runs.{GoesOn, MayDo, MayHappen, Stays, Turned, calls_after, gives_up, going_on}
 use Rattle.spec_locks.specs.Runs.{if_moved, is_among, is_taken_by, joined_by, locks_after, new_call, no_call}
@@ -78,7 +79,7 @@ woken_goes w t (Moves l m all owned n) u c = either (is_among u (moved_of all (w
 woken_goes w t e u c = (call_stays c, refl)
 
 -- by its own
-gives_up_goes : (l : ℕ) (r : Recall) (c : CallState) → c.late ≡ true → CallGoesOn c (gives_up l r c)
+gives_up_goes : (l : ℕ) (r : CondvarMemory) (c : CallState) → c.late ≡ true → CallGoesOn c (gives_up l r c)
 gives_up_goes l WasMoved c late = record {
   purpose = refl;
   former = refl;

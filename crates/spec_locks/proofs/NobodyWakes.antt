@@ -11,7 +11,8 @@ use Rattle.spec_locks.specs.Locks as locks
 use Rattle.spec_locks.specs.Locks.{CondvarCase, LockCase, Queued, times}
 use Rattle.spec_locks.specs.Onces.{OnceCase}
 use Rattle.spec_locks.specs.Onces as onces
-use Rattle.spec_locks.specs.Purposes.{Blank, HasMoved, Notifies, Recall, Saw, SawOwner, Waits, WasMoved}
+use Rattle.spec_locks.specs.Purposes.{Blank, HasMoved, Notifies, CondvarMemory, Saw, SawOwner, Waits}
+use Rattle.spec_locks.specs.Purposes.{WasMoved}
 use Rattle.spec_locks.specs.Purposes.{WasNotified}
 use Rattle.spec_locks.specs.Runs.{AtLock, CallState, Does, Event, GoesOn, IsNotified, LocksState, MayHappen}
 use Rattle.spec_locks.specs.Runs.{Moves, Nothing, Stays, after_wake, calls_after, gives_up, going_on}
@@ -20,7 +21,7 @@ use Rattle.spec_locks.specs.UserLaws.{OfEachStep}
 use Rattle.spec_locks.specs.CondvarLaws.{IsNotifier, NobodyWakesByItself}
 
 -- each thread that is woken was notified only where it was
-after_wake_none : (r : Recall) → (IsNotified r → ⊥) → IsNotified (after_wake r) → ⊥
+after_wake_none : (r : CondvarMemory) → (IsNotified r → ⊥) → IsNotified (after_wake r) → ⊥
 after_wake_none Blank none h = h
 after_wake_none (Saw m) none h = h
 after_wake_none (SawOwner m owned) none h = h
@@ -29,7 +30,7 @@ after_wake_none WasMoved none h = none tt
 after_wake_none WasNotified none h = none tt
 
 -- nor does a thread notify itself
-gives_up_none : (l : ℕ) (r : Recall) (c : CallState) → c.recalls ≡ r → (IsNotified r → ⊥)
+gives_up_none : (l : ℕ) (r : CondvarMemory) (c : CallState) → c.recalls ≡ r → (IsNotified r → ⊥)
     → IsNotified (gives_up l r c).recalls → ⊥
 gives_up_none l WasMoved c e none h = none tt
 gives_up_none l Blank c e none h = subst (λ x. IsNotified x → ⊥) (sym e) none h

@@ -14,7 +14,7 @@ use Rattle.spec_locks.specs.Locks.{LockState, OfOnce, after_case, left_after, pu
 use Rattle.spec_locks.specs.Onces.{Phase, New, Poisoned, InProgress, Done, OnceCase, Start, Finish, Fail}
 use Rattle.spec_locks.specs.Onces.{Rest, TakeAll, MayStart}
 use Rattle.spec_locks.specs.Purposes.{Purpose, Enters, Releases, Converts, Bumps, CallsOnce, Awaits, Waits}
-use Rattle.spec_locks.specs.Purposes.{Notifies, Recall, AwaitsBy, IsMadeOf}
+use Rattle.spec_locks.specs.Purposes.{Notifies, CondvarMemory, AwaitsBy, IsMadeOf}
 use Rattle.spec_locks.specs.Runs.{LocksState, Event, Nothing, AtLock, Moves, Begins, Does, GoesOn, MayDo}
 use Rattle.spec_locks.specs.Runs.{MayHappen, Turned, joined_by, locks_after, rules_at}
 use Rattle.spec_locks.specs.Headline.{IsSafe}
@@ -33,7 +33,7 @@ awaits_none Finish forced timed g rests_not made = made
 awaits_none Fail forced timed g rests_not made = made
 awaits_none TakeAll forced timed g rests_not made = made
 
-runs_call : (q : Purpose) (g : Option ℕ) (b : Bool) (c : Recall) (l : ℕ) (e : OnceCase)
+runs_call : (q : Purpose) (g : Option ℕ) (b : Bool) (c : CondvarMemory) (l : ℕ) (e : OnceCase)
     → ((x : Want) (b : Bool) → e ≢ Rest x b) → IsMadeOf q g b c l (OfOnce e)
     → (forced : Bool) × (q ≡ CallsOnce l forced)
 runs_call (CallsOnce k forced) g b c l e rests_not made = (forced, ap (λ n. CallsOnce n forced) (sym made.0))

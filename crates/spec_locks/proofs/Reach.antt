@@ -17,7 +17,8 @@ use Rattle.spec_locks.specs.Locks.{LockState, LockCase, Condvar, Mutex, Enter, P
 use Rattle.spec_locks.specs.Locks.{Park, Aside, TakeFirst, TakeAside, TakePicked, Wake, HandOff, Late}
 use Rattle.spec_locks.specs.Locks.{Rollback, OfOnce, OfCondvar, SeeOwner, Look, Show, Hide, left_after}
 use Rattle.spec_locks.specs.Locks.{putting, standing, times}
-use Rattle.spec_locks.specs.Purposes.{MayWait, Purpose, Notifies, Recall, Blank, Saw, SawOwner, HasMoved}
+use Rattle.spec_locks.specs.Purposes.{MayWait, Purpose, Notifies, CondvarMemory, Blank, Saw, SawOwner}
+use Rattle.spec_locks.specs.Purposes.{HasMoved}
 use Rattle.spec_locks.specs.Purposes.{WasMoved, WasNotified, Waits}
 use Rattle.spec_locks.specs.Runs.{LocksState, CallState, AnswerHolds, Event, Nothing, AtLock, Moves, Does}
 use Rattle.spec_locks.specs.Runs.{GoesOn, IsBeingEmptied, IsStep, MayDo, MayHappen, MovedNobody}
@@ -31,13 +32,13 @@ use Rattle.spec_locks.proofs.Idle.{differs, ends, goes_on, other_then, own_then,
 use Rattle.spec_locks.proofs.Idle.{unless_same}
 
 -- what it recalls: nothing yet, or the mutex with which the waiter waits
-abbrev Recalled : LocksState → ℕ → ℕ → Recall → Type 0
+abbrev Recalled : LocksState → ℕ → ℕ → CondvarMemory → Type 0
 Recalled w c t Blank = Unit {0}
 Recalled w c t (Saw m) = (timed : Bool) × ((w.calls t).purpose ≡ Some (Waits c m timed))
 Recalled w c t (SawOwner m b) = (timed : Bool) × ((w.calls t).purpose ≡ Some (Waits c m timed))
 Recalled w c t r = ⊥
 
-still : (w v : LocksState) (c t : ℕ) (r : Recall) → (v.calls t).purpose ≡ (w.calls t).purpose
+still : (w v : LocksState) (c t : ℕ) (r : CondvarMemory) → (v.calls t).purpose ≡ (w.calls t).purpose
     → Recalled w c t r → Recalled v c t r
 still w v c t Blank e h = tt
 still w v c t (Saw m) e h = (h.0, e ∙ h.1)
@@ -46,7 +47,8 @@ still w v c t (HasMoved m n) e h = absurd h
 still w v c t WasMoved e h = absurd h
 still w v c t WasNotified e h = absurd h
 
-woken_keeps : (w : LocksState) (c t : ℕ) (r : Recall) → Recalled w c t r → Recalled w c t (after_wake r)
+woken_keeps : (w : LocksState) (c t : ℕ) (r : CondvarMemory) → Recalled w c t r
+    → Recalled w c t (after_wake r)
 woken_keeps w c t Blank h = tt
 woken_keeps w c t (Saw m) h = h
 woken_keeps w c t (SawOwner m b) h = h
@@ -54,7 +56,8 @@ woken_keeps w c t (HasMoved m n) h = absurd h
 woken_keeps w c t WasMoved h = absurd h
 woken_keeps w c t WasNotified h = absurd h
 
-given_up : (w : LocksState) (c t l : ℕ) (r : Recall) (call : CallState) → Recalled w c t r → call.recalls ≡ r
+given_up : (w : LocksState) (c t l : ℕ) (r : CondvarMemory) (call : CallState) → Recalled w c t r
+    → call.recalls ≡ r
     → Recalled w c t (gives_up l r call).recalls
 given_up w c t l Blank call h e = subst (Recalled w c t) (sym e) h
 given_up w c t l (Saw m) call h e = subst (Recalled w c t) (sym e) h
@@ -266,7 +269,7 @@ module _ (c t u : ℕ) where
       | inr emptied ↦ emptied
     ]
 
-    by_recalls : (r : Recall) → Recalled v c t r → MovedNobody (z.locks c) r → IsBeingEmptied z c
+    by_recalls : (r : CondvarMemory) → Recalled v c t r → MovedNobody (z.locks c) r → IsBeingEmptied z c
     by_recalls Blank h moved = none_shown moved
     by_recalls (Saw m) h moved = by_shown (z.locks c).shown refl
       where

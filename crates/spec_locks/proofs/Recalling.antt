@@ -14,7 +14,8 @@ use Rattle.spec_locks.specs.Locks.{Late, Rollback, OfOnce, OfCondvar, SeeOwner, 
 use Rattle.spec_locks.specs.Locks.{putting}
 use Rattle.spec_locks.specs.Onces.{InProgress, Poisoned, Start, Finish, Fail, Rest, TakeAll}
 use Rattle.spec_locks.specs.Purposes.{Purpose, Enters, Releases, Converts, Bumps, CallsOnce, Awaits, Waits}
-use Rattle.spec_locks.specs.Purposes.{Notifies, Recall, Blank, Saw, SawOwner, HasMoved, WasMoved, WasNotified}
+use Rattle.spec_locks.specs.Purposes.{Notifies, CondvarMemory, Blank, Saw, SawOwner, HasMoved, WasMoved}
+use Rattle.spec_locks.specs.Purposes.{WasNotified}
 use Rattle.spec_locks.specs.Purposes.{IsMadeOf}
 use Rattle.spec_locks.specs.Runs.{LocksState, CallState, Event, Nothing, AtLock, Moves, Does, GoesOn, MayDo}
 use Rattle.spec_locks.specs.Runs.{MayHappen, Stays, Turned, after_wake, gives_up, going_on, if_moved}
@@ -24,7 +25,7 @@ use Rattle.spec_locks.proofs.Idle.{differs, other_then, own_then, same_number, s
 use Rattle.spec_locks.proofs.Runs.{needs_of}
 
 -- a notification recalls so
-record Notes (w v : LocksState) (t : ℕ) (now : Recall) : Type 0 where
+record Notes (w v : LocksState) (t : ℕ) (now : CondvarMemory) : Type 0 where
   pub saw : (m : ℕ) → now ≡ Saw m → ((w.calls t).recalls ≡ Saw m)
       ⊎ ((c : ℕ) × (all : Bool) × ((w.calls t).purpose ≡ Some (Notifies c all))
       × ((w.locks c).shown ≡ Some m))
@@ -45,7 +46,7 @@ truly w v t c notes fails = record { saw = notes.saw; moved = notes.moved; faile
 -- ---------------------------------------------------------------- a look
 
 -- a call that looks which mutex is shown notifies
-looks_call : (q : Purpose) (g : Option ℕ) (b : Bool) (c : Recall) (l : ℕ) (seen : Option ℕ)
+looks_call : (q : Purpose) (g : Option ℕ) (b : Bool) (c : CondvarMemory) (l : ℕ) (seen : Option ℕ)
     → IsMadeOf q g b c l (OfCondvar (Look seen))
     → (every : Bool) × (q ≡ Notifies l every)
 looks_call (Notifies k every) g b c l seen (inl made) = (every, ap (λ n. Notifies n every) (sym made.0))
@@ -73,7 +74,7 @@ module _ (w : LocksState) (t : ℕ) where
 
 module _ (w v : LocksState) where
   -- it recalls what it did before, or what befell it
-  stays_so : (u : ℕ) (r : Recall) → r ≡ (w.calls u).recalls → Notes w v u r
+  stays_so : (u : ℕ) (r : CondvarMemory) → r ≡ (w.calls u).recalls → Notes w v u r
   stays_so u r e = record { saw = λ m f. inl (sym e ∙ f); moved = λ m n f. inl (sym e ∙ f) }
 
   blank : (u : ℕ) → Notes w v u Blank
@@ -88,7 +89,7 @@ module _ (w v : LocksState) where
   saw_owner : (u m : ℕ) (b : Bool) → Notes w v u (SawOwner m b)
   saw_owner u m b = record { saw = λ k f. absurd cc; moved = λ k n f. absurd cc }
 
-  afterwards : (u : ℕ) (r : Recall) → Notes w v u r → Notes w v u (after_wake r)
+  afterwards : (u : ℕ) (r : CondvarMemory) → Notes w v u r → Notes w v u (after_wake r)
   afterwards u WasMoved h = was_notified u
   afterwards u Blank h = h
   afterwards u (Saw m) h = h
@@ -141,11 +142,12 @@ module _ (w v : LocksState) where
       either false = refl
   woken_failed t e u c = refl
 
-  late_failed : (l : ℕ) (r : Recall) (c : CallState) → (gives_up l r c).failed ≡ c.failed
+  late_failed : (l : ℕ) (r : CondvarMemory) (c : CallState) → (gives_up l r c).failed ≡ c.failed
   late_failed l WasMoved c = refl
   late_failed l r c = refl
 
-  late_so : (t l : ℕ) (r : Recall) → r ≡ (w.calls t).recalls → Notes w v t (gives_up l r (w.calls t)).recalls
+  late_so : (t l : ℕ) (r : CondvarMemory) → r ≡ (w.calls t).recalls
+      → Notes w v t (gives_up l r (w.calls t)).recalls
   late_so t l WasMoved e = was_notified t
   late_so t l Blank e = stays_so t _ refl
   late_so t l (Saw m) e = stays_so t _ refl

@@ -17,7 +17,7 @@ use Rattle.spec_locks.specs.Locks.{HandOff, Late, Rollback, OfOnce, OfCondvar, S
 use Rattle.spec_locks.specs.Locks.{IsLockState, after_case, left_after, one_if_some, putting, rights_of}
 use Rattle.spec_locks.specs.Locks.{sharing_from, standing}
 use Rattle.spec_locks.specs.Purposes.{MayWait, Purpose, Enters, Releases, Converts, Bumps, CallsOnce, Awaits}
-use Rattle.spec_locks.specs.Purposes.{Waits, Notifies, Recall, AwaitsBy, CallsOnceBy, IsMadeOf}
+use Rattle.spec_locks.specs.Purposes.{Waits, Notifies, CondvarMemory, AwaitsBy, CallsOnceBy, IsMadeOf}
 use Rattle.spec_locks.specs.Purposes.{NotifiesBeside, NotifiesThere, WaitsThere}
 use Rattle.spec_locks.specs.Runs.{LocksState, AreLockStates, Event, Nothing, AtLock, Moves, Does, GoesOn}
 use Rattle.spec_locks.specs.Runs.{MayDo, MayHappen, Turned, is_taken_by, joined_by, locks_after, rights_in}
@@ -155,19 +155,19 @@ module _ (r : Rules) (s : LockState) (t : ℕ) where
   wait_call Late k timed gave_up released made = refl
   wait_call case k timed gave_up released made = absurd made
 
-  notify_there : (case : LockCase) (recalls : Recall) → NotifiesThere recalls case
+  notify_there : (case : LockCase) (recalls : CondvarMemory) → NotifiesThere recalls case
       → rights_of (after_case r case s t) t ≡ rights_of s t
   notify_there (OfCondvar (Look seen)) recalls made = refl
   notify_there (OfCondvar Hide) recalls made = refl
   notify_there case recalls made = absurd made
 
-  notify_beside : (case : LockCase) (recalls : Recall) (m : ℕ) → NotifiesBeside recalls m case
+  notify_beside : (case : LockCase) (recalls : CondvarMemory) (m : ℕ) → NotifiesBeside recalls m case
       → rights_of (after_case r case s t) t ≡ rights_of s t
   notify_beside (SeeOwner owned) recalls m made = refl
   notify_beside Wake recalls m made = refl
   notify_beside case recalls m made = absurd made
 
-  own_case : (q : Purpose) (gave_up : Option ℕ) (released : Bool) (recalls : Recall) (l : ℕ)
+  own_case : (q : Purpose) (gave_up : Option ℕ) (released : Bool) (recalls : CondvarMemory) (l : ℕ)
       (case : LockCase) → IsMadeOf q gave_up released recalls l case
       → (rights_of (after_case r case s t) t ≡ rights_of s t) ⊎ MayChange (Some q) l
   own_case (Enters k x how) g b c l case made = inr (sym made.0)

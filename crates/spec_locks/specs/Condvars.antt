@@ -7,25 +7,25 @@ use Rattle.spec_locks.specs.Locks.{Queued, Mutex, Rules, putting, times, standin
 use Rattle.spec_locks.specs.Sites.{Main, Site, Bring, Needed, is_empty}
 
 -- The deed that a thread inside the section is about to do, `m` being a mutex.
-pub data CondvarStage : Type 0 where
+pub data CondvarPhase : Type 0 where
   -- nothing: it has come, or has done what it came for
-  NothingToDo : CondvarStage
+  NothingToDo : CondvarPhase
   -- it has shown its mutex, and is to stand after the last
-  ToStandLast : (m : ℕ) → CondvarStage
+  ToStandLast : (m : ℕ) → CondvarPhase
   -- another mutex than its own is shown
-  SeesOther : (m : ℕ) → CondvarStage
+  SeesOther : (m : ℕ) → CondvarPhase
   -- a notification finds another mutex than it saw first, or none
-  Misses : (m : ℕ) → CondvarStage
+  Misses : (m : ℕ) → CondvarPhase
   -- a notification finds the mutex that it saw first
-  Sees : (m : ℕ) → CondvarStage
+  Sees : (m : ℕ) → CondvarPhase
   -- nothing is shown, and it is to take all waiters
-  Takes : (m : ℕ) → CondvarStage
+  Takes : (m : ℕ) → CondvarPhase
   -- nobody is left, and it is to show nothing
-  Clears : CondvarStage
+  Clears : CondvarPhase
 
 pub record Inside : Type 0 where
   pub thread : ℕ
-  pub stage : CondvarStage
+  pub stage : CondvarPhase
 
 -- the mutex shown, the waiters in order, the thread inside, and the mutex that a thread's wait names
 pub record CondvarSite : Type 0 where
@@ -51,7 +51,7 @@ IsSettledAt (Some m) c = (c.waiters ≢ []) × AllOf c m
 abbrev pub IsSettled : CondvarSite → Type 0
 IsSettled c = IsSettledAt c.shown c
 
-abbrev pub StageHolds : CondvarSite → ℕ → CondvarStage → Type 0
+abbrev pub StageHolds : CondvarSite → ℕ → CondvarPhase → Type 0
 StageHolds c t NothingToDo = IsSettled c
 StageHolds c t (ToStandLast m) = (c.shown ≡ Some m) × (c.waits_with t ≡ Some m) × AllOf c m
 StageHolds c t (SeesOther m) = IsSettled c × (c.shown ≢ None) × (c.shown ≢ Some m)
@@ -97,17 +97,17 @@ pub data CondvarDeed : Type 0 where
   ShowNone : CondvarDeed
 
 -- t is inside, at this stage
-abbrev pub IsInsideAt : CondvarSite → ℕ → CondvarStage → Type 0
+abbrev pub IsInsideAt : CondvarSite → ℕ → CondvarPhase → Type 0
 IsInsideAt c t stage = c.inside ≡ Some (record { thread = t; stage = stage })
 
-abbrev pub at : CondvarSite → ℕ → CondvarStage → CondvarSite
+abbrev pub at : CondvarSite → ℕ → CondvarPhase → CondvarSite
 at c t stage = record c { inside = Some (record { thread = t; stage = stage }) }
 
-abbrev pub clears_if : List Queued → CondvarStage
+abbrev pub clears_if : List Queued → CondvarPhase
 clears_if left = if is_empty left then Clears else NothingToDo
 
 -- the mutex that was shown is to be taken
-abbrev pub hidden : Option ℕ → CondvarStage
+abbrev pub hidden : Option ℕ → CondvarPhase
 hidden None = NothingToDo
 hidden (Some m) = Takes m
 
@@ -133,7 +133,7 @@ condvar_leads LeaveList c t =
 condvar_leads ShowNone c t = at (record c { shown = None }) t NothingToDo
 
 -- a thread may leave that has nothing left to do
-abbrev pub MayLeaveSection : CondvarStage → Type 0
+abbrev pub MayLeaveSection : CondvarPhase → Type 0
 MayLeaveSection NothingToDo = Unit {0}
 MayLeaveSection (SeesOther m) = Unit {0}
 MayLeaveSection (Misses m) = Unit {0}
@@ -188,7 +188,7 @@ abbrev pub line_of : Bool → List Queued → List Queued
 line_of locked moved = if locked then map wanting_mutex moved else drop 1 (map wanting_mutex moved)
 
 -- the stage at which a notification moves
-abbrev pub moving : Bool → ℕ → CondvarStage
+abbrev pub moving : Bool → ℕ → CondvarPhase
 moving all m = if all then Takes m else Sees m
 
 -- a waiter stands nowhere at its mutex, and doesn't try it again

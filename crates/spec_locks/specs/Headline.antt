@@ -16,7 +16,8 @@ use Rattle.spec_locks.specs.Onces.{Done, InProgress}
 use Rattle.spec_locks.specs.Locks.{Sort, Semaphore, Once, Condvar, LockState, Rules, Taken, Owns}
 use Rattle.spec_locks.specs.Locks.{IsSomePending, readers, standing, times}
 use Rattle.spec_locks.specs.Purposes.{Purpose, Enters, Releases, Converts, Bumps, CallsOnce, Awaits, Waits}
-use Rattle.spec_locks.specs.Purposes.{Notifies, Recall, Blank, Saw, SawOwner, HasMoved, WasMoved, WasNotified}
+use Rattle.spec_locks.specs.Purposes.{Notifies, CondvarMemory, Blank, Saw, SawOwner, HasMoved, WasMoved}
+use Rattle.spec_locks.specs.Purposes.{WasNotified}
 use Rattle.spec_locks.specs.Purposes.{MayWait}
 use Rattle.spec_locks.specs.Sites.{Line, Main, Second, IsOpen, counts_some, has_readers}
 use Rattle.spec_locks.specs.Runs.{LocksState, Status, AreLockStates, IsNotified, IsStep, LetsGo, ShowsWaiters}
@@ -38,7 +39,7 @@ want_of (Some (Waits l m timed)) = Some Exclusive
 want_of (Some (Notifies l all)) = None
 
 -- the mutex that a notification has seen
-abbrev pub mutex_seen : Recall → Option ℕ
+abbrev pub mutex_seen : CondvarMemory → Option ℕ
 mutex_seen Blank = None
 mutex_seen (Saw m) = Some m
 mutex_seen (SawOwner m owned) = Some m
@@ -49,7 +50,7 @@ mutex_seen WasNotified = None
 -- a call that wakes those that it takes from the main line of l: a release that hands nothing over,
 -- a conversion that lets others in, a writer beside readers that has given up, a call that runs the
 -- closure of a `Once`; a wait, of its mutex, and a notification, of the mutex that it has seen
-abbrev pub WakesWaiters : Sort → Option Purpose → Option ℕ → Recall → ℕ → Type 0
+abbrev pub WakesWaiters : Sort → Option Purpose → Option ℕ → CondvarMemory → ℕ → Type 0
 WakesWaiters sort None gave_up recalls l = ⊥
 WakesWaiters sort (Some (Enters k x how)) gave_up recalls l =
     (k ≡ l) × (gave_up ≡ Some l) × (has_readers sort ≡ true)

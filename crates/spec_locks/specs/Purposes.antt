@@ -137,18 +137,18 @@ purpose_of (kind.TheVariants.Semaphore permits) (call.TheVariants.Once l c) = No
 purpose_of (kind.TheVariants.Semaphore permits) (call.TheVariants.Condvar l c) = None
 
 -- a call of a condition variable remembers its own steps, and what a notification did to it
-pub data Recall : Type 0 where
-  Blank : Recall
+pub data CondvarMemory : Type 0 where
+  Blank : CondvarMemory
   -- a notification has seen this mutex shown
-  Saw : (mutex : ℕ) → Recall
+  Saw : (mutex : ℕ) → CondvarMemory
   -- A notification saw, inside both sections, whether somebody owns the mutex.
-  SawOwner : (mutex : ℕ) → (owned : Bool) → Recall
+  SawOwner : (mutex : ℕ) → (owned : Bool) → CondvarMemory
   -- it has taken and moved so many
-  HasMoved : (mutex number : ℕ) → Recall
+  HasMoved : (mutex number : ℕ) → CondvarMemory
   -- a wait was moved to its mutex: to its queue, or into a hand
-  WasMoved : Recall
+  WasMoved : CondvarMemory
   -- A waiter was notified, and was woken since, or handed its mutex, or left that queue.
-  WasNotified : Recall
+  WasNotified : CondvarMemory
 
 -- the lock of which a call is
 abbrev pub lock_for : Purpose → ℕ
@@ -267,26 +267,26 @@ ReleasesOnce released case = ReleasesBy Exclusive false case
 
 -- A wait has its mutex again by that release alone. It gives up in the queue of the mutex too, where it was
 -- moved there.
-abbrev pub WaitsBeside : Bool → Option ℕ → Bool → Recall → LockCase → Type 0
+abbrev pub WaitsBeside : Bool → Option ℕ → Bool → CondvarMemory → LockCase → Type 0
 WaitsBeside timed gave_up released recalls Late = (timed ≡ true) × (recalls ≡ WasMoved)
 WaitsBeside timed gave_up released recalls case =
     ReleasesOnce released case ⊎ ((released ≡ true) × EntersBy Exclusive Patient gave_up case)
 
 -- the deeds of a notification at its condition variable, and at the mutex that it has seen; its move is one
 -- event of both
-abbrev pub NotifiesThere : Recall → LockCase → Type 0
+abbrev pub NotifiesThere : CondvarMemory → LockCase → Type 0
 NotifiesThere recalls (OfCondvar (Look seen)) = recalls ≡ Blank
 NotifiesThere recalls (OfCondvar Hide) = Unit {0}
 NotifiesThere recalls case = ⊥
 
-abbrev pub NotifiesBeside : Recall → ℕ → LockCase → Type 0
+abbrev pub NotifiesBeside : CondvarMemory → ℕ → LockCase → Type 0
 NotifiesBeside recalls m (SeeOwner owned) = recalls ≡ Saw m
 NotifiesBeside recalls m Wake = (number : ℕ) × (recalls ≡ HasMoved m number)
 NotifiesBeside recalls m case = ⊥
 
 -- the call does this to this lock; gave_up is the lock whose queue it left because its time was up,
 -- released whether it has given its right up: a bump enters only then
-abbrev pub IsMadeOf : Purpose → Option ℕ → Bool → Recall → ℕ → LockCase → Type 0
+abbrev pub IsMadeOf : Purpose → Option ℕ → Bool → CondvarMemory → ℕ → LockCase → Type 0
 IsMadeOf (Enters l x p) gave_up released recalls k case = (k ≡ l) × EntersBy x p gave_up case
 IsMadeOf (Releases l x fair) gave_up released recalls k case = (k ≡ l) × ReleasesBy x fair case
 IsMadeOf (Converts l x y p) gave_up released recalls k case =

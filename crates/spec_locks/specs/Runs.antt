@@ -31,7 +31,8 @@ use Rattle.spec_locks.specs.Locks.{Condvar, Rules, Rights, Mutex, Needs, after_c
 use Rattle.spec_locks.specs.Locks.{without_right, Owns, IsFree, IsBlocked, count, readers, putting, standing}
 use Rattle.spec_locks.specs.Locks.{HasTakenNobody, IsLockState, left_after, opening_lock, times}
 use Rattle.spec_locks.specs.Purposes.{Purpose, Enters, Releases, Converts, Bumps, CallsOnce, Awaits, Waits}
-use Rattle.spec_locks.specs.Purposes.{Notifies, Recall, Blank, Saw, SawOwner, HasMoved, WasMoved, WasNotified}
+use Rattle.spec_locks.specs.Purposes.{Notifies, CondvarMemory, Blank, Saw, SawOwner, HasMoved, WasMoved}
+use Rattle.spec_locks.specs.Purposes.{WasNotified}
 use Rattle.spec_locks.specs.Purposes.{Patience, Patient, Timed, Try, lock_for, purpose_of, rules_of, MayWait}
 use Rattle.spec_locks.specs.Purposes.{IsMadeOf}
 
@@ -52,7 +53,7 @@ pub record CallState : Type 0 where
   -- whether its run of a `Once` failed
   pub failed : Bool
   -- a condition variable: what it has seen and moved, and what befell it
-  pub recalls : Recall
+  pub recalls : CondvarMemory
 
 -- how a thread stands between two steps
 pub record Status : Type 0 where
@@ -145,7 +146,7 @@ locks_after w t (Moves c m all owned number) =
 
 -- its time is up, and it leaves the queue of this lock: a wait that was moved to the queue of its
 -- mutex was notified all the same
-abbrev pub gives_up : ℕ → Recall → CallState → CallState
+abbrev pub gives_up : ℕ → CondvarMemory → CallState → CallState
 gives_up l WasMoved c = record c { recalls = WasNotified; late = false }
 gives_up l recalls c = record c { gave_up = Some l }
 
@@ -172,7 +173,7 @@ is_taken_by t None = false
 is_taken_by t (Some h) = h.by == t
 
 -- a waiter was notified that was moved to the queue of its mutex, and is woken or handed it
-abbrev pub after_wake : Recall → Recall
+abbrev pub after_wake : CondvarMemory → CondvarMemory
 after_wake WasMoved = WasNotified
 after_wake recalls = recalls
 
@@ -320,7 +321,7 @@ abbrev pub HasAgain : LocksState → ℕ → CallState → Type 0
 HasAgain w t c = (c.released ≡ true) × Keeps w t c
 
 -- a notification has moved it
-abbrev pub IsNotified : Recall → Type 0
+abbrev pub IsNotified : CondvarMemory → Type 0
 IsNotified WasMoved = Unit {0}
 IsNotified WasNotified = Unit {0}
 IsNotified recalls = ⊥
@@ -338,12 +339,12 @@ WaitsAnswer w t c l m timed answer.TheVariants.TwoMutexes =
 WaitsAnswer w t c l m timed a = ⊥
 
 -- it moved nobody: no mutex was shown, or another than it saw first, or none
-abbrev pub MovedNobody : LockState → Recall → Type 0
+abbrev pub MovedNobody : LockState → CondvarMemory → Type 0
 MovedNobody s Blank = s.shown ≡ None
 MovedNobody s (Saw m) = s.shown ≢ Some m
 MovedNobody s recalls = ⊥
 
-abbrev pub HasMovedSome : ℕ → Recall → Type 0
+abbrev pub HasMovedSome : ℕ → CondvarMemory → Type 0
 HasMovedSome number recalls = (m : ℕ) × (recalls ≡ HasMoved m number)
 
 abbrev pub NotifiesAnswer : LocksState → ℕ → CallState → ℕ → Bool → Answer → Type 0
@@ -434,7 +435,7 @@ pub record MayGo (w : LocksState) (t : ℕ) : Type 0 where
 
 -- a call of the lock that has a deadline; a wait has it in the queue of its mutex too, where it was
 -- moved there
-abbrev pub IsTimed : Option Purpose → Recall → ℕ → Type 0
+abbrev pub IsTimed : Option Purpose → CondvarMemory → ℕ → Type 0
 IsTimed (Some (Enters l x how)) recalls k = (l ≡ k) × (how ≡ Timed)
 IsTimed (Some (Converts l x y how)) recalls k = (l ≡ k) × (how ≡ Timed)
 IsTimed (Some (Awaits l forced timed)) recalls k = (l ≡ k) × (timed ≡ true)

@@ -20,7 +20,7 @@ use Rattle.spec_locks.specs.Headline.{WakesWaiters, want_of}
 use Rattle.spec_locks.specs.Locks.{Sort, Taken, Knows, wants_exclusive}
 use Rattle.spec_locks.specs.Locks as sorts
 use Rattle.spec_locks.specs.Purposes.{Purpose, Enters, Releases, Converts, Bumps, CallsOnce, Awaits, Waits}
-use Rattle.spec_locks.specs.Purposes.{Notifies, MayWait, IsReleasing, lock_for, Recall}
+use Rattle.spec_locks.specs.Purposes.{Notifies, MayWait, IsReleasing, lock_for, CondvarMemory}
 use Rattle.spec_locks.specs.declared.calls.Patience.{Patience}
 use Rattle.spec_locks.specs.declared.calls.Patience.TheVariants.{Try, Timed, Patient}
 use Rattle.spec_locks.specs.Runs.{IsTimed}
@@ -353,13 +353,13 @@ timed_is : (how : Patience) → is_timed how ≡ true → how ≡ Timed
 timed_is Timed h = refl
 timed_is how h = absurd cc
 
-deadline_so : (q : Purpose) (r : Recall) → has_deadline q ≡ true → IsTimed (Some q) r (lock_for q)
+deadline_so : (q : Purpose) (r : CondvarMemory) → has_deadline q ≡ true → IsTimed (Some q) r (lock_for q)
 deadline_so (Enters l x how) r h = (refl, timed_is how h)
 deadline_so (Converts l x y how) r h = (refl, timed_is how h)
 deadline_so (Awaits l forced timed) r h = (refl, h)
 deadline_so q r h = absurd cc
 
-has_a_deadline : (q : Purpose) (r : Recall) (k : ℕ) → is_single q ≡ true → IsTimed (Some q) r k
+has_a_deadline : (q : Purpose) (r : CondvarMemory) (k : ℕ) → is_single q ≡ true → IsTimed (Some q) r k
     → has_deadline q ≡ true
 has_a_deadline (Enters l x how) r k one h = rw (h.1) refl
 has_a_deadline (Converts l x y how) r k one h = rw (h.1) refl
@@ -417,7 +417,7 @@ false_is : (b : Bool) → not b ≡ true → b ≡ false
 false_is true h = absurd cc
 false_is false h = refl
 
-wakes_so : (s : Sort) (q : Purpose) (b : Bool) (c : Recall) → wakes_waiters s q b ≡ true
+wakes_so : (s : Sort) (q : Purpose) (b : Bool) (c : CondvarMemory) → wakes_waiters s q b ≡ true
     → WakesWaiters s (Some q) (if b then Some (lock_for q) else None) c (lock_for q)
 wakes_so s (Releases k x fair) b c h = (
   refl,

@@ -3,9 +3,9 @@
 use Rattle.std.specs.Prelude.{ℕ, Bool, false, Option, Some, None, if◌then◌else◌}
 use Rattle.core_base.specs.declared.wants.Want.{Want}
 use Rattle.core_base.specs.declared.wants.Want.TheVariants.{Exclusive}
-use Rattle.spec_locks.specs.Condvars.{CondvarStage}
+use Rattle.spec_locks.specs.Condvars.{CondvarPhase}
 use Rattle.spec_locks.specs.Locks.{Rights, Taken}
-use Rattle.spec_locks.specs.Purposes.{Purpose, Enters, Recall, Blank}
+use Rattle.spec_locks.specs.Purposes.{Purpose, Enters, CondvarMemory, Blank}
 use Rattle.spec_locks.specs.declared.calls.Patience.TheVariants.{Try}
 use Rattle.spec_locks.specs.Sites.{Role, Line, idle}
 
@@ -50,9 +50,9 @@ pub record Profile : Type 0 where
   -- its run of a `Once` failed
   pub failed : Bool
   -- a call of a condition variable: what it has seen and moved, and what befell it
-  pub recalls : Recall
+  pub recalls : CondvarMemory
   -- its next deed inside the section of a condition variable, and the mutex that its wait names
-  pub stage : Option CondvarStage
+  pub stage : Option CondvarPhase
   pub names : Option ℕ
   -- the goal of its call, by the lock, and whether it has given its right up
   pub purpose : ℕ → Purpose

@@ -15,7 +15,7 @@ use Rattle.steps_base.specs.declared.acts.Next.TheVariants.{At, End}
 use Rattle.steps_base.specs.declared.acts.Reply.{Reply}
 use Rattle.steps_base.specs.declared.acts.Reply.TheVariants as reply
 use Rattle.steps_base.specs.declared.owners.Owners.{Owners}
-use Rattle.spec_locks.specs.Condvars.{CondvarStage, NothingToDo, SeesOther, Misses, Sees, Takes, Clears}
+use Rattle.spec_locks.specs.Condvars.{CondvarPhase, NothingToDo, SeesOther, Misses, Sees, Takes, Clears}
 use Rattle.spec_locks.specs.Condvars.{Inside, CondvarSite, IsCondvar, CondvarDeed, Show, SeeOther, SeeAgain}
 use Rattle.spec_locks.specs.Condvars.{MissIt, HideAndTakeAll, MoveFirst, MoveAll, LeaveList, ShowNone}
 use Rattle.spec_locks.specs.Condvars.{MayLeaveSection, MayGoOut, IsAsInside, IsInsideAt, IsInsideNot, at}
@@ -108,14 +108,14 @@ record Does (c : CondvarSite) (t : ℕ) (ds : List CondvarDeed) (n : Next Condva
 
 module _ (c : CondvarSite) (t : ℕ) (site : IsCondvar c) where
   -- tells what t knows by its stage
-  known : (stage : CondvarStage) → IsInsideAt c t stage → condvars.StageHolds c t stage
+  known : (stage : CondvarPhase) → IsInsideAt c t stage → condvars.StageHolds c t stage
   known stage e = subst (λ (i : Option Inside). IsAsInside c i) e site.inside
 
   -- it may leave with nothing left to do
-  may_go : (stage : CondvarStage) → IsInsideAt c t stage → MayLeaveSection stage → MayGoOut c.inside t
+  may_go : (stage : CondvarPhase) → IsInsideAt c t stage → MayLeaveSection stage → MayGoOut c.inside t
   may_go stage e go = subst (λ (i : Option Inside). MayGoOut i t) (sym e) (refl, go)
 
-  stage_by : (d : CondvarSite) (b b2 : Bool) (x y : CondvarStage) → b ≡ b2
+  stage_by : (d : CondvarSite) (b b2 : Bool) (x y : CondvarPhase) → b ≡ b2
       → IsInsideAt d t (if b then x else y) → IsInsideAt d t (if b2 then x else y)
   stage_by d b b2 x y e h = subst (λ b. IsInsideAt d t (if b then x else y)) e h
 

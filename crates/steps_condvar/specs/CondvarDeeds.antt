@@ -10,7 +10,7 @@ use Rattle.steps_base.specs.declared.acts.Next.TheVariants.{At, End}
 use Rattle.steps_base.specs.declared.acts.Reply.{Reply}
 use Rattle.steps_base.specs.declared.acts.Reply.TheVariants.{Done, Value, Took, Requeued, Removed, Late}
 use Rattle.steps_base.specs.declared.owners.Owners.{Owners}
-use Rattle.spec_locks.specs.Condvars.{CondvarStage, CondvarSite, IsCondvar, CondvarDeed, EndsWait, GoIn}
+use Rattle.spec_locks.specs.Condvars.{CondvarPhase, CondvarSite, IsCondvar, CondvarDeed, EndsWait, GoIn}
 use Rattle.spec_locks.specs.Condvars.{GoOut, Show, SeeOther, StandLast, SeeAgain, MissIt, HideAndTakeAll}
 use Rattle.spec_locks.specs.Condvars.{MoveFirst, MoveAll, LeaveList, ShowNone, CondvarNeeded, IsInsideAt}
 use Rattle.spec_locks.specs.Condvars.{IsInsideNot, MoveFits, WaitsAside, condvar_leads}
@@ -78,7 +78,7 @@ AllCondvarNeeded (d ∷ ds) c t = CondvarNeeded d c t × AllCondvarNeeded ds (co
 
 -- ---------------------------------------------------------------- a thread at a place
 
-abbrev pub IsAtStage : CondvarSite → ℕ → Option CondvarStage → Type 0
+abbrev pub IsAtStage : CondvarSite → ℕ → Option CondvarPhase → Type 0
 IsAtStage c t None = IsInsideNot c.inside t
 IsAtStage c t (Some stage) = IsInsideAt c t stage
 

@@ -7,10 +7,10 @@ use Rattle.core_base.specs.declared.wants.Want.{Want}
 use Rattle.core_base.specs.declared.wants.Want.TheVariants as wants
 use Rattle.steps_base.specs.Profiles as profiles
 use Rattle.steps_base.specs.Profiles.{Hand, Profile, hand, hand_owner, in_hand, in_line}
-use Rattle.spec_locks.specs.Condvars.{CondvarStage, NothingToDo, ToStandLast, SeesOther, Misses, Sees, Clears}
+use Rattle.spec_locks.specs.Condvars.{CondvarPhase, NothingToDo, ToStandLast, SeesOther, Misses, Sees, Clears}
 use Rattle.spec_locks.specs.Condvars.{moving}
 use Rattle.spec_locks.specs.Locks.{Rights}
-use Rattle.spec_locks.specs.Purposes.{Purpose, Waits, Notifies, Recall, Blank, Saw, SawOwner, HasMoved}
+use Rattle.spec_locks.specs.Purposes.{Purpose, Waits, Notifies, CondvarMemory, Blank, Saw, SawOwner, HasMoved}
 use Rattle.spec_locks.specs.Purposes.{WasMoved, WasNotified}
 use Rattle.spec_locks.specs.Sites.{Role, Line, Has, Main, found, idle}
 use Rattle.steps_mutex.specs.MutexProfiles.{before_release, inside, mutex_profile, owner}
@@ -26,7 +26,7 @@ use Rattle.steps_condvar.specs.declared.wait.WaitAt.TheVariants as wait
 pub record CondvarRow : Type 0 where
   -- inside the section of the condition variable, what it is about to do there; the mutex that its
   -- wait names, and whether it stands in the queue of the condition variable
-  pub stage : Option CondvarStage
+  pub stage : Option CondvarPhase
   pub waits_with : Option ℕ
   pub listed : Bool
   -- its deeds at the mutex, and whether it stands in that queue
@@ -119,11 +119,11 @@ mutex_row_beside row = record blank_condvar_row {
 }
 
 -- inside the section of the condition variable
-abbrev pub waiting_at : CondvarStage → CondvarRow
+abbrev pub waiting_at : CondvarPhase → CondvarRow
 waiting_at stage = record blank_condvar_row { stage = Some stage; wants = Some wants.Wait; owes = true }
 
 -- it still owns its mutex there
-abbrev pub coming : CondvarStage → CondvarRow
+abbrev pub coming : CondvarPhase → CondvarRow
 coming stage = record (waiting_at stage) { role = owner }
 
 -- inside the section of the mutex, to which it was moved
@@ -157,12 +157,12 @@ brings_to locked = record inside { brings = locked }
 abbrev pub has_moved : Bool → Bool → Role
 has_moved any sets = record inside { carries = true; covers = any; sets = sets }
 
-abbrev pub inside_both : CondvarStage → Role → CondvarRow
+abbrev pub inside_both : CondvarPhase → Role → CondvarRow
 inside_both stage role = record blank_condvar_row
     { stage = Some stage; role = role; owes = true; owes_mutex = true }
 
 -- it has moved nobody, or so many
-abbrev pub told_stage : ℕ → ℕ → CondvarStage
+abbrev pub told_stage : ℕ → ℕ → CondvarPhase
 told_stage m number = if number == 0 then Misses m else NothingToDo
 
 abbrev pub told_of : Bool → ℕ → ℕ → CondvarRow
@@ -218,7 +218,7 @@ condvar_retries p = (condvar_row p).retries
 
 -- ---------------------------------------------------------------- as a place of each of its two locks
 
-abbrev pub section_in : Option CondvarStage → Option Line
+abbrev pub section_in : Option CondvarPhase → Option Line
 section_in None = None
 section_in (Some stage) = Some Main
 
@@ -280,13 +280,13 @@ condvar_released (Wait m timed at) = has_released at
 condvar_released p = false
 
 -- the memory of its call
-abbrev pub stands_recalls : Stands → Recall
+abbrev pub stands_recalls : Stands → CondvarMemory
 stands_recalls stands.Listed = Blank
 stands_recalls stands.Moved = WasMoved
 stands_recalls (stands.InHand by) = WasMoved
 stands_recalls s = WasNotified
 
-abbrev pub wait_recalls : WaitAt → Recall
+abbrev pub wait_recalls : WaitAt → CondvarMemory
 wait_recalls (wait.Release s at) = stands_recalls s
 wait_recalls (wait.Asleep s) = stands_recalls s
 wait_recalls wait.RemoveMoved = WasMoved
@@ -294,14 +294,14 @@ wait_recalls (wait.GiveUpMoved none_left) = WasNotified
 wait_recalls (wait.Lock timed_out at) = if timed_out then Blank else WasNotified
 wait_recalls at = Blank
 
-abbrev pub notify_recalls : ℕ → NotifyAt → Recall
+abbrev pub notify_recalls : ℕ → NotifyAt → CondvarMemory
 notify_recalls m (notify.Move locked) = SawOwner m locked
 notify_recalls m (notify.Clear any) = HasMoved m 1
 notify_recalls m (notify.MarkMoved number) = HasMoved m number
 notify_recalls m (notify.Leave any number) = if number == 0 then Saw m else HasMoved m number
 notify_recalls m at = Saw m
 
-abbrev pub condvar_recalls : CondvarPlace → Recall
+abbrev pub condvar_recalls : CondvarPlace → CondvarMemory
 condvar_recalls (Wait m timed at) = wait_recalls at
 condvar_recalls (Look all) = Blank
 condvar_recalls (Notify all m at) = notify_recalls m at

@@ -45,7 +45,8 @@ use Rattle.steps_rwlock.specs.RwLockCalls.{MayStand, StandsAt, next_row}
 use Rattle.steps_rwlock.specs.RwLockMoves.{rwlock_move, rwlock_hears}
 use Rattle.steps_rwlock.proofs.RwLockMoves.{rwlock_acts_move, rwlock_sleepers_move, rwlock_late_moves}
 use Rattle.steps_rwlock_fair.specs.declared.places.RwLockCallPlace.{RwLockCallPlace}
-use Rattle.steps_rwlock_fair.specs.declared.places.RwLockCallPlace.TheVariants.{Plain, Glance, HandOver, Bump}
+use Rattle.steps_rwlock_fair.specs.declared.places.RwLockCallPlace.TheVariants.{Plain, PeekQueue, HandOver}
+use Rattle.steps_rwlock_fair.specs.declared.places.RwLockCallPlace.TheVariants.{Bump}
 use Rattle.steps_rwlock_fair.specs.declared.places.RwLockCallPlace.TheVariants.{Handed}
 use Rattle.steps_rwlock_fair.specs.declared.hand_over.Taken.{Taken}
 use Rattle.steps_rwlock_fair.specs.declared.hand_over.HandOverAt.{HandOverAt}
@@ -229,7 +230,7 @@ module _ (l : ℕ) (a : Admission) where
   released_rest access.Upgradable true = refl
   released_rest access.Exclusive true = refl
 
-  glance_moves : (x : Access) → MovesAt (Glance x)
+  glance_moves : (x : Access) → MovesAt (PeekQueue x)
   glance_moves x = (
     refl,
     record {
@@ -440,7 +441,7 @@ fair_acts_move l a (Plain p) stands = moves_as (call_move a (Plain p)) (rwlock_m
     (plain_as a p) l a.recursive (rwlock_act l a p) (rwlock_acts_move l a p stands)
 fair_acts_move l a (Bump p) stands = moves_as (call_move a (Bump p)) (rwlock_move a p) (rwlock_hears a p)
     (bump_as a p) l a.recursive (rwlock_act l a p) (rwlock_acts_move l a p stands.0)
-fair_acts_move l a (Glance x) stands = glance_moves l a x
+fair_acts_move l a (PeekQueue x) stands = glance_moves l a x
 fair_acts_move l a (HandOver x b to) stands = over_moves l a x b to stands
 fair_acts_move l a (Handed x how b (handed.Asleep by alone)) stands = tt
 fair_acts_move l a (Handed x how b handed.Accept) stands = accepts_moves l a x how b
@@ -563,7 +564,7 @@ module _ (a : Admission) where
 pub fair_sleepers_move : FairSleepersMove
 fair_sleepers_move a (Plain p) stands = plain_waits a p stands
 fair_sleepers_move a (Bump p) stands = bump_waits a p.purpose p.retries p.at stands.0 stands.1
-fair_sleepers_move a (Glance x) stands = record {
+fair_sleepers_move a (PeekQueue x) stands = record {
   aside = λ e. absurd cc;
   stands = λ m e. absurd cc;
   held = λ u e. absurd cc;
@@ -589,6 +590,6 @@ fair_late_moves a (Plain p) m e = goes_in_as (call_move a (Plain p)) (rwlock_mov
     (plain_as a p) m Late tt (rwlock_late_moves a p m e)
 fair_late_moves a (Bump p) m e = goes_in_as (call_move a (Bump p)) (rwlock_move a p) (rwlock_hears a p)
     (bump_as a p) m Late tt (rwlock_late_moves a p m e)
-fair_late_moves a (Glance x) m e = absurd cc
+fair_late_moves a (PeekQueue x) m e = absurd cc
 fair_late_moves a (HandOver x b to) m e = absurd cc
 fair_late_moves a (Handed x how b to) m e = absurd cc

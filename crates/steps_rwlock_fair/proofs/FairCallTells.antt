@@ -22,7 +22,7 @@ use Rattle.spec_locks.specs.Onces.{OnceCase, Start, Finish, Fail, Rest, TakeAll}
 use Rattle.spec_locks.specs.Locks.{LockState, Rules, Rights, Leave, TakeAside, Late, Wake, Owns, after_case}
 use Rattle.spec_locks.specs.Locks.{rights_of, with_right, without_right, without_owner, standing, OfOnce}
 use Rattle.spec_locks.specs.Locks.{CondvarCase, Look, Show, Hide, OfCondvar}
-use Rattle.spec_locks.specs.Purposes.{Enters, Bumps, IsMadeOf, Recall, Blank, Saw, SawOwner, HasMoved}
+use Rattle.spec_locks.specs.Purposes.{Enters, Bumps, IsMadeOf, CondvarMemory, Blank, Saw, SawOwner, HasMoved}
 use Rattle.spec_locks.specs.Purposes.{WasMoved, WasNotified}
 use Rattle.spec_locks.specs.Runs.{LocksState, CallState, Event, Nothing, AtLock, Moves, AnswerHolds, gives_up}
 use Rattle.spec_locks.specs.Runs.{going_on, EntersAnswer, BumpsAnswer, rights_in, one_more_at, one_less_at}
@@ -46,7 +46,8 @@ use Rattle.steps_rwlock.specs.RwLockCalls.{MayStand, IsCalling, next_row}
 use Rattle.steps_rwlock.proofs.RwLockCalls.{rwlock_steps_tell}
 use Rattle.steps_rwlock.proofs.RwLockCallSections.{rwlock_sections_tell}
 use Rattle.steps_rwlock.proofs.RwLockStands.{is_at}
-use Rattle.steps_rwlock_fair.specs.declared.places.RwLockCallPlace.TheVariants.{Plain, Glance, HandOver, Bump}
+use Rattle.steps_rwlock_fair.specs.declared.places.RwLockCallPlace.TheVariants.{Plain, PeekQueue, HandOver}
+use Rattle.steps_rwlock_fair.specs.declared.places.RwLockCallPlace.TheVariants.{Bump}
 use Rattle.steps_rwlock_fair.specs.declared.places.RwLockCallPlace.TheVariants.{Handed}
 use Rattle.steps_rwlock_fair.specs.declared.hand_over.HandOverAt.{HandOverAt}
 use Rattle.steps_rwlock_fair.specs.declared.hand_over.HandOverAt.TheVariants as handing
@@ -74,7 +75,8 @@ lifts : (l : ℕ) (x : Want) (event : Event) (c : CallState) → lifted l x (goi
 lifts l x Nothing c = refl
 lifts l x (AtLock k Late) c = lifts_late c.recalls
   where
-    lifts_late : (recalls : Recall) → lifted l x (gives_up k recalls c) ≡ gives_up k recalls (lifted l x c)
+    lifts_late : (recalls : CondvarMemory) → lifted l x (gives_up k recalls c)
+        ≡ gives_up k recalls (lifted l x c)
     lifts_late Blank = refl
     lifts_late (Saw m) = refl
     lifts_late (SawOwner m owned) = refl
@@ -363,7 +365,7 @@ fair_steps_tell r a s t l (Plain p) op call nowhere e =
     (calling r a s t l p call.admits call.site call.role call.stands call.there) nowhere e)
 fair_steps_tell r a s t l (Bump p) op call nowhere e = bump_words r a s t l op p.purpose p.retries p.at
     call.admits call.site call.role call.stands.0 call.stands.1 call.there nowhere e
-fair_steps_tell r a s t l (Glance x) op call nowhere e =
+fair_steps_tell r a s t l (PeekQueue x) op call nowhere e =
     glance_tells r a s t l x (call.site.held t (Has (wanted x)) (ap (λ (d : Role). d.claims) call.role))
     (gives_way a x (code r s))
 fair_steps_tell r a s t l (HandOver x b to) op call nowhere e = hand_over_tells r a s t l op x b to
@@ -379,7 +381,7 @@ fair_sections_tell r a s t l (Plain p) whom told call hears now =
 fair_sections_tell r a s t l (Bump p) whom told call hears now = rw (not_given r a s t true p whom told hears)
     (bump_sections r a s t l p.purpose p.retries p.at whom told call.admits call.site call.role call.stands.0
     call.stands.1 call.there hears now)
-fair_sections_tell r a s t l (Glance x) whom told call hears now = absurd hears
+fair_sections_tell r a s t l (PeekQueue x) whom told call hears now = absurd hears
 fair_sections_tell r a s t l (HandOver x b to) whom told call hears now = hand_over_sections_tell r a s t l x
     b to whom told call.stands hears
 fair_sections_tell r a s t l (Handed x how b to) whom told call hears now =

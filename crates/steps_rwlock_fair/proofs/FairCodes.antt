@@ -22,7 +22,8 @@ use Rattle.steps_rwlock.proofs.RwLockCodes.{rwlock_steps_code}
 use Rattle.steps_rwlock.proofs.RwLockStands.{is_at}
 use Rattle.steps_base.specs.Moves.{bit_left}
 use Rattle.steps_rwlock_fair.specs.declared.places.RwLockCallPlace.{RwLockCallPlace}
-use Rattle.steps_rwlock_fair.specs.declared.places.RwLockCallPlace.TheVariants.{Plain, Glance, HandOver, Bump}
+use Rattle.steps_rwlock_fair.specs.declared.places.RwLockCallPlace.TheVariants.{Plain, PeekQueue, HandOver}
+use Rattle.steps_rwlock_fair.specs.declared.places.RwLockCallPlace.TheVariants.{Bump}
 use Rattle.steps_rwlock_fair.specs.declared.places.RwLockCallPlace.TheVariants.{Handed}
 use Rattle.steps_rwlock_fair.specs.declared.hand_over.Taken.{Taken}
 use Rattle.steps_rwlock_fair.specs.declared.hand_over.HandOverAt.{HandOverAt}
@@ -147,7 +148,7 @@ fair_steps_code r a s t l (Plain p) op call nowhere e small few limit = rwlock_s
 fair_steps_code r a s t l (Bump p) op call nowhere e small few limit = rwlock_steps_code r a s t l p op
     (is_at r a s t p call.admits call.site call.role call.stands.0 call.there) nowhere e call.there small few
     limit
-fair_steps_code r a s t l (Glance x) op call nowhere e small few limit = let f : op ≡ operation.Load = cc
+fair_steps_code r a s t l (PeekQueue x) op call nowhere e small few limit = let f : op ≡ operation.Load = cc
     in glanced r a s t l op call.admits.0 call.site call.there small (gives_way a x (code r s)) f
 fair_steps_code r a s t l (HandOver x b to) op call nowhere e small few limit =
     hand_over_code r a s t l op call.admits.0 call.site call.there small x b to call.stands e

@@ -33,7 +33,8 @@ use Rattle.steps_rwlock.proofs.RwLockFit.{rwlock_steps_follow}
 use Rattle.steps_rwlock.proofs.RwLockStands.{is_at}
 use Rattle.steps_base.specs.Moves.{bit_left}
 use Rattle.steps_rwlock_fair.specs.declared.places.RwLockCallPlace.{RwLockCallPlace}
-use Rattle.steps_rwlock_fair.specs.declared.places.RwLockCallPlace.TheVariants.{Plain, Glance, HandOver, Bump}
+use Rattle.steps_rwlock_fair.specs.declared.places.RwLockCallPlace.TheVariants.{Plain, PeekQueue, HandOver}
+use Rattle.steps_rwlock_fair.specs.declared.places.RwLockCallPlace.TheVariants.{Bump}
 use Rattle.steps_rwlock_fair.specs.declared.places.RwLockCallPlace.TheVariants.{Handed}
 use Rattle.steps_rwlock_fair.specs.declared.hand_over.Taken.{Taken}
 use Rattle.steps_rwlock_fair.specs.declared.hand_over.HandOverAt.{HandOverAt}
@@ -165,7 +166,7 @@ module _ (r : Rules) (a : Admission) (s : Site) (t l : ℕ) (op : Op) (admits : 
     abbrev FollowsAt : RwLockCallPlace → Type 0
     FollowsAt c = FollowsInCall r a s t c None (reply.Value v)
 
-    glances : (x : Access) → s.role t ≡ call_role (Glance x) → FollowsAt (Glance x)
+    glances : (x : Access) → s.role t ≡ call_role (PeekQueue x) → FollowsAt (PeekQueue x)
     glances x is = either (gives_way a x v)
       where
         either : (b : Bool) → Follows r s t (glance_deeds b)
@@ -250,7 +251,7 @@ fair_steps_follow r a s t l (Plain p) op call nowhere e =
 fair_steps_follow r a s t l (Bump p) op call nowhere e =
     rw (bump_role p.purpose (rwlock_next a p (reply.Value (code r s)))) (within_calls r a s t l op call.admits
     call.site p call.stands.0 nowhere call.role call.there e)
-fair_steps_follow r a s t l (Glance x) op call nowhere e = glances r a s t l op call.admits call.site x
+fair_steps_follow r a s t l (PeekQueue x) op call nowhere e = glances r a s t l op call.admits call.site x
     call.role
 fair_steps_follow r a s t l (HandOver x b to) op call nowhere e = hand_over_follows r a s t l op call.admits
     call.site x b to call.stands call.role e

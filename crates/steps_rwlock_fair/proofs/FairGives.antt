@@ -31,7 +31,8 @@ use Rattle.steps_rwlock.specs.RwLockSteps.{wanted}
 use Rattle.steps_rwlock.specs.RwLockDeeds.{Admits, at_rest}
 use Rattle.steps_rwlock.specs.RwLockProfiles.{purpose_by}
 use Rattle.steps_rwlock_fair.specs.declared.places.RwLockCallPlace.{RwLockCallPlace}
-use Rattle.steps_rwlock_fair.specs.declared.places.RwLockCallPlace.TheVariants.{Plain, Glance, HandOver, Bump}
+use Rattle.steps_rwlock_fair.specs.declared.places.RwLockCallPlace.TheVariants.{Plain, PeekQueue, HandOver}
+use Rattle.steps_rwlock_fair.specs.declared.places.RwLockCallPlace.TheVariants.{Bump}
 use Rattle.steps_rwlock_fair.specs.declared.places.RwLockCallPlace.TheVariants.{Handed}
 use Rattle.steps_rwlock_fair.specs.declared.hand_over.Taken.{Taken}
 use Rattle.steps_rwlock_fair.specs.declared.hand_over.HandOverAt.{HandOverAt}
@@ -295,8 +296,8 @@ fair_releases_give r a s t l (Plain p) op whom x call free hand gives more acts 
     absurd (plain_keeps l p.purpose (call_profile a (Plain p)).released x gives)
 fair_releases_give r a s t l (Bump p) op whom x call free hand gives more acts =
     absurd (bump_keeps a l p.purpose p.retries p.at x call.stands.1 more gives)
-fair_releases_give r a s t l (Glance y) op whom x call free hand gives more acts =
-    subst (Given r a s t l call.site (lock_slow r a s t (Glance y) whom)) gives.0
+fair_releases_give r a s t l (PeekQueue y) op whom x call free hand gives more acts =
+    subst (Given r a s t l call.site (lock_slow r a s t (PeekQueue y) whom)) gives.0
     (glances r a s t l call.site (wanted y) (gives_way a y (code r s))
     (call.site.held t (Has (wanted y)) (ap (λ (d : Role). d.claims) call.role)))
 fair_releases_give r a s t l (HandOver y b to) op whom x call free hand gives more acts =

@@ -25,7 +25,8 @@ use Rattle.steps_rwlock.specs.declared.purposes.RwLockPurpose.TheVariants as pur
 use Rattle.steps_rwlock.specs.RwLockSteps.{wanted}
 use Rattle.steps_rwlock.specs.RwLockCalls.{StandsAt}
 use Rattle.steps_rwlock_fair.specs.declared.places.RwLockCallPlace.{RwLockCallPlace}
-use Rattle.steps_rwlock_fair.specs.declared.places.RwLockCallPlace.TheVariants.{Plain, Glance, HandOver, Bump}
+use Rattle.steps_rwlock_fair.specs.declared.places.RwLockCallPlace.TheVariants.{Plain, PeekQueue, HandOver}
+use Rattle.steps_rwlock_fair.specs.declared.places.RwLockCallPlace.TheVariants.{Bump}
 use Rattle.steps_rwlock_fair.specs.declared.places.RwLockCallPlace.TheVariants.{Handed}
 use Rattle.steps_rwlock_fair.specs.declared.hand_over.Taken.{Taken}
 use Rattle.steps_rwlock_fair.specs.declared.hand_over.HandOverAt.TheVariants as handing
@@ -185,7 +186,7 @@ handed_move a (Bump p) stands = record {
     bump_never (purpose.Enter x Patient) again to bump u h = never_given a 0 to u h
     bump_never (purpose.Release access.Shared) again to bump u h = never_given a 0 to u h
     bump_never q again to bump u h = bump
-handed_move a (Glance x) stands = record {
+handed_move a (PeekQueue x) stands = record {
   given = λ u alone y h none wants. absurd cc;
   was_given = λ u h. absurd cc;
 }

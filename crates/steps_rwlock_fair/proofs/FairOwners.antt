@@ -21,7 +21,8 @@ use Rattle.steps_rwlock.specs.RwLockSteps.{wanted}
 use Rattle.steps_rwlock.specs.RwLockDeeds.{does_and_wakes}
 use Rattle.steps_rwlock.proofs.RwLockOwners.{rwlock_owners_follow}
 use Rattle.steps_rwlock.proofs.RwLockStands.{is_at}
-use Rattle.steps_rwlock_fair.specs.declared.places.RwLockCallPlace.TheVariants.{Plain, Glance, HandOver, Bump}
+use Rattle.steps_rwlock_fair.specs.declared.places.RwLockCallPlace.TheVariants.{Plain, PeekQueue, HandOver}
+use Rattle.steps_rwlock_fair.specs.declared.places.RwLockCallPlace.TheVariants.{Bump}
 use Rattle.steps_rwlock_fair.specs.declared.places.RwLockCallPlace.TheVariants.{Handed}
 use Rattle.steps_rwlock_fair.specs.declared.hand_over.Taken.{Taken}
 use Rattle.steps_rwlock_fair.specs.declared.hand_over.HandOverAt.{HandOverAt}
@@ -94,7 +95,7 @@ fair_owners_follow r a s t l (Plain p) op shared o main second taken call e few 
 fair_owners_follow r a s t l (Bump p) op shared o main second taken call e few limit is =
     rwlock_owners_follow r a s t l p op shared o main second taken (is_at r a s t p call.admits call.site
     call.role call.stands.0 call.there) e few limit is
-fair_owners_follow r a s t l (Glance x) op shared o main second taken call e few limit is =
+fair_owners_follow r a s t l (PeekQueue x) op shared o main second taken call e few limit is =
     glanced r a s t l op shared o main second taken is (gives_way a x (code r s))
 fair_owners_follow r a s t l (HandOver x b to) op shared o main second taken call e few limit is =
     hand_over_owners r a s t l op shared o main second taken is x b to call.stands e

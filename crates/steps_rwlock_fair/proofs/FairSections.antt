@@ -31,7 +31,8 @@ use Rattle.steps_rwlock.specs.RwLockCalls.{MayStand}
 use Rattle.steps_rwlock.proofs.RwLockFit.{put_same, knows_all}
 use Rattle.steps_rwlock.proofs.RwLockSections.{rwlock_sections_follow}
 use Rattle.steps_rwlock.proofs.RwLockStands.{is_at}
-use Rattle.steps_rwlock_fair.specs.declared.places.RwLockCallPlace.TheVariants.{Plain, Glance, HandOver, Bump}
+use Rattle.steps_rwlock_fair.specs.declared.places.RwLockCallPlace.TheVariants.{Plain, PeekQueue, HandOver}
+use Rattle.steps_rwlock_fair.specs.declared.places.RwLockCallPlace.TheVariants.{Bump}
 use Rattle.steps_rwlock_fair.specs.declared.places.RwLockCallPlace.TheVariants.{Handed}
 use Rattle.steps_rwlock_fair.specs.declared.hand_over.HandOverAt.{HandOverAt}
 use Rattle.steps_rwlock_fair.specs.declared.hand_over.HandOverAt.TheVariants as handing
@@ -183,7 +184,7 @@ fair_sections_follow r a s t (Plain p) whom told call hears = rw (not_given r a 
 fair_sections_follow r a s t (Bump p) whom told call hears = rw (not_given r a s t true p whom told hears)
     (rw (bump_role p.purpose (rwlock_next a p told)) (within_calls r a s t call.admits call.site p whom told
     call.stands.0 call.role call.there hears))
-fair_sections_follow r a s t (Glance x) whom told call hears = absurd hears
+fair_sections_follow r a s t (PeekQueue x) whom told call hears = absurd hears
 fair_sections_follow r a s t (HandOver x b to) whom told call hears = hand_over_sections r a s t call.admits
     call.site x b to whom told call.role hears
 fair_sections_follow r a s t (Handed x how b to) whom told call hears = handed_sections r a s t call.admits

@@ -38,7 +38,8 @@ use Rattle.steps_rwlock.specs.RwLockCalls.{MayStand, StandsAt}
 use Rattle.steps_rwlock.proofs.RwLockCallPlaces.{rwlock_sleepers_hear, rwlock_looks_stand}
 use Rattle.steps_base.specs.Moves.{claim_handed}
 use Rattle.steps_rwlock_fair.specs.declared.places.RwLockCallPlace.{RwLockCallPlace}
-use Rattle.steps_rwlock_fair.specs.declared.places.RwLockCallPlace.TheVariants.{Plain, Glance, HandOver, Bump}
+use Rattle.steps_rwlock_fair.specs.declared.places.RwLockCallPlace.TheVariants.{Plain, PeekQueue, HandOver}
+use Rattle.steps_rwlock_fair.specs.declared.places.RwLockCallPlace.TheVariants.{Bump}
 use Rattle.steps_rwlock_fair.specs.declared.places.RwLockCallPlace.TheVariants.{Handed}
 use Rattle.steps_rwlock_fair.specs.declared.hand_over.HandOverAt.{HandOverAt}
 use Rattle.steps_rwlock_fair.specs.declared.hand_over.HandOverAt.TheVariants as handing
@@ -312,8 +313,8 @@ module _ (a : Admission) (l : ℕ) where
 pub fair_sleepers_hear : FairSleepersHear
 fair_sleepers_hear a l (Plain p) stands = plain_hears a l p stands
 fair_sleepers_hear a l (Bump p) stands = bump_hears a l p.purpose p.retries p.at stands.0 stands.1
-fair_sleepers_hear a l (Glance x) stands = record {
-  taken = λ u. stays_same a l (Glance x) (reply.TakenBy u) refl;
+fair_sleepers_hear a l (PeekQueue x) stands = record {
+  taken = λ u. stays_same a l (PeekQueue x) (reply.TakenBy u) refl;
   woken = λ u h. absurd cc;
   late = λ may. absurd (may refl);
   given = λ u alone h none. absurd cc;
@@ -358,7 +359,8 @@ fair_looks_stand a (Bump p) d is = by_place (rwlock_looking a p) refl is
     by_place (Some q) f g =
         let z : Bump q ≡ d = cc in let looks = rwlock_looks_stand a p q f in let same = looked_purpose a p q f
         in
-        subst (λ c. (call_profile a c ≡ call_profile a (Bump p)) × (CallStands a (Bump p) → CallStands a c)) z (
+        subst (λ c. (call_profile a c ≡ call_profile a (Bump p)) × (CallStands a (Bump p)
+        → CallStands a c)) z (
           (ap (λ y. bumping y (rwlock_profile a q)) same.0 ∙ ap (bumping p.purpose) looks.0),
           λ stands. (
             looks.1 stands.0,
@@ -366,6 +368,6 @@ fair_looks_stand a (Bump p) d is = by_place (rwlock_looking a p) refl is
                 (subst (λ y. IsOfBump y p.retries) (sym same.0) stands.1),
           ),
         )
-fair_looks_stand a (Glance x) d is = absurd cc
+fair_looks_stand a (PeekQueue x) d is = absurd cc
 fair_looks_stand a (HandOver x b to) d is = absurd cc
 fair_looks_stand a (Handed x how b to) d is = absurd cc

@@ -34,7 +34,8 @@ use Rattle.steps_rwlock.specs.RwLockSteps.{next_at, rwlock_next, entered}
 use Rattle.steps_rwlock.specs.RwLockCalls.{WaitsIfBlocked, ReleasesAt, StandsAt, MayStand, MayStandNext}
 use Rattle.steps_rwlock.proofs.RwLockStands.{rwlock_calls_stand, unwoken_fresh}
 use Rattle.steps_rwlock_fair.specs.declared.places.RwLockCallPlace.{RwLockCallPlace}
-use Rattle.steps_rwlock_fair.specs.declared.places.RwLockCallPlace.TheVariants.{Plain, Glance, HandOver, Bump}
+use Rattle.steps_rwlock_fair.specs.declared.places.RwLockCallPlace.TheVariants.{Plain, PeekQueue, HandOver}
+use Rattle.steps_rwlock_fair.specs.declared.places.RwLockCallPlace.TheVariants.{Bump}
 use Rattle.steps_rwlock_fair.specs.declared.places.RwLockCallPlace.TheVariants.{Handed}
 use Rattle.steps_rwlock_fair.specs.declared.hand_over.Taken.{Taken}
 use Rattle.steps_rwlock_fair.specs.declared.hand_over.HandOverAt.{HandOverAt}
@@ -394,7 +395,7 @@ fair_calls_stand a (Bump p) told stands may = unless_stands a (given true p told
     (given_stands a true p told stands.0 (λ e. stands.1))
     (bump_stands a p.purpose _ (stays_bump a p.purpose p.retries p.at told stands.0.place stands.1)
     (rwlock_calls_stand a p told stands.0 may))
-fair_calls_stand a (Glance x) (reply.Value seen) stands may = glances_stand a x seen (gives_way a x seen)
-fair_calls_stand a (Glance x) told stands may = tt
+fair_calls_stand a (PeekQueue x) (reply.Value seen) stands may = glances_stand a x seen (gives_way a x seen)
+fair_calls_stand a (PeekQueue x) told stands may = tt
 fair_calls_stand a (HandOver x b to) told stands may = hand_over_stands a x b to told stands
 fair_calls_stand a (Handed x how b to) told stands may = handed_on a x how b to told stands

@@ -29,7 +29,7 @@ use Rattle.steps_rwlock.specs.RwLockSteps.{wanted}
 use Rattle.steps_rwlock.specs.RwLockDeeds.{Admits, does_and_wakes}
 use Rattle.steps_base.specs.Moves.{bit_left, heir_of}
 use Rattle.steps_rwlock_fair.specs.declared.places.RwLockCallPlace.{RwLockCallPlace}
-use Rattle.steps_rwlock_fair.specs.declared.places.RwLockCallPlace.TheVariants.{Glance, HandOver}
+use Rattle.steps_rwlock_fair.specs.declared.places.RwLockCallPlace.TheVariants.{PeekQueue, HandOver}
 use Rattle.steps_rwlock_fair.specs.declared.hand_over.Taken.{Taken}
 use Rattle.steps_rwlock_fair.specs.declared.hand_over.HandOverAt.{HandOverAt}
 use Rattle.steps_rwlock_fair.specs.declared.hand_over.HandOverAt.TheVariants as handing
@@ -59,7 +59,7 @@ module _ (r : Rules) (a : Admission) (s : Site) (t l : ℕ) where
   -- ---------------------------------------------------------------- a look of a bump
 
   pub glance_tells : (x : Access) → Owns s.lock t (wanted x) → (goes_on : Bool)
-      → Tells (Glance x) (glance_deeds goes_on) (if goes_on then next.At (gives_up_at x) else next.End Ok)
+      → Tells (PeekQueue x) (glance_deeds goes_on) (if goes_on then next.At (gives_up_at x) else next.End Ok)
   glance_tells x own false = record {
     one = tt;
     may = tt;

@@ -10,7 +10,7 @@ use Rattle.steps_rwlock.specs.declared.purposes.RwLockPurpose.TheVariants as pur
 use Rattle.steps_rwlock.specs.RwLockBegins.{rwlock_first, has_access}
 use Rattle.steps_rwlock.specs.RwLockSteps.{from_of}
 use Rattle.steps_rwlock_fair.specs.declared.places.RwLockCallPlace.{RwLockCallPlace}
-use Rattle.steps_rwlock_fair.specs.declared.places.RwLockCallPlace.TheVariants.{Plain, Glance, HandOver}
+use Rattle.steps_rwlock_fair.specs.declared.places.RwLockCallPlace.TheVariants.{Plain, PeekQueue, HandOver}
 use Rattle.steps_rwlock_fair.specs.declared.hand_over.HandOverAt.TheVariants as handing
 
 -- a call that neither hands the lock over nor bumps
@@ -29,7 +29,7 @@ call_first (call.Release x) = plain_first (purpose.Release x)
 call_first (call.Downgrade d) = plain_first (purpose.Downgrade d)
 call_first (call.Upgrade how) = plain_first (purpose.Upgrade how)
 call_first (call.ReleaseFair x) = release_first x
-call_first (call.Bump x) = Glance x
+call_first (call.Bump x) = PeekQueue x
 
 -- whether a thread has the right that the call needs
 abbrev pub call_right : RwLockCall → ℕ → Owners → ℕ → Bool

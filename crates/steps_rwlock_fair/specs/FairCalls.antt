@@ -21,7 +21,8 @@ use Rattle.steps_rwlock.specs.declared.purposes.RwLockPurpose.TheVariants as pur
 use Rattle.steps_rwlock.specs.RwLockDeeds.{Admits, MayHear}
 use Rattle.steps_rwlock.specs.RwLockCalls.{MayStand, WaitsIfBlocked, MayBeTold}
 use Rattle.steps_rwlock_fair.specs.declared.places.RwLockCallPlace.{RwLockCallPlace}
-use Rattle.steps_rwlock_fair.specs.declared.places.RwLockCallPlace.TheVariants.{Plain, Glance, HandOver, Bump}
+use Rattle.steps_rwlock_fair.specs.declared.places.RwLockCallPlace.TheVariants.{Plain, PeekQueue, HandOver}
+use Rattle.steps_rwlock_fair.specs.declared.places.RwLockCallPlace.TheVariants.{Bump}
 use Rattle.steps_rwlock_fair.specs.declared.places.RwLockCallPlace.TheVariants.{Handed}
 use Rattle.steps_rwlock_fair.specs.declared.hand_over.Taken.{Taken}
 use Rattle.steps_rwlock_fair.specs.declared.hand_over.HandOverAt.{HandOverAt}
@@ -60,7 +61,7 @@ WaitsWithPatience false how = WaitsIfBlocked how
 abbrev pub CallStands : Admission → RwLockCallPlace → Type 0
 CallStands a (Plain p) = MayStand a p
 CallStands a (Bump p) = MayStand a p × IsOfBump p.purpose p.retries
-CallStands a (Glance x) = Unit {0}
+CallStands a (PeekQueue x) = Unit {0}
 CallStands a (HandOver x b to) = HandsOverAt x to
 CallStands a (Handed x how b to) = WaitsWithPatience b how
 
@@ -111,7 +112,7 @@ MayHearHanded x to told = ⊥
 abbrev pub CallMayHear : Rules → Admission → Site → ℕ → RwLockCallPlace → Option ℕ → Reply → Type 0
 CallMayHear r a s t (Plain p) whom told = MayHear r a s t p p.at whom told
 CallMayHear r a s t (Bump p) whom told = MayHear r a s t p p.at whom told
-CallMayHear r a s t (Glance x) whom told = ⊥
+CallMayHear r a s t (PeekQueue x) whom told = ⊥
 CallMayHear r a s t (HandOver x b to) whom told = MayHearHanding r s t to whom told
 CallMayHear r a s t (Handed x how b to) whom told = MayHearHanded x to told
 

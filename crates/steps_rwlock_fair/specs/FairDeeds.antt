@@ -16,7 +16,8 @@ use Rattle.steps_rwlock.specs.declared.places.Admission.{Admission}
 use Rattle.steps_rwlock.specs.RwLockSteps.{wanted}
 use Rattle.steps_rwlock.specs.RwLockDeeds.{at_rest, within, rwlock_role, rwlock_deeds, does_and_wakes}
 use Rattle.steps_rwlock_fair.specs.declared.places.RwLockCallPlace.{RwLockCallPlace}
-use Rattle.steps_rwlock_fair.specs.declared.places.RwLockCallPlace.TheVariants.{Plain, Glance, HandOver, Bump}
+use Rattle.steps_rwlock_fair.specs.declared.places.RwLockCallPlace.TheVariants.{Plain, PeekQueue, HandOver}
+use Rattle.steps_rwlock_fair.specs.declared.places.RwLockCallPlace.TheVariants.{Bump}
 use Rattle.steps_rwlock_fair.specs.declared.places.RwLockCallPlace.TheVariants.{Handed}
 use Rattle.steps_rwlock_fair.specs.declared.hand_over.Taken.{Taken}
 use Rattle.steps_rwlock_fair.specs.declared.hand_over.HandOverAt.{HandOverAt}
@@ -54,7 +55,7 @@ claim_at x handed.Accept = Has x
 abbrev pub call_role : RwLockCallPlace → Role
 call_role (Plain p) = rwlock_role p
 call_role (Bump p) = rwlock_role p
-call_role (Glance x) = at_rest None (Some (Has (wanted x)))
+call_role (PeekQueue x) = at_rest None (Some (Has (wanted x)))
 call_role (HandOver x b to) = hand_over_role (wanted x) to
 call_role (Handed x how b to) = at_rest None (Some (claim_at (wanted x) to))
 
@@ -108,6 +109,6 @@ handed_deeds to told = []
 abbrev pub call_deeds : Admission → RwLockCallPlace → Option ℕ → Reply → List Deed
 call_deeds a (Plain p) whom told = rwlock_deeds a p whom told
 call_deeds a (Bump p) whom told = rwlock_deeds a p whom told
-call_deeds a (Glance x) whom told = glances_deeds a x told
+call_deeds a (PeekQueue x) whom told = glances_deeds a x told
 call_deeds a (HandOver x b to) whom told = hand_over_deeds a (wanted x) b to whom told
 call_deeds a (Handed x how b to) whom told = handed_deeds to told

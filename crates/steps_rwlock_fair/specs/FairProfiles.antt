@@ -18,7 +18,8 @@ use Rattle.steps_rwlock.specs.RwLockSteps.{wanted, access_of}
 use Rattle.steps_rwlock.specs.RwLockProfiles.{is_timed, without_pending, rwlock_profile, rwlock_taker}
 use Rattle.steps_rwlock.specs.RwLockProfiles.{rwlock_wants, rwlock_looking, rwlock_late_line, rwlock_owes}
 use Rattle.steps_rwlock_fair.specs.declared.places.RwLockCallPlace.{RwLockCallPlace}
-use Rattle.steps_rwlock_fair.specs.declared.places.RwLockCallPlace.TheVariants.{Plain, Glance, HandOver, Bump}
+use Rattle.steps_rwlock_fair.specs.declared.places.RwLockCallPlace.TheVariants.{Plain, PeekQueue, HandOver}
+use Rattle.steps_rwlock_fair.specs.declared.places.RwLockCallPlace.TheVariants.{Bump}
 use Rattle.steps_rwlock_fair.specs.declared.places.RwLockCallPlace.TheVariants.{Handed}
 use Rattle.steps_rwlock_fair.specs.declared.hand_over.Taken.{Taken}
 use Rattle.steps_rwlock_fair.specs.declared.hand_over.HandOverAt.{HandOverAt}
@@ -104,8 +105,8 @@ before_handed bumps x c l rights =
 abbrev pub call_profile : Admission → RwLockCallPlace → Profile
 call_profile a (Plain p) = rwlock_profile a p
 call_profile a (Bump p) = bumping p.purpose (rwlock_profile a p)
-call_profile a (Glance x) =
-    record blank_row { role = call_role (Glance x); purpose = λ l. Bumps l (wanted x) }
+call_profile a (PeekQueue x) =
+    record blank_row { role = call_role (PeekQueue x); purpose = λ l. Bumps l (wanted x) }
 call_profile a (HandOver x b to) = record blank_row {
   role = call_role (HandOver x b to);
   carries = carries_handing to;

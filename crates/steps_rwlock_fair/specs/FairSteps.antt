@@ -35,7 +35,8 @@ use Rattle.steps_rwlock.specs.RwLockBegins.{rwlock_first}
 use Rattle.steps_rwlock.specs.RwLockSteps.{wanted, token, plus, entered, exchange, rwlock_act, rwlock_next}
 use Rattle.steps_rwlock.specs.RwLockSteps.{rwlock_owners, rwlock_shares}
 use Rattle.steps_rwlock_fair.specs.declared.places.RwLockCallPlace.{RwLockCallPlace}
-use Rattle.steps_rwlock_fair.specs.declared.places.RwLockCallPlace.TheVariants.{Plain, Glance, HandOver, Bump}
+use Rattle.steps_rwlock_fair.specs.declared.places.RwLockCallPlace.TheVariants.{Plain, PeekQueue, HandOver}
+use Rattle.steps_rwlock_fair.specs.declared.places.RwLockCallPlace.TheVariants.{Bump}
 use Rattle.steps_rwlock_fair.specs.declared.places.RwLockCallPlace.TheVariants.{Handed}
 use Rattle.steps_rwlock_fair.specs.declared.hand_over.Taken.{Taken}
 use Rattle.steps_rwlock_fair.specs.declared.hand_over.HandOverAt.{HandOverAt}
@@ -169,7 +170,7 @@ glance_next a x seen = if gives_way a x seen then At (gives_up_at x) else End Ok
 
 abbrev pub glances : Admission → Access → Reply → Next RwLockCallPlace
 glances a x (Value seen) = glance_next a x seen
-glances a x reply = At (Glance x)
+glances a x reply = At (PeekQueue x)
 
 -- ---------------------------------------------------------------- a thread that was handed the lock
 
@@ -216,7 +217,7 @@ given b p reply = None
 abbrev pub call_act : ℕ → Admission → RwLockCallPlace → Act
 call_act l a (Plain p) = rwlock_act l a p
 call_act l a (Bump p) = rwlock_act l a p
-call_act l a (Glance x) = act.Word l op.TheVariants.Load
+call_act l a (PeekQueue x) = act.Word l op.TheVariants.Load
 call_act l a (HandOver x b to) = hand_over_act l a x to
 call_act l a (Handed x how b to) = handed_act l x to
 
@@ -241,7 +242,7 @@ call_next a (Plain p) reply =
     unless_given (given false p reply) (plain_next (rwlock_next a p reply))
 call_next a (Bump p) reply =
     unless_given (given true p reply) (bump_next p.purpose (rwlock_next a p reply))
-call_next a (Glance x) reply = glances a x reply
+call_next a (PeekQueue x) reply = glances a x reply
 call_next a (HandOver x b to) reply = hand_over_next a x b to reply
 call_next a (Handed x how b to) reply = handed_next x how b to reply
 

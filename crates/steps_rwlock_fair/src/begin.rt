@@ -49,7 +49,7 @@ impl RwLockCallPlace {
                 RwLockCallPlace::begin(RwLockPurpose::Upgrade(patience))
             }
             RwLockCall::ReleaseFair(access) => release_first(access),
-            RwLockCall::Bump(access) => RwLockCallPlace::Glance(access),
+            RwLockCall::Bump(access) => RwLockCallPlace::PeekQueue(access),
         }
     }
 }

@@ -25,7 +25,7 @@ pub enum RwLockCallPlace {
     /// In a call that neither hands the lock over nor bumps.
     Plain(RwLockPlace),
     /// A bump looks whether anybody waits for its right.
-    Glance(Access),
+    PeekQueue(Access),
     /// An owner gives its right up, and hands the lock over.
     HandOver {
         access: Access,
@@ -153,7 +153,7 @@ impl RwLockCallPlace {
             RwLockCallPlace::Plain(place) | RwLockCallPlace::Bump(place) => {
                 place.act(lock, admission)
             }
-            RwLockCallPlace::Glance(_) => Act::Word { lock, op: Op::Load },
+            RwLockCallPlace::PeekQueue(_) => Act::Word { lock, op: Op::Load },
             RwLockCallPlace::HandOver { access, at, .. } => {
                 hand_over_act(lock, admission, access, at)
             }
@@ -190,7 +190,7 @@ impl RwLockCallPlace {
                 Some(handed) => Next::At(handed),
                 None => bump_next(place.purpose, place.next(admission, reply)),
             },
-            RwLockCallPlace::Glance(access) => match reply {
+            RwLockCallPlace::PeekQueue(access) => match reply {
                 Reply::Value(seen) => glance_next(admission, access, seen),
                 _ => Next::At(self),
             },

@@ -23,8 +23,8 @@ use Rattle.spec_locks.proofs.PermitKeeps.{permits_kept, looked_after}
 use Rattle.spec_locks.specs.Deeds.{AllNeeded, after_all}
 use Rattle.steps_semaphore.specs.SemaphoreDeeds.{semaphore_deeds}
 use Rattle.steps_semaphore.specs.SemaphoreLaws.{IsAt}
-use Rattle.steps_semaphore.specs.Tended.{semaphore, IsTended, NewOnesAreTended, NobodyIsForgotten}
-use Rattle.steps_semaphore.specs.Tended.{StepsKeepTended, TellsPermitsTrue, SemaphoreWordsTellTrue}
+use Rattle.steps_semaphore.specs.PermitInvariant.{semaphore, IsTended, NewOnesAreTended, NobodyIsForgotten}
+use Rattle.steps_semaphore.specs.PermitInvariant.{StepsKeepTended, TellsPermitsTrue, SemaphoreWordsTellTrue}
 use Rattle.steps_semaphore.proofs.SemaphoreFit.{semaphore_steps_follow}
 
 module _ (permits : ℕ) (s : Site) (t : ℕ) (lt : t < length s.lock.shared) (h : IsTended permits s) where

@@ -2,4 +2,4 @@ pub mod SemaphoreSteps
 pub mod SemaphoreProfiles
 pub mod SemaphoreDeeds
 pub mod SemaphoreLaws
-pub mod Tended
+pub mod PermitInvariant

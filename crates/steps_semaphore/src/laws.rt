@@ -1,8 +1,8 @@
 //! The laws of the steps of a semaphore.
 ghost use Rattle.steps_semaphore.specs.SemaphoreLaws.{SemaphoreRowsKeep, SemaphoreStepsCode};
 ghost use Rattle.steps_semaphore.specs.SemaphoreLaws.{SemaphoreStepsFollow, SemaphoreStepsTell};
-ghost use Rattle.steps_semaphore.specs.Tended.{NewOnesAreTended, NobodyIsForgotten, StepsKeepTended};
-ghost use Rattle.steps_semaphore.specs.Tended.{SemaphoreWordsTellTrue};
+ghost use Rattle.steps_semaphore.specs.PermitInvariant.{NewOnesAreTended, NobodyIsForgotten, StepsKeepTended};
+ghost use Rattle.steps_semaphore.specs.PermitInvariant.{SemaphoreWordsTellTrue};
 
 /// Each step of a semaphore may do to it what its deeds say, and its next place says what the
 /// thread does then.

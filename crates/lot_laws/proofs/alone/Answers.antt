@@ -2,7 +2,8 @@
 use Rattle.lot_laws.proofs.Names
 use Names.{Some, None, ℕ, zero, suc, Bool, true, false, Option, if◌then◌else◌, ◌≡◌, ◌≢◌, inl, inr, List, []}
 use Names.{◌∷◌, length, replicate, refl, sym, ◌∙◌, ap, subst, Answer, Outcome, Rights, Pend, Settle, Leave}
-use Names.{Park, Aside, Wake, HandOff, OfOnce, OnceCase, Start, Finish, Fail, Rest, TakeAll, Purpose, Recall}
+use Names.{Park, Aside, Wake, HandOff, OfOnce, OnceCase, Start, Finish, Fail, Rest, TakeAll, Purpose}
+use Names.{CondvarMemory}
 use Names.{WasMoved, moved_of, LocksState, CallState, Event, Nothing, AtLock, IsStep, IsRun, GoesOn}
 use Names.{AnswerHolds, after_wake, going_on, is_among, is_taken_by, woken, Moves, gives_up, go_of}
 use Names.{GoesOnUntil, last_told}
@@ -27,11 +28,13 @@ once_keeps_former Fail l c = refl
 once_keeps_former (Rest wanted forced) l c = refl
 once_keeps_former TakeAll l c = refl
 
-late_keeps_purpose : (l : ℕ) (recalls : Recall) (c : CallState) → (gives_up l recalls c).purpose ≡ c.purpose
+late_keeps_purpose : (l : ℕ) (recalls : CondvarMemory) (c : CallState)
+    → (gives_up l recalls c).purpose ≡ c.purpose
 late_keeps_purpose l WasMoved c = refl
 late_keeps_purpose l recalls c = refl
 
-late_keeps_former : (l : ℕ) (recalls : Recall) (c : CallState) → (gives_up l recalls c).former ≡ c.former
+late_keeps_former : (l : ℕ) (recalls : CondvarMemory) (c : CallState)
+    → (gives_up l recalls c).former ≡ c.former
 late_keeps_former l WasMoved c = refl
 late_keeps_former l recalls c = refl
 

@@ -7,7 +7,7 @@ use Names.{sym, ◌∙◌, ap, subst, arith, get_or-set_same, length-set, One, W
 use Names.{Act, Next, At, Reply, holds, outcome_of, Admission, RwLockPlace, RwLockAt, RwLockPurpose, Decision}
 use Names.{ParkAt, Admits, decided, decided_act, exchange, plus, rwlock_act, rwlock_next, act_at, IsDecided}
 use Names.{IsNoRefusal, MayBeTold, MayStand, MayStandNext, ParksBy, StandsAt, rwlock_calls_stand}
-use Names.{RwLockCallPlace, Plain, Glance, HandOver, Bump, Handed, CallStands, IsOfBump, bump_next}
+use Names.{RwLockCallPlace, Plain, PeekQueue, HandOver, Bump, Handed, CallStands, IsOfBump, bump_next}
 use Names.{enters_again, gives_way, plain_next, unless_given, rwlock_first, StaysFor, stays_for, has_aside}
 use Names.{Place, Idle, RwLock, act_of, next_act, next_place, rwlock_does, rwlock_goes, shares_after}
 use Names.{SoloEnd as Ran, State, state_after_operation, after, alone_after, can_do, can_go, go_of}
@@ -36,7 +36,7 @@ use Rattle.lot_laws.proofs.sites.ActsKept.{goes_inductive, place_goes}
 use Rattle.lot_laws.proofs.machine.Parts.{parts_at}
 use Rattle.lot_laws.proofs.sites.OneStep.{steps_by}
 use Rattle.lot_laws.proofs.calls.PlainCalls.{never_given}
-use Rattle.lot_laws.proofs.rwlock.Rows.{of}
+use Rattle.lot_laws.proofs.rwlock.RwLockRows.{of}
 use Rattle.lot_laws.proofs.alone.RwLock.{is_ready, rwlock_rests, word_small}
 use Rattle.lot_laws.proofs.alone.Leads.{Leads, OrBarred, barred_as, leads_more, leads_so, leads_then}
 use Rattle.lot_laws.proofs.alone.TwoLines.{StepsAlone}
@@ -45,7 +45,7 @@ use Rattle.lot_laws.proofs.alone.HandsOver.{glance_rests, hands_over_rest, wakes
 use Rattle.lot_laws.proofs.condvar.StepsKeep.{after_condvars}
 use Rattle.lot_laws.proofs.hands.CountsKept.{counted_after}
 use Rattle.lot_laws.proofs.hands.Counting.{nothing}
-use Rattle.lot_laws.proofs.condvar.Rows.{names_of, stage_of}
+use Rattle.lot_laws.proofs.condvar.CondvarRows.{names_of, stage_of}
 use Rattle.lot_laws.proofs.condvar.SameCondvars.{put_condvars}
 use Rattle.lot_laws.proofs.hands.CountsPut.{put_counted}
 use Rattle.lot_laws.proofs.sites.TurnsKept.{after_inductive}
@@ -680,7 +680,7 @@ module _ (t l : ℕ) (a : Admission) where
       (rwlock_rests t l a p v w q small (is_ready t l a p stands up) f)
   call_rests (Bump p) v w q shares small stands up f = bump_rests p.purpose p.retries p.at v w q shares small
       stands.0 stands.1 up f
-  call_rests (Glance x) v w q shares small stands up f =
+  call_rests (PeekQueue x) v w q shares small stands up f =
       ends_rest (gives_way a x v) x 18 w (glance_rests t l a x v w q shares f)
   call_rests (HandOver x b to) v w q shares small stands up f = leads_more 17 18 w t Resting (omega arith)
       (ends_rest b x 17 w (hands_over_rest t l a x b to stands v w q shares f))

@@ -4,7 +4,7 @@ use Rattle.lot_laws.proofs.Names
 use Names.{ℕ, zero, suc, Bool, true, false, Option, Some, None, ◌==◌, ◌&&◌, ◌||◌, not, ◌≡◌, ◌≢◌, ◌+◌, ◌-◌}
 use Names.{◌≤◌, ◌<◌, ◌^◌, ◌⊎◌, inl, inr, [], length, replicate, refl, sym, ◌∙◌, ap, subst, arith, slice_index}
 use Names.{slice_set, sum, eqb-true, nat_tests, Exclusive, Upgradable, Shared, Access, Patient, Timed, Try}
-use Names.{RwLockCall, Outcome, Admission, RwLockPlace, rwlock_first, Admits, wanted, Plain, Glance}
+use Names.{RwLockCall, Outcome, Admission, RwLockPlace, rwlock_first, Admits, wanted, Plain, PeekQueue}
 use Names.{call_first, call_role, enters_again, gives_way, IsLockState, LockState, Rights, Sort, Recursive}
 use Names.{Rules, IsBlocked, IsFree, MayEnter, Owns, count, is_recursive, one_if_some, readers, rights_of}
 use Names.{with_right, TellsTrue, bit, code, count_in, has_parked, has_writer, writers, Bumps, rwlock_purpose}
@@ -129,7 +129,7 @@ writer_beside_readers r s state shared h none = grind (arith, nat_tests, state.e
 
 module _ (w : State) (t l : ℕ) (a : Admission) (x : Access) (holds : IsWorld w)
     (admits : Admits (rules_in w l) a)
-    (is : place_at w t ≡ RwLock l a (Glance x)) (v2 : State) (o : Outcome) (run : RunsAlone w t o v2) where
+    (is : place_at w t ≡ RwLock l a (PeekQueue x)) (v2 : State) (o : Outcome) (run : RunsAlone w t o v2) where
   abbrev s : LockState
   s = lock_state w l
 
@@ -142,8 +142,8 @@ module _ (w : State) (t l : ℕ) (a : Admission) (x : Access) (holds : IsWorld w
   coded : word ≡ code (rules_in w l) (site_of w l)
   coded = holds.inductive.sites.word l
 
-  role_now : role_on (place_at w t) l ≡ call_role (Glance x)
-  role_now = ap (λ p. role_on p l) is ∙ role_here l (RwLock l a (Glance x)) refl
+  role_now : role_on (place_at w t) l ≡ call_role (PeekQueue x)
+  role_now = ap (λ p. role_on p l) is ∙ role_here l (RwLock l a (PeekQueue x)) refl
 
   -- tells what it owned as it began
   began : (call_at w t).former ≡ (λ k. rights_of (lock_state w k) t)

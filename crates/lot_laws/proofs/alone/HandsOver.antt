@@ -4,7 +4,8 @@ use Rattle.lot_laws.proofs.Names
 use Names.{ℕ, suc, Bool, true, false, None, if◌then◌else◌, ◌==◌, ◌&&◌, ◌≡◌, ◌+◌, ◌*◌, ◌≤◌, List, ◌∷◌}
 use Names.{replicate, inl, inr, refl, sym, ◌∙◌, ap, subst, arith, One, Waiter, first_of, apply, Access}
 use Names.{Patience, Ok, Outcome, Act, Next, At, Done, outcome_of, wakes_taken, Admission, RwLockAt, WakeAt}
-use Names.{entered, unparked, Admits, RwLockCallPlace, Glance, HandOver, Bump, Handed, HandOverAt, any_taken}
+use Names.{entered, unparked, Admits, RwLockCallPlace, PeekQueue, HandOver, Bump, Handed, HandOverAt}
+use Names.{any_taken}
 use Names.{bump_next, enters_again, exchange_act, freed_next, gives_up_at, gives_way, has_room, looked}
 use Names.{note_by, parked_as, with_taken, word_without, HandsOverAt, count_in, has_aside, has_parked}
 use Names.{rules_of, RwLock, act_of, next_act, next_place, rwlock_does, rwlock_goes, State, after}
@@ -27,7 +28,7 @@ use Rattle.steps_rwlock_fair.specs.declared.handed.HandedAt.TheVariants as hande
 use Rattle.steps_rwlock_fair.specs.FairSteps.{released}
 use Rattle.lot_laws.proofs.machine.Parts.{same}
 use Rattle.lot_laws.proofs.machine.KindsStay.{after_kinds}
-use Rattle.lot_laws.proofs.rwlock.Rows.{of}
+use Rattle.lot_laws.proofs.rwlock.RwLockRows.{of}
 use Rattle.lot_laws.proofs.alone.RwLock.{taken_word}
 use Rattle.lot_laws.proofs.alone.Leads.{Leads, leads_barred, leads_rest, leads_step, leads_more, leads_so}
 use Rattle.lot_laws.proofs.alone.TwoLines.{StepsAlone, Comes, word_comes, enter_comes, leave_comes}
@@ -413,7 +414,7 @@ module _ (t l : ℕ) (a : Admission) where
   -- -------------------------------------------- a bump that looks, and a thread that was handed the lock
 
   pub glance_rests : (x : Access) (v : ℕ) (w : State) (q : Line → List Waiter) → Shares w
-      → Alone w (Glance x) v q
+      → Alone w (PeekQueue x) v q
       → Leads 18 w t (Ends (gives_way a x v) x w)
   glance_rests x v w q shares f = either x (gives_way a x v) (word_comes w t l _ v q f op.Load refl)
     where

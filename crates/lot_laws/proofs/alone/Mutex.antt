@@ -32,7 +32,7 @@ use Rattle.lot_laws.proofs.hands.Handed.{successor_one, of_carries}
 use Rattle.lot_laws.proofs.promises.SitesPromise.{parked_at}
 use Rattle.steps_base.specs.declared.acts.Whom as whoms
 use Rattle.lot_laws.proofs.sites.SitesKept.{go_by, unshared_at, single_at, alone_at}
-use Rattle.lot_laws.proofs.mutex.Kept.{goes_mutex}
+use Rattle.lot_laws.proofs.mutex.MutexStaysASite.{goes_mutex}
 use Rattle.lot_laws.proofs.machine.AtPlaces.{coded_for, rules_for, owns}
 use Rattle.lot_laws.proofs.alone.Leads.{Leads, leads_rest, leads_step, leads_more, leads_so}
 use Rattle.lot_laws.proofs.alone.Acts.{Facing, Faces, word_faces, faces_into, leave_faces, wake_faces}

@@ -45,7 +45,7 @@ use Rattle.lot_laws.proofs.alone.RwLock.{word_small}
 use Rattle.lot_laws.proofs.alone.BumpEnds.{rwlock_alone}
 use Rattle.lot_laws.proofs.alone.CondvarEnds.{condvar_alone, condvar_rests}
 use Rattle.lot_laws.proofs.alone.WorldRuns.{runs_alone, world_after}
-use Rattle.lot_laws.proofs.rwlock.Kept.{admits_by}
+use Rattle.lot_laws.proofs.rwlock.RwLockStaysASite.{admits_by}
 use Rattle.lot_laws.proofs.machine.AtPlaces.{coded as words_coded, coded_for, absent}
 use Rattle.lot_laws.proofs.alone.Leads.{Leads, OrBarred, leads_more, leads_so, or_so}
 use Rattle.lot_laws.proofs.machine.ReadsOwn.{reads_its_own}

@@ -7,13 +7,13 @@ use Names.{IsSoloRun, GoesOnUntil, last_told, IsWorld, after_well_formed}
 use Rattle.spec_locks.specs.declared.outcomes.Outcome as outcome
 use Rattle.lot_laws.proofs.condvar.StepsKeep.{after_condvars}
 use Rattle.lot_laws.proofs.hands.CountsKept.{counted_after}
-use Rattle.lot_laws.proofs.promises.Owing.{owes_since}
+use Rattle.lot_laws.proofs.promises.OwingStays.{owes_since}
 use Rattle.lot_laws.proofs.promises.Fair.{is_fair}
 use Rattle.lot_laws.proofs.machine.Filled.{filled_after}
 use Rattle.lot_laws.proofs.calls.LockSteps.{after_step}
 use Rattle.lot_laws.proofs.machine.OneChange.{one_thing, touches}
 use Rattle.lot_laws.proofs.promises.LeavesOthers.{leaves_others}
-use Rattle.lot_laws.proofs.promises.Promises.{kept}
+use Rattle.lot_laws.proofs.promises.PromisesKept.{kept}
 use Rattle.lot_laws.proofs.mutex.FairMutexes.{settled_after}
 use Rattle.lot_laws.proofs.machine.Sleepers.{sleepers_stay}
 use Rattle.lot_laws.proofs.calls.Marked.{looks_no_more}

@@ -7,7 +7,7 @@ use Names.{RwLockCallPlace}
 use Rattle.steps_base.specs.declared.acts.Next.TheVariants.{End}
 use Rattle.spec_locks.specs.Locks as locks
 use Rattle.lot_laws.proofs.book.Page.{Says}
-use Rattle.lot_laws.proofs.book.Kept.{Book, Tied}
+use Rattle.lot_laws.proofs.book.LockStaysASite.{Book, Tied}
 use Rattle.lot_laws.proofs.once.Page.{once_says, once_tied}
 use Rattle.lot_laws.proofs.rwlock.Page.{rwlock_says, rwlock_tied}
 use Rattle.lot_laws.proofs.semaphore.Page.{semaphore_says, semaphore_tied}

@@ -22,12 +22,12 @@ use Rattle.steps_mutex.specs.declared.places.MutexPlace.TheVariants.{HandOff}
 use Rattle.lot_laws.proofs.machine.KindsStay.{calls_mutex, calls_readers, calls_once, calls_semaphore}
 use Rattle.lot_laws.proofs.condvar.Begins.{condvar_begun, condvar_may}
 use Rattle.lot_laws.proofs.machine.PlacesAlone.{placed}
-use Rattle.lot_laws.proofs.rwlock.Events.{rwlock_begins_with, rwlock_purpose_is, rwlock_right_held}
-use Rattle.lot_laws.proofs.rwlock.Events.{rwlock_right_needed, rwlock_untaken_first}
+use Rattle.lot_laws.proofs.rwlock.RwLockEvents.{rwlock_begins_with, rwlock_purpose_is, rwlock_right_held}
+use Rattle.lot_laws.proofs.rwlock.RwLockEvents.{rwlock_right_needed, rwlock_untaken_first}
 use Rattle.steps_condvar.specs.declared.places.CondvarPlace.TheVariants as condvars
 use Rattle.lot_laws.proofs.machine.Parts.{is_owner, thread_is}
 use Rattle.lot_laws.proofs.sites.TurnsKept.{idle_is}
-use Rattle.lot_laws.proofs.calls.Events.{rights}
+use Rattle.lot_laws.proofs.calls.CallEvents.{rights}
 
 -- a call of a mutex has its purpose
 pub purpose_is : (k : Kind) (l : ℕ) (c : MutexCall) → is_mutex k ≡ true

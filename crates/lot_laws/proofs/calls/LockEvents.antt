@@ -18,8 +18,9 @@ use Rattle.lot_laws.proofs.machine.PlaceTest.{call_facts, mutex_row_facts, once_
 use Rattle.lot_laws.proofs.machine.Parts.{IsTakenAt, put_same, same, IsMutexCall, taken_elsewhere, IsSingle}
 use Rattle.lot_laws.proofs.machine.Parts.{single_taken}
 use Rattle.lot_laws.proofs.machine.Parts.{mutex}
-use Rattle.lot_laws.proofs.calls.Events.{put_is, rights, rights_led, led_here, led_elsewhere, Happens, Others}
-use Rattle.lot_laws.proofs.calls.Events.{OthersFollow}
+use Rattle.lot_laws.proofs.calls.CallEvents.{put_is, rights, rights_led, led_here, led_elsewhere, IsEvent}
+use Rattle.lot_laws.proofs.calls.CallEvents.{Others}
+use Rattle.lot_laws.proofs.calls.CallEvents.{OthersFollow}
 
 -- ---------------------------------------------------------------- the waiters that a thread has in hand
 
@@ -166,7 +167,7 @@ module _ (w v : State) (t l : ℕ) where
 
 -- ---------------------------------------------------------------- it hands its right over
 
-module _ (w v : State) (t l : ℕ) (to : Option ℕ) (h : Happens w v t (AtLock l (HandsOff Exclusive (heir to))))
+module _ (w v : State) (t l : ℕ) (to : Option ℕ) (h : IsEvent w v t (AtLock l (HandsOff Exclusive (heir to))))
     (rules : rules_in w l ≡ mutex) (awake : taken_at (place_at w t) l ≡ None) where
   state : IsLockState mutex (lock_state w l)
   state = let s : IsLockState (rules_in w l) (lock_state w l) = (h.before.sites.site l).state in rw rules at s

@@ -20,11 +20,11 @@ use Names.{fair_sleepers_hear, MutexPlace, CondvarPlace}
 use Rattle.lot_laws.proofs.calls.Begins.{begin_goes, begin_possible}
 use Rattle.lot_laws.proofs.rwlock.Late.{call_late, late_row}
 use Rattle.lot_laws.proofs.machine.Possible.{begins_outside, closure_gone, late_outside}
-use Rattle.lot_laws.proofs.book.Kept.{Book}
+use Rattle.lot_laws.proofs.book.LockStaysASite.{Book}
 use Rattle.lot_laws.proofs.book.Pages.{booked, semaphore_timed}
 use Rattle.lot_laws.proofs.once.Page.{keeps_all as once_keeps}
 use Rattle.lot_laws.proofs.semaphore.Page.{keeps_all as semaphore_keeps}
-use Rattle.lot_laws.proofs.book.Steps.{step, step_event}
+use Rattle.lot_laws.proofs.book.LockStepsAreEvents.{step, step_event}
 use Rattle.lot_laws.proofs.once.Page.{closes_event}
 use Rattle.lot_laws.proofs.calls.Looking.{alike_event, closing_here, closing_inductive, like}
 use Rattle.lot_laws.proofs.calls.Closings.{closing_well_formed, closing_there, goes_there, is_after}
@@ -38,8 +38,8 @@ use Rattle.lot_laws.proofs.rwlock.CallRows.{call_promises}
 use Rattle.spec_locks.specs.declared.calls.OnceCall.TheVariants as once_call
 use Rattle.steps_once.specs.declared.look.LookAt.TheVariants as look_at
 use Rattle.steps_once.specs.declared.places.OncePlace.TheVariants.{Look}
-use Rattle.lot_laws.proofs.once.Owing.{late_place}
-use Rattle.lot_laws.proofs.semaphore.Owing.{late_place as semaphore_late_place}
+use Rattle.lot_laws.proofs.once.OnceOwing.{late_place}
+use Rattle.lot_laws.proofs.semaphore.SemaphoreOwing.{late_place as semaphore_late_place}
 use Rattle.steps_semaphore.specs.declared.acquire.AcquireAt.TheVariants as acquire
 use Rattle.core_base.specs.Keys.{key_of}
 use Rattle.core_base.specs.declared.keys.Line.{Line}
@@ -58,14 +58,14 @@ use Rattle.lot_laws.proofs.calls.Closures.{closes_one, runs_one}
 use Rattle.lot_laws.proofs.machine.KindsStay.{after_kinds}
 use Rattle.lot_laws.proofs.condvar.Begins.{condvar_is_late}
 use Rattle.lot_laws.proofs.machine.PlacesAlone.{placed}
-use Rattle.lot_laws.proofs.rwlock.Events.{rwlock_step}
+use Rattle.lot_laws.proofs.rwlock.RwLockEvents.{rwlock_step}
 use Rattle.steps_condvar.specs.declared.places.CondvarPlace.TheVariants as condvars
 use Rattle.lot_laws.proofs.machine.Parts.{IsSingle, same, single_or_two}
 use Rattle.lot_laws.proofs.condvar.ActsRefine.{condvar_on}
 use Rattle.lot_laws.proofs.condvar.SameCondvars.{looking_condvars}
 use Rattle.lot_laws.proofs.sites.SitesKept.{go_by}
-use Rattle.lot_laws.proofs.mutex.Steps.{load_stays, mutex_step}
-use Rattle.lot_laws.proofs.calls.Events.{rights}
+use Rattle.lot_laws.proofs.mutex.MutexStepsAreEvents.{load_stays, mutex_step}
+use Rattle.lot_laws.proofs.calls.CallEvents.{rights}
 
 -- ---------------------------------------------------------------- a thread goes on
 

@@ -5,14 +5,14 @@ use Names.{ℕ, Bool, true, false, Option, Some, None, if◌then◌else◌, ◌�
 use Names.{get_or, refl, sym, ◌∙◌, ap, subst, get_or-set_other, ◌==◌, once_sleepers_move, once_profile}
 use Names.{semaphore_profile, taken_from, get_or-map, Keys, One, Two, Waiter, threads_of, lock_picked, Act}
 use Names.{Whom, Reply, TakenBy, Woken, is_thread, hand, next_place, taker, Place, Idle, RwLock, Mutex, Once}
-use Names.{Condvar, Semaphore, RwLockCallPlace, Plain, Glance, HandOver, Bump, Handed, CallStands}
+use Names.{Condvar, Semaphore, RwLockCallPlace, Plain, PeekQueue, HandOver, Bump, Handed, CallStands}
 use Names.{call_profile, handed_woken, fair_sleepers_move, fair_sleepers_hear, never_given, Rights, LockCase}
 use Names.{Wake, HandOff, AtLock, is_taken_by, event_by, State, queue_at, place_at, put, state_after_act}
 use Names.{state_after_telling, state_after_taking, state_with_sections, places_told, place_after_telling}
 use Names.{call_state, taken_at, location, nowhere, IsInductive, carried_at, hand_at, FitsItsLock, ◌+◌, ◌≤◌}
 use Names.{arith, lock_picker, without_lock_picked, Line, Main, Second, queues_without_first}
 use Names.{state_after_take, location_at, key_of, rules_in, locations_of, stood_in}
-use Rattle.lot_laws.proofs.semaphore.Moves.{semaphore_sleepers_move}
+use Rattle.lot_laws.proofs.semaphore.SemaphoreMoves.{semaphore_sleepers_move}
 use Rattle.core_base.specs.declared.notes.Note.TheVariants as note
 use Rattle.steps_base.specs.declared.acts.Act.TheVariants as act
 use Rattle.steps_base.specs.declared.acts.Whom.TheVariants as whom
@@ -29,7 +29,7 @@ use Rattle.lot_laws.proofs.condvar.WaiterCalls.{waiter_taken, waiter_taken_by, w
 use Rattle.lot_laws.proofs.machine.Parts.{IsInHandOf, aparts, held_tells, in_hand_where}
 use Rattle.lot_laws.proofs.hands.Handed.{of_carries, in_hand_here as in_hand_at}
 use Rattle.lot_laws.proofs.machine.Parts.{IsOf, IsTakenAt, IsHandedAt, is_taken, is_handed, same}
-use Rattle.lot_laws.proofs.calls.Events.{Happens, IsNoHandOff, Others}
+use Rattle.lot_laws.proofs.calls.CallEvents.{IsEvent, IsNoHandOff, Others}
 use Rattle.lot_laws.proofs.calls.LockEvents.{Befalls, taken_call, wakes_others}
 
 -- ---------------------------------------------------------------- nobody else goes anywhere
@@ -57,7 +57,7 @@ WakesOwn hand (act.Requeue from to how) c = ⊥
 WakesOwn hand (act.HandOver lock op) c = ⊥
 WakesOwn hand a c = IsCalm c
 
-module _ (w v : State) (t l : ℕ) (c : Option LockCase) (h : Happens w v t (event_by l c)) where
+module _ (w v : State) (t l : ℕ) (c : Option LockCase) (h : IsEvent w v t (event_by l c)) where
   pub no_hand_off : (d : Option LockCase) → IsCalm d → IsNoHandOff w v t l c h d
   no_hand_off None still = tt
   no_hand_off (Some (HandOff x successor)) still = absurd still
@@ -281,7 +281,7 @@ handed_goes w (RwLock k a c) t l fits h r = either (k == l) h
     by_call (Handed x how b handed.Accept) stands g = absurd cc
     by_call (Plain p) stands g = absurd (never_given a k p.at t g)
     by_call (Bump p) stands g = absurd (never_given a k p.at t g)
-    by_call (Glance x) stands g = absurd cc
+    by_call (PeekQueue x) stands g = absurd cc
     by_call (HandOver x b to) stands g = absurd cc
 
     either : (b : Bool) → (if b then location (RwLock k a c) else nowhere).hand ≡ hand t true

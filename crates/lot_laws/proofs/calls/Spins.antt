@@ -413,7 +413,7 @@ module _ (w : State) (r : ℕ → Rights) (l seen now : ℕ) (bit : SetsBit (sor
   of_rwlock k a (fair.Bump p) own readers waits is = rwlock_there k a p (looking_at a p p.at) true
       (rwlock_spins k a p l seen now (shared_bit (sort_at w k) seen now readers
       (bit_at k (sort_at w k) own refl)) p.at is)
-  of_rwlock k a (fair.Glance x) own readers waits is = absurd cc
+  of_rwlock k a (fair.PeekQueue x) own readers waits is = absurd cc
   of_rwlock k a (fair.HandOver x bumps to) own readers waits is = absurd (hands_over k a x bumps to waits is)
   of_rwlock k a (fair.Handed x how b (handed.Asleep by alone)) own readers waits is = absurd cc
   of_rwlock k a (fair.Handed x how b handed.Accept) own readers waits is = absurd (accepts k x is)

@@ -15,7 +15,7 @@ use Rattle.core_base.specs.declared.keys.Line.TheVariants.{Main, Second}
 use Rattle.steps_rwlock_fair.specs.declared.places.RwLockCallPlace.TheVariants as fair
 use Rattle.steps_condvar.specs.declared.places.CondvarPlace.TheVariants as condvar
 use Rattle.lot_laws.proofs.machine.PlaceTest.{IsFree, mutex_row_facts, once_facts, semaphore_facts}
-use Rattle.lot_laws.proofs.rwlock.Rows.{parks_wait}
+use Rattle.lot_laws.proofs.rwlock.RwLockRows.{parks_wait}
 
 -- ---------------------------------------------------------------- a reader-writer lock
 
@@ -112,7 +112,7 @@ call_free : (l : ℕ) (a : Admission) (c : RwLockCallPlace) → CallStands a c �
 call_free l a (fair.Plain p) stands rights h = plain_free l a p.purpose p.retries p.at stands.place
     stands.decided rights h
 call_free l a (fair.Bump p) stands rights h = absurd h
-call_free l a (fair.Glance x) stands rights h = absurd h
+call_free l a (fair.PeekQueue x) stands rights h = absurd h
 call_free l a (fair.HandOver x true to) stands rights h = absurd h
 call_free l a (fair.HandOver x false to) stands rights h = absurd h
 call_free l a (fair.Handed x how b to) stands rights h = handed_free l a x how b to stands rights h

@@ -27,7 +27,7 @@ use Rattle.steps_condvar.specs.declared.wait.WaitAt.TheVariants as wait
 use Rattle.steps_condvar.specs.CondvarProfiles.{want_of}
 use Rattle.spec_locks.specs.Locks as locks
 use Rattle.lot_laws.specs.ThreadDeeds as deeds
-use Rattle.lot_laws.proofs.calls.Events.{Happens, OthersFollow}
+use Rattle.lot_laws.proofs.calls.CallEvents.{IsEvent, OthersFollow}
 use Rattle.lot_laws.proofs.condvar.StepEvents.{NamesStill}
 use Rattle.lot_laws.proofs.condvar.Replies.{apart, at_it, fits_here, may_hear, taken_by_wait, word_is}
 use Rattle.lot_laws.proofs.condvar.OtherCalls.{IsCalmEvent, IsWaking, calm_follow, calm_unwoken, quiet}
@@ -164,7 +164,7 @@ module _ (w : State) (t l : ℕ) (shape : IsWellFormed w) (inductive : IsInducti
         (line_of notifies is m refl l n.0) (line_of notifies is m refl m n.1) p
         (fits notifies is m refl).reached is can (subst (FitsItsLock w) (sym goes_there) fits_notified)
 
-    happened : Happens w afterwards t (notify_event l all m p told)
+    happened : IsEvent w afterwards t (notify_event l all m p told)
     happened = notify_happened w afterwards t l m all p inductive (goes_all_inductive w afterwards
         (two_at l m at_l at_m)
         inductive goes.follows goes.stands) (condvars l sort_l) aside is can (two_at l m at_l at_m)
@@ -173,7 +173,7 @@ module _ (w : State) (t l : ℕ) (shape : IsWellFormed w) (inductive : IsInducti
 
     others : OthersFollow w afterwards t (notify_event l all m p told)
     others = let n = sized notifies is m refl in
-        subst (λ q. Happens w (put (state_after_act w t (Condvar l notifies) (notify_act all l m p)) t q) t
+        subst (λ q. IsEvent w (put (state_after_act w t (Condvar l notifies) (notify_act all l m p)) t q) t
         (notify_event l all m p told)
         → OthersFollow w (put (state_after_act w t (Condvar l notifies) (notify_act all l m p)) t q) t
         (notify_event l all m p told)) (sym goes_there)
@@ -238,7 +238,7 @@ module _ (w : State) (t l : ℕ) (shape : IsWellFormed w) (inductive : IsInducti
           (line_of waits is m refl l n.0) (line_of waits is m refl m n.1) p (fits waits is m refl).reached
           is can fits_waited
 
-      happened_waiting : Happens w waited t (own_event w t l m p)
+      happened_waiting : IsEvent w waited t (own_event w t l m p)
       happened_waiting = wait_happened w waited t l m timed p inductive (goes_all_inductive w waited
           (two_at l m on_l on_m) inductive goes_waiting.follows goes_waiting.stands) (condvars l sort_w) is
           can
@@ -586,8 +586,8 @@ module _ (w : State) (t l : ℕ) (shape : IsWellFormed w) (inductive : IsInducti
         either true = tt
         either false = tt
 
-    looked_so : Happens w looked t (look_event l (word_at w l))
-    looked_so = subst (λ n. Happens w looked t (look_event l n)) (sym (word_is w t l (Look all) inductive is))
+    looked_so : IsEvent w looked t (look_event l (word_at w l))
+    looked_so = subst (λ n. IsEvent w looked t (look_event l n)) (sym (word_is w t l (Look all) inductive is))
         (look_happened w looked t l all inductive (goes_all_inductive w looked (only_at l []) inductive
         looks_goes.follows looks_goes.stands) is (only_at l []) looks_goes.follows nothing_done)
 

@@ -14,9 +14,9 @@ use Rattle.steps_mutex.specs.declared.lock.LockAt.TheVariants as lock
 use Rattle.steps_mutex.specs.declared.places.MutexPlace.TheVariants as mutex
 use Rattle.steps_mutex.specs.declared.unlock.UnlockAt.TheVariants as unlock
 use Rattle.lot_laws.specs.Locations.{location_by}
-use Rattle.lot_laws.proofs.condvar.Promises.{StandsAt, stands_at}
+use Rattle.lot_laws.proofs.condvar.CondvarPromises.{StandsAt, stands_at}
 use Rattle.lot_laws.proofs.machine.Parts.{differ, same}
-use Rattle.lot_laws.proofs.mutex.Rows.{decided_awake, unlock_awake}
+use Rattle.lot_laws.proofs.mutex.MutexRows.{decided_awake, unlock_awake}
 
 -- it was handed its mutex by a thread that wakes it yet
 pub record WasHandedBeside (k : ℕ) (at : CondvarPlace) : Type 0 where

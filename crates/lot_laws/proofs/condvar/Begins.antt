@@ -16,7 +16,7 @@ use Rattle.spec_locks.specs.declared.outcomes.Outcome.TheVariants as outcome
 use Rattle.steps_condvar.specs.declared.wait.Stands.TheVariants as stands
 use Rattle.steps_condvar.specs.declared.wait.WaitAt.TheVariants as wait
 use Rattle.spec_locks.specs.Locks as locks
-use Rattle.lot_laws.proofs.calls.Events.{rights}
+use Rattle.lot_laws.proofs.calls.CallEvents.{rights}
 use Rattle.lot_laws.proofs.machine.Parts.{is_owner, thread_is}
 use Rattle.lot_laws.proofs.machine.KindsStay.{calls_condvar}
 use Rattle.lot_laws.proofs.machine.PlacesAlone.{placed}

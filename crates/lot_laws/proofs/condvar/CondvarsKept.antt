@@ -5,7 +5,8 @@ use Names.{◌∙◌, ap, subst, cases_eq, eqb-true, Step, Turn, Outcome, Locati
 use Names.{Look, Notify, condvar_profile, condvar_row, mutex_side, mutex_beside, Place, Idle, Mutex, RwLock}
 use Names.{Once, Condvar, Semaphore, is_lock, called_lock, profile, moved_of, LockCase, LockState, Rules}
 use Names.{SeeOwner, Wake, after_case, left_after, Purpose, Enters, Releases, Converts, Bumps, CallsOnce}
-use Names.{Awaits, Waits, Notifies, IsMadeOf, NotifiesBeside, Recall, lock_for, rules_of, AtLock, CallState}
+use Names.{Awaits, Waits, Notifies, IsMadeOf, NotifiesBeside, CondvarMemory, lock_for, rules_of, AtLock}
+use Names.{CallState}
 use Names.{Event, GoesOn, LocksState, MayDo, MayHappen, MayTurn, Does, Moves, Nothing, SectionChanges}
 use Names.{going_on, joined_by, locks_after, rules_at, unless_ended, woken, Main, IsWellFormed, State, after}
 use Names.{kind_at, place_at, section_at, step_outcome, KnowsRights, call_at, call_state, lock_state}
@@ -16,8 +17,8 @@ use Rattle.spec_locks.specs.declared.outcomes.Outcome as outcome
 use Rattle.steps_base.specs.Locations.{nowhere}
 use Rattle.spec_locks.specs.Locks as locks
 use Rattle.lot_laws.proofs.machine.Befallen.{others_keep_it}
-use Rattle.lot_laws.proofs.calls.Events.{rights}
-use Rattle.lot_laws.proofs.condvar.Rows.{names_of, names_unmoved, stage_of, stage_unmoved}
+use Rattle.lot_laws.proofs.calls.CallEvents.{rights}
+use Rattle.lot_laws.proofs.condvar.CondvarRows.{names_of, names_unmoved, stage_of, stage_unmoved}
 use Rattle.lot_laws.proofs.machine.Parts.{IsSingle, put_here, same, single_location}
 use Rattle.lot_laws.proofs.machine.KindsStay.{after_kinds}
 use Rattle.lot_laws.proofs.calls.LockSteps.{IsTurn, after_step}
@@ -164,7 +165,7 @@ module _ (w : LocksState) (t k : ℕ) (sort : (rules_at w k).sort ≡ locks.Cond
   apart : (l j : ℕ) → Some l ≢ Some k → j ≡ l → j ≢ k
   apart l j other here e = other (ap Some (sym here ∙ e))
 
-  by_purpose : (q : Purpose) (g : Option ℕ) (r : Bool) (rc : Recall) (j : ℕ) (case : LockCase)
+  by_purpose : (q : Purpose) (g : Option ℕ) (r : Bool) (rc : CondvarMemory) (j : ℕ) (case : LockCase)
       → Some (lock_for q) ≢ Some k
       → KnowsRights (λ l. (rules_at w l).sort) (Some q) → IsMadeOf q g r rc j case → Elsewhere j case
   by_purpose (Enters l x how) g r rc j case other known made = inl (apart l j other made.0)

@@ -5,12 +5,12 @@ use Names.{Next, Reply, CondvarPlace, condvar_row, condvar_next, AllCondvarNeede
 use Names.{IsAtStage, MayHear, after_condvar_deeds, condvar_deeds, condvar_steps_follow, Idle, Condvar}
 use Names.{condvar_goes, profile_at, CondvarDeed, BeginsWait, EndsWait, GoIn, GoOut, Show, SeeOther}
 use Names.{StandLast, SeeAgain, MissIt, HideAndTakeAll, MoveFirst, MoveAll, LeaveList, ShowNone}
-use Names.{CondvarNeeded, CondvarSite, Inside, IsCondvar, IsInsideNot, MayGoOut, CondvarStage, condvar_leads}
+use Names.{CondvarNeeded, CondvarSite, Inside, IsCondvar, IsInsideNot, MayGoOut, CondvarPhase, condvar_leads}
 use Names.{SectionChanges, Line, Main, condvar_deed_keeps, State, place_at, section_at, lock_state}
 use Names.{location_at, condvar_of, inside_as, key_of, stage_or}
 use Rattle.steps_base.specs.declared.acts.Next.TheVariants as next
 use Rattle.lot_laws.specs.SitesOf.{Stands}
-use Rattle.lot_laws.proofs.condvar.Rows.{names_of, row_says, stage_of}
+use Rattle.lot_laws.proofs.condvar.CondvarRows.{names_of, row_says, stage_of}
 use Rattle.lot_laws.proofs.condvar.Sites.{at_place}
 use Rattle.lot_laws.proofs.machine.Parts.{put_other}
 
@@ -35,7 +35,7 @@ module _ (t : ℕ) where
   both_own : (x y : Option Inside) → IsOwn x → IsOwn y → SameOthers x y
   both_own x y a b i ne = (λ e. absurd (ne (a i e)), λ e. absurd (ne (b i e)))
 
-  within : (x : Option Inside) (stage : CondvarStage) → x ≡ Some (record { thread = t; stage = stage })
+  within : (x : Option Inside) (stage : CondvarPhase) → x ≡ Some (record { thread = t; stage = stage })
       → IsOwn x
   within x stage e i f = let both : Some (record { thread = t; stage = stage }) ≡ Some i = sym e ∙ f
       in let one : record { thread = t; stage = stage } ≡ i = cc in sym (ap (λ (j : Inside). j.thread) one)
@@ -126,7 +126,7 @@ module _ (w v : State) (t l : ℕ) (at : CondvarPlace) (told : Reply) (stands : 
     Both o p = (inside_as o (λ u. (profile_at (place_at w u) l).stage) ≡ Some i)
         ↔ (inside_as p (λ u. (profile_at (place_at v u) l).stage) ≡ Some i)
 
-    not_own : (o : Option CondvarStage) → Some (record { thread = t; stage = stage_or o }) ≡ Some i → ⊥
+    not_own : (o : Option CondvarPhase) → Some (record { thread = t; stage = stage_or o }) ≡ Some i → ⊥
     not_own o e = let one : record {
       thread = t;
       stage = stage_or o;
@@ -183,7 +183,7 @@ module _ (w v : State) (t l : ℕ) (at : CondvarPlace) (told : Reply) (stands : 
       others a b = same_inside t (condvar_of w l).inside (condvar_of v l).inside led.inside others_inside
           (deeds_others t (condvar_deeds at told) (condvar_of w l) follows.needed) a b
 
-      by_stage : (o : Option CondvarStage) → IsAtStage (condvar_of v l) t o → IsAtStage led t o
+      by_stage : (o : Option CondvarPhase) → IsAtStage (condvar_of v l) t o → IsAtStage led t o
           → (condvar_of v l).inside ≡ led.inside
       by_stage None a b = others a b
       by_stage (Some stage) a b = a ∙ sym b

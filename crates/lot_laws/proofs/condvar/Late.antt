@@ -10,9 +10,9 @@ use Rattle.steps_condvar.specs.declared.wait.Stands.TheVariants as stands
 use Rattle.steps_condvar.specs.declared.wait.WaitAt.TheVariants as wait
 use Rattle.steps_mutex.specs.declared.places.MutexPlace.TheVariants as mutex
 use Rattle.steps_mutex.specs.declared.unlock.UnlockAt.TheVariants as unlock
-use Rattle.lot_laws.proofs.condvar.Promises.{stands_at, two_stand_main}
+use Rattle.lot_laws.proofs.condvar.CondvarPromises.{stands_at, two_stand_main}
 use Rattle.lot_laws.proofs.machine.Parts.{differ, same}
-use Rattle.lot_laws.proofs.mutex.Rows.{mutex_acts}
+use Rattle.lot_laws.proofs.mutex.MutexRows.{mutex_acts}
 use Rattle.lot_laws.proofs.promises.RowPromises.{is_acting}
 
 -- ---------------------------------------------------------------- it has something to do

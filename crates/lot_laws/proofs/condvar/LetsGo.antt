@@ -6,11 +6,11 @@ use Names.{IsUnlockPlace, condvar_place_purpose, condvar_released, has_released,
 use Names.{call_at, call_state, locks_of, sleeps, IsInductive}
 use Rattle.steps_mutex.specs.declared.places.MutexPlace.TheVariants as mutex
 use Rattle.steps_condvar.specs.declared.wait.WaitAt.TheVariants as wait
-use Rattle.lot_laws.proofs.calls.Events.{rights}
+use Rattle.lot_laws.proofs.calls.CallEvents.{rights}
 use Rattle.lot_laws.proofs.condvar.MutexDebts.{two_released}
-use Rattle.lot_laws.proofs.condvar.Promises.{two_purpose}
+use Rattle.lot_laws.proofs.condvar.CondvarPromises.{two_purpose}
 use Rattle.lot_laws.proofs.machine.Parts.{IsOfTwo, fits_two, single_or_two}
-use Rattle.lot_laws.proofs.mutex.Rows.{unlock_awake}
+use Rattle.lot_laws.proofs.mutex.MutexRows.{unlock_awake}
 use Rattle.lot_laws.proofs.promises.PlacePromises.{calls_one_lock}
 use Rattle.lot_laws.proofs.promises.RowPromises.{CallsOneLock}
 

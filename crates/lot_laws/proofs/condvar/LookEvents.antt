@@ -13,7 +13,7 @@ use Rattle.steps_condvar.specs.declared.places.CondvarPlace.TheVariants as place
 use Rattle.steps_condvar.specs.CondvarCalls as calls
 use Rattle.spec_locks.specs.Locks as locks
 use Rattle.lot_laws.specs.ThreadDeeds as deeds
-use Rattle.lot_laws.proofs.calls.Events.{Happens, OthersFollow, happens_at, put_is, rights}
+use Rattle.lot_laws.proofs.calls.CallEvents.{IsEvent, OthersFollow, happens_at, put_is, rights}
 use Rattle.lot_laws.proofs.condvar.StepEvents.{NamesStill, ToldSo, begins_two, call_led, condvar_goes_on}
 use Rattle.lot_laws.proofs.condvar.StepEvents.{may_go, no_closure, unwoken}
 use Rattle.lot_laws.proofs.condvar.Replies.{fits_here}
@@ -35,12 +35,12 @@ module _ (w v : State) (t l : ℕ) (all : Bool) (inductive : IsInductive w) (aft
   stays k = ap (λ (s : Site). s.lock) (f.site k)
       ∙ ap (λ ds. (after_acts (rules_in w k) ds (site_of w k)).lock) (nothing k)
 
-  pub look_happened : Happens w v t event
+  pub look_happened : IsEvent w v t event
   look_happened = by_word (lock_state w l).shown refl
     where
-      by_word : (o : Option ℕ) → (lock_state w l).shown ≡ o → Happens w v t (look_event l (word_showing o))
+      by_word : (o : Option ℕ) → (lock_state w l).shown ≡ o → IsEvent w v t (look_event l (word_showing o))
       by_word None e = happens_at w v t l None inductive after f.kinds (stays l) (λ k ne. stays k) tt
-      by_word (Some m) e = subst (Happens w v t) (sym sees)
+      by_word (Some m) e = subst (IsEvent w v t) (sym sees)
           (happens_at w v t l (Some (OfCondvar (locks.Look (Some m)))) inductive after f.kinds (stays l)
           (λ k ne. stays k) ((fits_here w t l (places.Look all) inductive is).sort, sym e))
         where

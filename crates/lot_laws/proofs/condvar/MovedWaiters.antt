@@ -19,7 +19,7 @@ use Rattle.lot_laws.proofs.sites.OneStep.{queued_times}
 use Rattle.lot_laws.proofs.condvar.Moving.{GoesAcross, WaitsAcross}
 use Rattle.lot_laws.proofs.condvar.TwoParts.{role_beside, role_there, nothing_else, location_beside}
 use Rattle.lot_laws.proofs.condvar.TwoParts.{location_there, taken_beside, taken_there}
-use Rattle.lot_laws.proofs.condvar.Promises.{unlisted}
+use Rattle.lot_laws.proofs.condvar.CondvarPromises.{unlisted}
 use Rattle.lot_laws.proofs.condvar.Sites.{at_place}
 use Rattle.lot_laws.proofs.condvar.WaitersAside.{waits_there}
 

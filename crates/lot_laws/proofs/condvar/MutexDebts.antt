@@ -17,9 +17,9 @@ use Rattle.steps_condvar.specs.declared.notify.NotifyAt.TheVariants as notify
 use Rattle.steps_condvar.specs.declared.wait.Stands.TheVariants as stands
 use Rattle.steps_condvar.specs.declared.wait.WaitAt.TheVariants as wait
 use Rattle.spec_locks.specs.Locks as sorts
-use Rattle.lot_laws.proofs.condvar.Promises.{StandsAt, neither_nowhere, notifier_nowhere}
+use Rattle.lot_laws.proofs.condvar.CondvarPromises.{StandsAt, neither_nowhere, notifier_nowhere}
 use Rattle.lot_laws.proofs.machine.Parts.{same}
-use Rattle.lot_laws.proofs.mutex.Rows.{decided_awake}
+use Rattle.lot_laws.proofs.mutex.MutexRows.{decided_awake}
 use Rattle.lot_laws.proofs.promises.RowPromises.{IsDebtorIn}
 
 -- ---------------------------------------------------------------- it is one at its mutex alone

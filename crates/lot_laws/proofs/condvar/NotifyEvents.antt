@@ -23,7 +23,7 @@ use Rattle.steps_condvar.specs.CondvarDeeds as condvar
 use Rattle.spec_locks.specs.Locks as locks
 use Rattle.lot_laws.specs.ThreadDeeds as deeds
 use Rattle.lot_laws.proofs.machine.AtPlaces.{coded, in_no_hand, taken_nobody}
-use Rattle.lot_laws.proofs.calls.Events.{Happens, happens_sending, OthersFollow, deeds_by, put_is, rights}
+use Rattle.lot_laws.proofs.calls.CallEvents.{IsEvent, happens_sending, OthersFollow, deeds_by, put_is, rights}
 use Rattle.lot_laws.proofs.condvar.StepEvents.{call_named, Led, NamesStill, ToldSo, begins_two, call_led}
 use Rattle.lot_laws.proofs.condvar.StepEvents.{condvar_goes_on, happens_two, led_by, locks_led, may_go}
 use Rattle.lot_laws.proofs.condvar.StepEvents.{no_closure, others, unwoken}
@@ -31,7 +31,7 @@ use Rattle.lot_laws.proofs.condvar.Replies.{apart, at_it, role_beside, fits_here
 use Rattle.lot_laws.proofs.condvar.Replies.{may_hear, notifier_hears, rules_beside, location_beside}
 use Rattle.lot_laws.proofs.condvar.MutexUntouched.{there_deeds}
 use Rattle.lot_laws.proofs.machine.Parts.{plain_rules, same}
-use Rattle.lot_laws.proofs.condvar.Promises.{unlisted}
+use Rattle.lot_laws.proofs.condvar.CondvarPromises.{unlisted}
 use Rattle.lot_laws.proofs.condvar.WaitersAside.{WaitsThere, waits_there}
 use Rattle.lot_laws.proofs.condvar.WaitEvents.{there_rights, unheard}
 
@@ -78,7 +78,7 @@ module _ (w v : State) (t l m : ℕ) (all : Bool) (p : NotifyAt) (inductive : Is
       elsewhere)
 
   two : (x y : Option LockCase) → Fits m x → Fits l y → (x ≡ None) ⊎ (y ≡ None)
-      → Happens w v t (or_else (event_by m x) (event_by l y))
+      → IsEvent w v t (or_else (event_by m x) (event_by l y))
   two = happens_two w v t l m apart_m inductive after f.kinds (others w v t l m apart_m inductive after done f
       elsewhere)
 
@@ -103,26 +103,26 @@ module _ (w v : State) (t l m : ℕ) (all : Bool) (p : NotifyAt) (inductive : Is
       refl)))
 
   sees_owner : (b : Bool) → b ≡ is_some (lock_state w m).exclusive → lock_state v m ≡ lock_state w m
-      → lock_state v l ≡ lock_state w l → Happens w v t (AtLock m (SeeOwner b))
+      → lock_state v l ≡ lock_state w l → IsEvent w v t (AtLock m (SeeOwner b))
   sees_owner b owned at_m at_l = two (Some (SeeOwner b)) None (
     at_m,
     (rules_beside w t l (Notify all m p) inductive is m refl, owned),
   ) (at_l, tt) (inr refl)
 
-  nothing : lock_state v m ≡ lock_state w m → lock_state v l ≡ lock_state w l → Happens w v t Nothing
+  nothing : lock_state v m ≡ lock_state w m → lock_state v l ≡ lock_state w l → IsEvent w v t Nothing
   nothing at_m at_l = two None None (at_m, tt) (at_l, tt) (inl refl)
 
   marked : lock_state v m ≡ lock_state w m → lock_state v l ≡ lock_state w l
-      → Happens w v t (marked_event m (word_at w m))
+      → IsEvent w v t (marked_event m (word_at w m))
   marked at_m at_l = either (is_locked (word_at w m)) refl
     where
       either : (b : Bool) → is_locked (word_at w m) ≡ b
-          → Happens w v t (if b then Nothing else AtLock m (SeeOwner false))
+          → IsEvent w v t (if b then Nothing else AtLock m (SeeOwner false))
       either true e = nothing at_m at_l
       either false e = sees_owner false (sym e ∙ owned_is) at_m at_l
 
   hides : done l ≡ acts t (Case (OfCondvar locks.Hide) ∷ []) → lock_state v m ≡ lock_state w m
-      → Happens w v t (AtLock l (OfCondvar locks.Hide))
+      → IsEvent w v t (AtLock l (OfCondvar locks.Hide))
   hides at_l at_m = two None (Some (OfCondvar locks.Hide)) (at_m, tt) (led_by w v t l m apart_m inductive
       after
       done f elsewhere l None (Case (OfCondvar locks.Hide) ∷ []) at_l tt (λ h. nobody_there)) (inl refl)
@@ -142,7 +142,7 @@ module _ (w v : State) (t l m : ℕ) (all : Bool) (p : NotifyAt) (inductive : Is
       → done l ≡ acts t (there_deeds (notify_deeds b m (notify.Move owned)
       (reply_to w t (move_act b owned l m))))
       → done m ≡ acts t (beside_deeds b waiters (notify.Move owned) (reply_to w t (move_act b owned l m)))
-      → Happens w v t (notify_event l b m (notify.Move owned) (reply_to w t (move_act b owned l m)))
+      → IsEvent w v t (notify_event l b m (notify.Move owned) (reply_to w t (move_act b owned l m)))
   moves true true at_l at_m = happens_sending w v t l m true true _ done inductive after f
       (λ e. apart_m (sym e))
       at_l at_m elsewhere
@@ -155,7 +155,7 @@ module _ (w v : State) (t l m : ℕ) (all : Bool) (p : NotifyAt) (inductive : Is
 
   wakes : (any : Bool) → notify_carries p ≡ in_hand any false → done l ≡ acts t (Out ∷ []) → done m
       ≡ acts t (Out ∷ End ∷ [])
-      → Happens w v t (if any then AtLock m Wake else Nothing)
+      → IsEvent w v t (if any then AtLock m Wake else Nothing)
   wakes true carries at_l at_m = two (Some Wake) None (led_by w v t l m apart_m inductive after done f
       elsewhere
       m (Some false) (Out ∷ End ∷ []) at_m tt (λ h. absurd (h refl)))
@@ -175,7 +175,7 @@ module _ (w v : State) (t l m : ℕ) (all : Bool) (p : NotifyAt) (inductive : Is
       ≡ acts t (there_deeds (notify_deeds all m q (reply_to w t (notify_act all l m q))))
       → done m ≡ acts t (beside_deeds all waiters q (reply_to w t (notify_act all l m q)))
       → IsReached (Notify all m q)
-      → Happens w v t (notify_event l all m q (reply_to w t (notify_act all l m q)))
+      → IsEvent w v t (notify_event l all m q (reply_to w t (notify_act all l m q)))
   by_place notify.Enter e at_l at_m reached = nothing (stays m (In Main ∷ []) at_m tt)
       (stays l (In Main ∷ []) at_l tt)
   by_place notify.Again e at_l at_m reached = nothing (stays m [] at_m tt)
@@ -188,7 +188,7 @@ module _ (w v : State) (t l m : ℕ) (all : Bool) (p : NotifyAt) (inductive : Is
       same_m = stays m _ at_m (marks (word_at w m == expected))
 
       either : (b : Bool) → (word_at w m == expected) ≡ b
-          → Happens w v t (if b then AtLock m (SeeOwner true) else marked_event m (word_at w m))
+          → IsEvent w v t (if b then AtLock m (SeeOwner true) else marked_event m (word_at w m))
       either true g = sees_owner true (sym (ap is_locked (eqb-true (word_at w m) expected g) ∙ reached)
           ∙ owned_is) same_m (stays l [] at_l tt)
       either false g = marked same_m (stays l [] at_l tt)
@@ -318,7 +318,7 @@ module _ (w v : State) (t l m : ℕ) (all : Bool) (p : NotifyAt) (inductive : Is
   apart_here : m ≢ l
   apart_here = apart w t l (Notify all m p) inductive is m refl
 
-  pub notify_happened : Happens w v t event
+  pub notify_happened : IsEvent w v t event
   notify_happened = by_place w v t l m all p inductive after is done f elsewhere p refl at_l at_m reached
 
   -- the mutex after it

@@ -9,7 +9,7 @@ use Names.{State, place_at, put, reply_to, state_after_act, state_with_sections,
 use Names.{lock_state, FitsItsLock, IsInductive, carried_at, condvar_of, key_of, rules_in, site_of}
 use Rattle.steps_condvar.specs.declared.notify.NotifyAt.TheVariants as notify
 use Rattle.spec_locks.specs.Locks as locks
-use Rattle.lot_laws.proofs.calls.Events.{Happens, OthersFollow, rights}
+use Rattle.lot_laws.proofs.calls.CallEvents.{IsEvent, OthersFollow, rights}
 use Rattle.lot_laws.proofs.condvar.OtherCalls.{IsCalmEvent, calm_follow, condvar_carries, wake_follows}
 use Rattle.lot_laws.proofs.condvar.TwoParts.{location_beside}
 use Rattle.lot_laws.proofs.machine.Parts.{put_here, put_other}
@@ -28,7 +28,7 @@ module _ (w : State) (t l m : ℕ) (all : Bool) where
   afterwards p p2 = put (state_after_act w t (Condvar l (notifies p)) (notify_act all l m p)) t p2
 
   abbrev Follow : NotifyAt → Place → Type 0
-  Follow p p2 = Happens w (afterwards p p2) t (event p) → OthersFollow w (afterwards p p2) t (event p)
+  Follow p p2 = IsEvent w (afterwards p p2) t (event p) → OthersFollow w (afterwards p p2) t (event p)
 
   marked_calm : (b : Bool) → IsCalmEvent (if b then Nothing else AtLock m (locks.SeeOwner false))
   marked_calm true = tt
@@ -65,7 +65,7 @@ put_rights f x s u e k = elim (cases_eq k x) [
 ]
 
 module _ (w v : State) (t l m : ℕ) (all owned : Bool) (number : ℕ)
-    (h : Happens w v t (Moves l m all owned number)) where
+    (h : IsEvent w v t (Moves l m all owned number)) where
   left_rights : (u : ℕ) → rights_of (locks.left_after all (lock_state w l)) u ≡ rights_of (lock_state w l) u
   left_rights u = refl
 
@@ -121,7 +121,7 @@ module _ (w : State) (t l m : ℕ) (all : Bool) (inductive : IsInductive w) (is_
   notify_others (notify.Leave true number) is fits = wakes w t l m all inductive apart number is
       (next (notify.Leave true number))
   notify_others (notify.Move locked) is fits = let e = moves_event w t l m all locked in
-      subst (λ x. Happens w after_move t x → OthersFollow w after_move t x) (sym e.1)
+      subst (λ x. IsEvent w after_move t x → OthersFollow w after_move t x) (sym e.1)
       (λ h. moves_follow w after_move t l m all locked e.0 h (moves_calls w t l m inductive is_there apart
       sort_l
       sort_m kept aside line_l line_m all locked is fits))

@@ -22,7 +22,7 @@ use Rattle.steps_condvar.specs.declared.wait.WaitAt.TheVariants as wait
 use Rattle.steps_condvar.specs.CondvarCalls.{or_else}
 use Rattle.spec_locks.specs.Locks as locks
 use Rattle.lot_laws.proofs.machine.AtPlaces.{unless_held}
-use Rattle.lot_laws.proofs.calls.Events.{Happens, Others, OthersFollow, others_follow}
+use Rattle.lot_laws.proofs.calls.CallEvents.{IsEvent, Others, OthersFollow, others_follow}
 use Rattle.lot_laws.proofs.condvar.Replies.{taken_by_wait, decided_by}
 use Rattle.lot_laws.proofs.calls.OtherCalls.{IsCalm, IsLonely, Stay, lonely, no_hand_off, takes}
 use Rattle.lot_laws.proofs.calls.OtherCalls.{taken_by_hand}
@@ -38,7 +38,7 @@ IsCalmEvent (AtLock l case) = IsCalm (Some case)
 IsCalmEvent (Moves c m all owned number) = ⊥
 
 -- after it they follow, where they are as they were
-pub calm_follow : (w v : State) (t : ℕ) (e : Event) → Happens w v t e → IsCalmEvent e
+pub calm_follow : (w v : State) (t : ℕ) (e : Event) → IsEvent w v t e → IsCalmEvent e
     → ((u : ℕ) → u ≢ t → (r : ℕ → Rights) → call_state (place_at v u) r ≡ call_state (place_at w u) r)
     → OthersFollow w v t e
 calm_follow w v t Nothing h calm stay = others_follow w v t 0 None h tt stay
@@ -110,7 +110,7 @@ module _ (w : State) (t m : ℕ) (inductive : IsInductive w) (carries : CarriesA
 
   -- Calls of other threads say what their places say.
   pub wake_follows : (b : State) → b.places ≡ w.places
-      → Happens w (put (state_after_telling b t (Woken Normal)) t p2) t (AtLock m locks.Wake)
+      → IsEvent w (put (state_after_telling b t (Woken Normal)) t p2) t (AtLock m locks.Wake)
       → OthersFollow w (put (state_after_telling b t (Woken Normal)) t p2) t (AtLock m locks.Wake)
   wake_follows b places h = others_follow w v t m (Some locks.Wake) h (λ x y e. cc)
       (wakes_others w v t m (wake_befalls b places))
@@ -259,7 +259,7 @@ module _ (w : State) (t l m : ℕ) (timed : Bool) (inductive : IsInductive w) (p
     -- it wakes the threads that it took
     wakes : (s : Stands) → place_at w t
         ≡ Condvar l (waits (wait.Release s (mutex.Unlock (unlock.Leave true)))) → (p2 : Place)
-        → Happens w (afterwards (wait.Release s (mutex.Unlock (unlock.Leave true))) p2) t
+        → IsEvent w (afterwards (wait.Release s (mutex.Unlock (unlock.Leave true))) p2) t
         (AtLock m locks.Wake)
         → OthersFollow w (afterwards (wait.Release s (mutex.Unlock (unlock.Leave true))) p2) t
         (AtLock m locks.Wake)
@@ -273,13 +273,13 @@ module _ (w : State) (t l m : ℕ) (timed : Bool) (inductive : IsInductive w) (p
 
     calmly : (p : WaitAt) → IsReached (waits p) → can_do w (wait_act l m p) ≡ true → (IsWaking p → ⊥)
         → (p2 : Place)
-        → Happens w (afterwards p p2) t (event p) → OthersFollow w (afterwards p p2) t (event p)
+        → IsEvent w (afterwards p p2) t (event p) → OthersFollow w (afterwards p p2) t (event p)
     calmly p reached can calm p2 h = let q = quiet p reached can calm in calm_follow w (afterwards p p2) t
         (event p) h q.calm (q.stays p2)
 
     pub wait_others : (p : WaitAt) → IsReached (waits p) → place_at w t ≡ Condvar l (waits p)
         → can_do w (wait_act l m p) ≡ true
-        → (p2 : Place) → Happens w (afterwards p p2) t (event p) → OthersFollow w (afterwards p p2) t
+        → (p2 : Place) → IsEvent w (afterwards p p2) t (event p) → OthersFollow w (afterwards p p2) t
         (event p)
     wait_others (wait.Release s (mutex.Unlock (unlock.Leave true))) reached is can p2 h = wakes s is p2 h
     wait_others p reached is can p2 h = calmly p reached can (λ e. e) p2 h

@@ -12,7 +12,7 @@ use Rattle.steps_mutex.specs.declared.places.MutexPlace.TheVariants as mutex
 use Rattle.steps_condvar.specs.declared.wait.WaitAt.TheVariants as wait
 use Rattle.lot_laws.proofs.calls.Closings.{closing, is_after}
 use Rattle.lot_laws.proofs.calls.Closures.{RunsOne}
-use Rattle.lot_laws.proofs.condvar.Rows.{names_of, row_says, stage_of}
+use Rattle.lot_laws.proofs.condvar.CondvarRows.{names_of, row_says, stage_of}
 
 -- it leaves what is shown, and the waiters
 abbrev pub Kept : LockState → LockState → Type 0

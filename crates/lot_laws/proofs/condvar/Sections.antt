@@ -15,7 +15,7 @@ use Rattle.steps_mutex.specs.declared.lock.LockAt.TheVariants as lock
 use Rattle.steps_mutex.specs.declared.unlock.UnlockAt.TheVariants as unlock
 use Rattle.steps_condvar.specs.declared.notify.NotifyAt.TheVariants as notify
 use Rattle.steps_condvar.specs.declared.wait.WaitAt.TheVariants as wait
-use Rattle.lot_laws.proofs.condvar.Promises.{stands_at, two_stand_main}
+use Rattle.lot_laws.proofs.condvar.CondvarPromises.{stands_at, two_stand_main}
 use Rattle.lot_laws.proofs.condvar.Sites.{location_there}
 use Rattle.lot_laws.proofs.hands.Counts.{without_absent}
 use Rattle.lot_laws.proofs.machine.Parts.{condvar_apart}

@@ -3,7 +3,7 @@
 use Rattle.lot_laws.proofs.Names
 use Names.{ℕ, Bool, true, false, Option, Some, None, if◌then◌else◌, ◌==◌, ◌≡◌, ◌≤◌, inl, inr, [], refl, sym}
 use Names.{◌∙◌, ap, subst, arith, Look, Notify, Wait, NotifyAt, WaitAt, notify_row, wait_row, Place, Condvar}
-use Names.{Idle, Mutex, Once, RwLock, Semaphore, profile_at, AllOf, Clears, CondvarStage, Inside, IsAsInside}
+use Names.{Idle, Mutex, Once, RwLock, Semaphore, profile_at, AllOf, Clears, CondvarPhase, Inside, IsAsInside}
 use Names.{IsCondvar, IsSettledAt, Misses, NothingToDo, Sees, SeesOther, StageHolds, Takes, ToStandLast}
 use Names.{moving, Rights, ShowsWaiters, Notifies, Waits, Main, State, place_at, section_at, ShowsItsWaiters}
 use Names.{call_state, lock_state, locks_of, condvar_of, inside_as, key_of, stage_or}
@@ -12,8 +12,8 @@ use Rattle.steps_condvar.specs.declared.notify.NotifyAt.TheVariants as notify
 use Rattle.steps_condvar.specs.declared.wait.WaitAt.TheVariants as wait
 use Rattle.spec_locks.specs.Condvars.{IsSettled}
 use Rattle.spec_locks.specs.Locks.{times}
-use Rattle.lot_laws.proofs.calls.Events.{rights}
-use Rattle.lot_laws.proofs.condvar.Rows.{names_of, row_says, stage_of}
+use Rattle.lot_laws.proofs.calls.CallEvents.{rights}
+use Rattle.lot_laws.proofs.condvar.CondvarRows.{names_of, row_says, stage_of}
 
 -- each thread that notifies names no mutex to wait with
 notifier_names : (all : Bool) (m : ℕ) (p : NotifyAt) → (notify_row all m p).waits_with ≡ None
@@ -101,12 +101,12 @@ wait_stage k m wait.RemoveMoved e = absurd cc
 wait_stage k m (wait.GiveUpMoved none_left) e = absurd cc
 wait_stage k m (wait.Lock late at) e = absurd cc
 
-moving_all : (all : Bool) (k m : ℕ) → ◌≡◌ {A = Option CondvarStage} (Some (moving all k)) (Some (Takes m))
+moving_all : (all : Bool) (k m : ℕ) → ◌≡◌ {A = Option CondvarPhase} (Some (moving all k)) (Some (Takes m))
     → all ≡ true
 moving_all true k m e = refl
 moving_all false k m e = absurd cc
 
-told_none : (b : Bool) (k m : ℕ) → ◌≡◌ {A = Option CondvarStage} (Some (if b then Misses k else NothingToDo))
+told_none : (b : Bool) (k m : ℕ) → ◌≡◌ {A = Option CondvarPhase} (Some (if b then Misses k else NothingToDo))
     (Some (Takes m)) → ⊥
 told_none true k m e = absurd cc
 told_none false k m e = absurd cc
@@ -139,7 +139,7 @@ notifies_all (Condvar c (Wait k timed at)) l m r e = absurd (either (c == l) e)
     either false f = absurd cc
 notifies_all (Condvar c (Look all)) l m r e = absurd (either (c == l) e)
   where
-    either : (b : Bool) → ◌≡◌ {A = Option CondvarStage} (if b then None else None) (Some (Takes m)) → ⊥
+    either : (b : Bool) → ◌≡◌ {A = Option CondvarPhase} (if b then None else None) (Some (Takes m)) → ⊥
     either true f = absurd cc
     either false f = absurd cc
 notifies_all Idle l m r e = absurd cc
@@ -148,7 +148,7 @@ notifies_all (RwLock c a at) l m r e = absurd cc
 notifies_all (Once c at) l m r e = absurd cc
 notifies_all (Semaphore c at) l m r e = absurd cc
 
-takes_stage : (o : Option CondvarStage) (m : ℕ) → stage_or o ≡ Takes m → o ≡ Some (Takes m)
+takes_stage : (o : Option CondvarPhase) (m : ℕ) → stage_or o ≡ Takes m → o ≡ Some (Takes m)
 takes_stage None m e = absurd cc
 takes_stage (Some x) m e = ap Some e
 
@@ -182,7 +182,7 @@ module _ (w : State) (l : ℕ) (condvar : IsCondvar (condvar_of w l)) where
   as_settled : IsSettled (condvar_of w l) → Shows
   as_settled h = of_settled (lock_state w l).shown refl h
 
-  of_stage : (u : ℕ) (stage : CondvarStage) → section_at w (key_of l Main) ≡ Some u
+  of_stage : (u : ℕ) (stage : CondvarPhase) → section_at w (key_of l Main) ≡ Some u
       → stage_or (profile_at (place_at w u) l).stage ≡ stage → StageHolds (condvar_of w l) u stage → Shows
   of_stage u NothingToDo e f h = as_settled h
   of_stage u (ToStandLast m) e f h = of_mutex m h.0 h.2

@@ -3,7 +3,7 @@
 use Rattle.lot_laws.proofs.Names
 use Names.{ℕ, Bool, true, false, Option, Some, None, if◌then◌else◌, ◌≡◌, ◌*◌, refl, sym, ◌∙◌, ap, Profile}
 use Names.{Location, location_by, Condvar, profile_at, CondvarPlace, condvar_profile, condvar_row, section_in}
-use Names.{IsAt, IsAtStage, IsListed, IsInsideNot, CondvarStage, Line, Main, State, place_at, queue_at}
+use Names.{IsAt, IsAtStage, IsListed, IsInsideNot, CondvarPhase, Line, Main, State, place_at, queue_at}
 use Names.{section_at, location_at, condvar_of, inside_as, key_of, stage_or, stood_in}
 use Rattle.lot_laws.specs.SitesOf.{Stands}
 use Rattle.lot_laws.proofs.machine.Parts.{same}
@@ -18,7 +18,7 @@ module _ (w : State) (stands : Stands w) (t l : ℕ) (at : CondvarPlace) (is : p
     location_there = rw (is, same l) refl
 
     -- inside the section, about to do what its row says
-    within : (stage : CondvarStage) → (condvar_row at).stage ≡ Some stage
+    within : (stage : CondvarPhase) → (condvar_row at).stage ≡ Some stage
         → inside_as (section_at w (key_of l Main)) (λ u. (profile_at (place_at w u) l).stage) ≡ Some
         (record { thread = t; stage = stage })
     within stage e = ap (λ o. inside_as o (λ u. (profile_at (place_at w u) l).stage)) held
@@ -41,7 +41,7 @@ module _ (w : State) (stands : Stands w) (t l : ℕ) (at : CondvarPlace) (is : p
         location_there ∙ ap section_in none in
         let both : ◌≡◌ {A = Option Line} None (Some Main) = sym not_in ∙ in_it in cc
 
-    stage_is : (o : Option CondvarStage) → (condvar_row at).stage ≡ o → IsAtStage (condvar_of w l) t o
+    stage_is : (o : Option CondvarPhase) → (condvar_row at).stage ≡ o → IsAtStage (condvar_of w l) t o
     stage_is None e = outside e (section_at w (key_of l Main)) refl
     stage_is (Some stage) e = within stage e
 

@@ -8,10 +8,10 @@ use Names.{sleeps, IsInductive}
 use Rattle.steps_mutex.specs.declared.places.MutexPlace.TheVariants as mutex
 use Rattle.steps_condvar.specs.declared.wait.Stands.TheVariants as stands
 use Rattle.steps_condvar.specs.declared.wait.WaitAt.TheVariants as wait
-use Rattle.lot_laws.proofs.calls.Events.{rights}
-use Rattle.lot_laws.proofs.condvar.Promises.{two_purpose}
+use Rattle.lot_laws.proofs.calls.CallEvents.{rights}
+use Rattle.lot_laws.proofs.condvar.CondvarPromises.{two_purpose}
 use Rattle.lot_laws.proofs.machine.Parts.{IsOfTwo, fits_two, single_or_two}
-use Rattle.lot_laws.proofs.mutex.Rows.{unlock_awake}
+use Rattle.lot_laws.proofs.mutex.MutexRows.{unlock_awake}
 use Rattle.lot_laws.proofs.promises.PlacePromises.{calls_one_lock}
 use Rattle.lot_laws.proofs.promises.RowPromises.{CallsOneLock}
 

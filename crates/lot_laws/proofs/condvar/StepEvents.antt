@@ -17,8 +17,9 @@ use Rattle.steps_condvar.specs.CondvarCalls as calls
 use Rattle.steps_condvar.specs.CondvarCalls.{or_else}
 use Rattle.spec_locks.specs.Condvars as condvars
 use Rattle.lot_laws.specs.ThreadDeeds.{Act}
-use Rattle.lot_laws.proofs.calls.Events.{CallLed, GoesAs, Happens, RunsNothing, never_starts, OthersFollow}
-use Rattle.lot_laws.proofs.calls.Events.{deeds_by, goes_with, happens_at, may_do, needed_then, rights}
+use Rattle.lot_laws.proofs.calls.CallEvents.{CallLed, GoesAs, IsEvent, RunsNothing, never_starts}
+use Rattle.lot_laws.proofs.calls.CallEvents.{OthersFollow}
+use Rattle.lot_laws.proofs.calls.CallEvents.{deeds_by, goes_with, happens_at, may_do, needed_then, rights}
 use Rattle.lot_laws.proofs.calls.Closures.{closure_told, condvar_runs_none}
 use Rattle.lot_laws.proofs.condvar.MutexUntouched.{there_deeds}
 
@@ -33,7 +34,7 @@ module _ (w v : State) (t c m : ℕ) (apart : m ≢ c) (before : IsInductive w) 
 
   -- nothing happens to the one, or to the other
   pub happens_two : (x y : Option LockCase) → Led m x → Led c y → (x ≡ None) ⊎ (y ≡ None)
-      → Happens w v t (or_else (event_by m x) (event_by c y))
+      → IsEvent w v t (or_else (event_by m x) (event_by c y))
   happens_two (Some a) (Some b) at_m at_c one = absurd (elim one [ inl e ↦ cc | inr e ↦ cc ])
   happens_two (Some a) None at_m at_c one = happens_at w v t m (Some a) before after kinds at_m.0
       (λ k ne. elim (cases_eq k c) [
@@ -93,7 +94,7 @@ module _ (w v : State) (t c m : ℕ) (apart : m ≢ c) (before : IsInductive w) 
       → (wait_carries p ≢ Some false → HasTakenNobody (lock_state w m) t)
       → (case_of (wait_carries p) (waiter_deeds p whom told) ≡ None)
       ⊎ (case_there (wait_deeds m p told) ≡ None)
-      → Happens w v t (wait_event c m p whom told)
+      → IsEvent w v t (wait_event c m p whom told)
   wait_happens p whom told at_c at_m one_c one_m free_c free_m alone = happens_two w v t c m apart before
       after f.kinds others (case_of (wait_carries p) (waiter_deeds p whom told))
       (case_there (wait_deeds m p told))
@@ -123,7 +124,7 @@ call_named w t l m p is names = ap (λ q. call_state q (rights w t)) is
 
 module _ (w v : State) (t l m : ℕ) (p : CondvarPlace) (call_is : call_at w t ≡ calls.condvar_call_by l m p
     (rights w t)) (told : Reply)
-    (e : Event) (h : Happens w v t e) (shown : Option ℕ) (s2 : LockState) where
+    (e : Event) (h : IsEvent w v t e) (shown : Option ℕ) (s2 : LockState) where
   abbrev call : CallState
   call = calls.condvar_call_by l m p (rights w t)
 
@@ -139,7 +140,7 @@ module _ (w v : State) (t l m : ℕ) (p : CondvarPlace) (call_is : call_at w t �
       → MayHappen (locks_of w) t e
   may_go may moves = by_event e h may moves
     where
-      by_event : (e : Event) → Happens w v t e → MayComeOfTwo l (condvar_profile p) e
+      by_event : (e : Event) → IsEvent w v t e → MayComeOfTwo l (condvar_profile p) e
           → ((c k : ℕ) (all owned : Bool) (n : ℕ) → e ≡ Moves c k all owned n
           → MayMove (locks_of w) t c k all owned n)
           → MayHappen (locks_of w) t e

@@ -12,7 +12,7 @@ use Names.{GoesAll, IsInductive, condvar_of}
 use Rattle.steps_base.specs.declared.acts.Next.TheVariants as next
 use Rattle.steps_condvar.specs.declared.notify.NotifyAt.TheVariants as notify
 use Rattle.lot_laws.specs.ThreadDeeds as deeds
-use Rattle.lot_laws.proofs.calls.Events.{OthersFollow, rights}
+use Rattle.lot_laws.proofs.calls.CallEvents.{OthersFollow, rights}
 use Rattle.lot_laws.proofs.condvar.Replies.{fits_here, taken_by_wait, word_is}
 use Rattle.lot_laws.proofs.condvar.OwnStand.{look_place, notify_place}
 use Rattle.lot_laws.proofs.condvar.MutexUntouched.{there_deeds}

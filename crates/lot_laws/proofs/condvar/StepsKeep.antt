@@ -28,7 +28,7 @@ use Rattle.lot_laws.proofs.calls.Closures.{condvar_runs_none}
 use Rattle.lot_laws.proofs.condvar.Replies.{free_inside, may_hear}
 use Rattle.lot_laws.proofs.condvar.FollowsDeeds.{condvar_stays}
 use Rattle.lot_laws.proofs.condvar.OwnStand.{alike_same, went, went_alike, went_place}
-use Rattle.lot_laws.proofs.condvar.Rows.{names_of, names_unmoved, stage_of, stage_unmoved}
+use Rattle.lot_laws.proofs.condvar.CondvarRows.{names_of, names_unmoved, stage_of, stage_unmoved}
 use Rattle.lot_laws.proofs.condvar.CondvarsKept.{condvar_kept, moved_on}
 use Rattle.lot_laws.proofs.condvar.SameCondvars.{same_condvar}
 use Rattle.lot_laws.proofs.condvar.MachineFollows.{goes_led}

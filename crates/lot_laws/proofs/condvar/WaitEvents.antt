@@ -25,7 +25,7 @@ use Rattle.steps_condvar.specs.CondvarCalls.{or_else}
 use Rattle.steps_condvar.specs.CondvarDeeds as condvar
 use Rattle.lot_laws.specs.ThreadDeeds as deeds
 use Rattle.lot_laws.proofs.machine.AtPlaces.{in_no_hand, taken_nobody}
-use Rattle.lot_laws.proofs.calls.Events.{GoesAs, Happens, OthersFollow, deeds_by, put_is, rights}
+use Rattle.lot_laws.proofs.calls.CallEvents.{GoesAs, IsEvent, OthersFollow, deeds_by, put_is, rights}
 use Rattle.lot_laws.proofs.condvar.StepEvents.{call_named, call_then, NamesStill, ToldSo, begins_two}
 use Rattle.lot_laws.proofs.condvar.StepEvents.{call_led, condvar_goes_on, locks_led, may_go, no_closure}
 use Rattle.lot_laws.proofs.condvar.StepEvents.{others, wait_happens}
@@ -220,7 +220,7 @@ module _ (w v : State) (t l m : ℕ) (timed : Bool) (p : WaitAt) (inductive : Is
       (λ h. none (sym (ap (λ (y : Location). y.carries) (location_beside w t l (Wait m timed p) inductive is m
       refl)) ∙ h))
 
-  pub wait_happened : Happens w v t event
+  pub wait_happened : IsEvent w v t event
   wait_happened = wait_happens w v t l m apart_m inductive after all f elsewhere p whom told at_l at_m
       one.there
       one.beside nobody_there nobody_beside one.alone

@@ -14,7 +14,7 @@ use Rattle.steps_mutex.specs.declared.lock.LockAt.TheVariants as lock
 use Rattle.steps_mutex.specs.declared.unlock.UnlockAt.TheVariants as unlock
 use Rattle.steps_condvar.specs.declared.wait.Stands.TheVariants as stands
 use Rattle.steps_condvar.specs.declared.wait.WaitAt.TheVariants as wait
-use Rattle.lot_laws.proofs.calls.Events.{GoesAs}
+use Rattle.lot_laws.proofs.calls.CallEvents.{GoesAs}
 use Rattle.lot_laws.proofs.condvar.StepEvents.{ToldSo}
 use Rattle.lot_laws.proofs.condvar.Replies.{fits_here, location_beside, taken_beside}
 use Rattle.lot_laws.proofs.condvar.Sites.{location_there}

@@ -13,7 +13,7 @@ use Rattle.steps_base.specs.Locations.{nowhere}
 use Rattle.spec_locks.specs.Locks as locks
 use Rattle.lot_laws.proofs.machine.Parts.{differ, same}
 use Rattle.lot_laws.proofs.sites.OneStep.{queued_times}
-use Rattle.lot_laws.proofs.condvar.Promises.{IsAside, aside, unlisted}
+use Rattle.lot_laws.proofs.condvar.CondvarPromises.{IsAside, aside, unlisted}
 use Rattle.lot_laws.proofs.promises.PlacePromises.{standing_by}
 use Rattle.lot_laws.proofs.sites.StandsMoved.{mutex_rules}
 

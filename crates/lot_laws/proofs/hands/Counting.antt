@@ -4,7 +4,7 @@ use Rattle.lot_laws.proofs.Names
 use Names.{ℕ, Bool, true, false, Option, Some, None, if◌then◌else◌, ◌==◌, ◌≡◌, refl, sym, ◌∙◌, ap, subst}
 use Names.{eqb-true, SemaphorePlace, semaphore_looking, semaphore_next, Access, Call, RwLockCall, Patience}
 use Names.{Kind, Next, Reply, in_hand, MutexPlace, mutex_looking, mutex_next, Admission, RwLockPlace}
-use Names.{RwLockAt, RwLockPurpose, rwlock_next, rwlock_looking, RwLockCallPlace, Plain, Glance, HandOver}
+use Names.{RwLockAt, RwLockPurpose, rwlock_next, rwlock_looking, RwLockCallPlace, Plain, PeekQueue, HandOver}
 use Names.{Bump, Handed, HandOverAt, HandedAt, call_first, release_first, in_hand_of, in_call, any_taken}
 use Names.{bump_ended, bump_next, call_next, entering, given, gives_up_at, gives_way, glances, hand_over_next}
 use Names.{handed_by, handed_next, handed_woken, plain_next, unless_given, woken_with, OncePlace}
@@ -229,7 +229,7 @@ others_bare a (Plain p) r no_hand = unless_given_bare (given false p r) (plain_n
     (given_bare false p r) (plain_bare (rwlock_next a p r))
 others_bare a (Bump p) r no_hand = unless_given_bare (given true p r)
     (bump_next p.purpose (rwlock_next a p r)) (given_bare true p r) (bump_bare p.purpose (rwlock_next a p r))
-others_bare a (Glance x) r no_hand = glance_bare a x r
+others_bare a (PeekQueue x) r no_hand = glance_bare a x r
 others_bare a (HandOver x b to) r no_hand = absurd (no_hand tt)
 others_bare a (Handed x how b to) r no_hand = handed_bare x how b to r
 
@@ -249,7 +249,7 @@ call_befallen : (a : Admission) (c : RwLockCallPlace) (r : Reply) → Befalls r 
 call_befallen a (HandOver x b to) r h = stays_counted a x b to r h
 call_befallen a (Plain p) r h = others_bare a (Plain p) r (λ no. no)
 call_befallen a (Bump p) r h = others_bare a (Bump p) r (λ no. no)
-call_befallen a (Glance x) r h = others_bare a (Glance x) r (λ no. no)
+call_befallen a (PeekQueue x) r h = others_bare a (PeekQueue x) r (λ no. no)
 call_befallen a (Handed x how b to) r h = others_bare a (Handed x how b to) r (λ no. no)
 
 pub counted_befallen : (l : ℕ) (p : Place) (r : Reply) → Befalls r → counted_on (next_place p r) l
@@ -339,7 +339,7 @@ looks_bare (Condvar j at) q is = by_place (condvar_looking at) is
     })
 looks_bare (RwLock j a (Plain p)) q is = looks_bare_at j a false (rwlock_looking a p) q is
 looks_bare (RwLock j a (Bump p)) q is = looks_bare_at j a true (rwlock_looking a p) q is
-looks_bare (RwLock j a (Glance x)) q is = absurd cc
+looks_bare (RwLock j a (PeekQueue x)) q is = absurd cc
 looks_bare (RwLock j a (HandOver x b to)) q is = absurd cc
 looks_bare (RwLock j a (Handed x how b to)) q is = absurd cc
 
@@ -353,6 +353,6 @@ late_bare (Semaphore j at) key e l = semaphore_counted l j (semaphore_next at re
 late_bare (Condvar j at) key e l = condvar_counted l j (condvar_next at reply.Late)
 late_bare (RwLock j a (Plain p)) key e l = (bare_at j a (Plain p) refl (λ no. no)).goes_on reply.Late l
 late_bare (RwLock j a (Bump p)) key e l = (bare_at j a (Bump p) refl (λ no. no)).goes_on reply.Late l
-late_bare (RwLock j a (Glance x)) key e l = absurd cc
+late_bare (RwLock j a (PeekQueue x)) key e l = absurd cc
 late_bare (RwLock j a (HandOver x b to)) key e l = absurd cc
 late_bare (RwLock j a (Handed x how b to)) key e l = absurd cc

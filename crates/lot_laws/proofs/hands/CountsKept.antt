@@ -5,7 +5,7 @@ use Names.{ℕ, Bool, true, false, Option, Some, None, if◌then◌else◌, ◌=
 use Names.{nat_lt, refl, sym, ◌∙◌, ap, subst, get_or, get_or-set_same, length-set, set, semaphore_act}
 use Names.{semaphore_next, once_next, Run, reply_to, state_after_close, state_after_go, state_after_going}
 use Names.{has_readers, cases_eq, ltb-true, Op, lock_in, Access, Turn, Step, Outcome, Act, Next, Reply, Late}
-use Names.{mutex_act, mutex_next, Admission, RwLockCallPlace, Plain, Glance, HandOver, Bump, Handed}
+use Names.{mutex_act, mutex_next, Admission, RwLockCallPlace, Plain, PeekQueue, HandOver, Bump, Handed}
 use Names.{HandOverAt, in_hand_of, any_taken, call_act, call_next, freed_next, has_room, hand_over_act}
 use Names.{hand_over_next, looked, parked_as, with_taken, word_without, has_parked, once_act, condvar_act}
 use Names.{condvar_next, Place, Idle, Mutex, RwLock, Once, Condvar, Semaphore, act_of, first_place, late_key}
@@ -271,7 +271,8 @@ module _ (w : State) (t : ℕ) (inductive : IsInductive w) (counted : AreCounted
       going_counts (RwLock j a (Bump p)) is afterwards turned l k e = bare_goes j a (Bump p) (λ no. no) is
           afterwards
           turned l k e
-      going_counts (RwLock j a (Glance x)) is afterwards turned l k e = bare_goes j a (Glance x) (λ no. no) is
+      going_counts (RwLock j a (PeekQueue x)) is afterwards turned l k e = bare_goes j a (PeekQueue x)
+          (λ no. no) is
           afterwards turned l k e
       going_counts (RwLock j a (Handed x how b to)) is afterwards turned l k e =
           bare_goes j a (Handed x how b to) (λ no. no) is afterwards turned l k e

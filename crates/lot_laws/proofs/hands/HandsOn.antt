@@ -6,7 +6,7 @@ use Names.{◌≤◌, ◌⊎◌, inl, inr, List, [], ◌∷◌, ◌++◌, length
 use Names.{Want, Exclusive, Upgradable, Shared, Waiter, apply, HandedBy, Value, Owners, takes_effect}
 use Names.{HandsOver, bit_left, claim_handed, heir_of, shares_then, Profile, hand, in_hand, Location}
 use Names.{location_by, Admission, RwLockPlace, RwLockAt, role_at, parked_hand as place_hand, RwLockCallPlace}
-use Names.{Plain, Glance, HandOver, Bump, Handed, CallStands, in_hand_of, call_deeds, handing_deeds}
+use Names.{Plain, PeekQueue, HandOver, Bump, Handed, CallStands, in_hand_of, call_deeds, handing_deeds}
 use Names.{CallTells, StandsToHandOver as Hands, call_move, call_profile, call_act, call_next, call_owners}
 use Names.{call_shares, has_room, parked_as, tokens, with_taken, word_without, fair_sleepers_move}
 use Names.{hand_overs_move, handed_move, givers_keep, fair_calls_stand, hand_overs_tell, hand_overs_code}
@@ -16,7 +16,7 @@ use Names.{Site, has_readers, HasLimit, code, State, owners_at, place_at, put, q
 use Names.{sharers_in_hand, state_after_act, successor_from, unshared_then, word_at, IsWellFormed, taken_at}
 use Names.{acts, FitsItsLock, Goes, LimitHasRoom, IsCountOfHand, IsInductive, carried_at, hand_at, rules_in}
 use Names.{role_on, location, Hand}
-use Rattle.lot_laws.proofs.rwlock.Kept.{beside_no_call, of_no_once}
+use Rattle.lot_laws.proofs.rwlock.RwLockStaysASite.{beside_no_call, of_no_once}
 use Rattle.core_base.specs.declared.ops.Op.TheVariants as operation
 use Rattle.spec_locks.specs.declared.calls.Access.TheVariants as access
 use Rattle.steps_base.specs.declared.acts.Act.TheVariants as act
@@ -33,12 +33,14 @@ use Rattle.lot_laws.proofs.sites.ActsKept.{lock_by}
 use Rattle.lot_laws.proofs.machine.Parts.{free_of, IsOf, role_here, next_of, location_here, of_single}
 use Rattle.lot_laws.proofs.machine.Parts.{condvar_unheld}
 use Rattle.lot_laws.proofs.hands.Counted.{few_sharers, has_in_hand}
-use Rattle.lot_laws.proofs.hands.Kept.{IsGiven, claims_given, given_of}
+use Rattle.lot_laws.proofs.hands.HandsStay.{IsGiven, claims_given, given_of}
 use Rattle.lot_laws.proofs.hands.Moved.{hands_over as hands_all, looks_again, thread_of}
 use Rattle.lot_laws.proofs.sites.MovesKept.{IsFollowed}
-use Rattle.lot_laws.proofs.rwlock.Kept.{beside_no_call, admits, at_now, call_told_other, call_told_value}
-use Rattle.lot_laws.proofs.rwlock.Kept.{fits_next, fits_now, followed_by, goes_row, of_no_mutex, own}
-use Rattle.lot_laws.proofs.rwlock.Kept.{same_row, word_few, of_no_semaphore}
+use Rattle.lot_laws.proofs.rwlock.RwLockStaysASite.{beside_no_call, admits, at_now, call_told_other}
+use Rattle.lot_laws.proofs.rwlock.RwLockStaysASite.{call_told_value}
+use Rattle.lot_laws.proofs.rwlock.RwLockStaysASite.{fits_next, fits_now, followed_by, goes_row, of_no_mutex}
+use Rattle.lot_laws.proofs.rwlock.RwLockStaysASite.{own}
+use Rattle.lot_laws.proofs.rwlock.RwLockStaysASite.{same_row, word_few, of_no_semaphore}
 
 -- ---------------------------------------------------------------- the place
 
@@ -138,7 +140,7 @@ hand_claims a c t h = by_call c h
         ⊎ ((b : Bool) × ((call_profile a c).role.claims ≡ Some (Pends b)))
     by_call (Plain p) g = by_place p p.at g
     by_call (Bump p) g = by_place p p.at g
-    by_call (Glance x) g = absurd cc
+    by_call (PeekQueue x) g = absurd cc
     by_call (HandOver x b to) g = absurd cc
     by_call (Handed x how b (handed.Asleep u alone)) g = absurd cc
     by_call (Handed x how b handed.Accept) g = absurd cc

@@ -11,7 +11,7 @@ use Names.{next_place, profile, rwlock_goes, taker, case_of, event_by, HandOff, 
 use Names.{Taken, putting, AtLock, Event, is_taken_by, Deed, IsWellFormed, State, place_after_telling}
 use Names.{place_at, put, state_after_act, state_after_hand_over_by, unshared_then, word_at, acts, call_state}
 use Names.{lock_state, taken_at, FitsItsLock, Goes, IsCountOfHand, IsInductive, carried_at, rules_in}
-use Rattle.lot_laws.proofs.rwlock.Kept.{beside_no_call, of_no_once}
+use Rattle.lot_laws.proofs.rwlock.RwLockStaysASite.{beside_no_call, of_no_once}
 use Rattle.core_base.specs.declared.wants.Want.TheVariants.{Wait}
 use Rattle.steps_base.specs.declared.acts.Act.TheVariants as act
 use Rattle.steps_base.specs.declared.acts.Next.TheVariants as next
@@ -19,17 +19,17 @@ use Rattle.steps_base.specs.Locations.{nowhere}
 use Rattle.steps_rwlock_fair.specs.declared.hand_over.Taken.{Taken as Counted}
 use Rattle.lot_laws.specs.ThreadDeeds as deeds
 use Rattle.lot_laws.proofs.machine.AtPlaces.{in_no_hand, unless_held}
-use Rattle.lot_laws.proofs.calls.Events.{Happens, OthersFollow, happens}
+use Rattle.lot_laws.proofs.calls.CallEvents.{IsEvent, OthersFollow, happens}
 use Rattle.lot_laws.proofs.machine.Parts.{IsSingle, held_tells, location_here, condvar_untaken}
 use Rattle.lot_laws.proofs.hands.Rights.{given_right}
 use Rattle.lot_laws.proofs.hands.Counted.{hand_there}
-use Rattle.lot_laws.proofs.hands.Events.{IsHandedCall, claims_are, hands_many}
-use Rattle.lot_laws.proofs.hands.Kept.{alone_is, claims_given}
+use Rattle.lot_laws.proofs.hands.HandEvents.{IsHandedCall, claims_are, hands_many}
+use Rattle.lot_laws.proofs.hands.HandsStay.{alone_is, claims_given}
 use Rattle.lot_laws.proofs.hands.HandsOn.{bare, carries, g, given, hands_goes, hands_tell, more_right, of}
 use Rattle.lot_laws.proofs.hands.HandsOn.{row, unclaimed, whom}
 use Rattle.lot_laws.proofs.calls.LockEvents.{Befalls}
 use Rattle.lot_laws.proofs.calls.OtherCalls.{taken_by_hand}
-use Rattle.lot_laws.proofs.rwlock.Kept.{beside_no_call, admits, of_no_mutex, of_no_semaphore}
+use Rattle.lot_laws.proofs.rwlock.RwLockStaysASite.{beside_no_call, admits, of_no_mutex, of_no_semaphore}
 
 -- tells what a thread has once it was handed what it wanted
 gains : (alone : Bool) (x : Want) (l : ℕ) (r : ℕ → Rights)
@@ -90,7 +90,7 @@ module _ (w : State) (t l : ℕ) (a : Admission) (c : RwLockCallPlace) (inductiv
   one_case = ap (λ ds. event_by l (case_of (call_profile a c).carries ds))
       ((g w t l a c inductive shape there lt is k is_k count op e).deeds heir (word_at w l) takes)
 
-  pub hands_happen : Happens w afterwards t event
+  pub hands_happen : IsEvent w afterwards t event
   hands_happen = happens w afterwards t l (call_profile a c).carries done claims inductive went
       (claims_are t alone (λ u. taken_at (place_at w u) l) (length w.places))
       (hands_tell w t l a c inductive shape there lt is k is_k count op e).one
@@ -232,7 +232,7 @@ module _ (w : State) (t l : ℕ) (a : Admission) (c : RwLockCallPlace) (inductiv
   pub hands_others : OthersFollow w afterwards t event
   hands_others = subst (OthersFollow w afterwards t) (sym one_case) (hands_many w afterwards t l right
       successor
-      (subst (Happens w afterwards t) one_case hands_happen) alone
+      (subst (IsEvent w afterwards t) one_case hands_happen) alone
       (alone_is w t l inductive (of w t l a c inductive shape there lt is k is_k count op e) there lt
       (RwLock l a c)
       (place_at w t) (of w t l a c inductive shape there lt is k is_k count op e) (inductive.stands.calls t)

@@ -18,7 +18,7 @@ use Rattle.lot_laws.specs.ThreadDeeds as deeds
 use Rattle.lot_laws.specs.Locations.{hand}
 use Rattle.lot_laws.proofs.sites.ActsKept.{lock_by, operated, place_goes}
 use Rattle.lot_laws.proofs.machine.Parts.{free_of, IsOf, role_here, lock_in, parts_at, of_single}
-use Rattle.lot_laws.proofs.hands.Kept.{IsGiven, HandsLawful, claims_given, hand_over_goes, heir_in}
+use Rattle.lot_laws.proofs.hands.HandsStay.{IsGiven, HandsLawful, claims_given, hand_over_goes, heir_in}
 use Rattle.lot_laws.proofs.sites.LawsKept.{after_same, lawful_goes, needed_same}
 use Rattle.lot_laws.proofs.sites.MovesKept.{IsFollowed, goes_out_alone}
 use Rattle.lot_laws.proofs.sites.OneStep.{steps_by}

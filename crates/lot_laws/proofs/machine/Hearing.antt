@@ -396,7 +396,7 @@ call_hears l a (fair.Bump p) = record {
       ∙ ap (λ q. call_by l (bumping q (rwlock_profile a goes.0)) r) goes.3
       ∙ ap (in_bump p.purpose l) (goes.2 r);
 }
-call_hears l a (fair.Glance x) = deaf refl refl (λ t. refl) (λ key. refl) (λ t alone. refl) (λ n. refl)
+call_hears l a (fair.PeekQueue x) = deaf refl refl (λ t. refl) (λ key. refl) (λ t alone. refl) (λ n. refl)
 call_hears l a (fair.HandOver x b to) = hand_over_hears l a x b to
 call_hears l a (fair.Handed x how b (handed.Asleep by lone)) = asleep (λ t. refl) (λ key. refl)
     (λ t alone. refl) (λ by r. refl) (λ t h r. absurd cc)

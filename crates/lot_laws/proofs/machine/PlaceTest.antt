@@ -3,7 +3,7 @@
 use Rattle.lot_laws.proofs.Names
 use Names.{ℕ, Bool, true, false, Option, Some, None, if◌then◌else◌, ◌==◌, ◌&&◌, ◌||◌, not, ◌≡◌, ◌⊎◌, ◌+◌, ◌-◌}
 use Names.{◌*◌, inl, inr, refl, sym, ◌∙◌, ap, subst, One, Two, Shared, Access, OnceCall, Act, Hand, Profile}
-use Names.{in_line, is_line, is_try, no_line, has_aside, CondvarStage, Recall, Blank, Purpose, Enters}
+use Names.{in_line, is_line, is_try, no_line, has_aside, CondvarPhase, CondvarMemory, Blank, Purpose, Enters}
 use Names.{Converts, once_purpose, Patience, Try, Line, Main, Second, Entry, MutexPlace, inside}
 use Names.{entry_purpose, mutex_profile, is_locked, mutex_act, Course, OncePlace, once_profile, course_act}
 use Names.{course_of, once_act, SemaphorePlace, patience, semaphore_profile, is_free, semaphore_act}
@@ -133,7 +133,7 @@ row_test row a =
     && ((not (row.role.sets && is_line Main row.role.wakes) || is_line Main row.owes)
     && (no_hand row.hand || no_line row.stands)))
 
-abbrev no_stage : Option CondvarStage → Bool
+abbrev no_stage : Option CondvarPhase → Bool
 no_stage None = true
 no_stage s = false
 
@@ -141,7 +141,7 @@ abbrev no_name : Option ℕ → Bool
 no_name None = true
 no_name m = false
 
-abbrev is_blank : Recall → Bool
+abbrev is_blank : CondvarMemory → Bool
 is_blank Blank = true
 is_blank r = false
 
@@ -251,7 +251,7 @@ row_so row a h =
       ];
     }
 
-stage_so : (x : Option CondvarStage) → no_stage x ≡ true → x ≡ None
+stage_so : (x : Option CondvarPhase) → no_stage x ≡ true → x ≡ None
 stage_so None h = refl
 stage_so (Some s) h = absurd cc
 
@@ -259,7 +259,7 @@ name_so : (x : Option ℕ) → no_name x ≡ true → x ≡ None
 name_so None h = refl
 name_so (Some m) h = absurd cc
 
-blank_so : (r : Recall) → is_blank r ≡ true → r ≡ Blank
+blank_so : (r : CondvarMemory) → is_blank r ≡ true → r ≡ Blank
 blank_so Blank h = refl
 blank_so r h = absurd cc
 
@@ -514,7 +514,7 @@ call_facts l a (fair.Bump p) = let f = rwlock_facts l a p.purpose p.retries p.at
   main = λ alone. absurd cc;
   tries = λ alone. absurd cc;
 }
-call_facts l a (fair.Glance x) = shows Main refl refl
+call_facts l a (fair.PeekQueue x) = shows Main refl refl
 call_facts l a (fair.HandOver x b to) = hand_over_facts l a x b to
 call_facts l a (fair.Handed x how b (handed.Asleep by alone)) = shows Main refl refl
 call_facts l a (fair.Handed access.Exclusive how b handed.Accept) = shows Main refl refl

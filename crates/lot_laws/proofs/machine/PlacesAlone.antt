@@ -4,7 +4,7 @@ use Names.{ℕ, Option, ◌≡◌, ◌<◌, List, length, length-set, replicate,
 use Names.{get_or-set_same, inl, inr, refl, ◌∙◌, ap, cases_eq, Place, Idle, Rights, rights_of, CallState}
 use Names.{Stays, State, place_at, put, call_state, lock_state, locks_of, taken_at}
 use Rattle.spec_locks.specs.declared.outcomes.Outcome as outcome
-use Rattle.lot_laws.proofs.calls.Events.{put_is, rights}
+use Rattle.lot_laws.proofs.calls.CallEvents.{put_is, rights}
 
 module _ (w : State) (t : ℕ) (there : t < length w.places) where
   pub placed : (s : List (Option ℕ)) (p p2 : Place) → place_at w t ≡ p

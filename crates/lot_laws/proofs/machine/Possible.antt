@@ -20,7 +20,7 @@ use Names.{FitsItsLock, IsInductive, stood_in, key_of, lock_state, locks_of, cal
 use Names.{call_on_both, Wait, Look, Notify, runs_closure, Rights, AreFree, MayBeLate, MayTurn, IsTimed}
 use Names.{StandsFreely, SectionChanges, CallState, RwLockCallPlace, admission_of_kind, call_first, call_act}
 use Names.{call_next, RwLockCall, Patient, Timed, Try}
-use Rattle.lot_laws.proofs.once.Owing.{late_place}
+use Rattle.lot_laws.proofs.once.OnceOwing.{late_place}
 use Rattle.lot_laws.proofs.calls.Closures.{call_runs_none, closure_told, mutex_runs_none, condvar_runs_none}
 use Rattle.lot_laws.proofs.calls.Closures.{semaphore_runs_none}
 use Rattle.spec_locks.specs.declared.calls.Turn as turn
@@ -44,7 +44,7 @@ use Rattle.lot_laws.proofs.promises.LineActs.{line_act, holds_line, key_there, l
 use Rattle.lot_laws.proofs.machine.PlaceTest.{IsOfLine, IsLineAct}
 use Rattle.lot_laws.proofs.sites.ByAct.{none_is}
 use Rattle.lot_laws.proofs.machine.AtPlaces.{queued_by}
-use Rattle.lot_laws.proofs.calls.Events.{rights}
+use Rattle.lot_laws.proofs.calls.CallEvents.{rights}
 use Rattle.spec_locks.specs.Locks as locks
 use Rattle.spec_locks.specs.Runs.{MayGo}
 use Rattle.lot_laws.proofs.promises.RowPromises.{is_acting}

@@ -445,10 +445,10 @@ call_stands l a (fair.Plain p) r h n = stays_there (RwLock l a (fair.Plain p)) r
 call_stands l a (fair.Bump p) r h n = stays_there (RwLock l a (fair.Bump p)) r
     (λ i. rwlock_goes l a (unless_given (none_given l a true p.purpose p.retries p.at r h n i)
     (bump_next p.purpose (goes_nowhere l a p.purpose p.retries p.at r h n i))))
-call_stands l a (fair.Glance x) (TakenBy t) h n = refl
-call_stands l a (fair.Glance x) (MovedTo key) h n = refl
-call_stands l a (fair.Glance x) (HandedBy t alone) h n = refl
-call_stands l a (fair.Glance x) (Woken k) h n = refl
+call_stands l a (fair.PeekQueue x) (TakenBy t) h n = refl
+call_stands l a (fair.PeekQueue x) (MovedTo key) h n = refl
+call_stands l a (fair.PeekQueue x) (HandedBy t alone) h n = refl
+call_stands l a (fair.PeekQueue x) (Woken k) h n = refl
 call_stands l a (fair.HandOver x b handing.Load) (TakenBy t) h n = refl
 call_stands l a (fair.HandOver x b to) (TakenBy t) h n = refl
 call_stands l a (fair.HandOver x b to) (MovedTo key) h n = refl

@@ -14,7 +14,7 @@ use Rattle.spec_locks.specs.Locks as locks
 use Rattle.steps_rwlock.specs.declared.purposes.RwLockPurpose.TheVariants as purposes
 use Rattle.lot_laws.proofs.once.Marks.{opening_unmarked, unmarked_after}
 use Rattle.lot_laws.proofs.once.Runs.{opening_running, put_running, running_after}
-use Rattle.lot_laws.proofs.promises.Promises.{opening_is}
+use Rattle.lot_laws.proofs.promises.PromisesKept.{opening_is}
 use Rattle.lot_laws.proofs.calls.LockSteps.{after_step}
 use Rattle.lot_laws.proofs.machine.KindsStay.{after_kinds}
 use Rattle.lot_laws.proofs.mutex.FairHands.{given_up_fairly}

@@ -3,7 +3,7 @@ use Rattle.lot_laws.proofs.Names
 use Names.{ℕ, Bool, true, false, Option, Some, None, if◌then◌else◌, ◌==◌, ◌≡◌, ◌≢◌, ◌<◌, ◌+◌, ◌*◌, List, []}
 use Names.{◌∷◌, length, length-set, get_or, map, nat_lt, refl, sym, ◌∙◌, ap, subst, arith, eqb-true, ltb-true}
 use Names.{One, Two, first_of, apply, OnceCall, Step, Turn, Kind, Sort, Phase, New, Poisoned, InProgress}
-use Names.{rules_of, has_readers, Act, holds, takes_effect, CondvarPlace, Wait, Look as Glance, Notify}
+use Names.{rules_of, has_readers, Act, holds, takes_effect, CondvarPlace, Wait, Look as PeekQueue, Notify}
 use Names.{mutex_act, Course, Ends, Marks, OncePlace, Run, GiveUp, course_act, course_of, is_forced, marked}
 use Names.{once_act, started, MayGo, coded, marked_is, may_go, started_is, unmarked_is, word, call_act}
 use Names.{semaphore_act, Place, Idle, Mutex, RwLock, Once, Condvar, Semaphore, act_of, late_key, looking}
@@ -260,7 +260,7 @@ module _ (w : State) (inductive : IsInductive w) (fine : AreUnmarked w) where
   condvar_leaves c (Wait m timed (wait.Lock timed_out at)) other beside = elsewhere w m (mutex_act m at)
       (mutex_own m at) (beside m refl)
   condvar_leaves c (Wait m timed at) other beside = tt
-  condvar_leaves c (Glance all) other beside = λ of. absurd (other of)
+  condvar_leaves c (PeekQueue all) other beside = λ of. absurd (other of)
   condvar_leaves c (Notify all m notify.Again) other beside = λ of. absurd (other of)
   condvar_leaves c (Notify all m notify.Hide) other beside = λ of. absurd (other of)
   condvar_leaves c (Notify all m notify.Mark) other beside = λ of. absurd (beside m refl of)

@@ -32,7 +32,7 @@ use Rattle.steps_once.specs.OnceSteps.{is_mark, looked_by}
 use Rattle.std.specs.Prelude.{◌&&◌, if◌then◌else◌}
 use Rattle.lot_laws.proofs.book.Page.{Follows, IsThere, Leaves, MovesBy, Page, Says, never_given}
 use Rattle.lot_laws.proofs.book.Page.{plainly_waits}
-use Rattle.lot_laws.proofs.book.Kept.{ComesBy, Tied}
+use Rattle.lot_laws.proofs.book.LockStaysASite.{ComesBy, Tied}
 
 -- ---------------------------------------------------------------- rows
 

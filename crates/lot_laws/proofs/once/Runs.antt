@@ -28,7 +28,7 @@ use Rattle.lot_laws.proofs.calls.Closures.{call_runs_none, course_runs_none, mut
 use Rattle.lot_laws.proofs.calls.Closures.{condvar_runs_none, semaphore_runs_none}
 use Rattle.lot_laws.proofs.machine.Parts.{put_here, put_other, same}
 use Rattle.lot_laws.proofs.calls.LockSteps.{IsTurn, after_step}
-use Rattle.lot_laws.proofs.promises.Promises.{opening_state}
+use Rattle.lot_laws.proofs.promises.PromisesKept.{opening_state}
 use Rattle.lot_laws.proofs.promises.RowPromises.{Befalls}
 
 -- ---------------------------------------------------------------- how far it has come, after an event

@@ -14,7 +14,7 @@ use Rattle.steps_mutex.specs.declared.places.MutexPlace.TheVariants as mutex
 use Rattle.steps_mutex.specs.declared.unlock.UnlockAt.TheVariants as unlock
 use Rattle.steps_condvar.specs.declared.notify.NotifyAt.TheVariants as notify
 use Rattle.steps_condvar.specs.declared.wait.WaitAt.TheVariants as wait
-use Rattle.lot_laws.proofs.calls.Events.{rights}
+use Rattle.lot_laws.proofs.calls.CallEvents.{rights}
 use Rattle.lot_laws.proofs.machine.Parts.{condvar_apart, differ, same, single_or_two}
 use Rattle.lot_laws.proofs.promises.PlacePromises.{owing_is}
 

@@ -55,7 +55,7 @@ use Rattle.lot_laws.proofs.machine.Parts.{mutex}
 use Rattle.lot_laws.proofs.sites.StandsMoved.{mutex_rules}
 use Rattle.lot_laws.proofs.machine.KindsStay.{after_kinds}
 use Rattle.lot_laws.proofs.sites.SitesKept.{unshared_at, single_at, alone_at, mutexes_at}
-use Rattle.lot_laws.proofs.calls.Events.{rights}
+use Rattle.lot_laws.proofs.calls.CallEvents.{rights}
 use Rattle.lot_laws.proofs.calls.LockSteps.{IsTurn, after_step}
 use Rattle.lot_laws.proofs.rwlock.CallRows.{call_promises}
 

@@ -16,7 +16,7 @@ use Rattle.lot_laws.proofs.machine.Filled.{filled_after}
 use Rattle.spec_locks.specs.Headline as headline
 use Rattle.lot_laws.specs.Refinement.{runs_closure}
 use Rattle.lot_laws.proofs.sites.Opening.{kind_is, unfilled_0}
-use Rattle.lot_laws.proofs.promises.Promises.{opening_is}
+use Rattle.lot_laws.proofs.promises.PromisesKept.{opening_is}
 use Rattle.lot_laws.proofs.alone.WorldRuns.{step_is, world_after, world_kept}
 use Rattle.lot_laws.proofs.condvar.SleepersOwn.{sleepers_own}
 use Rattle.lot_laws.proofs.mutex.FairHands.{fair_kind, fair_owned}

@@ -109,9 +109,10 @@ module _ (w : State) (t l : ℕ) (inductive : IsInductive w) (is_of : IsOf l (pl
   pub removed_at : (m : Line) → (location (place_at w t)).inside ≡ Some m
       → StandsThere (location (place_at w t)) → (key : ℕ)
       → (get_or (map (without t) w.queues) key [] ≡ queue_at w key) ⊎ (section_at w key ≡ Some t)
-  removed_at m within stands key = let of = line_of_key key in elim (cases_eq (key_of of.0 of.1) (key_of l m)) [
-    | inl e ↦ inr (holds_line key (m, within, of.2 ∙ e))
-    | inr ne ↦ inl (ap (λ k. get_or (map (without t) w.queues) k []) of.2 ∙ get_or-map (without t) w.queues
-        (key_of of.0 of.1) [] ∙ without_absent t (queue_at w (key_of of.0 of.1))
-        (stood_out of.0 m of.1 within stands ne) ∙ sym (ap (queue_at w) of.2))
-  ]
+  removed_at m within stands key = let of = line_of_key key in elim (cases_eq (key_of of.0 of.1)
+      (key_of l m)) [
+        | inl e ↦ inr (holds_line key (m, within, of.2 ∙ e))
+        | inr ne ↦ inl (ap (λ k. get_or (map (without t) w.queues) k []) of.2 ∙ get_or-map (without t) w.queues
+            (key_of of.0 of.1) [] ∙ without_absent t (queue_at w (key_of of.0 of.1))
+            (stood_out of.0 m of.1 within stands ne) ∙ sym (ap (queue_at w) of.2))
+      ]

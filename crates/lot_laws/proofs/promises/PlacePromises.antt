@@ -15,7 +15,7 @@ use Rattle.spec_locks.specs.Locks as locks
 use Rattle.lot_laws.specs.Locations.{Location, location_by}
 use Rattle.lot_laws.proofs.hands.Counts.{none_first, first_out}
 use Rattle.lot_laws.proofs.calls.SingleCalls.{call_here, call_none}
-use Rattle.lot_laws.proofs.condvar.Promises.{StandsAt, two_stand_main}
+use Rattle.lot_laws.proofs.condvar.CondvarPromises.{StandsAt, two_stand_main}
 use Rattle.lot_laws.proofs.machine.Parts.{single_or_two}
 use Rattle.lot_laws.proofs.machine.Parts.{same, differ, taken_out, calls_none, inside_is, IsSingle}
 use Rattle.lot_laws.proofs.machine.Parts.{single_location, single_role, single_taken, single_owes}
@@ -25,7 +25,7 @@ use Rattle.lot_laws.proofs.promises.LineActs.{line_act}
 use Rattle.lot_laws.proofs.machine.PlaceTest.{IsOfLine, IsLineAct}
 use Rattle.lot_laws.proofs.promises.RowPromises.{CallsOneLock, LetsIn, LetsInAt, IsWaiting}
 use Rattle.lot_laws.proofs.promises.RowPromises.{calls_one as purpose_of_one, taken_in_row, RowPromises}
-use Rattle.lot_laws.proofs.calls.Events.{rights}
+use Rattle.lot_laws.proofs.calls.CallEvents.{rights}
 use Rattle.lot_laws.proofs.rwlock.CallRows.{call_promises}
 
 -- -------------------------------------------------------------- the lock that a thread calls, and the others

@@ -8,21 +8,22 @@ use Names.{place_at, word_at, kind_at, reply_to, sort_at, Exclusive, Has, Line, 
 use Names.{IsInductive, FitsItsLock, rules_in, site_of, Next, Admission, RwLockPlace, Admits, MayStand}
 use Names.{rwlock_act, RwLockCallPlace, admission_of_kind, Plain, HandOver, given, call_act, call_next}
 use Names.{call_profile, CallStands}
-use Rattle.lot_laws.proofs.condvar.Owing.{condvar_befallen}
-use Rattle.lot_laws.proofs.once.Owes.{once_owes_next}
-use Rattle.lot_laws.proofs.semaphore.Owes.{semaphore_owes_next}
-use Rattle.lot_laws.proofs.semaphore.Owing.{semaphore_befallen, semaphore_late}
+use Rattle.lot_laws.proofs.condvar.CondvarOwing.{condvar_befallen}
+use Rattle.lot_laws.proofs.once.OnceOwes.{once_owes_next}
+use Rattle.lot_laws.proofs.semaphore.SemaphoreOwes.{semaphore_owes_next}
+use Rattle.lot_laws.proofs.semaphore.SemaphoreOwing.{semaphore_befallen, semaphore_late}
 use Rattle.spec_locks.specs.declared.calls.Patience.TheVariants as how
 use Rattle.spec_locks.specs.declared.calls.SemaphoreCall.TheVariants as semaphore_call
 use Rattle.spec_locks.specs.declared.calls.Call as call
-use Rattle.lot_laws.proofs.once.Owing.{once_befallen, once_late}
+use Rattle.lot_laws.proofs.once.OnceOwing.{once_befallen, once_late}
 use Rattle.spec_locks.specs.Locks as locks
 use Rattle.lot_laws.proofs.machine.Parts.{same, IsSingle}
 use Rattle.lot_laws.proofs.promises.RowPromises.{Befalls, RowOwesThen, IsLateNext, owes_then, mutex_tells}
-use Rattle.lot_laws.proofs.mutex.Owing.{mutex_befallen, mutex_owes_next, mutex_first_owes, mutex_late}
+use Rattle.lot_laws.proofs.mutex.MutexOwing.{mutex_befallen, mutex_owes_next, mutex_first_owes, mutex_late}
 use Rattle.lot_laws.proofs.sites.StandsMoved.{mutex_rules}
-use Rattle.lot_laws.proofs.rwlock.Owing.{plain_tells, rwlock_befallen, rwlock_owes_next, rwlock_first_owes}
-use Rattle.lot_laws.proofs.rwlock.Owing.{rwlock_late}
+use Rattle.lot_laws.proofs.rwlock.RwLockOwing.{plain_tells, rwlock_befallen, rwlock_owes_next}
+use Rattle.lot_laws.proofs.rwlock.RwLockOwing.{rwlock_first_owes}
+use Rattle.lot_laws.proofs.rwlock.RwLockOwing.{rwlock_late}
 use Rattle.lot_laws.proofs.rwlock.CallOwing.{CallOwesNext, IsOwners, call_owes_next, owners_word}
 use Rattle.spec_locks.specs.declared.calls.Access.TheVariants as access
 use Rattle.steps_base.specs.declared.acts.Next.TheVariants as next

@@ -5,7 +5,7 @@ use Names.{eqb-true, ℕ, Bool, true, false, Option, Some, None, if◌then◌els
 use Names.{inr, refl, sym, ◌∙◌, ap, subst, arith, One, Want, Exclusive, Upgradable, Access, Patience, Patient}
 use Names.{Answer, Ok, Act, Next, Reply, Value, outcome_of, row_of, Profile, Admission, RwLockPlace, RwLockAt}
 use Names.{RwLockPurpose, WakeAt, rwlock_act, next_at, Admits, StandsAt, rwlock_profile, RwLockCallPlace}
-use Names.{Plain, Glance, HandOver, Bump, Handed, HandOverAt, HandedAt, any_taken, bump_next, enters_again}
+use Names.{Plain, PeekQueue, HandOver, Bump, Handed, HandOverAt, HandedAt, any_taken, bump_next, enters_again}
 use Names.{exchange_act, gives_up_at, gives_way, glance_next, has_room, looked, took, call_act, call_next}
 use Names.{bumping, call_profile, has_given, release_purpose, next_rows, CallStands, HandsOverAt, IsOfBump}
 use Names.{bit, code, code_of, count_in, has_aside, has_parked, packed, parked_in, aside_in, writers}
@@ -30,8 +30,8 @@ use Rattle.spec_locks.specs.Locks.{Normal}
 use Rattle.lot_laws.proofs.calls.PlainCalls.{never_given}
 use Rattle.lot_laws.proofs.machine.Parts.{same}
 use Rattle.lot_laws.proofs.promises.RowPromises.{LetsIn, RowFinds, RowLooks, RowOwesThen}
-use Rattle.lot_laws.proofs.rwlock.Rows.{of, some_line, IsBefore, shut_before}
-use Rattle.lot_laws.proofs.rwlock.Owing.{parked_is, aside_is, IsWithin, quiet_next, before_quiet}
+use Rattle.lot_laws.proofs.rwlock.RwLockRows.{of, some_line, IsBefore, shut_before}
+use Rattle.lot_laws.proofs.rwlock.RwLockOwing.{parked_is, aside_is, IsWithin, quiet_next, before_quiet}
 
 -- tells what the thread does next
 abbrev pub call_does : ℕ → Admission → Next RwLockCallPlace → Act
@@ -243,14 +243,15 @@ module _ (r : Rules) (shared : has_readers r.sort ≡ true) (a : Admission) (l w
 
   -- ---------------------------------------------------------------- a bump looks
 
-  glance_owes : (x : Access) → Owing (Glance x) (glance_next a x word)
+  glance_owes : (x : Access) → Owing (PeekQueue x) (glance_next a x word)
   glance_owes x = either x (gives_way a x word) refl
     where
       either : (x : Access) (c : Bool) → gives_way a x word ≡ c
-          → Owing (Glance x) (if c then next.At (gives_up_at x) else next.End Ok)
-      either x false e = ended (Glance x) Ok
+          → Owing (PeekQueue x) (if c then next.At (gives_up_at x) else next.End Ok)
+      either x false e = ended (PeekQueue x) Ok
       either access.Exclusive true e =
-          owes_on (Glance access.Exclusive) (next.At (HandOver access.Exclusive true handing.Enter)) Main refl
+          owes_on (PeekQueue access.Exclusive) (next.At (HandOver access.Exclusive true handing.Enter))
+          Main refl
           refl
           (inr (
             (
@@ -262,12 +263,12 @@ module _ (r : Rules) (shared : has_readers r.sort ≡ true) (a : Admission) (l w
             refl,
           ))
       either access.Upgradable true e =
-          rests (Glance access.Upgradable) (next.At (HandOver access.Upgradable true handing.Load)) refl
+          rests (PeekQueue access.Upgradable) (next.At (HandOver access.Upgradable true handing.Load)) refl
           (λ m s looks. only m (looks ((refl, λ f. cc), refl)))
         where
           only : (m : Line) → act.Word l operation.Load ≡ act.Enter (One (key_of l m)) → ⊥
           only m f = cc
-      either access.Shared true e = rests (Glance access.Shared) (next.At (gives_up_at access.Shared)) refl
+      either access.Shared true e = rests (PeekQueue access.Shared) (next.At (gives_up_at access.Shared)) refl
           (λ m s looks. only m (looks ((refl, λ f. cc), refl)))
         where
           only : (m : Line) → call_act l a (gives_up_at access.Shared) ≡ act.Enter (One (key_of l m)) → ⊥
@@ -506,7 +507,7 @@ module _ (w : State) (t l : ℕ) (a : Admission) (admits : Admits (rules_in w l)
       → Goes c
   call_owes_next (Plain p) stands other alone = absurd other
   call_owes_next (Bump p) stands other alone = bump_owes p.purpose p.retries p.at stands.0.place stands.1
-  call_owes_next (Glance x) stands other alone = glance_owes (rules_in w l) admits.0 a l (word_at w l) x
+  call_owes_next (PeekQueue x) stands other alone = glance_owes (rules_in w l) admits.0 a l (word_at w l) x
   call_owes_next (HandOver x b to) stands other alone = hands_owe x b to stands
       (λ seen e f. alone b seen (λ i. HandOver (e i) b (f i)))
   call_owes_next (Handed x how b to) stands other alone = handed_goes x how b to

@@ -5,7 +5,8 @@ use Names.{ℕ, Bool, true, false, Some, None, if◌then◌else◌, ◌≡◌, �
 use Names.{ap, subst, arith, One, Exclusive, Access, Patience, Patient, Timed, Try, Sleep, Profile, Admission}
 use Names.{RwLockPlace, RwLockAt, RwLockPurpose, Decision, wanted, decided, decided_act, rwlock_act, Admits}
 use Names.{MayStand, WaitsIfBlocked as HasTime, ParksBy, StandsAt, rwlock_profile, late_at, has_given_up}
-use Names.{RwLockCallPlace, Plain, Glance, HandOver, Bump, Handed, HandOverAt, HandedAt, any_taken, has_room}
+use Names.{RwLockCallPlace, Plain, PeekQueue, HandOver, Bump, Handed, HandOverAt, HandedAt, any_taken}
+use Names.{has_room}
 use Names.{exchange_act, hand_over_act, handed_act, call_act, claim_at, call_profile, carries_taken}
 use Names.{release_purpose, CallStands, HandsOverAt, IsOfBump, WaitsWithPatience, Rules, Sort, Bumps, MayWait}
 use Names.{lock_for, Has, has_readers, want_of, KnowsRights, WakesAside}
@@ -27,7 +28,7 @@ use Rattle.steps_rwlock_fair.specs.declared.handed.HandedAt.TheVariants as hande
 use Rattle.steps_rwlock_fair.specs.FairProfiles.{entry_purpose}
 use Rattle.lot_laws.proofs.promises.RowPromises.{is_acting, IsWaiting, WasHanded, LetsIn, LetsInAt}
 use Rattle.lot_laws.proofs.promises.RowPromises.{IsDebtorIn, HasClaimed, HasDebt, RowLooksAfter, RowPromises}
-use Rattle.lot_laws.proofs.rwlock.Rows.{knows, no_bump, of, rwlock_promises}
+use Rattle.lot_laws.proofs.rwlock.RwLockRows.{knows, no_bump, of, rwlock_promises}
 
 -- two lines have two keys
 lines_apart : (l : ℕ) → act.Enter (One (2 * l)) ≡ act.Enter (One (2 * l + 1)) → ⊥
@@ -268,7 +269,7 @@ module _ (r : Rules) (a : Admission) (l : ℕ) (admits : Admits r a) where
 
   -- ---------------------------------------------------------------- a bump that looks
 
-  glance_promises : (x : Access) → Promised (Glance x)
+  glance_promises : (x : Access) → Promised (PeekQueue x)
   glance_promises x = record {
     own = refl;
     acts = refl;
@@ -288,9 +289,9 @@ module _ (r : Rules) (a : Admission) (l : ℕ) (admits : Admits r a) where
     may_be_late = λ m s sleeps timed. absurd cc;
   }
     where
-      owes_none : (m : Line) → IsDebtorIn r.sort (call_profile a (Glance x)).role m
-          → ((call_profile a (Glance x)).role.claims ≡ Some (Has Exclusive) → ⊥)
-          → RowLooksAfter r.sort l (call_profile a (Glance x)) (call_act l a (Glance x)) m
+      owes_none : (m : Line) → IsDebtorIn r.sort (call_profile a (PeekQueue x)).role m
+          → ((call_profile a (PeekQueue x)).role.claims ≡ Some (Has Exclusive) → ⊥)
+          → RowLooksAfter r.sort l (call_profile a (PeekQueue x)) (call_act l a (PeekQueue x)) m
       owes_none Main d free = absurd (elim d [ inl h ↦ cc | inr h ↦ elim h [ inl k ↦ cc | inr k ↦ cc ] ])
       owes_none Second d free = absurd cc
 
@@ -580,6 +581,6 @@ pub call_promises : (r : Rules) (a : Admission) (l : ℕ) (c : RwLockCallPlace) 
 call_promises r a l (Plain p) admits stands = rwlock_promises r a l p admits stands
 call_promises r a l (Bump p) admits stands = bump_promises r a l admits p.purpose p.retries p.at stands.0
     stands.1
-call_promises r a l (Glance x) admits stands = glance_promises r a l admits x
+call_promises r a l (PeekQueue x) admits stands = glance_promises r a l admits x
 call_promises r a l (HandOver x b to) admits stands = hands_own r a l admits x b to stands
 call_promises r a l (Handed x how b to) admits stands = handed_promises r a l admits x how b stands to

@@ -3,7 +3,8 @@ use Rattle.lot_laws.proofs.Names
 use Names.{ℕ, Bool, true, false, Option, Some, None, if◌then◌else◌, ◌≡◌, ◌≢◌, ◌<◌, ◌==◌, ◌⊎◌, inl, inr}
 use Names.{length, refl, sym, ◌∙◌, ap, subst, One, Two, Op, Want, Exclusive, Upgradable, Shared, CallOnce}
 use Names.{first_of, Access, Act, Value, holds, takes_effect, in_hand, Admission, RwLockCallPlace, Plain}
-use Names.{Glance, HandOver, Bump, Handed, CallStands, HasInHand, in_hand_of, call_deeds, IsToGive, CallMoves}
+use Names.{PeekQueue, HandOver, Bump, Handed, CallStands, HasInHand, in_hand_of, call_deeds, IsToGive}
+use Names.{CallMoves}
 use Names.{call_hears, call_move, call_profile, any_taken, call_act, has_room, parked_as, with_taken}
 use Names.{word_without, fair_acts_move, bump_keeps, fair_releases_give, handed_keeps, plain_keeps, after_all}
 use Names.{Owns, Rules, Site, deeds_lead, Place, RwLock, profile, IsWellFormed, State, can_do, owners_at}
@@ -22,10 +23,11 @@ use Rattle.lot_laws.proofs.machine.AtPlaces.{in_no_hand}
 use Rattle.lot_laws.proofs.machine.Parts.{IsSingle, free_of}
 use Rattle.lot_laws.proofs.hands.Counted.{has_in_hand}
 use Rattle.lot_laws.proofs.hands.Moved.{thread_of}
-use Rattle.lot_laws.proofs.calls.Events.{led_here}
-use Rattle.lot_laws.proofs.rwlock.Steps.{case_by, GoesOnBy, by_effect, carries, deeds_by, effect_whom}
-use Rattle.lot_laws.proofs.rwlock.Steps.{gives_counted, rwlock_goes_on, then_by}
-use Rattle.lot_laws.proofs.rwlock.Kept.{at_now, own, stands}
+use Rattle.lot_laws.proofs.calls.CallEvents.{led_here}
+use Rattle.lot_laws.proofs.rwlock.RwLockStepsAreEvents.{case_by, GoesOnBy, by_effect, carries, deeds_by}
+use Rattle.lot_laws.proofs.rwlock.RwLockStepsAreEvents.{effect_whom}
+use Rattle.lot_laws.proofs.rwlock.RwLockStepsAreEvents.{gives_counted, rwlock_goes_on, then_by}
+use Rattle.lot_laws.proofs.rwlock.RwLockStaysASite.{at_now, own, stands}
 
 -- ---------------------------------------------------------------- acts that change no owner
 
@@ -96,7 +98,7 @@ module _ (l : ℕ) (a : Admission) (whom : Option ℕ) (v : ℕ) where
   word_deeds (Bump p) op r x e may gives more =
       absurd (bump_keeps a l p.purpose p.retries p.at x may.1 more gives)
   word_deeds (Handed y how b to) op r x e may gives more = absurd (handed_keeps a l y how b to x gives)
-  word_deeds (Glance y) op r x e may gives more = refl
+  word_deeds (PeekQueue y) op r x e may gives more = refl
   word_deeds (HandOver y b handing.Load) op r x e may gives more = refl
   word_deeds (HandOver y b (handing.Free expected)) op r x e may gives more = refl
   word_deeds (HandOver y b handing.Enter) op r x e may gives more = absurd cc
@@ -134,7 +136,7 @@ module _ (w : State) (t l : ℕ) (a : Admission) (c : RwLockCallPlace) (shape : 
   bare (Plain p) may gives = absurd (plain_keeps l p.purpose (call_profile a (Plain p)).released x gives)
   bare (Bump p) may gives = absurd (bump_keeps a l p.purpose p.retries p.at x may.1 more gives)
   bare (Handed y how b to) may gives = absurd (handed_keeps a l y how b to x gives)
-  bare (Glance y) may gives = refl
+  bare (PeekQueue y) may gives = refl
   bare (HandOver y b to) may gives = refl
 
   carried : (c : RwLockCallPlace) (k : Counted) → in_hand_of c ≡ Some k → (call_profile a c).carries
@@ -142,7 +144,7 @@ module _ (w : State) (t l : ℕ) (a : Admission) (c : RwLockCallPlace) (shape : 
   carried (Plain p) k e = absurd cc
   carried (Bump p) k e = absurd cc
   carried (Handed y how b to) k e = absurd cc
-  carried (Glance y) k e = absurd cc
+  carried (PeekQueue y) k e = absurd cc
   carried (HandOver y b (handing.Store n)) k e = let same : n ≡ k = cc
       in ap (λ m. in_hand (any_taken m) false) same
   carried (HandOver y b (handing.Look n)) k e = let same : n ≡ k = cc in ap (λ m. in_hand (any_taken m) false)

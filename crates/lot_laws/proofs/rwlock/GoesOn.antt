@@ -172,8 +172,8 @@ call_on k a (fair.Bump p) seen parked stands j f r l (inl down) is = absurd down
 call_on k a (fair.Bump p) seen parked stands j f r l (inr late) is = on_bump k a seen parked j f p.purpose
     (next_at a p p.at (Value seen)) (bumps_on k a seen parked j f p.purpose p.retries p.at stands.0.place
     stands.1 (given_up (late_at has_given_up p.purpose p.at) k l late) is)
-call_on k a (fair.Glance x) seen parked stands j f r l (inl down) is = absurd down
-call_on k a (fair.Glance x) seen parked stands j f r l (inr late) is = absurd cc
+call_on k a (fair.PeekQueue x) seen parked stands j f r l (inl down) is = absurd down
+call_on k a (fair.PeekQueue x) seen parked stands j f r l (inr late) is = absurd cc
 call_on k a (fair.HandOver x true to) seen parked stands j f r l (inl down) is = absurd down
 call_on k a (fair.HandOver x false to) seen parked stands j f r l (inl down) is = absurd down
 call_on k a (fair.HandOver x b to) seen parked stands j f r l (inr late) is = absurd cc
@@ -315,7 +315,7 @@ call_quiet k a (fair.Plain p) stands r l lets = none_looks k a false p (looking_
 call_quiet k a (fair.Bump p) stands r l (inl down) = absurd down
 call_quiet k a (fair.Bump p) stands r l (inr late) = none_looks k a true p (looking_at a p p.at)
     (bump_quiet k a p.purpose p.retries p.at l late)
-call_quiet k a (fair.Glance x) stands r l lets = refl
+call_quiet k a (fair.PeekQueue x) stands r l lets = refl
 call_quiet k a (fair.HandOver x b to) stands r l lets = refl
 call_quiet k a (fair.Handed x how b to) stands r l lets = refl
 
@@ -490,8 +490,8 @@ module _ (w : State) (t l : ℕ) (a : Admission) where
   call_takes (fair.Bump p) stands r (inr late) main out =
       absurd (bumps_not p.purpose p.retries p.at stands.0.place stands.1
       (given_up (late_at has_given_up p.purpose p.at) l l late) (out late))
-  call_takes (fair.Glance x) stands r (inl down) main out = absurd down
-  call_takes (fair.Glance x) stands r (inr late) main out = absurd cc
+  call_takes (fair.PeekQueue x) stands r (inl down) main out = absurd down
+  call_takes (fair.PeekQueue x) stands r (inr late) main out = absurd cc
   call_takes (fair.HandOver x true to) stands r (inl down) main out = absurd down
   call_takes (fair.HandOver x false to) stands r (inl down) main out = absurd down
   call_takes (fair.HandOver x b to) stands r (inr late) main out = absurd cc
@@ -548,7 +548,7 @@ module _ (w : State) (t l : ℕ) (a : Admission) where
   call_late (fair.Bump p) stands r (inl down) = absurd down
   call_late (fair.Bump p) stands r (inr late) = bump_late p.purpose p.retries p.at
       (given_up (late_at has_given_up p.purpose p.at) l l late)
-  call_late (fair.Glance x) stands r lets = refl
+  call_late (fair.PeekQueue x) stands r lets = refl
   call_late (fair.HandOver x b to) stands r lets = refl
   call_late (fair.Handed x how b to) stands r lets = refl
 
@@ -611,7 +611,7 @@ module _ (w : State) (r : ℕ → Rights) (l : ℕ) (shared : has_readers (sort_
       by_purpose (purpose.Downgrade d) h = h.0
       by_purpose (purpose.Upgrade how) h = h.0
   rwlock_is k a (fair.Bump p) (inl down) = absurd down
-  rwlock_is k a (fair.Glance x) (inl down) = absurd down
+  rwlock_is k a (fair.PeekQueue x) (inl down) = absurd down
   rwlock_is k a (fair.HandOver x true to) (inl down) = absurd down
   rwlock_is k a (fair.HandOver x false to) (inl down) = absurd down
   rwlock_is k a (fair.Handed x how true to) (inl down) = absurd down
@@ -682,7 +682,7 @@ module _ (w : State) (t : ℕ) (inductive : IsInductive w) (l : ℕ) (lets : Let
           → (call_state (RwLock l a c) own_rights).gave_up ≡ Some l → ⊥
       down_late a (fair.Plain p) down g = none p.purpose p.at down g
       down_late a (fair.Bump p) down g = down
-      down_late a (fair.Glance x) down g = down
+      down_late a (fair.PeekQueue x) down g = down
       down_late a (fair.HandOver x true to) down g = down
       down_late a (fair.HandOver x false to) down g = down
       down_late a (fair.Handed x how true to) down g = down

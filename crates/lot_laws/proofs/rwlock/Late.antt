@@ -1,7 +1,7 @@
 -- A reader-writer call whose time is up: it sleeps in the line that its row says, and stands there still.
 use Rattle.lot_laws.proofs.Names
 use Names.{Some, None, ◌≡◌, refl, ap, RwLockAt, rwlock_next, next_at, patience_of, Admission, RwLockPlace}
-use Names.{rwlock_late_line, late_line_at, parked_hand as rwlock_hand, RwLockCallPlace, Plain, Glance}
+use Names.{rwlock_late_line, late_line_at, parked_hand as rwlock_hand, RwLockCallPlace, Plain, PeekQueue}
 use Names.{HandOver, Bump as BumpCall, Handed, call_late_line, call_profile, bump_next, call_next, plain_next}
 use Rattle.steps_rwlock.specs.declared.places.RwLockAt.TheVariants as at
 use Rattle.steps_rwlock.specs.declared.park.ParkAt.TheVariants as parking
@@ -44,7 +44,7 @@ call_late a (BumpCall p) m h = let z = late_place a p m h in (
   z.2,
   z.3,
 )
-call_late a (Glance x) m h = absurd cc
+call_late a (PeekQueue x) m h = absurd cc
 call_late a (HandOver x b to) m h = absurd cc
 call_late a (Handed x how b to) m h = absurd cc
 
@@ -52,6 +52,6 @@ call_late a (Handed x how b to) m h = absurd cc
 pub late_row : (a : Admission) (c : RwLockCallPlace) → (call_profile a c).late_line ≡ call_late_line c
 late_row a (Plain p) = refl
 late_row a (BumpCall p) = refl
-late_row a (Glance x) = refl
+late_row a (PeekQueue x) = refl
 late_row a (HandOver x b to) = refl
 late_row a (Handed x how b to) = refl

@@ -3,7 +3,7 @@ use Rattle.lot_laws.proofs.Names
 use Names.{ℕ, Bool, true, false, Option, Some, None, ◌≡◌, ◌≢◌, ◌-◌, ◌^◌, ◌<◌, List, [], inl, inr, refl, sym}
 use Names.{◌∙◌, ap, subst, Op, Patience, OnceState, Act, Next, Reply, Done, Value, Parked, Took, Picked}
 use Names.{Removed, Late, TakenBy, Woken, outcome_of, IsNotLate, row_of, Admission, RwLockPlace, RwLockAt}
-use Names.{patience_of, Admits, late_line_at, HasDeadline, MayBeTold, RwLockCallPlace, Plain, Glance}
+use Names.{patience_of, Admits, late_line_at, HasDeadline, MayBeTold, RwLockCallPlace, Plain, PeekQueue}
 use Names.{HandOver, Bump, Handed, CallMayBeTold, CallMayHear, CallStands, CallStandsNext, IsInCall}
 use Names.{call_deeds, call_role, call_role_next, next_rows, CallMoves, call_hears, call_move, call_late_line}
 use Names.{call_profile, call_act, call_next, fair_acts_move, fair_late_moves, fair_sleepers_move}
@@ -21,15 +21,16 @@ use Rattle.steps_rwlock.specs.declared.park.ParkAt.TheVariants as parking
 use Rattle.steps_rwlock.specs.RwLockDeeds.{MayHear}
 use Rattle.spec_locks.specs.Deeds as laws
 use Rattle.spec_locks.specs.Locks as locks
-use Rattle.lot_laws.proofs.book.Kept.{ComesBy, MayCome, Tied}
+use Rattle.lot_laws.proofs.book.LockStaysASite.{ComesBy, MayCome, Tied}
 use Rattle.lot_laws.proofs.book.Page.{Follows, IsThere, Leaves, MovesBy, Page, Says}
 use Rattle.lot_laws.proofs.calls.Closures.{closure_told}
-use Rattle.lot_laws.proofs.calls.Events.{RunsNothing, begins_nothing, runs_nothing}
+use Rattle.lot_laws.proofs.calls.CallEvents.{RunsNothing, begins_nothing, runs_nothing}
 use Rattle.lot_laws.proofs.rwlock.CallRows.{call_promises}
 use Rattle.lot_laws.proofs.sites.LawsKept.{after_same, aside_read, needed_same, parked_read}
 use Rattle.lot_laws.proofs.sites.OneStep.{acts_keep}
-use Rattle.lot_laws.proofs.rwlock.Kept.{call_told_done, call_told_late, call_told_other, call_told_value}
-use Rattle.lot_laws.proofs.rwlock.Kept.{role_is, role_row, word_few}
+use Rattle.lot_laws.proofs.rwlock.RwLockStaysASite.{call_told_done, call_told_late, call_told_other}
+use Rattle.lot_laws.proofs.rwlock.RwLockStaysASite.{call_told_value}
+use Rattle.lot_laws.proofs.rwlock.RwLockStaysASite.{role_is, role_row, word_few}
 use Rattle.lot_laws.proofs.rwlock.Late.{late_row}
 use Rattle.lot_laws.proofs.sites.ActsKept.{lock_by}
 

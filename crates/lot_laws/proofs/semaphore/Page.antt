@@ -26,12 +26,13 @@ use Rattle.steps_semaphore.specs.SemaphoreLaws.{IsAt, MayHear, role_next, next_r
 use Rattle.steps_semaphore.proofs.SemaphoreWords as words
 use Rattle.lot_laws.proofs.book.Page.{Follows, IsThere, Leaves, MovesBy, Page, Says, never_given}
 use Rattle.lot_laws.proofs.book.Page.{plainly_waits}
-use Rattle.lot_laws.proofs.book.Kept.{ComesBy, MayCome, Tied}
+use Rattle.lot_laws.proofs.book.LockStaysASite.{ComesBy, MayCome, Tied}
 use Rattle.lot_laws.proofs.calls.Closures.{closure_told}
-use Rattle.lot_laws.proofs.calls.Events.{RunsNothing, begins_nothing, runs_nothing}
-use Rattle.lot_laws.proofs.semaphore.Moves.{NextTimed, SemaphoreMoves, next_timed, semaphore_acts_move}
-use Rattle.lot_laws.proofs.semaphore.Moves.{semaphore_hears, semaphore_late_move, semaphore_move}
-use Rattle.lot_laws.proofs.semaphore.Moves.{semaphore_sleepers_move}
+use Rattle.lot_laws.proofs.calls.CallEvents.{RunsNothing, begins_nothing, runs_nothing}
+use Rattle.lot_laws.proofs.semaphore.SemaphoreMoves.{NextTimed, SemaphoreMoves, next_timed}
+use Rattle.lot_laws.proofs.semaphore.SemaphoreMoves.{semaphore_acts_move}
+use Rattle.lot_laws.proofs.semaphore.SemaphoreMoves.{semaphore_hears, semaphore_late_move, semaphore_move}
+use Rattle.lot_laws.proofs.semaphore.SemaphoreMoves.{semaphore_sleepers_move}
 
 -- ---------------------------------------------------------------- rows
 

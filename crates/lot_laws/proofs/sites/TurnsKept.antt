@@ -12,7 +12,7 @@ use Names.{is_free_under, state_after_turn, can_turn, is_possible, after, IsWell
 use Names.{taken_at, is_mutex, mutex_role, mutex_location, acts, begin_deed, nowhere, location, AreCondvars}
 use Names.{AreCounted, IsInductive, Goes, both, looking_well_formed, Admission, RwLockCallPlace, Plain}
 use Names.{Bump as BumpCall, call_late_line}
-use Rattle.lot_laws.proofs.book.Kept.{begins_with, goes_late}
+use Rattle.lot_laws.proofs.book.LockStaysASite.{begins_with, goes_late}
 use Rattle.lot_laws.proofs.book.Pages.{booked}
 use Rattle.lot_laws.proofs.calls.Looking.{closing_inductive}
 use Rattle.lot_laws.proofs.calls.Closings.{closing, closing_counted, closing_may, closing_well_formed}
@@ -31,12 +31,12 @@ use Rattle.lot_laws.proofs.sites.ActsKept.{goes_inductive, place_goes}
 use Rattle.lot_laws.proofs.sites.SitesKept.{mutex_at}
 use Rattle.lot_laws.proofs.calls.Looking.{looking_inductive, looks_now}
 use Rattle.lot_laws.proofs.hands.CountsPut.{looking_counted}
-use Rattle.lot_laws.proofs.mutex.Kept.{gone_kept, mutex_goes_late}
+use Rattle.lot_laws.proofs.mutex.MutexStaysASite.{gone_kept, mutex_goes_late}
 use Rattle.lot_laws.proofs.condvar.ActsRefine.{condvar_inductive}
 use Rattle.lot_laws.proofs.condvar.SameCondvars.{closing_condvars, looking_condvars}
 use Rattle.lot_laws.proofs.condvar.BeginsKept.{begins_at, condvar_begins, condvar_goes_late}
 use Rattle.lot_laws.proofs.calls.OwnPlace.{gone}
-use Rattle.lot_laws.proofs.rwlock.Steps.{rwlock_begins}
+use Rattle.lot_laws.proofs.rwlock.RwLockStepsAreEvents.{rwlock_begins}
 use Rattle.lot_laws.proofs.rwlock.Late.{late_row}
 use Rattle.core_base.specs.declared.keys.Line.{Line}
 

@@ -1,4 +1,4 @@
-use Rattle.lot_laws.proofs.mutex.Promises.{mutexes_owe}
+use Rattle.lot_laws.proofs.mutex.MutexPromisesKept.{mutexes_owe}
 use Rattle.lot_laws.proofs.laws.mutexes_owe.Goals as goal
 
 pub returns : goal.returns

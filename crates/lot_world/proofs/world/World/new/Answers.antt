@@ -2,7 +2,7 @@ use Rattle.lot_machine.proofs.Shape.{opening_well_formed}
 use Rattle.lot_laws.proofs.hands.CountsPut.{opening_counted}
 use Rattle.lot_laws.proofs.promises.Headline.{opens}
 use Rattle.lot_laws.proofs.sites.Opening.{opening_condvars, opening_inductive, unfilled_0}
-use Rattle.lot_laws.proofs.promises.Promises.{kept, opening_is}
+use Rattle.lot_laws.proofs.promises.PromisesKept.{kept, opening_is}
 use Rattle.lot_laws.proofs.mutex.FairMutexes.{opening_settled}
 use Rattle.lot_world.proofs.world.World.new.Goals as goal
 

@@ -3,7 +3,7 @@ use Rattle.lot_machine.proofs.Shape.{after_size}
 use Rattle.lot_laws.proofs.machine.OneChange.{one_thing, touches}
 use Rattle.lot_laws.proofs.promises.Fair.{is_fair}
 use Rattle.spec_locks.proofs.NobodyWakes.{nobody_wakes}
-use Rattle.lot_laws.proofs.promises.Owing.{owes_since}
+use Rattle.lot_laws.proofs.promises.OwingStays.{owes_since}
 use Rattle.std.proofs.Common.{[], ◌∷◌, refl}
 use Rattle.lot_machine.specs.Machine.{after}
 use Rattle.lot_laws.proofs.promises.Headline.{holds_after, step_behaves, step_guaranteed}

@@ -1,7 +1,8 @@
 use Rattle.std.proofs.Common.{rules, ◌≡◌, Some, Ok}
 use Rattle.spec_locks.specs.declared.calls.Access.TheVariants.{Upgradable}
 use Rattle.raw_rwlocks.proofs.RwLockEntries.{came_in}
-use Rattle.raw_rwlocks.proofs.recursive_upgrade.RawRwLocktrueRawRwLockUpgrade.lock_upgradable_slow.Goals as goal
+use Rattle.raw_rwlocks.proofs.recursive_upgrade.RawRwLocktrueRawRwLockUpgrade.lock_upgradable_slow.Goals
+    as goal
 
 pub returns-in-Ok-Some-clause-over : goal.returns-in-Ok-Some-clause-over
 returns-in-Ok-Some-clause-over g c = λ before begun.

@@ -5,7 +5,7 @@ use Rattle.spec_locks.specs.declared.calls.RwLockCall.TheVariants as calls
 use Rattle.spec_locks.specs.declared.outcomes.Answer.{Answer}
 use Rattle.spec_locks.specs.declared.outcomes.Answer.TheVariants.{Ok, ReadersFull}
 use Rattle.steps_rwlock.specs.RwLockSteps.{wanted}
-use Rattle.steps_rwlock_fair.specs.declared.places.RwLockCallPlace.TheVariants.{Glance}
+use Rattle.steps_rwlock_fair.specs.declared.places.RwLockCallPlace.TheVariants.{PeekQueue}
 use Rattle.lot_steps.specs.declared.places.Place.TheVariants.{RwLock}
 use Rattle.core_words.specs.Rights.{owner_for}
 use Rattle.core_words.specs.Steps.{has, without}
@@ -80,7 +80,7 @@ returns-in-Ok-clause-token g c = let over = c.bump.ensures.over (view_of c.args.
 
 pub returns-in-Ok-clause-path : goal.returns-in-Ok-clause-path
 returns-in-Ok-clause-path g c = courses_between (at_rwlock c.args.self.now.word.number)
-    (RwLock c.args.self.now.word.number c.args.self.now.settings.admission (Glance c.args.access)) Ok
+    (RwLock c.args.self.now.word.number c.args.self.now.settings.admission (PeekQueue c.args.access)) Ok
     c.args.token.now c.join.new.token c.bump.new.token c.split.new.token c.join.ensures.own.0.1
     (ap (λ (v : View). v.steps) c.join.ensures.joined) c.join.ensures.untold
     (ap (λ (v : View). v.steps) c.split.ensures.left) c.split.ensures.untold
@@ -101,7 +101,8 @@ returns-in_default g c = let over = c.bump.ensures.over (view_of c.args.token.no
     c.args.self.now.settings.admission c.args.access c.bump.result (stage_of c.bump.new.token None) over
     c.in_default.not-Ok in
     let walked = courses_between (at_rwlock c.args.self.now.word.number)
-    (RwLock c.args.self.now.word.number c.args.self.now.settings.admission (Glance c.args.access)) ReadersFull
+    (RwLock c.args.self.now.word.number c.args.self.now.settings.admission
+    (PeekQueue c.args.access)) ReadersFull
     c.args.token.now c.join.new.token c.bump.new.token c.bump.new.token c.join.ensures.own.0.1
     (ap (λ (v : View). v.steps) c.join.ensures.joined) c.join.ensures.untold refl refl
     (subst (λ (answer : Answer). HasWalkedCall c.args.self.now.word.number c.args.self.now.settings.admission
