@@ -113,28 +113,61 @@ fn writes<R: Wait>(rt: &R, lock: &AnyRwLock, token: &mut Token) -> bool
     goes_writing(rt, lock, token, came)
 }
 
-// Whether the lock is held, and is held alone, and which tries get it: to read, to read and
-// upgrade, to own alone.
-fn look<R: Wait>(rt: &R, lock: &AnyRwLock, token: &mut Token) -> [bool; 5]
+/// What one look at a lock tells: whether it is held, and is held alone, and which tries get it.
+#[derive(Clone, Copy, PartialEq, Eq)]
+struct Look {
+    locked: bool,
+    exclusively: bool,
+    reads: bool,
+    comes_upgradable: bool,
+    writes: bool,
+}
+
+// Looks at a lock, and tries it with each right.
+fn look<R: Wait>(rt: &R, lock: &AnyRwLock, token: &mut Token) -> Look
     requires { IsTokenOf (lot_of lock.now) token.old }
     ensures { IsTokenOf (lot_of lock.now) token.new }
 {
-    [
-        lock.is_locked(token),
-        lock.is_locked_exclusive(token),
-        reads(rt, lock, token),
-        comes_upgradable(rt, lock, token),
-        writes(rt, lock, token),
-    ]
+    Look {
+        locked: lock.is_locked(token),
+        exclusively: lock.is_locked_exclusive(token),
+        reads: reads(rt, lock, token),
+        comes_upgradable: comes_upgradable(rt, lock, token),
+        writes: writes(rt, lock, token),
+    }
 }
 
-const FREE: [bool; 5] = [false, false, true, true, true];
+const FREE: Look = Look {
+    locked: false,
+    exclusively: false,
+    reads: true,
+    comes_upgradable: true,
+    writes: true,
+};
 
-const READ: [bool; 5] = [true, false, true, true, false];
+const READ: Look = Look {
+    locked: true,
+    exclusively: false,
+    reads: true,
+    comes_upgradable: true,
+    writes: false,
+};
 
-const UPGRADABLE: [bool; 5] = [true, false, true, false, false];
+const UPGRADABLE: Look = Look {
+    locked: true,
+    exclusively: false,
+    reads: true,
+    comes_upgradable: false,
+    writes: false,
+};
 
-const WRITTEN: [bool; 5] = [true, true, false, false, false];
+const WRITTEN: Look = Look {
+    locked: true,
+    exclusively: true,
+    reads: false,
+    comes_upgradable: false,
+    writes: false,
+};
 
 // Checks all that is seen beside a reader, and after it.
 fn sees_readers<R: Wait>(rt: &R, lock: &AnyRwLock, token: &mut Token) -> bool
@@ -197,7 +230,7 @@ fn look_and_go<R: Wait>(
     lock: &AnyRwLock,
     token: &mut Token,
     turned: Result<RawExclusiveGuard, RawUpgradableGuard>,
-) -> (bool, [bool; 5])
+) -> (bool, Look)
     requires token { IsTokenOf (lot_of lock.now) token.old }
     requires guard { MatchResult turned (IsExclusiveOf (lot_of lock.now) (word_of lock.now))
         (IsUpgradableOf (lot_of lock.now) (word_of lock.now)) }
@@ -217,7 +250,7 @@ fn look_and_go<R: Wait>(
 }
 
 // A try to upgrade: whether it succeeded, and what was seen then.
-fn try_to_upgrade<R: Wait>(rt: &R, lock: &AnyRwLock, token: &mut Token) -> (bool, [bool; 5])
+fn try_to_upgrade<R: Wait>(rt: &R, lock: &AnyRwLock, token: &mut Token) -> (bool, Look)
     requires { IsTokenOf (lot_of lock.now) token.old }
     ensures { IsTokenOf (lot_of lock.now) token.new }
 {

@@ -84,12 +84,27 @@ fn gives_up<M: lock_api::RawMutexTimed, R: Wait>(
     !got && in_time && !got_later && is_just_past(clock, FAR + 80)
 }
 
-// Whether it gives up beside a thread that holds the mutex, and gets it in time once that is free.
+/// What became of two tries that may wait, one while the mutex is held and one while it is free.
+#[derive(Clone, Copy, Debug, PartialEq, Eq)]
+struct Timed {
+    gave_up: bool,
+    got: bool,
+    locked_then: bool,
+}
+
+// A waiter gives up while the mutex is held, and gets it once it is free.
+const IN_TIME: Timed = Timed {
+    gave_up: true,
+    got: true,
+    locked_then: false,
+};
+
+// Tries for a while beside a thread that holds the mutex, and again once that is free.
 fn gives_up_and_gets<M: lock_api::RawMutexTimed, R: Wait>(
     rt: &R,
     mutex: &lock_api::Mutex<M, u64>,
     token: &mut M::Token,
-) -> [bool; 3]
+) -> Timed
     requires { M.is_token_of (M.lot_of mutex.now) token.old }
 {
     let clock = far_clock();
@@ -97,39 +112,55 @@ fn gives_up_and_gets<M: lock_api::RawMutexTimed, R: Wait>(
     let gave_up = gives_up(rt, mutex, token, &clock);
     guard.unlock(rt, token);
     let got = gets_within(rt, mutex, token, &clock, 5);
-    [gave_up, got, mutex.is_locked(token)]
+    Timed {
+        gave_up,
+        got,
+        locked_then: mutex.is_locked(token),
+    }
 }
 
 #[test]
 fn a_waiter_gives_up_in_time(rt: HostRuntime) {
     let (mutex, mut token) = mutex_alone(&rt, rt.alloc(), 0u64);
     let seen = gives_up_and_gets(&rt, &mutex, &mut token);
-    check_eq(&rt, seen, [true, true, false]);
+    check_eq(&rt, seen, IN_TIME);
 }
 
 #[test]
 fn a_waiter_of_a_fair_mutex_gives_up_in_time(rt: HostRuntime) {
     let (mutex, mut token) = fair_mutex_alone(&rt, rt.alloc(), 0);
     let seen = gives_up_and_gets(&rt, &mutex, &mut token);
-    check_eq(&rt, seen, [true, true, false]);
+    check_eq(&rt, seen, IN_TIME);
 }
 
-// Whether it gets the mutex past the deadline: free, held by another thread, and free again.
+/// Whether tries past their deadline got the mutex.
+#[derive(Clone, Copy, Debug, PartialEq, Eq)]
+struct PastDeadline {
+    free: bool,
+    held: bool,
+    free_again: bool,
+}
+
+// Tries past the deadline while the mutex is free, is held by another thread, and is free again.
 fn tries_in_turn<R: Wait>(
     rt: &R,
     mutex: &Mutex<u64>,
     holder: &mut Token,
     waiter: Ticket,
-) -> [bool; 3]
+) -> PastDeadline
     requires { IsTokenOf (lot_of mutex.now) holder.old × IsTicketOf (lot_of mutex.now) waiter }
 {
     let mut waiter = waiter.enter();
     let clock = TickClock::new();
-    let before = gets_before(rt, mutex, &mut waiter, &clock, 0);
+    let free = gets_before(rt, mutex, &mut waiter, &clock, 0);
     let guard = mutex.lock(rt, holder);
     let held = gets_before(rt, mutex, &mut waiter, &clock, 0);
     guard.unlock(rt, holder);
-    [before, held, gets_before(rt, mutex, &mut waiter, &clock, 0)]
+    PastDeadline {
+        free,
+        held,
+        free_again: gets_before(rt, mutex, &mut waiter, &clock, 0),
+    }
 }
 
 #[test]
@@ -140,5 +171,10 @@ fn a_free_mutex_is_got_past_the_deadline(rt: HostRuntime) {
         panic!(rt; "no second thread");
     };
     let got = tries_in_turn(&rt, &mutex, &mut holder, waiter);
-    check_eq(&rt, got, [true, false, true]);
+    let expected = PastDeadline {
+        free: true,
+        held: false,
+        free_again: true,
+    };
+    check_eq(&rt, got, expected);
 }

@@ -18,23 +18,32 @@ use std::thread::yield_now;
 
 const TURNS: usize = 1_000_000;
 
-// Which tries get the lock: to read, to read and upgrade, to write; and whether it is locked then,
-// and is locked exclusively.
-fn look<R: Wait>(rt: &R, lock: &Lock, token: &mut Token) -> [bool; 5]
+/// What one look at a lock tells: which tries get it, and whether it is held, and is held alone.
+#[derive(Clone, Copy, Debug, PartialEq, Eq)]
+struct Look {
+    reads: bool,
+    comes_upgradable: bool,
+    writes: bool,
+    locked: bool,
+    exclusively: bool,
+}
+
+// Looks at a lock, and tries it with each right.
+fn look<R: Wait>(rt: &R, lock: &Lock, token: &mut Token) -> Look
     requires { IsTokenOf (lot_of_rwlock lock.now) token.old }
     ensures { IsTokenOf (lot_of_rwlock lock.now) token.new }
 {
-    [
-        reads(rt, lock, token),
-        comes_upgradable(rt, lock, token),
-        writes(rt, lock, token),
-        lock.is_locked(token),
-        lock.is_locked_exclusive(token),
-    ]
+    Look {
+        reads: reads(rt, lock, token),
+        comes_upgradable: comes_upgradable(rt, lock, token),
+        writes: writes(rt, lock, token),
+        locked: lock.is_locked(token),
+        exclusively: lock.is_locked_exclusive(token),
+    }
 }
 
 // Checks all that is seen beside a reader.
-fn beside_reader<R: Wait>(rt: &R, lock: &Lock, token: &mut Token) -> Option<[bool; 5]>
+fn beside_reader<R: Wait>(rt: &R, lock: &Lock, token: &mut Token) -> Option<Look>
     requires { IsTokenOf (lot_of_rwlock lock.now) token.old }
     ensures { IsTokenOf (lot_of_rwlock lock.now) token.new }
 {
@@ -45,7 +54,7 @@ fn beside_reader<R: Wait>(rt: &R, lock: &Lock, token: &mut Token) -> Option<[boo
 }
 
 // Beside one that may write later.
-fn beside_upgradable<R: Wait>(rt: &R, lock: &Lock, token: &mut Token) -> Option<[bool; 5]>
+fn beside_upgradable<R: Wait>(rt: &R, lock: &Lock, token: &mut Token) -> Option<Look>
     requires { IsTokenOf (lot_of_rwlock lock.now) token.old }
     ensures { IsTokenOf (lot_of_rwlock lock.now) token.new }
 {
@@ -56,7 +65,7 @@ fn beside_upgradable<R: Wait>(rt: &R, lock: &Lock, token: &mut Token) -> Option<
 }
 
 // Beside a writer, after each of its downgrades, and in the end.
-fn beside_writer<R: Wait>(rt: &R, lock: &Lock, token: &mut Token) -> [[bool; 5]; 4]
+fn beside_writer<R: Wait>(rt: &R, lock: &Lock, token: &mut Token) -> [Look; 4]
     requires { IsTokenOf (lot_of_rwlock lock.now) token.old }
     ensures { IsTokenOf (lot_of_rwlock lock.now) token.new }
 {
@@ -71,18 +80,40 @@ fn beside_writer<R: Wait>(rt: &R, lock: &Lock, token: &mut Token) -> [[bool; 5];
 }
 
 // Which tries get the lock beside a reader.
-const BESIDE_READER: [bool; 5] = [true, true, false, true, false];
+const BESIDE_READER: Look = Look {
+    reads: true,
+    comes_upgradable: true,
+    writes: false,
+    locked: true,
+    exclusively: false,
+};
 
 // Beside one that may write later.
-const BESIDE_UPGRADABLE: [bool; 5] = [true, false, false, true, false];
+const BESIDE_UPGRADABLE: Look = Look {
+    reads: true,
+    comes_upgradable: false,
+    writes: false,
+    locked: true,
+    exclusively: false,
+};
 
-// Beside a writer, after each of its downgrades, and in the end.
-const BESIDE_WRITER: [[bool; 5]; 4] = [
-    [false, false, false, true, true],
-    BESIDE_UPGRADABLE,
-    BESIDE_READER,
-    [true, true, true, false, false],
-];
+// Beside a writer.
+const BESIDE_WRITER: Look = Look {
+    reads: false,
+    comes_upgradable: false,
+    writes: false,
+    locked: true,
+    exclusively: true,
+};
+
+// While nobody has the lock.
+const FREE: Look = Look {
+    reads: true,
+    comes_upgradable: true,
+    writes: true,
+    locked: false,
+    exclusively: false,
+};
 
 fn all_keep_out<R: Wait + Abort>(rt: &R, lock: &Lock, token: &mut Token)
     requires { IsTokenOf (lot_of_rwlock lock.now) token.old }
@@ -94,7 +125,11 @@ fn all_keep_out<R: Wait + Abort>(rt: &R, lock: &Lock, token: &mut Token)
         [reader, upgradable],
         [Some(BESIDE_READER), Some(BESIDE_UPGRADABLE)],
     );
-    check_eq(rt, beside_writer(rt, lock, token), BESIDE_WRITER);
+    check_eq(
+        rt,
+        beside_writer(rt, lock, token),
+        [BESIDE_WRITER, BESIDE_UPGRADABLE, BESIDE_READER, FREE],
+    );
 }
 
 #[test]

@@ -112,35 +112,52 @@ fn a_reader_that_bumps_lets_a_writer_in(rt: HostRuntime) {
     play(Sort::Normal, &rt, rt.alloc(), bumped);
 }
 
-// Checks a lock that one thread has to itself, where it bumps each right and releases it fairly.
-fn goes_alone<R: Wait>(rt: &R, lock: &AnyRwLock, token: &mut Token) -> [bool; 3]
+/// Which rights of a lone owner were kept by a bump, and gone after a fair release.
+#[derive(Clone, Copy, Debug, PartialEq, Eq)]
+struct Freed {
+    shared: bool,
+    upgradable: bool,
+    exclusive: bool,
+}
+
+// Bumps each right of a lock that one thread has to itself, and releases it fairly.
+fn goes_alone<R: Wait>(rt: &R, lock: &AnyRwLock, token: &mut Token) -> Freed
     requires { IsTokenOf (lot_of lock.now) token.old }
     ensures { IsTokenOf (lot_of lock.now) token.new }
 {
-    let mut free = [false; 3];
+    let mut freed = Freed {
+        shared: false,
+        upgradable: false,
+        exclusive: false,
+    };
     if let Ok(guard) = lock.lock_shared(rt, token)
         && let Ok(guard) = lock.bump_shared(rt, token, guard)
     {
         lock.unlock_shared_fair(rt, token, guard);
-        free[0] = !lock.is_locked(token);
+        freed.shared = !lock.is_locked(token);
     }
     if let Ok(guard) = lock.lock_upgradable(rt, token)
         && let Ok(guard) = lock.bump_upgradable(rt, token, guard)
     {
         lock.unlock_upgradable_fair(rt, token, guard);
-        free[1] = !lock.is_locked(token);
+        freed.upgradable = !lock.is_locked(token);
     }
     let guard = lock.lock_exclusive(rt, token);
     let guard = lock.bump_exclusive(rt, token, guard);
     let kept = lock.is_locked_exclusive(token);
     lock.unlock_exclusive_fair(rt, token, guard);
-    free[2] = kept && !lock.is_locked(token);
-    free
+    freed.exclusive = kept && !lock.is_locked(token);
+    freed
 }
 
 #[test]
 fn a_lone_owner_keeps_its_right_as_it_bumps(rt: HostRuntime) -> Result<(), Fail> {
     let (lock, mut token) = lock_alone(Sort::Normal, rt.alloc(), 2)?;
-    check_eq(&rt, goes_alone(&rt, &lock, &mut token), [true, true, true]);
+    let expected = Freed {
+        shared: true,
+        upgradable: true,
+        exclusive: true,
+    };
+    check_eq(&rt, goes_alone(&rt, &lock, &mut token), expected);
     Ok(())
 }
