@@ -15,9 +15,6 @@ use Rattle.steps_mutex.specs.declared.places.TheConstants.{NOT_PARKED}
 use Rattle.steps_mutex.specs.MutexDeeds.{queued}
 use Rattle.steps_mutex.specs.MutexSteps.{is_locked, is_parked}
 
-pub put_same : {A : Type 0} (f : ℕ → A) (t : ℕ) (x : A) → putting f t x t ≡ x
-put_same f t x = grind (arith, nat_tests)
-
 -- the word, by its bit and its owner
 abbrev pub word_of : Bool → Option ℕ → ℕ
 word_of parked o = one_if_some o + 2 * bit parked
@@ -106,10 +103,6 @@ tried_owned true None e = absurd cc
 tried_owned false None e = absurd cc
 
 -- ---------------------------------------------------------------- the first waiter
-
-pub nobody_first : (q : List Queued) → first_thread q ≡ None → q ≡ []
-nobody_first [] e = refl
-nobody_first (x ∷ q) e = absurd cc
 
 exclusive_wanted : (x : Queued) → Knows Mutex x.want → x ≡ queued x.thread
 exclusive_wanted x k = λ i. record { thread = x.thread; want = wanted x.want k i }

@@ -20,9 +20,6 @@ use Rattle.steps_semaphore.specs.declared.places.TheConstants.{NOT_PARKED}
 use Rattle.steps_semaphore.specs.SemaphoreDeeds.{queued}
 use Rattle.steps_semaphore.specs.SemaphoreSteps.{free_permits, is_free}
 
-pub put_same : {A : Type 0} (f : ℕ → A) (t : ℕ) (x : A) → putting f t x t ≡ x
-put_same f t x = grind (arith, nat_tests)
-
 -- the word, by the free permits and its bit
 abbrev pub word_of : ℕ → Bool → ℕ
 word_of n p = 2 * n + bit p
@@ -76,10 +73,6 @@ pub held_few : (s : LockState) (t : ℕ) → t < length s.shared → slice_index
 held_few s t here = get_or-le-sum_by (λ (n : ℕ). n) s.shared t 0 here
 
 -- ---------------------------------------------------------------- the first waiter
-
-pub nobody_first : (q : List Queued) → first_thread q ≡ None → q ≡ []
-nobody_first [] e = refl
-nobody_first (x ∷ q) e = absurd cc
 
 shared_wanted : (x : Queued) → Knows Semaphore x.want → x ≡ queued x.thread
 shared_wanted x k = λ i. record { thread = x.thread; want = wanted x.want k i }

@@ -1,7 +1,7 @@
 use Rattle.std.proofs.Common.{◌≡◌, ◌++◌, length}
 use Rattle.std.specs.Vec.{vec_capacity}
 use Rattle.core_base.specs.Lines.{line, threads_of}
-use Rattle.lot_machine.proofs.machine.list_line.Given as goal
+use Rattle.lot_machine.proofs.acts.list_line.Given as goal
 
 -- each thread that isn't listed yet stands from the place on
 abbrev pub invariant-loop-waiter : goal.invariant-loop-waiter

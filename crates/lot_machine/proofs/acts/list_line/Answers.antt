@@ -1,7 +1,7 @@
 use Rattle.std.proofs.Common.{arith}
 use Rattle.core_base.specs.Lines.{line}
 use Rattle.lot_machine.proofs.QueueLemmas.{room_for}
-use Rattle.lot_machine.proofs.machine.list_line.Goals as goal
+use Rattle.lot_machine.proofs.acts.list_line.Goals as goal
 
 pub push_reserved-requires : goal.push_reserved-requires
 push_reserved-requires g c =
