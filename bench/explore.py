@@ -85,14 +85,14 @@ def spin_checker(folder, threads, times, name, *flags):
     return made
 
 
-def rumur_checker(folder, threads, times):
-    """Rumur's program for so many threads that take a mutex so often."""
+def rumur_checker(folder, threads, times, jobs):
+    """Rumur's program for so many threads that take a mutex so often. It searches in as many threads as it was made for."""
     with open(RUMUR_MODEL, encoding="utf-8") as model:
         text = re.sub(r"\bR: \d+;", f"R: {times};", re.sub(r"\bN: \d+;", f"N: {threads};", model.read()))
     with open(os.path.join(folder, "mutex.m"), "w", encoding="utf-8") as model:
         model.write(text)
-    run(["rumur", "--deadlock-detection", "off", "--output", "mutex.c", "mutex.m"], folder)
-    made = os.path.join(folder, f"rumur_{threads}_{times}")
+    run(["rumur", "--threads", str(jobs), "--deadlock-detection", "off", "--output", "mutex.c", "mutex.m"], folder)
+    made = os.path.join(folder, f"rumur_{threads}_{times}_{jobs}")
     run(["gcc", "-std=c11", "-O3", "-march=native", "-mcx16", "-w", "-o", made, "mutex.c", "-lpthread", "-latomic"], folder)
     return made
 
@@ -113,8 +113,7 @@ def spin_tools(folder, threads, times, width):
 
 
 def rumur_tools(folder, threads, times):
-    made = rumur_checker(folder, threads, times)
-    return [Tool(f"rumur, {jobs} threads", [made, "--threads", str(jobs)], OF_RUMUR) for jobs in (1, JOBS)]
+    return [Tool(f"rumur, {jobs} threads", [rumur_checker(folder, threads, times, jobs)], OF_RUMUR) for jobs in (1, JOBS)]
 
 
 def row(tool, program, found):
