@@ -115,7 +115,7 @@ fn writes<R: Wait>(rt: &R, lock: &AnyRwLock, token: &mut Token) -> bool
 
 /// What one look at a lock tells: whether it is held, and is held alone, and which tries get it.
 #[derive(Clone, Copy, PartialEq, Eq)]
-struct Look {
+struct Seen {
     locked: bool,
     exclusively: bool,
     reads: bool,
@@ -124,11 +124,11 @@ struct Look {
 }
 
 // Looks at a lock, and tries it with each right.
-fn look<R: Wait>(rt: &R, lock: &AnyRwLock, token: &mut Token) -> Look
+fn look<R: Wait>(rt: &R, lock: &AnyRwLock, token: &mut Token) -> Seen
     requires { IsTokenOf (lot_of lock.now) token.old }
     ensures { IsTokenOf (lot_of lock.now) token.new }
 {
-    Look {
+    Seen {
         locked: lock.is_locked(token),
         exclusively: lock.is_locked_exclusive(token),
         reads: reads(rt, lock, token),
@@ -137,7 +137,7 @@ fn look<R: Wait>(rt: &R, lock: &AnyRwLock, token: &mut Token) -> Look
     }
 }
 
-const FREE: Look = Look {
+const FREE: Seen = Seen {
     locked: false,
     exclusively: false,
     reads: true,
@@ -145,7 +145,7 @@ const FREE: Look = Look {
     writes: true,
 };
 
-const READ: Look = Look {
+const READ: Seen = Seen {
     locked: true,
     exclusively: false,
     reads: true,
@@ -153,7 +153,7 @@ const READ: Look = Look {
     writes: false,
 };
 
-const UPGRADABLE: Look = Look {
+const UPGRADABLE: Seen = Seen {
     locked: true,
     exclusively: false,
     reads: true,
@@ -161,7 +161,7 @@ const UPGRADABLE: Look = Look {
     writes: false,
 };
 
-const WRITTEN: Look = Look {
+const WRITTEN: Seen = Seen {
     locked: true,
     exclusively: true,
     reads: false,
@@ -230,7 +230,7 @@ fn look_and_go<R: Wait>(
     lock: &AnyRwLock,
     token: &mut Token,
     turned: Result<RawExclusiveGuard, RawUpgradableGuard>,
-) -> (bool, Look)
+) -> (bool, Seen)
     requires token { IsTokenOf (lot_of lock.now) token.old }
     requires guard { MatchResult turned (IsExclusiveOf (lot_of lock.now) (word_of lock.now))
         (IsUpgradableOf (lot_of lock.now) (word_of lock.now)) }
@@ -250,7 +250,7 @@ fn look_and_go<R: Wait>(
 }
 
 // A try to upgrade: whether it succeeded, and what was seen then.
-fn try_to_upgrade<R: Wait>(rt: &R, lock: &AnyRwLock, token: &mut Token) -> (bool, Look)
+fn try_to_upgrade<R: Wait>(rt: &R, lock: &AnyRwLock, token: &mut Token) -> (bool, Seen)
     requires { IsTokenOf (lot_of lock.now) token.old }
     ensures { IsTokenOf (lot_of lock.now) token.new }
 {

@@ -7,7 +7,7 @@ ghost use Rattle.test_any_rwlock.specs.AnyLocks.{lot_of, word_of};
 use super::crowds::{Part, Told, play};
 use super::fixtures::{AnyRwLock, Sort, await_flag, comes_to, lock_alone, queue_up};
 use super::{
-    FREE, Look, READ, UPGRADABLE, WRITTEN, check, goes, goes_upgradable, goes_writing, look,
+    FREE, READ, Seen, UPGRADABLE, WRITTEN, check, goes, goes_upgradable, goes_writing, look,
     look_and_go,
 };
 use parking_lot::{Clock, Fault, ParkingLot, RawSharedGuard, TickClock, Token};
@@ -137,7 +137,7 @@ fn gives_up_beside_a_reader<R: Wait>(rt: &R, lock: &AnyRwLock, token: &mut Token
 }
 
 // Whether an upgrade beside a reader gives up soon and keeps its right, and one alone doesn't.
-fn upgrades_in_time<R: Wait>(rt: &R, lock: &AnyRwLock, token: &mut Token) -> Option<Look>
+fn upgrades_in_time<R: Wait>(rt: &R, lock: &AnyRwLock, token: &mut Token) -> Option<Seen>
     requires { IsTokenOf (lot_of lock.now) token.old }
     ensures { IsTokenOf (lot_of lock.now) token.new }
 {

@@ -20,7 +20,7 @@ const TURNS: usize = 1_000_000;
 
 /// What one look at a lock tells: which tries get it, and whether it is held, and is held alone.
 #[derive(Clone, Copy, Debug, PartialEq, Eq)]
-struct Look {
+struct Seen {
     reads: bool,
     comes_upgradable: bool,
     writes: bool,
@@ -29,11 +29,11 @@ struct Look {
 }
 
 // Looks at a lock, and tries it with each right.
-fn look<R: Wait>(rt: &R, lock: &Lock, token: &mut Token) -> Look
+fn look<R: Wait>(rt: &R, lock: &Lock, token: &mut Token) -> Seen
     requires { IsTokenOf (lot_of_rwlock lock.now) token.old }
     ensures { IsTokenOf (lot_of_rwlock lock.now) token.new }
 {
-    Look {
+    Seen {
         reads: reads(rt, lock, token),
         comes_upgradable: comes_upgradable(rt, lock, token),
         writes: writes(rt, lock, token),
@@ -43,7 +43,7 @@ fn look<R: Wait>(rt: &R, lock: &Lock, token: &mut Token) -> Look
 }
 
 // Checks all that is seen beside a reader.
-fn beside_reader<R: Wait>(rt: &R, lock: &Lock, token: &mut Token) -> Option<Look>
+fn beside_reader<R: Wait>(rt: &R, lock: &Lock, token: &mut Token) -> Option<Seen>
     requires { IsTokenOf (lot_of_rwlock lock.now) token.old }
     ensures { IsTokenOf (lot_of_rwlock lock.now) token.new }
 {
@@ -54,7 +54,7 @@ fn beside_reader<R: Wait>(rt: &R, lock: &Lock, token: &mut Token) -> Option<Look
 }
 
 // Beside one that may write later.
-fn beside_upgradable<R: Wait>(rt: &R, lock: &Lock, token: &mut Token) -> Option<Look>
+fn beside_upgradable<R: Wait>(rt: &R, lock: &Lock, token: &mut Token) -> Option<Seen>
     requires { IsTokenOf (lot_of_rwlock lock.now) token.old }
     ensures { IsTokenOf (lot_of_rwlock lock.now) token.new }
 {
@@ -65,7 +65,7 @@ fn beside_upgradable<R: Wait>(rt: &R, lock: &Lock, token: &mut Token) -> Option<
 }
 
 // Beside a writer, after each of its downgrades, and in the end.
-fn beside_writer<R: Wait>(rt: &R, lock: &Lock, token: &mut Token) -> [Look; 4]
+fn beside_writer<R: Wait>(rt: &R, lock: &Lock, token: &mut Token) -> [Seen; 4]
     requires { IsTokenOf (lot_of_rwlock lock.now) token.old }
     ensures { IsTokenOf (lot_of_rwlock lock.now) token.new }
 {
@@ -80,7 +80,7 @@ fn beside_writer<R: Wait>(rt: &R, lock: &Lock, token: &mut Token) -> [Look; 4]
 }
 
 // Which tries get the lock beside a reader.
-const BESIDE_READER: Look = Look {
+const BESIDE_READER: Seen = Seen {
     reads: true,
     comes_upgradable: true,
     writes: false,
@@ -89,7 +89,7 @@ const BESIDE_READER: Look = Look {
 };
 
 // Beside one that may write later.
-const BESIDE_UPGRADABLE: Look = Look {
+const BESIDE_UPGRADABLE: Seen = Seen {
     reads: true,
     comes_upgradable: false,
     writes: false,
@@ -98,7 +98,7 @@ const BESIDE_UPGRADABLE: Look = Look {
 };
 
 // Beside a writer.
-const BESIDE_WRITER: Look = Look {
+const BESIDE_WRITER: Seen = Seen {
     reads: false,
     comes_upgradable: false,
     writes: false,
@@ -107,7 +107,7 @@ const BESIDE_WRITER: Look = Look {
 };
 
 // While nobody has the lock.
-const FREE: Look = Look {
+const FREE: Seen = Seen {
     reads: true,
     comes_upgradable: true,
     writes: true,
