@@ -5,4 +5,5 @@ pub mod Reading
 pub mod Through
 pub mod Tracked
 mod KeyKeeps
+mod ShareKeeps
 pub mod Ghostly

@@ -1,13 +1,13 @@
 pub mod Totals
-pub mod Lists
+mod Lists
 pub mod Looks
-pub mod Indices
+mod Indices
 pub mod Trades
-pub mod Counts
+mod Counts
 pub mod Keeps
 pub mod PermitSteps
-pub mod Stepping
-pub mod Seats
+mod Stepping
+mod Seats
 pub mod MutexSteps
 pub mod RwLockSteps
 pub mod RwLockKinds
@@ -18,6 +18,6 @@ pub mod SemaphoreSteps
 pub mod TiedSteps
 pub mod Endowing
 mod Alone
-pub mod AtWord
+mod AtWord
 mod Tries
 mod RuleLaws

@@ -1,4 +1,0 @@
-mod Named
-mod Stores
-mod Parts
-mod AtCount

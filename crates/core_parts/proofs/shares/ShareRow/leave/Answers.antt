@@ -1,0 +1,20 @@
+use Rattle.std.proofs.Common.{◌<◌, ◌∙◌, ℕ, [], None, refl, arith}
+use Rattle.core_parts.proofs.ShareKeeps.{leave_at, one_here, stays_tagged}
+use Rattle.core_parts.proofs.shares.ShareRow.leave.Goals as goal
+
+pub swap-found-requires : goal.swap-found-requires
+swap-found-requires g c = let row = c.args.self.now in let sized = row.sized in let words = sized.0
+    in let slots = sized.1 in
+    let at : ℕ = c.args.entered.at in let near = c.requires.inside.0 in
+    let below : at < row.table.shared.table_id.words = omega arith in
+    let within : at < row.table.shared.table_id.slots = omega arith in
+    let old = c.args.entered.seat.me in let one = one_here at in (
+      c.exchange.ensures.0 ∙ c.requires.inside.1.0,
+      below,
+      leave_at g.T.Shared.fits g.T.Shared.tag row.table.shared.table_id.slots c.exchange.new.seat.id at old
+          c.exchange.new.seat.me row.table.shared.key [] [] old.0.knows 0 c.args.content None within
+          c.args.entered.inside c.exchange.ensures.3 c.requires.inside.1.2 c.requires.inside.1.3
+          (λ k ne. refl) (λ k ne. refl) refl c.requires.fits
+          (λ _. stays_tagged g.T.Shared.fits g.T.Shared.tag at row.table.shared.key c.args.content old.0.knows
+          old.0.found c.requires.fits c.requires.tag) (λ none. absurd (omega (arith, none))),
+    )

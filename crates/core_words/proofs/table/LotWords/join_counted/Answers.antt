@@ -1,0 +1,18 @@
+use Rattle.std.proofs.Common.{ap, arith, ◌∙◌}
+use Rattle.core_words.specs.Indices.{word_index}
+use Rattle.core_words.specs.Permits.{slots_of}
+use Rattle.core_words.specs.Views.{owning_with}
+use Rattle.core_words.specs.declared.words.WordKind.TheVariants.{Mutex}
+use Rattle.core_words.proofs.Seats.{takes_back}
+use Rattle.core_words.proofs.table.LotWords.join_counted.Goals as goal
+
+pub join_seat-requires : goal.join_seat-requires
+join_seat-requires c = let lot = c.args.self.now in let sized = lot.sized in let sized₀ = sized.0
+    in let counted = c.args.counted in let family = lot.table.shared.key.1.family in (
+      c.requires.0.0,
+      c.requires.1.0.0,
+      c.requires.1.0.1 ∙ ap (λ v. slots_of family v.out) c.requires.1.1,
+      omega arith,
+      takes_back lot.table.shared.key.0 family c.args.seat.now.id c.args.seat.now.me.0 counted.seat.id
+          (owning_with (word_index c.args.mutex.number Mutex) c.args.count) counted.seat.me.0 c.requires.1.1,
+    )
