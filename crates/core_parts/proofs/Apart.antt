@@ -5,26 +5,24 @@ use mir.Syntax.{Sym}
 use mir.Val.{Val}
 use base.Fraction.{full_share}
 use base.Logic.{SProp, ent, sep, wand, ex, all_e, apply∗}
-use base.Fml.{Fml, ftrue, fsep}
+use base.Fml.{Fml, ftrue, fsep, fex}
 use types.Logic.{Logic, sem}
 use types.Kit.{‵, raw, ◌⊛◌, some, ◌$◌, ◌∵◌, !, qed, by, move, drop, use1, use2, split, fsplit, fjoin, fpick}
 use types.Kit.{fpack, pick, show, frame, each, assume, done}
 use denote.RattleType.{RattleType, Denots}
 use denote.Laws.{Lawful, Is, Typed, shows}
-use denote.Memory.{part_of, part_at, cell_at}
+use denote.Memory.{part_of, part_at, cell_at, raw_all}
 use denote.Steps.{nothing, peeks}
 use denote.Struct.Struct.{Struct, Struct-Lawful}
 use denote.Struct.Members.{Member, row_of, rows_of, parts_at}
 use denote.Struct.Parts.{PartsBack, Struct-parts, shape_of}
 use denote.Struct.CellSteps.{Out}
 use Rattle.core.proofs.cell.Inside.{νU}
-use Rattle.core_parts.specs.PermitIds.{PermitId}
 use Rattle.core_parts.specs.Ownership.{offset}
-use Rattle.core_parts.specs.contracts.place.Place as C
-use Rattle.core_parts.specs.contracts.place.Place.TheInside as inside
 
-module _ {M : Type 1} {𝓤 : Ura M} (𝓛 : Logic 𝓤) (m : Member) (L : Lawful 𝓛 (row_of m)) (d : PermitId)
-    (b o : ℕ) where
+-- ν is the name of the place's struct, d what a clause sees of the place
+module _ {M : Type 1} {𝓤 : Ura M} (𝓛 : Logic 𝓤) (m : Member) (L : Lawful 𝓛 (row_of m)) (ν : Sym) {D : Type 0}
+    (d : D) (b o : ℕ) where
   abbrev Pr : Type 2
   Pr = SProp 𝓤
 
@@ -46,17 +44,17 @@ module _ {M : Type 1} {𝓤 : Ura M} (𝓛 : Logic 𝓤) (m : Member) (L : Lawfu
   abbrev R : RattleType
   R = row_of m
 
-  abbrev ν : Sym
-  ν = (denote.Struct.Declared.shape (inside.the_type R)).name
-
   abbrev ks : List Member
   ks = m ∷ []
 
   abbrev Data : RattleType
   Data = Struct (shape_of ν ks)
 
+  abbrev own : D → List Val → Fml
+  own _ vs = fsep (fex (Typed Data.mir vs) (λ _. ftrue)) (fex R.Denot (λ z. Data.own_val (z, tt) vs))
+
   abbrev P : Fml
-  P = part_at (C.the_row R) full_share d b o
+  P = part_of (raw_all Data.mir) own full_share d b o
 
   abbrev Fields : R.Denot → Fml
   Fields x = part_at Data full_share (x, tt) b o
@@ -78,7 +76,7 @@ module _ {M : Type 1} {𝓤 : Ura M} (𝓛 : Logic 𝓤) (m : Member) (L : Lawfu
       fpack ! R.Denot (λ z. Data.own_val (z, tt) vs) x $ nothing ! $ fpack ! (Typed Data.mir vs) (λ _. ftrue)
       ((Struct-Lawful 𝓛 (shape_of ν ks) (L, tt)).typed (x, tt) vs is) $ fjoin ! $ move ! (1 ∷ 0 ∷ [])
       $ fjoin ! $
-      fpack ! (List Val) (λ us. fsep (cell_at full_share Data.mir us b o) ((C.the_row R).own_val d us)) vs
+      fpack ! (List Val) (λ us. fsep (cell_at full_share Data.mir us b o) (own d us)) vs
       $ done !))
 
   pub out : ⟦ P ⟧ ⊢ ex 𝓤 (Out 𝓛 νU [] (R ∷ []) m L b (o + offset R) ⟦ P ⟧)

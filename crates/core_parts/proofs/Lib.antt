@@ -5,5 +5,4 @@ pub mod Reading
 pub mod Through
 pub mod Tracked
 mod KeyKeeps
-mod ShareKeeps
 pub mod Ghostly

@@ -62,7 +62,7 @@ module _ {M : Type 1} {𝓤 : Ura M} (𝓛 : Logic 𝓤) (R : RattleType) (b e :
   Ob δ x = fobs δ (R.coded.code x)
 
   -- a step for one token of α is a step for one of κ
-  by_before : (κ α : Lft) (q : Share) (X Y : Pr) → ((s : Share) → X ∗ A.lft α s ⊢ H.⇛ (Y ∗ A.lft α s))
+  pub by_before : (κ α : Lft) (q : Share) (X Y : Pr) → ((s : Share) → X ∗ A.lft α s ⊢ H.⇛ (Y ∗ A.lft α s))
       → ⟦ before κ α ⟧ ∗ X ∗ A.lft κ q ⊢ H.⇛ (Y ∗ A.lft κ q)
   by_before κ α q X Y f = qed 𝓛 (‵ (before κ α) ∷ raw X ∷ ‵ (flft κ q) ∷ []) ∵ updating ! $ move !
       (0 ∷ 2 ∷ []) $

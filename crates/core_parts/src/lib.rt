@@ -1,5 +1,5 @@
 //! Parts over a table of words: a value in a plain place and the permit that opens it, a row of locks
-//! whose values fit a key, a row of places that are shared, and what seats do with no step.
+//! whose values fit a key, and what seats do with no step.
 #![tactic(auto)]
 
 mod keyed;
@@ -7,13 +7,9 @@ mod lends;
 mod permit;
 mod place;
 pub mod seats;
-mod shares;
 mod slot;
-mod view;
 
 pub use keyed::{Held, Keyed, KeyedLocks};
 pub use permit::{NamesPermit, Permit, Permits};
 pub use place::{Open, Place};
-pub use shares::{Entered, Share, ShareRow, Shared};
 pub use slot::PermitSlot;
-pub use view::View;

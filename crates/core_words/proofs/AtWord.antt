@@ -125,7 +125,7 @@ module _ (lot : LotWords) (seat : Seat PermitSlot View) (word : Word) (own : IsS
   pub below : word.number < words
   below = let sized = lot.sized in let drawn = own.1 in omega (arith, sized.1, drawn.1)
 
-  near : (i : ℕ) → i ≡ word_index word.number word.kind → i < lot.table.shared.table_id.words
+  pub near : (i : ℕ) → i ≡ word_index word.number word.kind → i < lot.table.shared.table_id.words
   near i here = let sized = lot.sized in omega (arith, rank_lt word.kind, sized.0, sized.1, below, here)
 
   -- by the index that was computed and the operation that was matched

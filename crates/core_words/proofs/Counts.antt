@@ -13,7 +13,7 @@ use Rattle.core_words.proofs.Totals.{total-set, term_le, cond_same, cond_other}
 use Rattle.core_words.proofs.Trades.{total-without}
 
 -- a thread that isn't there says nothing
-no_count : (at : ℕ) (owns : List Ownership) → owned at everyone owns ≡ 0 → counted at owns ≡ 0
+pub no_count : (at : ℕ) (owns : List Ownership) → owned at everyone owns ≡ 0 → counted at owns ≡ 0
 no_count at [] none = refl
 no_count at (x ∷ xs) none = dite (ℕ_discrete x.at at)
     (λ e. absurd (omega (arith, cond_same x.at at 1 e)))

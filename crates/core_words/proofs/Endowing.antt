@@ -11,8 +11,8 @@ use Rattle.atomic_table.specs.Table.{State, Me, step, keeps, Act, Valid, carried
 use Rattle.atomic_table.proofs.Lists.{at_set}
 use Rattle.core_base.specs.declared.ops.Op.TheVariants.{Exchange, Load}
 use Rattle.core_words.specs.Indices.{counter, plain, permits_in, word_index}
-use Rattle.core_words.specs.Views.{blank, view, with_out, total, total_below, owned, owning, named, counted}
-use Rattle.core_words.specs.Views.{steps_at, outs, drew, drew_permits, granted}
+use Rattle.core_words.specs.Views.{blank, going_on, with_out, total, total_below, owned, owning, named}
+use Rattle.core_words.specs.Views.{counted, steps_at, outs, drew, drew_permits, granted}
 use Rattle.core_words.specs.Codes.{Codes, IsSemaphoreCode, Shows, everyone, exclusive, shared}
 use Rattle.core_words.specs.Rule.{LotRule, MayBeShown, MayHaveOut}
 use Rattle.core_words.specs.RuleLaws.{PermitsAreAllThere}
@@ -28,8 +28,9 @@ use Rattle.core_words.specs.declared.words.WordKind.{WordKind}
 use Rattle.core_words.specs.declared.words.WordKind.TheVariants.{Mutex, Condvar, Count, Semaphore}
 use Rattle.core_parts.specs.declared.slot.PermitSlot.{PermitSlot}
 use Rattle.core_words.proofs.Indices.{rank_lt, index-kind, index-number}
-use Rattle.core_words.proofs.Keeps.{at_counter, codes_alike, count_turned, no_permits, permits_of}
-use Rattle.core_words.proofs.Keeps.{shown_still, total_below-numbered}
+use Rattle.core_words.proofs.Keeps.{SameCounts, SameName, at_counter, codes_alike, count_turned}
+use Rattle.core_words.proofs.Keeps.{counts_still, no_permits, permits_of, same_counts, shown_still}
+use Rattle.core_words.proofs.Keeps.{total_below-numbered}
 use Rattle.core_words.proofs.Lists.{has_index, set_again, set_here}
 use Rattle.core_words.proofs.SemaphoreSteps.{many_of, semaphore_steps}
 use Rattle.core_words.proofs.Stepping.{steps}
@@ -113,10 +114,10 @@ module _ (words family : ℕ) (s : State PermitSlot View) (o : LotRule words fam
     (v w : View) (me : get_elem? s.views j ≡ some v)
     (below : number < words) (few : permits ≤ 2 ^ 62) (fresh : granted number s.views ≡ 0)
     (holds : w.owns ≡ holding (word_index number (Semaphore permits)) permits ++ v.owns)
-    (drew_here : drew_permits number w ≡ drew_permits number v + permits) (drew_there : (k : ℕ) → k ≢ number
-    → drew_permits k w ≡ drew_permits k v)
-    (same-drawn : (weight : ℕ → ℕ) → drew weight w ≡ drew weight v) (same-steps : (r : ℕ) → steps_at r w
-    ≡ steps_at r v) (same-out : w.out ≡ v.out) (same-saw : w.saw ≡ v.saw) where
+    (drew_here : drew_permits number w ≡ drew_permits number v + permits) (drew_there : (k : ℕ) → k ≢
+    number → drew_permits k w ≡ drew_permits k v)
+    (same-drawn : (weight : ℕ → ℕ) → drew weight w ≡ drew weight v) (same-steps : (r : ℕ) → steps_at r w ≡
+    steps_at r v) (same-out : w.out ≡ v.out) (same-saw : w.saw ≡ v.saw) (same-name : SameName v w) where
   abbrev i : ℕ
   i = word_index number (Semaphore permits)
 
@@ -156,6 +157,10 @@ module _ (words family : ℕ) (s : State PermitSlot View) (o : LotRule words fam
         ),
       )
 
+  same-counted : SameCounts s.views vs
+  same-counted = same_counts s.views j v w me same-name (λ r. ap (counted r) holds ∙ held_counts i permits
+      v.owns r)
+
   no_less : (r : ℕ) → owned r exclusive v.owns ≤ owned r exclusive w.owns
   no_less r = omega (
     arith,
@@ -177,26 +182,15 @@ module _ (words family : ℕ) (s : State PermitSlot View) (o : LotRule words fam
         (λ e. subst (λ (q : ℕ). Codes kind' (get_or s.words q 0) (λ weight. named q weight vs)) (sym e)
         (codes_alike (Semaphore permits) kind' (get_or s.words i 0) (λ weight. named i weight vs)
         (index-kind number' number kind' (Semaphore permits) e) code))
-        (λ ne. subst (Codes kind' (get_or s.words r 0)) (λ k weight. sym (there r ne weight) k)
-        (o.coded number' kind' below'));
-    shows = λ number' below'. shown_still words number' s.views vs
-        (get_or s.words (word_index number' Condvar) 0) (λ k. omega (
-          arith,
-          stepped-same (word_index k Mutex),
-        )) (o.shows number' below');
-    counts = λ number' below'. let old = o.counts number' below' in let old₁ = old.1 in (
-      old.0,
-      omega (
-        arith,
-        total-set (λ (u : View). counted (word_index number' Count - 12) u.owns) s.views
-            j v w me,
-        ap (counted (word_index number' Count - 12)) holds,
-        held_counts i permits v.owns
-            (word_index number' Count - 12),
-      ),
-    );
-    semaphores = λ number' below'. let r : ℕ = word_index number' (Semaphore 0) in let old =
-        o.semaphores number' below' in
+        (λ ne. subst (Codes kind' (get_or s.words r 0)) (λ k weight. sym (there r ne weight) k) (o.coded
+        number' kind' below'));
+    shows = λ number' below'. shown_still words number' s.views vs (get_or s.words (word_index number'
+        Condvar) 0) (λ k. omega (arith, stepped-same (word_index k Mutex))) (o.shows number' below');
+    numbers = λ thread. let old = o.numbers thread in omega (arith, same-counted.numbers thread);
+    counts = λ number' below'. counts_still (word_index number' Count) (get_or s.words (word_index number'
+        Count) 0) s.views vs same-counted (o.counts number' below');
+    semaphores = λ number' below'. let r : ℕ = word_index number' (Semaphore 0) in let old = o.semaphores
+        number' below' in
         dite (ℕ_discrete number' number)
         (λ e. subst (λ (k : ℕ). get_or s.words (word_index k (Semaphore 0)) 0 / 2
         + named (word_index k (Semaphore 0)) shared vs ≡ granted k vs) (sym e)
@@ -252,11 +246,11 @@ draw_permits words family slots id me permits seen few saw room s o wide at fits
     × LotRule words family (stepped s counter y id me.1 w a)
     × draws_permits permits (step slots counter seen new none) me n (w, carried_after me.1 a) in
     dite (ℕ_discrete n seen)
-    (λ e. let v : View = with_out me.0.out (view (one_more_step me.0 counter op n) me.0.owns
+    (λ e. let v : View = with_out me.0.out (going_on me.0 (one_more_step me.0 counter op n) me.0.owns
     (numbered n bare ++ me.0.drawn) new) in
-    let w : View = with_out me.0.out (view (one_more_step me.0 counter op n)
-    (holding (word_index n (Semaphore permits)) permits ++ me.0.owns) (numbered n (Semaphore permits ∷ [])
-    ++ me.0.drawn) new) in
+    let w : View = with_out me.0.out (going_on me.0 (one_more_step me.0 counter op n) (holding (word_index
+    n (Semaphore permits)) permits ++ me.0.owns) (numbered n (Semaphore permits ∷ []) ++ me.0.drawn)
+    new) in
     let drew_none : (number : ℕ) → drew_permits number v ≡ drew_permits number me.0 = λ number. omega (
       arith,
       total-append (λ (word : Drawn). cond (eqb word.number number) (permits_in word.kind) 0)
@@ -266,13 +260,15 @@ draw_permits words family slots id me permits seen few saw room s o wide at fits
     let s₁ : State PermitSlot View = record {
       words = set s.words counter new;
       homes = s.homes;
-      views = set s.views id v;
+      views = set
+          s.views id v;
     } in
-    let o₁ : LotRule words family s₁ = count_turned words family s o id new me.0 v at (omega arith) room refl
-    refl (omega arith) (λ r h. at_counter me.0 op n r h)
+    let o₁ : LotRule words family s₁ = count_turned words family s o id new me.0 v at (omega arith) room
+    refl (record { naming = refl; shares = refl }) refl (omega arith) (λ r h. at_counter me.0 op n r h)
     (λ weight. omega (
       arith,
-      total-append (λ (word : Drawn). weight word.number) (numbered n bare) me.0.drawn,
+      total-append (λ (word : Drawn). weight word.number) (numbered n bare)
+          me.0.drawn,
       total_below-numbered weight n bare,
       ap (λ (k : ℕ). total_below weight (k + 1)) e,
     ))
@@ -292,7 +288,7 @@ draw_permits words family slots id me permits seen few saw room s o wide at fits
     (omega arith) few fresh refl
     (omega (arith, cond_same n n permits refl, cond_same n n 0 refl))
     (λ k ne. omega (arith, cond_other n k permits (λ f. ne (sym f)), cond_other n k 0 (λ f. ne (sym f))))
-    (λ weight. refl) (λ r. refl) refl refl in
+    (λ weight. refl) (λ r. refl) refl refl (record { naming = refl; shares = refl }) in
     subst (λ b. Goal (either b new n)) (sym (eq-eqb n seen e)) (
       w,
       keeps,
@@ -304,13 +300,17 @@ draw_permits words family slots id me permits seen few saw room s o wide at fits
       })) (set_again s.views id v w) there,
       ((λ _. refl), λ ne. absurd (ne e)),
     ))
-    (λ ne. let w = with_out me.0.out (view (one_more_step me.0 counter op n) me.0.owns me.0.drawn n) in
+    (λ ne. let w = with_out me.0.out (going_on me.0 (one_more_step me.0 counter op n) me.0.owns me.0.drawn
+    n) in
     subst (λ b. Goal (either b new n)) (sym (ne_eqb n seen ne)) (
       w,
       keeps,
       tt,
-      count_turned words family s o id n me.0 w at (omega arith) o.enough refl refl (omega arith)
-          (λ r h. at_counter me.0 op n r h) (λ weight. refl) (λ number. refl),
+      count_turned words family s o id n me.0 w at (omega arith) o.enough refl (record {
+        naming = refl;
+        shares = refl;
+      }) refl (omega arith) (λ r h. at_counter me.0 op n r h) (λ weight. refl) (λ number.
+          refl),
       ((λ e. absurd (ne e)), λ _. (omega (arith, o.saw id me.0 at), refl)),
     ))
 

@@ -11,10 +11,11 @@ use prog.Atomic.{either}
 use Rattle.atomic_table.specs.Table.{State, Me, step, keeps, Act, Valid, carried_after, stepped, Allows}
 use Rattle.atomic_table.proofs.Lists.{at_set}
 use Rattle.core_words.specs.Indices.{rank, plain, permits_in, word_index, counter, mutex_of_count}
-use Rattle.core_words.specs.Views.{view, with_out, total, total_below, owned, owning, owning_with, named}
-use Rattle.core_words.specs.Views.{counted, steps_at, outs, drew, drew_permits, granted}
+use Rattle.core_words.specs.Views.{view, going_on, with_out, total, total_below, owned, owning, owning_with}
+use Rattle.core_words.specs.Views.{named, counted, has_number, said_as, shared_as, steps_at, outs, drew}
+use Rattle.core_words.specs.Views.{drew_permits, granted}
 use Rattle.core_words.specs.Codes.{Owners, Codes, Shows, IsCountCode, everyone, exclusive, shared}
-use Rattle.core_words.specs.Rule.{LotRule, MayBeShown, MayHaveOut}
+use Rattle.core_words.specs.Rule.{IsCount, LotRule, MayBeShown, MayHaveOut}
 use Rattle.core_words.specs.Permits.{slot_at}
 use Rattle.core_parts.specs.declared.slot.PermitSlot.{PermitSlot}
 use Rattle.core_base.specs.Words.{apply}
@@ -26,8 +27,8 @@ use Rattle.core_words.specs.Plays.{looks_at_word, draws, numbered}
 use Rattle.core_words.specs.Draws.{NoPermits}
 use Rattle.core_words.specs.declared.owners.Ownership.{Ownership}
 use Rattle.core_words.specs.declared.views.WordStep.{WordStep}
-use Rattle.core_words.proofs.Trades.{total-without, traded_here, traded_elsewhere, traded_counts, said_total}
-use Rattle.core_words.proofs.Trades.{owned_some}
+use Rattle.core_words.specs.declared.views.Naming.{Naming}
+use Rattle.core_words.proofs.Trades.{total-without, traded_here, traded_elsewhere, traded_counts, owned_some}
 use Rattle.core_words.specs.declared.owners.Owner.{Owner}
 use Rattle.core_words.specs.declared.owners.Owner.TheVariants.{Exclusive, Shared}
 use Rattle.core_words.specs.declared.views.View.{View}
@@ -54,8 +55,7 @@ shown_still words number old new n more = shows_more (MayBeShown words number ol
 -- tells what ties the value of a word to the word of a mutex
 abbrev pub Tied : ℕ → WordKind → ℕ → ℕ → List View → Type 0
 Tied words Condvar number n views = Shows (MayBeShown words number views) n
-Tied words Count number n views = IsCountCode n
-    × (n ≡ total (λ (v : View). counted (mutex_of_count (word_index number Count)) v.owns) views)
+Tied words Count number n views = IsCount (word_index number Count) n views
 Tied words _ number n views = Unit {0}
 
 -- tells what the number of permits in a kind has no part in
@@ -103,6 +103,70 @@ tied_alike : (words : ℕ) (kind kind' : WordKind) (number n : ℕ) (views : Lis
 tied_alike words kind kind' number n views e c = plain_tied words kind' number n views
     (subst (λ (k : WordKind). Tied words k number n views) (sym e) (tied_plain words kind number n views c))
 
+-- what is said of counts, and the shares of these, by all views together
+pub record SameCounts (old new : List View) : Type 0 where
+  pub numbers : (thread : ℕ) → total (λ (v : View). has_number thread v.naming) new ≡ total (λ (v : View).
+      has_number thread v.naming) old
+  pub said : (r : ℕ) → total (λ (v : View). counted r v.owns) new ≡ total (λ (v : View). counted r v.owns) old
+  pub names : (thread r : ℕ) → total (said_as thread r) new ≡ total (said_as thread r) old
+  pub shares : (thread at : ℕ) → total (λ (v : View). shared_as thread at v.shares) new ≡ total (λ (v :
+      View). shared_as thread at v.shares) old
+
+-- a count stays one, as all views together say the same of it and have as many shares
+pub count_still : (at n : ℕ) (old new : List View) → total (λ (v : View). counted (mutex_of_count at)
+    v.owns) new ≡ total (λ (v : View). counted (mutex_of_count at) v.owns) old
+    → ((thread : ℕ) → total (said_as thread (mutex_of_count at)) new ≡ total (said_as thread
+    (mutex_of_count at)) old)
+    → ((thread : ℕ) → total (λ (v : View). shared_as thread at v.shares) new ≡ total (λ (v : View).
+    shared_as thread at v.shares) old)
+    → IsCount at n old → IsCount at n new
+count_still at n old new said names shares is = record {
+  code = is.code;
+  said = is.said ∙ sym said;
+  names = λ thread. names thread ∙ is.names thread;
+  shares = λ thread. shares thread ∙ is.shares thread;
+}
+
+pub counts_still : (at n : ℕ) (old new : List View) → SameCounts old new → IsCount at n old → IsCount at n new
+counts_still at n old new same is = count_still at n old new (same.said (mutex_of_count at)) (λ thread.
+    same.names thread (mutex_of_count at)) (λ thread. same.shares thread at) is
+
+-- tells that a seat has the number of a thread, and the shares, that it had
+pub record SameName (v w : View) : Type 0 where
+  pub naming : w.naming ≡ v.naming
+  pub shares : w.shares ≡ v.shares
+
+-- a seat that says as much of a count says as much as a thread
+pub said_alike : (thread r : ℕ) (v w : View) → w.naming ≡ v.naming → counted r w.owns ≡ counted r v.owns →
+    said_as thread r w ≡ said_as thread r v
+said_alike thread r v w same says = ap (λ (a : Naming). cond (eqb (has_number thread a) 0) 0 (counted r
+    w.owns)) same ∙ ap (λ (c : ℕ). cond (eqb (has_number thread v.naming) 0) 0 c) says
+
+-- all say the same of counts, as one seat changes that says what it did
+pub same_counts : (views : List View) (j : ℕ) (v w : View) → get_elem? views j ≡ some v → SameName v w →
+    ((r : ℕ) → counted r w.owns ≡ counted r v.owns) → SameCounts views (set views j w)
+same_counts views j v w me same says = record {
+  numbers = λ thread. omega (
+    arith,
+    total-set (λ (u : View). has_number thread u.naming) views j v w me,
+    ap
+        (has_number thread) same.naming,
+  );
+  said = λ r. omega (arith, total-set (λ (u : View). counted r u.owns) views j v w me, says r);
+  names = λ thread r. omega (
+    arith,
+    total-set (said_as thread r) views j v w me,
+    said_alike thread r v w
+        same.naming (says r),
+  );
+  shares = λ thread at. omega (
+    arith,
+    total-set (λ (u : View). shared_as thread at u.shares) views j v w
+        me,
+    ap (shared_as thread at) same.shares,
+  );
+}
+
 -- the permits that a list of drawn words brings to a number
 abbrev pub permits_of : ℕ → List Drawn → ℕ
 permits_of number drawn = total (λ (word : Drawn). cond (eqb word.number number) (permits_in word.kind) 0)
@@ -118,20 +182,23 @@ module _ (words family : ℕ) (s : State PermitSlot View) (o : LotRule words fam
       v.owns ≡ named (word_index number kind) weight s.views + owned (word_index number kind) weight
       w.owns) → Codes kind m after)
       → Tied words kind number m (set s.views j w)
-      → ((r : ℕ) → (kind ≡ Count → r ≢ mutex_of_count (word_index number kind)) → counted r w.owns
-      ≡ counted r v.owns)
+      → (w.naming ≡ v.naming)
+      → ((r : ℕ) → (kind ≡ Count → r ≢ mutex_of_count (word_index number kind)) → counted r w.owns ≡
+      counted r v.owns)
+      → ((thread r : ℕ) → (kind ≡ Count → r ≢ word_index number kind) → shared_as thread r w.shares ≡
+      shared_as thread r v.shares)
       → (plain kind ≡ Semaphore 0 → m / 2 + owned (word_index number kind) shared w.owns ≡ get_or s.words
       (word_index number kind) 0 / 2 + owned (word_index number kind) shared v.owns)
       → w.out ≡ v.out → MayHaveOut words w.out w.owns
-      → w.drawn ≡ v.drawn → w.saw ≡ v.saw → 0 < steps_at (word_index number kind) w
-      → ((r : ℕ) → steps_at r v ≤ steps_at r w)
+      → w.drawn ≡ v.drawn → w.saw ≡ v.saw → 0 < steps_at (word_index number kind) w → ((r : ℕ) → steps_at r
+      v ≤ steps_at r w)
       → LotRule words family (record {
         words = set s.words (word_index number kind) m;
         homes = s.homes;
         views = set s.views j w;
       })
-  turned number kind j m v w me below others codes tied same-counts balance same-out carries same-drawn
-      same-saw stepped more =
+  turned number kind j m v w me below others codes tied same-naming same-counts same-shares balance
+      same-out carries same-drawn same-saw stepped more =
       let i : ℕ = word_index number kind in let size = o.size in let enough = o.enough in
       let near : i < length s.words = omega (arith, rank_lt kind) in
       let vs = set s.views j w in
@@ -176,16 +243,31 @@ module _ (words family : ℕ) (s : State PermitSlot View) (o : LotRule words fam
             (shown_still words number' s.views vs (get_or s.words (word_index number' Condvar) 0)
             (λ k. stepped-more (word_index k Mutex)) (o.shows number' below')));
         counts = λ number' below'. dite (ℕ_discrete (word_index number' Count) i) (tied_here number' Count)
-            (λ ne. let old = o.counts number' below' in let same = still (word_index number' Count) ne
-            in let r : ℕ = mutex_of_count (word_index number' Count) in (
-              subst IsCountCode (sym same) old.0,
-              let old₁ = old.1 in
-                  omega (
-                    arith,
-                    total-set (λ (u : View). counted r u.owns) s.views j v w me,
-                    same-counts r (λ k e. ne (let there = ap (word_index number) k in omega arith)),
-                  ),
-            ));
+            (λ ne. let q : ℕ = word_index number' Count in let r : ℕ = mutex_of_count q in
+            let apart : kind ≡ Count → r ≢ mutex_of_count i = λ k e. ne (let there = ap (word_index number)
+            k in omega arith) in
+            subst (λ (n : ℕ). IsCount q n vs) (sym (still q ne)) (count_still q (get_or s.words q 0)
+            s.views vs
+            (omega (arith, total-set (λ (u : View). counted r u.owns) s.views j v w me, same-counts r apart))
+            (λ thread. omega (
+              arith,
+              total-set (said_as thread r) s.views j v w me,
+              said_alike thread r v w
+                  same-naming (same-counts r apart),
+            ))
+            (λ thread. omega (
+              arith,
+              total-set (λ (u : View). shared_as thread q u.shares) s.views j v w
+                  me,
+              same-shares thread q (λ k. ne),
+            ))
+            (o.counts number' below')));
+        numbers = λ thread. let old = o.numbers thread in omega (
+          arith,
+          total-set (λ (u : View). has_number
+              thread u.naming) s.views j v w me,
+          ap (has_number thread) same-naming,
+        );
         semaphores = λ number' below'. let r : ℕ = word_index number' (Semaphore 0) in
             let all : granted number' vs ≡ granted number' s.views =
             omega (
@@ -242,12 +324,11 @@ module _ (words family : ℕ) (s : State PermitSlot View) (o : LotRule words fam
       }
 
   -- the views and homes change, and what the views name together does not
-  pub reseated : (hs : List (Option PermitSlot)) (vs : List View) → ((r : ℕ) (weight : Owner → ℕ)
-      → named r weight vs ≡ named r weight s.views)
-      → ((r : ℕ) → total (λ (u : View). counted r u.owns) vs ≡ total (λ (u : View). counted r u.owns) s.views)
-      → ((r : ℕ) → total (steps_at r) vs ≡ total (steps_at r) s.views) → ((weight : Drawn → ℕ)
-      → total (λ (u : View). total weight u.drawn) vs ≡ total (λ (u : View). total weight u.drawn)
-      s.views)
+  pub reseated : (hs : List (Option PermitSlot)) (vs : List View) → ((r : ℕ) (weight : Owner → ℕ) → named r
+      weight vs ≡ named r weight s.views)
+      → SameCounts s.views vs
+      → ((r : ℕ) → total (steps_at r) vs ≡ total (steps_at r) s.views) → ((weight : Drawn → ℕ) → total (λ
+      (u : View). total weight u.drawn) vs ≡ total (λ (u : View). total weight u.drawn) s.views)
       → ((q : ℕ) (u : View) → get_elem? vs q ≡ some u → u.saw ≤ get_or s.words counter 0)
       → ((q : ℕ) (u : View) → get_elem? vs q ≡ some u → MayHaveOut words u.out u.owns)
       → length hs ≡ length s.homes
@@ -256,12 +337,13 @@ module _ (words family : ℕ) (s : State PermitSlot View) (o : LotRule words fam
       → LotRule words family (record { words = s.words; homes = hs; views = vs })
   reseated hs vs same-named same-counts same-steps same-drawn saw carried same-homes permits = record {
     size = o.size;
-    coded = λ number' kind' below. subst (Codes kind' (get_or s.words (word_index number' kind') 0))
-        (λ k weight. sym (same-named (word_index number' kind') weight) k) (o.coded number' kind' below);
-    shows = λ number' below. shown_still words number' s.views vs (get_or s.words (word_index number' Condvar)
-        0) (λ k. omega (arith, same-steps (word_index k Mutex))) (o.shows number' below);
-    counts = λ number' below. let old = o.counts number' below
-        in (old.0, old.1 ∙ sym (same-counts (mutex_of_count (word_index number' Count))));
+    coded = λ number' kind' below. subst (Codes kind' (get_or s.words (word_index number' kind') 0)) (λ k
+        weight. sym (same-named (word_index number' kind') weight) k) (o.coded number' kind' below);
+    shows = λ number' below. shown_still words number' s.views vs (get_or s.words (word_index number'
+        Condvar) 0) (λ k. omega (arith, same-steps (word_index k Mutex))) (o.shows number' below);
+    numbers = λ thread. let old = o.numbers thread in omega (arith, same-counts.numbers thread);
+    counts = λ number' below. counts_still (word_index number' Count) (get_or s.words (word_index number'
+        Count) 0) s.views vs same-counts (o.counts number' below);
     semaphores = λ number' below. let r : ℕ = word_index number' (Semaphore 0) in
         omega (
           arith,
@@ -293,62 +375,50 @@ steps_more v at found r op = omega (
 -- tells what a step does to ownerships, by any weight of owners, and to what is said of count words
 record Steps (kind : WordKind) (at : ℕ) (op : Op) (found : ℕ) (owns : List Ownership) : Type 0 where
   here : (weight : Owner → ℕ) → owned at weight (owns_after_step kind at op found owns) + total weight
-      (trade kind at op found owns).gives ≡ owned at weight owns + total weight
-      (trade kind at op found owns).gets
-  elsewhere : (r : ℕ) → r ≢ at → (weight : Owner → ℕ) → owned r weight (owns_after_step kind at op found owns)
-      ≡ owned r weight owns
-  counts : (r : ℕ) → (kind ≡ Count → r ≢ mutex_of_count at)
-      → counted r (owns_after_step kind at op found owns) ≡ counted r owns
+      (trade kind at op found owns).gives ≡ owned at weight owns + total weight (trade kind at op found
+      owns).gets
+  elsewhere : (r : ℕ) → r ≢ at → (weight : Owner → ℕ) → owned r weight (owns_after_step kind at op found
+      owns) ≡ owned r weight owns
+  counts : (r : ℕ) → counted r (owns_after_step kind at op found owns) ≡ counted r owns
 
-stepped_so : (kind : WordKind) (at : ℕ) (op : Op) (found : ℕ) (owns : List Ownership)
-    → HasAll at (trade kind at op found owns).gives owns → MayTie kind at found (apply op found) owns
-    → Steps kind at op found owns
-stepped_so Count at op found owns h tie =
-    let mutex : ℕ = mutex_of_count at in let left : ℕ = apply op found in
-    let may : (left ≡ found) ⊎ (has (owning_with mutex found) owns ≡ true) =
-    ⊎_elim (λ e. inl e) (λ t. inr t.1) tie in
-    let same : (r : ℕ) (weight : Owner → ℕ) → owned r weight (owns_after_step Count at op found owns)
-    ≡ owned r weight owns = λ r weight. omega (
-      arith,
-      said_total (λ (x : Ownership). cond (eqb x.at r) (weight x.owner) 0) mutex found left owns may,
-    ) in
+stepped_so : (kind : WordKind) (at : ℕ) (op : Op) (found : ℕ) (owns : List Ownership) → HasAll at (trade
+    kind at op found owns).gives owns → Steps kind at op found owns
+stepped_so Mutex at op found owns h = let t = trade Mutex at op found owns in record {
+  here = traded_here
+      at t owns h;
+  elsewhere = traded_elsewhere at t owns h;
+  counts = traded_counts at t owns h;
+}
+stepped_so RwLock at op found owns h = let t = trade RwLock at op found owns in record {
+  here = traded_here
+      at t owns h;
+  elsewhere = traded_elsewhere at t owns h;
+  counts = traded_counts at t owns h;
+}
+stepped_so Condvar at op found owns h = let t = trade Condvar at op found owns in record {
+  here =
+      traded_here at t owns h;
+  elsewhere = traded_elsewhere at t owns h;
+  counts = traded_counts at t owns h;
+}
+stepped_so (Semaphore permits) at op found owns h = let t = trade (Semaphore permits) at op found owns in
     record {
-      here = λ weight. omega (arith, same at weight);
-      elsewhere = λ r ne weight. same r weight;
-      counts = λ r ne. let apart : mutex ≢ r = λ e. ne refl (sym e)
-          in omega (
-            arith,
-            said_total (λ (x : Ownership). cond (eqb x.at r) x.count 0) mutex found left owns
-                may,
-            cond_other mutex r left apart,
-            cond_other mutex r found apart,
-          );
-    }
-stepped_so Mutex at op found owns h tie = let t = trade Mutex at op found owns in record {
-  here = traded_here at t owns h;
-  elsewhere = traded_elsewhere at t owns h;
-  counts = λ r ne. traded_counts at t owns h r;
-}
-stepped_so RwLock at op found owns h tie = let t = trade RwLock at op found owns in record {
-  here = traded_here at t owns h;
-  elsewhere = traded_elsewhere at t owns h;
-  counts = λ r ne. traded_counts at t owns h r;
-}
-stepped_so Condvar at op found owns h tie = let t = trade Condvar at op found owns in record {
-  here = traded_here at t owns h;
-  elsewhere = traded_elsewhere at t owns h;
-  counts = λ r ne. traded_counts at t owns h r;
-}
-stepped_so (Semaphore permits) at op found owns h tie = let t = trade (Semaphore permits) at op found owns
-    in record {
       here = traded_here at t owns h;
       elsewhere = traded_elsewhere at t owns h;
-      counts = λ r ne. traded_counts at t owns h r;
+      counts =
+          traded_counts at t owns h;
     }
-stepped_so Once at op found owns h tie = let t = trade Once at op found owns in record {
-  here = traded_here at t owns h;
+stepped_so Count at op found owns h = let t = trade Count at op found owns in record {
+  here = traded_here
+      at t owns h;
   elsewhere = traded_elsewhere at t owns h;
-  counts = λ r ne. traded_counts at t owns h r;
+  counts = traded_counts at t owns h;
+}
+stepped_so Once at op found owns h = let t = trade Once at op found owns in record {
+  here = traded_here at
+      t owns h;
+  elsewhere = traded_elsewhere at t owns h;
+  counts = traded_counts at t owns h;
 }
 
 shared_many : (n : ℕ) → total shared (so_many_shared n) ≡ n
@@ -367,17 +437,17 @@ balanced Condvar at op n owns so e = absurd (omega (arith, ap rank e))
 balanced Once at op n owns so e = absurd (omega (arith, ap rank e))
 balanced Count at op n owns so e = absurd (omega (arith, ap rank e))
 
-number_case : {P : Type 0} (number : ℕ) → (number ≡ 0 → P) → ((before : ℕ) → number ≡ before + 1 → P) → P
+pub number_case : {P : Type 0} (number : ℕ) → (number ≡ 0 → P) → ((before : ℕ) → number ≡ before + 1 → P) → P
 number_case zero z p = z refl
 number_case (suc n) z p = p n (omega arith)
 
 module _ (words family : ℕ) (s : State PermitSlot View) (o : LotRule words family s) where
   -- a mutex that somebody owns is a word of the lot, has one owner, and somebody has stepped on it
-  owned_mutex : (mutex : ℕ) → 0 < named (word_index mutex Mutex) exclusive s.views → (mutex < words)
-      × (named (word_index mutex Mutex) everyone s.views ≡ 1)
-      × (0 < total (steps_at (word_index mutex Mutex)) s.views)
-  owned_mutex mutex one = let there = o.owned (word_index mutex Mutex) exclusive one in let there₁ = there.1
-      in let size = o.size in
+  pub owned_mutex : (mutex : ℕ) → 0 < named (word_index mutex Mutex) exclusive s.views → (mutex < words) ×
+      (named (word_index mutex Mutex) everyone s.views ≡ 1) × (0 < total (steps_at (word_index mutex
+      Mutex)) s.views)
+  owned_mutex mutex one = let there = o.owned (word_index mutex Mutex) exclusive one in let there₁ =
+      there.1 in let size = o.size in
       let below : mutex < words = omega arith in let code = o.coded mutex Mutex below in let code₁ = code.1
       in let code₂ = code.2 in (
         below,
@@ -388,14 +458,14 @@ module _ (words family : ℕ) (s : State PermitSlot View) (o : LotRule words fam
       )
 
   -- the count that a seat says of the mutex before a count word is the value of that word
-  agreed : (number : ℕ) (kind : WordKind) (id : ℕ) (v : View) → get_elem? s.views id ≡ some v → number < words
-      → CountAgrees kind (word_index number kind) (get_or s.words (word_index number kind) 0) v.owns
-  agreed number Count id v at below = let here = o.counts number below
-      in (
-        here.0,
-        λ count there. counted-where s.views id v at (mutex_of_count (word_index number Count))
-            count there (one_owner number count id v at there) ∙ sym here.1,
-      )
+  pub agreed : (number : ℕ) (kind : WordKind) (id : ℕ) (v : View) → get_elem? s.views id ≡ some v → number
+      < words → CountAgrees kind (word_index number kind) (get_or s.words (word_index number kind) 0) v.owns
+  agreed number Count id v at below = let here = o.counts number below in (
+    here.code,
+    λ count there.
+        counted-where s.views id v at (mutex_of_count (word_index number Count)) count there (one_owner
+        number count id v at there) ∙ sym here.said,
+  )
     where
       one_owner : (number count id : ℕ) (v : View) → get_elem? s.views id ≡ some v
           → has (owning_with (mutex_of_count (word_index number Count)) count) v.owns ≡ true
@@ -454,20 +524,13 @@ module _ (words family : ℕ) (s : State PermitSlot View) (o : LotRule words fam
       )) in let stepped = real.2 in
       (real.0, (λ e. there.0 (ap (λ q. word_index q Condvar) (sym e))), omega (arith, grown i))) t) tie
   tied_after number Count op id v out at below tie more =
-      let n : ℕ = get_or s.words (word_index number Count) 0 in let m : ℕ = apply op n in let i : ℕ =
-      word_index number Count in let r : ℕ = mutex_of_count i in let w =
-      with_out out (after_step Count i op n v) in
-      let old = o.counts number below in let old₁ = old.1 in (
-        ⊎_elim (λ e. subst IsCountCode (sym e) old.0) (λ t. t.0) tie,
-        omega (
-          arith,
-          total-set (λ (u : View). counted r u.owns) s.views id v w at,
-          cond_same r r n refl,
-          cond_same r r m refl,
-          said_total (λ (x : Ownership). cond (eqb x.at r) x.count 0) r n m v.owns
-              (⊎_elim (λ e. inl e) (λ t. inr t.1) tie),
-        ),
-      )
+      let i : ℕ = word_index number Count in let n : ℕ = get_or s.words i 0 in let w = with_out out
+      (after_step Count i op n v) in
+      subst (λ (k : ℕ). IsCount i k (set s.views id w)) (sym tie)
+      (counts_still i n s.views (set s.views id w) (same_counts s.views id v w at (record {
+        naming = refl;
+        shares = refl;
+      }) (λ r. refl)) (o.counts number below))
   tied_after number Mutex op id v out at below tie more = tt
   tied_after number RwLock op id v out at below tie more = tt
   tied_after number Once op id v out at below tie more = tt
@@ -525,13 +588,13 @@ step_taken words family s o number kind op id v at below fits may same =
     let code = o.coded number kind below in
     let agrees = agreed words family s o number kind id v at below in
     let ok = may n (λ weight. named i weight s.views) fits code mine agrees in
-    let so = stepped_so kind i op n v.owns ok.0 ok.2 in let w = with_out v.out (after_step kind i op n v) in
+    let so = stepped_so kind i op n v.owns ok.0 in let w = with_out v.out (after_step kind i op n v) in
     let more : (r : ℕ) → steps_at r v ≤ steps_at r w = λ r. omega (arith, steps_more v i n r op) in (
       turned words family s o number kind id m v w at below
           so.elsewhere
           (λ after same. ok.1 after (λ weight. omega (arith, same weight, so.here weight)))
           (tied_after words family s o number kind op id v v.out at below ok.2 more)
-          so.counts
+          refl (λ r apart. so.counts r) (λ thread r apart. refl)
           (balanced kind i op n v.owns so)
           refl
           (carries_on words number kind op n v (o.carried id v at) so same)
@@ -540,55 +603,51 @@ step_taken words family s o number kind op id v at below fits may same =
     )
 
 -- the law of steps on the counter, which only adds to it
-pub count_turned : (words family : ℕ) (s : State PermitSlot View) (o : LotRule words family s) (j m : ℕ)
-    (v w : View) → get_elem? s.views j ≡ some v → get_or s.words counter 0 ≤ m → m ≤ words
-    → w.owns ≡ v.owns → w.out ≡ v.out → w.saw ≤ m → ((r : ℕ) → 0 < r → steps_at r w ≡ steps_at r v)
-    → ((weight : ℕ → ℕ) → drew weight w + total_below weight (get_or s.words counter 0) ≡ drew weight v
-    + total_below weight m)
+pub count_turned : (words family : ℕ) (s : State PermitSlot View) (o : LotRule words family s) (j m : ℕ) (v
+    w : View) → get_elem? s.views j ≡ some v → get_or s.words counter 0 ≤ m → m ≤ words
+    → w.owns ≡ v.owns → SameName v w → w.out ≡ v.out → w.saw ≤ m → ((r : ℕ) → 0 < r → steps_at r w ≡
+    steps_at r v)
+    → ((weight : ℕ → ℕ) → drew weight w + total_below weight (get_or s.words counter 0) ≡ drew weight v +
+    total_below weight m)
     → ((number : ℕ) → drew_permits number w ≡ drew_permits number v)
     → LotRule words family (record {
       words = set s.words counter m;
       homes = s.homes;
-      views = set s.views j w;
+      views = set s.views j
+          w;
     })
-count_turned words family s o j m v w me up fits same-owns same-out saw same-steps same-drawn same-permits =
+count_turned words family s o j m v w me up fits same-owns same-name same-out saw same-steps same-drawn
+    same-permits =
     let size = o.size in let vs = set s.views j w in
-    let here : get_or (set s.words counter m) counter 0 ≡ m = get_or-set_same s.words counter m 0
-    (omega arith) in
+    let here : get_or (set s.words counter m) counter 0 ≡ m = get_or-set_same s.words counter m 0 (omega
+    arith) in
     let there : (r : ℕ) → 0 < r → get_or (set s.words counter m) r 0 ≡ get_or s.words r 0 = λ r h.
     get_or-set_other s.words counter r m 0 (λ e. omega arith) in
-    let same-named : (r : ℕ) (weight : Owner → ℕ) → named r weight s.views ≡ named r weight vs =
-    λ r weight. omega (
+    let same-named : (r : ℕ) (weight : Owner → ℕ) → named r weight s.views ≡ named r weight vs = λ r
+    weight. omega (
       arith,
       total-set (λ (u : View). owned r weight u.owns) s.views j v w me,
-      ap (owned r weight) same-owns,
+      ap (owned r
+          weight) same-owns,
     ) in
-    let stepped : (r : ℕ) → 0 < r → total (steps_at r) vs ≡ total (steps_at r) s.views = λ r h. omega (
-      arith,
-      total-set (steps_at r) s.views j v w me,
-      same-steps r h,
-    ) in
+    let same-counts : SameCounts s.views vs = same_counts s.views j v w me same-name (λ r. ap (counted r)
+    same-owns) in
+    let stepped : (r : ℕ) → 0 < r → total (steps_at r) vs ≡ total (steps_at r) s.views = λ r h. omega
+    (arith, total-set (steps_at r) s.views j v w me, same-steps r h) in
     record {
       size = length-set s.words counter m ∙ size;
-      coded = λ number' kind' below. subst
-          (λ (x : ℕ). Codes kind' x (λ weight. named (word_index number' kind') weight vs))
-          (sym (there (word_index number' kind') (omega arith)))
-          (subst (Codes kind' (get_or s.words (word_index number' kind') 0))
-          (λ k weight. same-named (word_index number' kind') weight k) (o.coded number' kind' below));
-      shows = λ number' below. subst (Shows (MayBeShown words number' vs))
-          (sym (there (word_index number' Condvar) (omega arith)))
-          (shown_still words number' s.views vs (get_or s.words (word_index number' Condvar) 0)
-          (λ k. omega (arith, stepped (word_index k Mutex) (omega arith))) (o.shows number' below));
-      counts = λ number' below. let old = o.counts number' below in let old₁ = old.1 in let same =
-          there (word_index number' Count) (omega arith) in let r : ℕ =
-          mutex_of_count (word_index number' Count) in (
-            subst IsCountCode (sym same) old.0,
-            omega (
-              arith,
-              total-set (λ (u : View). counted r u.owns) s.views j v w me,
-              ap (counted r) same-owns,
-            ),
-          );
+      coded = λ number' kind' below. subst (λ (x : ℕ). Codes kind' x (λ weight. named (word_index number'
+          kind') weight vs)) (sym (there (word_index number' kind') (omega arith)))
+          (subst (Codes kind' (get_or s.words (word_index number' kind') 0)) (λ k weight. same-named
+          (word_index number' kind') weight k) (o.coded number' kind' below));
+      shows = λ number' below. subst (Shows (MayBeShown words number' vs)) (sym (there (word_index number'
+          Condvar) (omega arith)))
+          (shown_still words number' s.views vs (get_or s.words (word_index number' Condvar) 0) (λ k. omega
+          (arith, stepped (word_index k Mutex) (omega arith))) (o.shows number' below));
+      numbers = λ thread. let old = o.numbers thread in omega (arith, same-counts.numbers thread);
+      counts = λ number' below. let q : ℕ = word_index number' Count in subst (λ (k : ℕ). IsCount q k vs)
+          (sym (there q (omega arith)))
+          (counts_still q (get_or s.words q 0) s.views vs same-counts (o.counts number' below));
       semaphores = λ number' below. let r : ℕ = word_index number' (Semaphore 0) in
           omega (
             arith,
@@ -636,15 +695,18 @@ at_counter v op found r above = omega (
 )
 
 -- a look at the counter
-pub look : (words family slots id : ℕ) (me : Me PermitSlot View) → Allows (LotRule words family) slots id me
-    counter (λ n. n) (looks_at_word (step slots counter 0 0 none) me)
-look words family slots id me s o wide at fits = let n : ℕ = get_or s.words counter 0 in let w =
-    with_out me.0.out (view (one_more_step me.0 counter Load n) me.0.owns me.0.drawn n) in (
+pub look : (words family slots id : ℕ) (me : Me PermitSlot View) → Allows (LotRule words family) slots id
+    me counter (λ n. n) (looks_at_word (step slots counter 0 0 none) me)
+look words family slots id me s o wide at fits = let n : ℕ = get_or s.words counter 0 in let w = with_out
+    me.0.out (going_on me.0 (one_more_step me.0 counter Load n) me.0.owns me.0.drawn n) in (
       w,
       keeps,
       tt,
-      count_turned words family s o id n me.0 w at (omega arith) o.enough refl refl (omega arith)
-          (λ r h. at_counter me.0 Load n r h) (λ weight. refl) (λ number. refl),
+      count_turned words family s o id n me.0 w at (omega arith) o.enough refl (record {
+        naming = refl;
+        shares = refl;
+      }) refl (omega arith) (λ r h. at_counter me.0 Load n r h) (λ weight.
+          refl) (λ number. refl),
       refl,
     )
 
@@ -685,20 +747,23 @@ draw words family slots id me kinds seen bare saw room s o wide at fits =
     × LotRule words family (stepped s counter y id me.1 w a)
     × draws kinds (step slots counter seen new none) me n (w, carried_after me.1 a) in
     dite (ℕ_discrete n seen)
-    (λ e. let w = with_out me.0.out (view (one_more_step me.0 counter op n) me.0.owns (numbered n kinds
-    ++ me.0.drawn) new) in
+    (λ e. let w = with_out me.0.out (going_on me.0 (one_more_step me.0 counter op n) me.0.owns (numbered n
+    kinds ++ me.0.drawn) new) in
     subst (λ b. Goal (either b new n)) (sym (eq-eqb n seen e)) (
       w,
       keeps,
       tt,
-      count_turned words family s o id new me.0 w at (omega arith) room refl refl (omega arith)
-          (λ r h. at_counter me.0 op n r h)
+      count_turned words family s o id new me.0 w at (omega arith) room refl (record {
+        naming = refl;
+        shares = refl;
+      }) refl (omega arith) (λ r h. at_counter me.0 op n r h)
           (λ weight. omega (
             arith,
             total-append (λ (word : Drawn). weight word.number) (numbered n kinds)
                 me.0.drawn,
             total_below-numbered weight n kinds,
-            ap (λ (k : ℕ). total_below weight (k + length kinds)) e,
+            ap (λ (k : ℕ). total_below weight (k +
+                length kinds)) e,
           ))
           (λ number. omega (
             arith,
@@ -708,13 +773,17 @@ draw words family slots id me kinds seen bare saw room s o wide at fits =
           )),
       ((λ _. refl), λ ne. absurd (ne e)),
     ))
-    (λ ne. let w = with_out me.0.out (view (one_more_step me.0 counter op n) me.0.owns me.0.drawn n) in
+    (λ ne. let w = with_out me.0.out (going_on me.0 (one_more_step me.0 counter op n) me.0.owns me.0.drawn
+    n) in
     subst (λ b. Goal (either b new n)) (sym (ne_eqb n seen ne)) (
       w,
       keeps,
       tt,
-      count_turned words family s o id n me.0 w at (omega arith) o.enough refl refl (omega arith)
-          (λ r h. at_counter me.0 op n r h) (λ weight. refl) (λ number. refl),
+      count_turned words family s o id n me.0 w at (omega arith) o.enough refl (record {
+        naming = refl;
+        shares = refl;
+      }) refl (omega arith) (λ r h. at_counter me.0 op n r h) (λ weight. refl) (λ number.
+          refl),
       ((λ e. absurd (ne e)), λ _. (omega (arith, o.saw id me.0 at), refl)),
     ))
 

@@ -1,13 +1,13 @@
 pub mod Totals
-mod Lists
+pub mod Lists
 pub mod Looks
-mod Indices
+pub mod Indices
 pub mod Trades
-mod Counts
+pub mod Counts
 pub mod Keeps
 pub mod PermitSteps
-mod Stepping
-mod Seats
+pub mod Stepping
+pub mod Seats
 pub mod MutexSteps
 pub mod RwLockSteps
 pub mod RwLockKinds
@@ -18,6 +18,6 @@ pub mod SemaphoreSteps
 pub mod TiedSteps
 pub mod Endowing
 mod Alone
-mod AtWord
+pub mod AtWord
 mod Tries
 mod RuleLaws

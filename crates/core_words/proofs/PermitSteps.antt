@@ -1,6 +1,7 @@
 -- Permits go out of their slots, and back.
-use Rattle.std.proofs.Common.{◌≡◌, ℕ, zero, suc, ◌+◌, ◌<◌, ◌≤◌, ⊎_elim, inl, inr, List, [], ◌∷◌, ◌++◌, length}
-use Rattle.std.proofs.Common.{get_or, set, map, cond, eqb, sym, refl, ap, ◌∙◌, subst, arith, length-set}
+use Rattle.std.proofs.Common.{◌≡◌, Bool, true, false, ℕ, zero, suc, ◌+◌, ◌-◌, ◌/◌, ◌%◌, ◌<◌, ◌≤◌, ⊎_elim}
+use Rattle.std.proofs.Common.{inl, inr, List, [], ◌∷◌, ◌++◌, length, get_or, set, map, cond, eqb, sym, refl}
+use Rattle.std.proofs.Common.{ap, ◌∙◌, subst, arith, length-set}
 use mathlib.Core.Logic.{dite}
 use mathlib.Core.Option.{Option, some, none, some-injective, some-ne-none}
 use native.Mathlib.Decide.{ℕ_discrete}
@@ -8,22 +9,24 @@ use lib.ListN.{get_elem?, replicate, length-replicate, get_or-replicate}
 use Rattle.atomic_table.specs.Table.{State, Me, takes, gives, chain, rest, put_back, opening}
 use Rattle.atomic_table.proofs.Lists.{at_set}
 use Rattle.core_words.specs.Indices.{word_index, counter, table_size}
-use Rattle.core_words.specs.Views.{blank, shown, with_out, total, total_below, owned, named, counted}
-use Rattle.core_words.specs.Views.{steps_at, outs, drew}
-use Rattle.core_words.specs.Codes.{Codes, IsMutexCode, exclusive}
+use Rattle.core_words.specs.Views.{blank, namer, shown, with_out, total, total_below, owned, named, counted}
+use Rattle.core_words.specs.Views.{has_number, steps_at, outs, drew}
+use Rattle.core_words.specs.Codes.{Codes, IsMutexCode, exclusive, if_names}
 use Rattle.core_words.specs.Permits.{slot_at, slots_of, laid}
 use Rattle.core_parts.specs.Changes.{Stirs}
 use Rattle.core_words.specs.Plays.{lays_back, takes_out}
-use Rattle.core_words.specs.Rule.{LotRule, MayHaveOut}
+use Rattle.core_words.specs.Rule.{IsCount, LotRule, MayHaveOut}
 use Rattle.core_words.specs.declared.owners.Ownership.{Ownership}
+use Rattle.core_words.specs.declared.views.Naming.TheVariants.{From}
 use Rattle.core_words.specs.declared.views.View.{View}
 use Rattle.core_words.specs.declared.words.WordKind.{WordKind}
 use Rattle.core_words.specs.declared.words.WordKind.TheVariants.{Mutex, RwLock, Condvar, Once, Count}
 use Rattle.core_words.specs.declared.words.WordKind.TheVariants.{Semaphore}
 use Rattle.core_parts.specs.declared.slot.PermitSlot.{PermitSlot}
-use Rattle.core_words.proofs.Keeps.{reseated}
+use Rattle.core_words.proofs.Keeps.{reseated, same_counts}
 use Rattle.core_words.proofs.Lists.{has_index, set_again, set_else, set_here}
 use Rattle.core_words.proofs.Totals.{total-le, total-set, cond_same, cond_other}
+use Rattle.core_words.proofs.Trades.{zero_either}
 use Rattle.core_words.proofs.Indices.{rank_lt}
 
 -- a thread that has at most one slot has none without it
@@ -61,7 +64,7 @@ module _ (words family : ℕ) (s : State PermitSlot View) (o : LotRule words fam
   reslotted id v out hs at same carries permits = let w = with_out out v in
       reseated words family s o hs (set s.views id w)
       (λ r weight. omega (arith, total-set (λ (u : View). owned r weight u.owns) s.views id v w at))
-      (λ r. omega (arith, total-set (λ (u : View). counted r u.owns) s.views id v w at))
+      (same_counts s.views id v w at (record { naming = refl; shares = refl }) (λ r. refl))
       (λ r. omega (arith, total-set (steps_at r) s.views id v w at))
       (λ weight. omega (arith, total-set (λ (u : View). total weight u.drawn) s.views id v w at))
       (λ q u e. ⊎_elim (λ t. let old = o.saw id v at in omega (arith, ap (λ (y : View). y.saw) t.1))
@@ -255,32 +258,53 @@ all_zero n i h = get_or-replicate n i 0 0 h
 zeros_length : (n : ℕ) → length (replicate {A = ℕ} n 0) ≡ n
 zeros_length n = length-replicate n 0
 
-only_blank : (n seat : ℕ) (v : View) → get_elem? (blank ∷ []) seat ≡ some v → v.saw ≤ n
-only_blank n zero v e = omega (arith, ap (λ (y : View). y.saw) (some-injective blank v e))
+only_blank : (n seat : ℕ) (v : View) → get_elem? (namer ∷ []) seat ≡ some v → v.saw ≤ n
+only_blank n zero v e = omega (arith, ap (λ (y : View). y.saw) (some-injective namer v e))
 only_blank n (suc seat) v e = absurd (some-ne-none v (sym e))
 
-only_nothing : (words seat : ℕ) (v : View) → get_elem? (blank ∷ []) seat ≡ some v
-    → MayHaveOut words v.out v.owns
-only_nothing words zero v e = subst (λ (y : View). MayHaveOut words y.out y.owns) (some-injective blank v e)
-    (inl refl)
+only_nothing : (words seat : ℕ) (v : View) → get_elem? (namer ∷ []) seat ≡ some v → MayHaveOut words v.out
+    v.owns
+only_nothing words zero v e = subst (λ (y : View). MayHaveOut words y.out y.owns) (some-injective namer v
+    e) (inl refl)
 only_nothing words (suc seat) v e = absurd (some-ne-none v (sym e))
+
+once_at_most : (b : Bool) → cond {A = ℕ} b 1 0 ≤ 1
+once_at_most true = omega arith
+once_at_most false = omega arith
+
+nothing_named : (thread n m : ℕ) → m ≡ 0 → if_names thread n m ≡ 0
+nothing_named thread n m e = ap (λ (k : ℕ). if_names thread n k) e ∙ zero_either (eqb (n / 4294967296)
+    (thread + 1))
+
+no_count_at_first : (at n : ℕ) → n ≡ 0 → IsCount at n (namer ∷ [])
+no_count_at_first at n e = record {
+  code = inl e;
+  said = e;
+  names = λ thread. omega (
+    arith,
+    zero_either (eqb (has_number thread (From 0)) 0),
+    nothing_named thread n
+        n e,
+  );
+  shares = λ thread. sym (nothing_named thread n (n % 4294967296) (ap (λ (k : ℕ). k % 4294967296) e));
+}
 
 first_index : (words : ℕ) → counter < table_size words
 first_index words = omega arith
 
 -- all words are 0, and each permit lies in its slot
-pub opens_at_first : (words family : ℕ)
-    → LotRule words family (opening (replicate (table_size words) 0) (laid family (table_size words)) blank)
+pub opens_at_first : (words family : ℕ) → LotRule words family (opening (replicate (table_size words) 0)
+    (laid family (table_size words)) namer)
 opens_at_first words family = record {
   size = zeros_length (table_size words);
   coded = λ number kind below. subst (λ (x : ℕ). Codes kind x (λ weight. 0))
       (sym (all_zero (table_size words) (word_index number kind) (omega (arith, rank_lt kind))))
       (zero_code kind);
   shows = λ number below. inl (all_zero (table_size words) (word_index number Condvar) (omega arith));
-  counts = λ number below. (
-    inl (all_zero (table_size words) (word_index number Count) (omega arith)),
-    all_zero (table_size words) (word_index number Count) (omega arith),
-  );
+  numbers = λ thread. omega (arith, once_at_most (eqb (0 - thread) 0));
+  counts = λ number below. no_count_at_first (word_index number Count) (get_or (replicate (table_size
+      words) 0) (word_index number Count) 0) (all_zero (table_size words) (word_index number Count) (omega
+      arith));
   semaphores = λ number below. omega (
     arith,
     all_zero (table_size words) (word_index number (Semaphore 0))

@@ -45,9 +45,9 @@ shown_is_a_mutex words family s rule = rule.shows
 
 pub counts_an_owner : CountsAnOwner
 counts_an_owner words family s rule number below = let here = rule.counts (number + 1) below in let same =
-    here.1 in let there : mutex_of_count (word_index (number + 1) Count) ≡ word_index number Mutex =
+    here.said in let there : mutex_of_count (word_index (number + 1) Count) ≡ word_index number Mutex =
     omega arith in (
-      here.0,
+      here.code,
       λ none. omega (
         arith,
         ap (λ (r : ℕ). total (λ (v : View). counted r v.owns) s.views) there,

@@ -228,12 +228,13 @@ steps_at_word words family slots id me number kind at op op' same there below he
     (sym there) (steps words family slots id me number kind op' below held may')
 
 -- a step that leaves all as it was, and is told to nobody
-silent : (words family : ℕ) (s : State PermitSlot View) → LotRule words family s → (i id : ℕ) (v : View)
-    → get_elem? s.views id ≡ some v
+pub silent : (words family : ℕ) (s : State PermitSlot View) → LotRule words family s → (i id : ℕ) (v :
+    View) → get_elem? s.views id ≡ some v
     → LotRule words family (record {
       words = set s.words i (get_or s.words i 0);
       homes = s.homes;
-      views = set s.views id v;
+      views =
+          set s.views id v;
     })
 silent words family s o i id v at = subst (λ (xs : List ℕ). LotRule words family (record {
   words = xs;

@@ -37,36 +37,8 @@ condvar_steps at owns = record {
   hide = condvar_step at (Store 0) owns (λ n. inr (inl refl));
 }
 
-module _ (mutex : ℕ) (owns : List Ownership) where
-  -- the law of steps on a count word: a thread that owns its mutex finds the count that it says, and leaves a
-  -- count
-  count_step : (op : Op) (count : ℕ) → has (owning_with (word_index mutex Mutex) count) owns ≡ true
-      → (count < 2 ^ 64 → IsCountCode (apply op count)) → MayStep Count (word_index (mutex + 1) Count) op owns
-  count_step op count there ok n owners fits code mine agrees =
-      let same : mutex_of_count (word_index (mutex + 1) Count) ≡ word_index mutex Mutex = omega arith in
-      let says : has (owning_with (mutex_of_count (word_index (mutex + 1) Count)) count) owns ≡ true =
-      subst (λ (r : ℕ). has (owning_with r count) owns ≡ true) (sym same) there in
-      let is : count ≡ n = agrees.1 count says in (
-        tt,
-        (λ after same. tt),
-        inr (
-          subst (λ (k : ℕ). IsCountCode (apply op k)) is (ok (omega arith)),
-          subst (λ (k : ℕ). has (owning_with (mutex_of_count (word_index (mutex + 1) Count)) k) owns ≡ true)
-              is says,
-        ),
-      )
-
 pub count_steps : CountMaySteps
-count_steps mutex owns = record {
-  load = λ n owners fits code mine agrees. (tt, (λ after same. tt), inl refl);
-  raise = λ count there code. count_step mutex owns (Add 1) count there (λ fits. elim code [
-    | inl nothing ↦ absurd (omega arith)
-    | inr (thread, times, e, some, few) ↦ inr (thread, times, omega arith, some, few)
-  ]);
-  lower = λ count there code. count_step mutex owns (Sub 1) (count + 1) there
-      (λ fits. subst IsCountCode (omega arith) code);
-  store = λ count m there code. count_step mutex owns (Store m) count there (λ fits. code);
-}
+count_steps mutex owns = record { load = λ n owners fits code mine agrees. (tt, (λ after same. tt), refl) }
 
 -- a load of a condition variable's word, which tells what it may show
 pub sees_shown_allowed : (words family slots id : ℕ) (me : Me PermitSlot View) (number : ℕ) → number < words

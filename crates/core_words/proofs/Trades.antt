@@ -6,7 +6,6 @@ use native.Mathlib.Decide.{ℕ_discrete}
 use Rattle.std.proofs.lemmas.Bool.{eqb-true, false≢true}
 use Rattle.core_words.specs.Views.{total, owned, owning, owning_with, counted}
 use Rattle.core_words.specs.Steps.{Trade, owner_rank, is_this, has, without, HasAll, without_all, owns_after}
-use Rattle.core_words.specs.Steps.{says_instead}
 use Rattle.core_words.specs.declared.owners.Owner.{Owner}
 use Rattle.core_words.specs.declared.owners.Owner.TheVariants.{Exclusive, Pending, Upgrading, Upgradable}
 use Rattle.core_words.specs.declared.owners.Owner.TheVariants.{Shared, Runner, Witness}
@@ -111,19 +110,6 @@ owned_some at o owns there weight some =
           there,
       cond_same at at (weight o) refl,
     )
-
--- a thread that says another count of a mutex owns it as before, by any weight that does not ask for the
--- count
-pub said_total : (weight : Ownership → ℕ) (mutex found left : ℕ) (owns : List Ownership) → (left ≡ found)
-    ⊎ (has (owning_with mutex found) owns ≡ true)
-    → total weight (says_instead mutex found left owns) + weight (owning_with mutex found) ≡ total weight owns
-    + weight (owning_with mutex left)
-said_total weight mutex found left owns may = dite (ℕ_discrete found left)
-    (λ e. rw (eq-eqb found left e) (omega (arith, ap (λ (k : ℕ). weight (owning_with mutex k)) e)))
-    (λ ne. rw (ne_eqb found left ne) (elim may [
-      | inl e ↦ absurd (ne (sym e))
-      | inr there ↦ omega (arith, total-without weight (owning_with mutex found) owns there)
-    ]))
 
 -- each ownership is this one
 pub is_itself : (x : Ownership) → is_this x x ≡ true

@@ -4,7 +4,7 @@ use Rattle.std.proofs.Common.{◌≡◌, ℕ, ◌%◌, ◌<◌, [], ◌∷◌, t
 use Rattle.atomic_table.specs.Table.{Me}
 use Rattle.atomic_table.specs.declared.shared.Seat.{Seat}
 use Rattle.core_words.specs.Indices.{word_index}
-use Rattle.core_words.specs.Views.{owning, shown, view, with_out}
+use Rattle.core_words.specs.Views.{going_on, owning, shown, with_out}
 use Rattle.core_words.specs.Permits.{out_after, slots_of}
 use Rattle.core_words.specs.Rights.{named_by}
 use Rattle.core_words.specs.Steps.{CodesWith, after_step, has, one_more_step}
@@ -42,8 +42,8 @@ module _ (at family : ℕ) (me after : Me PermitSlot View) where
   abbrev GoesOut : ℕ → Type 0
   GoesOut n = n % 2 ≡ 0 → Told n
       → after ≡ (
-        with_out (at ∷ []) (view (one_more_step me.0 at (Or 1) n) (owning at Exclusive ∷ me.0.owns)
-            me.0.drawn me.0.saw),
+        with_out (at ∷ []) (going_on me.0 (one_more_step me.0 at (Or 1) n) (owning at Exclusive ∷
+            me.0.owns) me.0.drawn me.0.saw),
         slots_of family (at ∷ []),
       )
 
@@ -84,9 +84,10 @@ module _ (lot : LotWords) (before after : Seat PermitSlot View) (word : Word) (o
 
   module _ (even : found % 2 ≡ 0) where
     goes : after.me ≡ (
-      with_out (i ∷ []) (view (one_more_step before.me.0 i (Or 1) found) (owning i Exclusive
-          ∷ before.me.0.owns) before.me.0.drawn before.me.0.saw),
-      slots_of family (i ∷ []),
+      with_out (i ∷ []) (going_on before.me.0 (one_more_step before.me.0 i (Or 1) found)
+          (owning i Exclusive ∷ before.me.0.owns) before.me.0.drawn before.me.0.saw),
+      slots_of family (i ∷
+          []),
     )
     goes = goes_out i family before.me after.me found small even tells.0
 
@@ -99,5 +100,5 @@ module _ (lot : LotWords) (before after : Seat PermitSlot View) (word : Word) (o
 
     pub tried_left : left_over (named_by word Exclusive) after.me.0 ≡ stepping before.me.0 i (Or 1) found
     tried_left = ap (λ m. left_over (named_by word Exclusive) m.0) goes
-        ∙ ap (λ owns. view (one_more_step before.me.0 i (Or 1) found) owns before.me.0.drawn before.me.0.saw)
-        (without_first (named_by word Exclusive) before.me.0.owns)
+        ∙ ap (λ owns. going_on before.me.0 (one_more_step before.me.0 i (Or 1) found) owns
+        before.me.0.drawn before.me.0.saw) (without_first (named_by word Exclusive) before.me.0.owns)

@@ -1,5 +1,5 @@
 -- Codes: the owners that the value of a lock's word tells.
-use Rattle.std.specs.Prelude.{◌≡◌, ◌≢◌, ℕ, ◌+◌, ◌*◌, ◌/◌, ◌%◌, ◌^◌, ◌<◌, ◌≤◌, ◌⊎◌}
+use Rattle.std.specs.Prelude.{◌≡◌, ◌≢◌, ◌==◌, cond, ℕ, ◌+◌, ◌*◌, ◌/◌, ◌%◌, ◌^◌, ◌<◌, ◌≤◌, ◌⊎◌}
 use Rattle.core_words.specs.declared.owners.Owner.{Owner}
 use Rattle.core_words.specs.declared.owners.Owner.TheVariants.{Exclusive, Pending, Upgrading, Upgradable}
 use Rattle.core_words.specs.declared.owners.Owner.TheVariants.{Shared, Runner, Witness}
@@ -92,3 +92,7 @@ abbrev pub IsCountCode : ℕ → Type 0
 IsCountCode n = (n ≡ 0) ⊎
     ((thread : ℕ) × (times : ℕ) × (n ≡ (thread + 1) * 4294967296 + times) × (1 ≤ times)
     × (times < 4294967296))
+
+-- n where a count names the thread of this number, and else 0
+abbrev pub if_names : ℕ → ℕ → ℕ → ℕ
+if_names thread count n = cond (count / 4294967296 == thread + 1) n 0

@@ -4,14 +4,13 @@ use Rattle.core_base.specs.Words.{apply}
 use Rattle.core_base.specs.declared.ops.Op.{Op}
 use Rattle.core_base.specs.declared.ops.Op.TheVariants.{Load, Store, Swap, Add, Sub, Or, And, Exchange}
 use Rattle.core_words.specs.Indices.{word_index}
-use Rattle.core_words.specs.Views.{owned, owning, owning_with}
-use Rattle.core_words.specs.Steps.{MayStep, CodesWith, HasAll, owns_after_step, has, holding, so_many_shared}
-use Rattle.core_words.specs.Steps.{without}
+use Rattle.core_words.specs.Views.{owned, owning}
+use Rattle.core_words.specs.Steps.{MayStep, CodesWith, HasAll, owns_after_step, has, holding}
+use Rattle.core_words.specs.Steps.{so_many_shared, without}
 use Rattle.core_words.specs.declared.owners.Owner.TheVariants.{Exclusive, Pending, Upgrading, Upgradable}
 use Rattle.core_words.specs.declared.owners.Owner.TheVariants.{Shared, Runner, Witness}
 use Rattle.core_words.specs.declared.owners.Ownership.{Ownership}
-use Rattle.core_words.specs.Codes.{Owners, Codes, IsCountCode, everyone, exclusive, pending, upgrading}
-use Rattle.core_words.specs.Codes.{upgradable, shared}
+use Rattle.core_words.specs.Codes.{Owners, Codes, everyone, exclusive, pending, upgrading, upgradable, shared}
 use Rattle.core_words.specs.declared.words.WordKind.{WordKind}
 use Rattle.core_words.specs.declared.words.WordKind.TheVariants.{Mutex, RwLock, Once, Condvar, Count}
 use Rattle.core_words.specs.declared.words.WordKind.TheVariants.{Semaphore}
@@ -174,16 +173,6 @@ CondvarMaySteps = (at : ℕ) (owns : List Ownership) → CondvarSteps at owns
 -- the kinds of step on the count word of the mutex before it
 pub record CountSteps (mutex : ℕ) (owns : List Ownership) : Type 0 where
   pub load : MayStep Count (word_index (mutex + 1) Count) Load owns
-  -- an owner of the mutex that says this count of it counts once more or once less, or stores another count
-  pub raise : (count : ℕ) → has (owning_with (word_index mutex Mutex) count) owns ≡ true
-      → IsCountCode (count + 1)
-      → MayStep Count (word_index (mutex + 1) Count) (Add 1) owns
-  pub lower : (count : ℕ) → has (owning_with (word_index mutex Mutex) (count + 1)) owns ≡ true
-      → IsCountCode count
-      → MayStep Count (word_index (mutex + 1) Count) (Sub 1) owns
-  pub store : (count m : ℕ) → has (owning_with (word_index mutex Mutex) count) owns ≡ true
-      → IsCountCode m
-      → MayStep Count (word_index (mutex + 1) Count) (Store m) owns
 
 -- any thread may take them
 abbrev pub CountMaySteps : Type 0

@@ -7,12 +7,13 @@ use Rattle.core_base.specs.declared.ops.Op.{Op}
 use Rattle.core_base.specs.declared.ops.Op.TheVariants.{Load, Store, Swap, Add, Sub, Or, And, Exchange}
 use Rattle.core_words.specs.Indices.{counter, word_index, word_kind_at}
 use Rattle.core_words.specs.Codes.{ShowsBeside, shared}
-use Rattle.core_words.specs.Views.{shown, view, with_out, owned, drew_permits}
+use Rattle.core_words.specs.Views.{shown, view, going_on, counts_in, with_out, owned, drew_permits}
 use Rattle.core_words.specs.Permits.{out_after, slots_of}
 use Rattle.core_parts.specs.declared.slot.PermitSlot.{PermitSlot}
 use Rattle.core_words.specs.Steps.{CodesWith, one_more_step, after_step, holding, without}
 use Rattle.core_words.specs.declared.owners.Ownership.{Ownership}
 use Rattle.core_words.specs.declared.views.Drawn.{Drawn}
+use Rattle.core_words.specs.declared.views.Naming.TheVariants.{Nobody}
 use Rattle.core_words.specs.declared.views.View.{View}
 use Rattle.core_words.specs.declared.words.WordKind.{WordKind}
 use Rattle.core_words.specs.declared.words.WordKind.TheVariants.{Semaphore}
@@ -79,7 +80,7 @@ numbered number (kind ∷ kinds) =
 
 abbrev pub looks_at_word : {S : Type 0} → Play S
 looks_at_word st me found after = after ≡ (
-  with_out me.0.out (view (one_more_step me.0 counter Load found) me.0.owns me.0.drawn found),
+  with_out me.0.out (going_on me.0 (one_more_step me.0 counter Load found) me.0.owns me.0.drawn found),
   me.1,
 )
 
@@ -87,13 +88,15 @@ looks_at_word st me found after = after ≡ (
 abbrev pub draws : {S : Type 0} → List WordKind → Play S
 draws kinds st me found after =
     (found ≡ st.first → after ≡ (
-      with_out me.0.out (view (one_more_step me.0 counter (Exchange st.first st.second) found) me.0.owns
+      with_out me.0.out (going_on me.0 (one_more_step me.0 counter (Exchange st.first st.second) found)
+          me.0.owns
           (numbered found kinds ++ me.0.drawn) st.second),
       me.1,
     ))
     × (found ≢ st.first → (st.first < found)
     × (after ≡ (
-      with_out me.0.out (view (one_more_step me.0 counter (Exchange st.first st.second) found) me.0.owns
+      with_out me.0.out (going_on me.0 (one_more_step me.0 counter (Exchange st.first st.second) found)
+          me.0.owns
           me.0.drawn found),
       me.1,
     )))
@@ -103,14 +106,15 @@ draws kinds st me found after =
 abbrev pub draws_permits : {S : Type 0} → ℕ → Play S
 draws_permits permits st me found after =
     (found ≡ st.first → after ≡ (
-      with_out me.0.out (view (one_more_step me.0 counter (Exchange st.first st.second) found)
+      with_out me.0.out (going_on me.0 (one_more_step me.0 counter (Exchange st.first st.second) found)
           (holding (word_index found (Semaphore permits)) permits ++ me.0.owns)
           (numbered found (Semaphore permits ∷ []) ++ me.0.drawn) st.second),
       me.1,
     ))
     × (found ≢ st.first → (st.first < found)
     × (after ≡ (
-      with_out me.0.out (view (one_more_step me.0 counter (Exchange st.first st.second) found) me.0.owns
+      with_out me.0.out (going_on me.0 (one_more_step me.0 counter (Exchange st.first st.second) found)
+          me.0.owns
           me.0.drawn found),
       me.1,
     )))
@@ -129,22 +133,26 @@ sees_free family number st me found after =
 
 -- one ownership is split off a view
 abbrev pub left_over : Ownership → View → View
-left_over x v = view v.steps (without x v.owns) v.drawn v.saw
+left_over x v = going_on v v.steps (without x v.owns) v.drawn v.saw
 
 abbrev pub piece : Ownership → View
 piece x = view [] (x ∷ []) [] 0
 
 -- a view takes in what another owns
 abbrev pub takes_in : View → View → View
-takes_in v w = view v.steps (w.owns ++ v.owns) v.drawn v.saw
+takes_in v w = going_on v v.steps (w.owns ++ v.owns) v.drawn v.saw
+
+-- a view without a number and without shares, which says nothing of counts
+abbrev pub BringsNoName : View → Type 0
+BringsNoName w = (w.naming ≡ Nobody) × (w.shares ≡ []) × (counts_in w.owns ≡ 0)
 
 -- a view goes on with what another, which drew nothing, has done and owns
 abbrev pub goes_on_with : View → View → View
-goes_on_with v w = view (v.steps ++ w.steps) (w.owns ++ v.owns) v.drawn v.saw
+goes_on_with v w = going_on v (v.steps ++ w.steps) (w.owns ++ v.owns) v.drawn v.saw
 
 -- a view with one step more, which trades nothing
 abbrev pub stepping : View → ℕ → Op → ℕ → View
-stepping v at op found = view (one_more_step v at op found) v.owns v.drawn v.saw
+stepping v at op found = going_on v (one_more_step v at op found) v.owns v.drawn v.saw
 
 -- a step where the number that it expects of the word is the real one. Where it is another it is no
 -- step, and tells as much of the value found

@@ -1,8 +1,7 @@
 -- The word and the owner that a right names.
 use Rattle.std.specs.Prelude.{◌≡◌, ◌⊎◌, ◌/◌, ◌==◌, ℕ, List, [], ◌∷◌, Bool, cond, map, true, false}
 use Rattle.core_words.specs.Indices.{word_index}
-use Rattle.core_words.specs.Views.{owning, owning_with, with_out}
-use Rattle.core_words.specs.Steps.{has}
+use Rattle.core_words.specs.Views.{owning, with_out}
 use Rattle.core_words.specs.Plays.{piece, stepping, takes_in}
 use Rattle.core_words.specs.declared.owners.Owner.{Owner}
 use Rattle.core_words.specs.declared.owners.Owner.TheVariants.{Exclusive, Pending, Upgrading, Upgradable}
@@ -56,10 +55,6 @@ named_by word owner = owning (word_index word.number word.kind) owner
 
 abbrev pub piece_of : Word → Owner → View
 piece_of word owner = piece (named_by word owner)
-
--- it owns a mutex, and says this of its count word
-abbrev pub OwnsWith : Word → ℕ → View → Type 0
-OwnsWith mutex count v = has (owning_with (word_index mutex.number Mutex) count) v.owns ≡ true
 
 -- whether the permit of its value goes along with an ownership: it does with a mutex
 abbrev pub takes_permit : WordKind → Owner → Bool

@@ -1,5 +1,5 @@
 -- Rights of a lot.
-use Rattle.std.specs.Prelude.{◌≡◌, ℕ, [], ◌∷◌}
+use Rattle.std.specs.Prelude.{◌≡◌, [], ◌∷◌}
 use Rattle.core_words.specs.Indices.{word_index}
 use Rattle.core_words.specs.Lots.{IsSeatOf, IsWordOf}
 use Rattle.atomic_table.specs.declared.shared.Seat.{Seat}
@@ -10,10 +10,6 @@ use Rattle.core_words.specs.declared.table.LotWords.{LotWords}
 use Rattle.core_words.specs.declared.rights.Right.{Right}
 use Rattle.core_words.specs.declared.rights.Held.{Held}
 use Rattle.core_words.specs.declared.permits.OpenHeld.{OpenHeld}
-use Rattle.core_words.specs.declared.counted.Counted.{Counted}
-use Rattle.core_words.specs.Plays.{piece}
-use Rattle.core_words.specs.Views.{owning_with}
-use Rattle.core_words.specs.declared.words.WordKind.TheVariants.{Mutex}
 use Rattle.core_words.specs.declared.views.View.{View}
 use Rattle.core_words.specs.declared.words.Word.{Word}
 use Rattle.core_base.specs.declared.wants.Want.{Want}
@@ -45,8 +41,3 @@ abbrev pub IsOpenOf : LotWords → Word → OpenHeld → Type 0
 IsOpenOf lot word opened =
     (opened.seat.table_id ≡ lot.table.shared.table_id)
     × (opened.seat.me ≡ (with_permit word, (word_index word.number word.kind, bare) ∷ []))
-
--- the ownership of the mutex of this number, which says this of its count word, with no permit out
-abbrev pub IsCountedOf : LotWords → ℕ → ℕ → Counted → Type 0
-IsCountedOf lot number count counted = IsSeatOf lot counted.seat
-    × (counted.seat.me.0 ≡ piece (owning_with (word_index number Mutex) count))

@@ -1,11 +1,12 @@
 -- The ownership rule: what holds of a lot's words and of all views between any two steps.
-use Rattle.std.specs.Prelude.{◌≡◌, ◌≢◌, ◌⊎◌, ℕ, ◌+◌, ◌/◌, ◌<◌, ◌≤◌, List, [], ◌∷◌, length, slice_index}
+use Rattle.std.specs.Prelude.{◌≡◌, ◌≢◌, ◌⊎◌, ℕ, ◌+◌, ◌/◌, ◌%◌, ◌<◌, ◌≤◌, List, [], ◌∷◌, length, slice_index}
 use mathlib.Core.Option.{some}
 use lib.ListN.{get_elem?}
 use Rattle.atomic_table.specs.Table.{State}
 use Rattle.core_words.specs.Indices.{counter, word_index, table_size, mutex_of_count}
-use Rattle.core_words.specs.Views.{total, total_below, owned, named, counted, steps_at, outs, drew, granted}
-use Rattle.core_words.specs.Codes.{Codes, Shows, IsCountCode, exclusive, shared}
+use Rattle.core_words.specs.Views.{total, total_below, owned, named, counted, has_number, said_as}
+use Rattle.core_words.specs.Views.{shared_as, steps_at, outs, drew, granted}
+use Rattle.core_words.specs.Codes.{Codes, Shows, IsCountCode, exclusive, if_names, shared}
 use Rattle.core_words.specs.Permits.{slot_at}
 use Rattle.core_parts.specs.declared.slot.PermitSlot.{PermitSlot}
 use Rattle.core_words.specs.declared.owners.Owner.{Owner}
@@ -19,6 +20,15 @@ use Rattle.core_words.specs.declared.words.WordKind.TheVariants.{Mutex, Condvar,
 abbrev pub MayBeShown : ℕ → ℕ → List View → ℕ → Type 0
 MayBeShown words number views mutex =
     (mutex < words) × (mutex ≢ number) × (0 < total (steps_at (word_index mutex Mutex)) views)
+
+-- n is the count at an index: what the owner of the mutex before it says. Where it isn't 0, it names the
+-- thread whose number that owner has, and there are as many shares which name that thread as it has times
+pub record IsCount (at n : ℕ) (views : List View) : Type 0 where
+  pub code : IsCountCode n
+  pub said : n ≡ total (λ (v : View). counted (mutex_of_count at) v.owns) views
+  pub names : (thread : ℕ) → total (said_as thread (mutex_of_count at)) views ≡ if_names thread n n
+  pub shares : (thread : ℕ)
+      → total (λ (v : View). shared_as thread at v.shares) views ≡ if_names thread n (n % 4294967296)
 
 -- the permits that may be out with a seat that owns these: none, or that of one mutex which it owns
 abbrev pub MayHaveOut : ℕ → List ℕ → List Ownership → Type 0
@@ -36,11 +46,11 @@ pub record LotRule (words family : ℕ) (s : State PermitSlot View) : Type 0 whe
   -- a condition variable shows such a mutex, or none
   pub shows : (number : ℕ) → number < words
       → Shows (MayBeShown words number s.views) (slice_index s.words (word_index number Condvar))
-  -- a count word is what the owner of the mutex before it says
+  -- no two views have the number of one thread
+  pub numbers : (thread : ℕ) → total (λ (v : View). has_number thread v.naming) s.views ≤ 1
+  -- a count word is what the owner of the mutex before it says, which it names
   pub counts : (number : ℕ) → number < words
-      → IsCountCode (slice_index s.words (word_index number Count))
-      × (slice_index s.words (word_index number Count)
-      ≡ total (λ (v : View). counted (mutex_of_count (word_index number Count)) v.owns) s.views)
+      → IsCount (word_index number Count) (slice_index s.words (word_index number Count)) s.views
   -- the free permits of a semaphore, with those that all views together name, are those with which
   -- its word was drawn
   pub semaphores : (number : ℕ) → number < words

@@ -5,7 +5,7 @@ use Rattle.core_base.specs.Words.{apply}
 use Rattle.core_base.specs.declared.ops.Op.{Op}
 use Rattle.core_base.specs.declared.ops.Op.TheVariants.{Load, Sub, Exchange}
 use Rattle.core_words.specs.Indices.{word_index, mutex_of_count}
-use Rattle.core_words.specs.Views.{view, total, owned, owning, owning_with}
+use Rattle.core_words.specs.Views.{going_on, total, owned, owning, owning_with}
 use Rattle.core_words.specs.Codes.{Owners, Codes, Shows, IsCountCode}
 use Rattle.core_words.specs.declared.owners.Owner.{Owner}
 use Rattle.core_words.specs.declared.owners.Owner.TheVariants.{Exclusive, Pending, Upgrading, Upgradable}
@@ -139,15 +139,8 @@ trade Once at op found owns = once_trade found (apply op found)
 trade (Semaphore permits) at op found owns = semaphore_trade found (apply op found)
 trade _ at op found owns = trading [] []
 
--- a thread that changes a count word says the new count of its mutex from then on
-abbrev pub says_instead : ℕ → ℕ → ℕ → List Ownership → List Ownership
-says_instead mutex found left owns =
-    cond (found == left) owns (owning_with mutex left ∷ without (owning_with mutex found) owns)
-
 -- the ownerships after a step, by the operation and the value found
 abbrev pub owns_after_step : WordKind → ℕ → Op → ℕ → List Ownership → List Ownership
-owns_after_step Count at op found owns =
-    says_instead (mutex_of_count at) found (apply op found) owns
 owns_after_step kind at op found owns = owns_after at (trade kind at op found owns) owns
 
 -- a count word is a count, and what an owner of its mutex says
@@ -158,13 +151,12 @@ CountAgrees Count at n owns =
 CountAgrees _ at n owns = Unit {0}
 
 -- a step that changes a condition variable's word hides the mutex that it shows, or shows a mutex
--- of another number that the thread owns. Only the owner of its mutex changes a count word
+-- of another number that the thread owns. A count word stays as it is
 abbrev pub MayTie : WordKind → ℕ → ℕ → ℕ → List Ownership → Type 0
 MayTie Condvar at found left owns = (left ≡ found)
     ⊎ Shows (λ mutex. (at ≢ word_index mutex Condvar)
     × (has (owning (word_index mutex Mutex) Exclusive) owns ≡ true)) left
-MayTie Count at found left owns =
-    (left ≡ found) ⊎ (IsCountCode left × (has (owning_with (mutex_of_count at) found) owns ≡ true))
+MayTie Count at found left owns = left ≡ found
 MayTie _ at found left owns = Unit {0}
 
 -- n is the code of owners among which these are
@@ -190,4 +182,4 @@ one_more_step v at op found = v.steps ++ record { at = at; op = op; seen = found
 -- the view after a step at an index: the step is listed, and it owns what the step trades
 abbrev pub after_step : WordKind → ℕ → Op → ℕ → View → View
 after_step kind at op found v =
-    view (one_more_step v at op found) (owns_after_step kind at op found v.owns) v.drawn v.saw
+    going_on v (one_more_step v at op found) (owns_after_step kind at op found v.owns) v.drawn v.saw

@@ -58,8 +58,7 @@ pub fn condvar_may_step()
     ensures { CondvarMaySteps }
 {}
 
-/// Allows steps on a count word. Any thread may load it. The owner of the mutex before it, which
-/// says what the count is, may raise and lower it by one, and give it another count.
+/// Allows steps on a count word: any thread may load it. The thread that it is to name stores it.
 pub fn count_may_step()
     ensures { CountMaySteps }
 {}

@@ -2,7 +2,6 @@
 //! together.
 #![tactic(auto)]
 
-pub mod counted;
 pub mod draws;
 pub mod free;
 pub mod laws;
@@ -15,10 +14,9 @@ pub mod table;
 pub mod views;
 pub mod words;
 
-pub use counted::Counted;
 pub use owners::{Owner, Ownership};
 pub use permits::OpenHeld;
 pub use rights::{Held, Right};
 pub use table::{LotWords, Seat};
-pub use views::{Drawn, View, WordStep};
+pub use views::{Counting, Drawn, Naming, View, WordStep};
 pub use words::{Word, WordKind};

@@ -4,7 +4,8 @@ ghost use Rattle.std.specs.Prelude.{IsTrue, ◌↔◌, ◌≡◌, ◌≢◌, ◌
 ghost use Rattle.std.specs.Prelude.{MatchOption, MatchResult};
 ghost use Rattle.core_base.specs.declared.ops.Op.TheVariants.{Exchange, Or, Sub};
 ghost use Rattle.core_words.specs.Indices.{word_index};
-ghost use Rattle.core_words.specs.Plays.{entering_saw, goes_on_with, left_over, stepping, takes_in};
+ghost use Rattle.core_words.specs.Plays.{BringsNoName, entering_saw, goes_on_with, left_over, stepping};
+ghost use Rattle.core_words.specs.Plays.{takes_in};
 ghost use Rattle.core_words.specs.Rights.{leaving_alone, named_by, piece_of};
 ghost use Rattle.core_words.specs.Steps.{CodesWith, has};
 ghost use Rattle.core_words.specs.Views.{blank, shown, with_out};
@@ -57,9 +58,9 @@ impl LotWords {
         );
     }
 
-    // None is out with it.
+    /// Lays back what is out with a seat. It reads no word.
     #[inline]
-    pub(crate) fn lay_back(&self, seat: &mut Seat)
+    pub fn lay_back(&self, seat: &mut Seat)
         requires { IsSeatOf self.now seat.old }
         ensures own { IsSeatOf self.now seat.new }
         ensures laid { seat.new.me.0 ≡ shown seat.old.me.0 }
@@ -136,12 +137,12 @@ impl LotWords {
         owner
     }
 
-    // Gives the thread what an owner has done and still owns. It does so after the owner's step, so
-    // that this doesn't wait for the load.
+    /// Gives a seat what another has done and still owns. It reads no word.
     #[inline]
-    fn go_on(&self, seat: &mut Seat, owner: Seat)
+    pub fn go_on(&self, seat: &mut Seat, owner: Seat)
         requires own { IsSeatOf self.now seat.old × IsSeatOf self.now owner }
         requires left { (owner.me.0.drawn ≡ []) × (owner.me.0.out ≡ []) }
+        requires nameless { BringsNoName owner.me.0 }
         ensures own { IsSeatOf self.now seat.new }
         ensures gone_on { shown seat.new.me.0 ≡ goes_on_with seat.old.me.0 owner.me.0 }
     {
@@ -157,6 +158,7 @@ impl LotWords {
     pub(crate) fn go_on_as(&self, seat: &mut Seat, owner: Seat)
         requires own { IsSeatOf self.now seat.old × IsSeatOf self.now owner }
         requires left { owner.me.0.drawn ≡ [] }
+        requires nameless { BringsNoName owner.me.0 }
         ensures own { IsSeatOf self.now seat.new }
         ensures gone_on { seat.new.me.0
             ≡ with_out owner.me.0.out (goes_on_with seat.old.me.0 owner.me.0) }
@@ -295,6 +297,7 @@ impl LotWords {
         ensures left { locked ≡ 1 → shown owner.new.me.0 ≡ leaving_alone blank word result }
         ensures laid { (owner.new.me.0.drawn ≡ [])
             × (locked ≡ 1 → result ≡ 1 → owner.new.me.0.out ≡ []) }
+        ensures nameless { BringsNoName owner.new.me.0 }
         ensures kept { locked ≡ 0 → IsOwnerOf self.now word owner.new }
         ensures coded { (result ≡ 1) ⊎ (result ≡ 3) }
     {

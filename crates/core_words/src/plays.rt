@@ -1,7 +1,7 @@
 //! The rule of the lot's table, and the names of its steps.
 ghost use Rattle.std.specs.Prelude.{ℕ, [], ◌∷◌, List};
 ghost use Rattle.core_words.specs.Rule.{LotRule};
-ghost use Rattle.core_words.specs.Views.{blank, owning, with_out};
+ghost use Rattle.core_words.specs.Views.{blank, namer, owning, with_out};
 ghost use Rattle.core_words.specs.Plays.{adds, ands, draws, draws_permits, takes_mutex, exchanges};
 ghost use Rattle.core_words.specs.Plays.{goes_on_with, lays_back, gives_mutex_up, leaves_alone, left_over};
 ghost use Rattle.core_words.specs.Plays.{loads, looks_at_word, ors, piece, saw_set, sees_free, sees_locked};
@@ -22,7 +22,7 @@ pub struct OwnershipRule;
 impl TableRule<PermitSlot, View, (usize, Permits)> for OwnershipRule {
     ghost holds = { λ key. LotRule key.0 key.1.family };
 
-    ghost first = { λ _. blank };
+    ghost first = { λ _. namer };
 }
 
 /// Picks permits at each call: where those of a lot come from, and beside which word one lies.
@@ -220,17 +220,6 @@ pub struct SplitsOff<P: Piece> {
 
 impl<P: Piece> Split<View> for SplitsOff<P> {
     ghost left = { λ v. with_out v.out (left_over P.owned v) };
-
-    ghost right = { λ _. piece P.owned };
-}
-
-/// Splits a seat that has no permit out.
-pub struct SplitsCounted<P: Piece> {
-    piece: PhantomData<P>,
-}
-
-impl<P: Piece> Split<View> for SplitsCounted<P> {
-    ghost left = { left_over P.owned };
 
     ghost right = { λ _. piece P.owned };
 }

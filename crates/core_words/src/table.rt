@@ -39,17 +39,17 @@ pub(crate) fn new_tag() -> u32 {
 
 impl LotWords {
     ghost use Rattle.core_words.specs.Permits.{out_after};
-    ghost use Rattle.core_words.specs.Views.{blank, shown};
+    ghost use Rattle.core_words.specs.Views.{blank, namer, shown};
     ghost use Rattle.core_base.specs.declared.ops.Op.TheVariants.{Or};
     ghost use Rattle.core_words.specs.Plays.{TakesStepOf};
     ghost use Rattle.core_words.specs.Steps.{MayStep, CodesWith, after_step};
     ghost use Rattle.core_words.specs.Lots.{IsSeatOf, IsWordOf};
 
-    /// Words that are all 0, and the first seat.
+    /// Words that are all 0, and the first seat, which has the numbers of all threads.
     pub fn new(alloc: Global, count: usize) -> Result<(LotWords, Seat), AllocError>
         requires { (0 < count) × (count ≤ most_words) }
         ensures { IfOk result
-            (λ made. (made.0.count ≡ count) × IsSeatOf made.0 made.1 × (made.1.me ≡ (blank, []))) }
+            (λ made. (made.0.count ≡ count) × IsSeatOf made.0 made.1 × (made.1.me ≡ (namer, []))) }
     {
         let size = 8 * (count + 1);
         let zeros = Vec::from_elem(alloc, 0u64, size)?;

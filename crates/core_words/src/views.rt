@@ -4,6 +4,8 @@ ghost use Rattle.std.specs.Borrow.{ftrue};
 ghost use Rattle.core_words.specs.declared.owners.Ownership.{Ownership};
 ghost use Rattle.core_words.specs.declared.views.WordStep.{WordStep};
 ghost use Rattle.core_words.specs.declared.views.Drawn.{Drawn};
+ghost use Rattle.core_words.specs.declared.views.Counting.{Counting};
+ghost use Rattle.core_words.specs.declared.views.Naming.{Naming};
 
 use crate::words::WordKind;
 use core_base::Op;
@@ -22,6 +24,20 @@ pub struct Drawn {
     pub kind: WordKind,
 }
 
+/// The numbers of threads that a seat has: none, that of one thread, or this one and all above it.
+pub enum Naming {
+    Nobody,
+    Thread { number: usize },
+    From { number: usize },
+}
+
+/// One of the times that a mutex is locked: at which index the count stands, and the number of the
+/// thread that it names.
+pub struct Counting {
+    pub at: usize,
+    pub thread: usize,
+}
+
 /// A seat's view: what the seat has done, what it owns, and what it saw.
 pub struct View {
     // Its steps, the first at the front.
@@ -34,6 +50,10 @@ pub struct View {
     // The index of the mutex whose permit is out with it. It owns that mutex, and there is one at
     // most.
     pub ghost out: { List ℕ },
+    // The numbers of threads that it has. No two views have one.
+    pub ghost naming: { Naming },
+    // The times that mutexes are locked of which it has the shares.
+    pub ghost shares: { List Counting },
 }
 
 impl Model for View {

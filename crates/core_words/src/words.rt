@@ -89,8 +89,9 @@ impl Word {
         self.number == other.number && self.kind == other.kind
     }
 
+    /// Its index in the table.
     #[inline]
-    pub(crate) fn index(self) -> usize
+    pub fn index(self) -> usize
         ensures { result ≡ word_index self.number self.kind }
     {
         self.at

@@ -118,12 +118,12 @@ impl<R: RawMutexCounted, G: GetThreadId<R>, T> ReentrantMutex<R, G, T> {
             (λ _. SawFull (R.saw_count self.now.0) (R.number_of token.old) token.old token.new) }
     {
         let thread = self.thread.nonzero_thread_id(token);
-        match self.raw.count_again(rt, token, &self.count, thread)? {
+        match self.raw.count_again(token, &self.count, thread)? {
             Some(share) => return Ok(self.guard(share)),
             None => {}
         }
         let guard = self.raw.lock(rt, token);
-        let share = self.raw.count_first(rt, token, &self.count, thread, guard);
+        let share = self.raw.count_first(token, &self.count, thread, guard);
         Ok(self.guard(share))
     }
 
@@ -134,9 +134,8 @@ impl<R: RawMutexCounted, G: GetThreadId<R>, T> ReentrantMutex<R, G, T> {
     ///
     /// As of `lock`.
     #[inline]
-    pub fn try_lock<W: Wait>(
+    pub fn try_lock(
         &self,
-        rt: &W,
         token: &mut R::Token,
     ) -> Result<Option<ReentrantMutexGuard<'_, R, G, T>>, Fault>
         requires { R.is_token_of (R.lot_of self.now.0) token.old }
@@ -160,14 +159,14 @@ impl<R: RawMutexCounted, G: GetThreadId<R>, T> ReentrantMutex<R, G, T> {
             (λ _. SawFull (R.saw_count self.now.0) (R.number_of token.old) token.old token.new) }
     {
         let thread = self.thread.nonzero_thread_id(token);
-        match self.raw.count_again(rt, token, &self.count, thread)? {
+        match self.raw.count_again(token, &self.count, thread)? {
             Some(share) => return Ok(Some(self.guard(share))),
             None => {}
         }
         let Some(guard) = self.raw.try_lock(token) else {
             return Ok(None);
         };
-        let share = self.raw.count_first(rt, token, &self.count, thread, guard);
+        let share = self.raw.count_first(token, &self.count, thread, guard);
         Ok(Some(self.guard(share)))
     }
 }
@@ -213,11 +212,12 @@ impl<R: RawMutexCounted, G, T> Deref for ReentrantMutexGuard<'_, R, G, T> {
 }
 
 impl<R: RawMutexCounted, G, T> ReentrantMutexGuard<'_, R, G, T> {
-    /// Gives one share up. The last one gives the mutex up, and wakes the first that waits for it: the
-    /// record of the section says whether there was one.
+    /// Gives one share up, by the token that took the guard. The last one gives the mutex up, and
+    /// wakes the first that waits for it: the record of the section says whether there was one.
     #[inline]
     pub fn unlock<W: Wait>(self, rt: &W, token: &mut R::Token)
-        requires { R.is_token_of (R.lot_of self.mutex.now.0) token.old }
+        requires token { R.is_token_of (R.lot_of self.mutex.now.0) token.old }
+        requires named { R.thread_of self.share ≡ R.number_of token.old + 1 }
         ensures token { R.is_token_of (R.lot_of self.entry.mutex.now.0) token.new
             × R.stays token.old token.new }
         ensures path { WentOff (CountedLess (R.stored_count self.entry.mutex.now.0))
@@ -230,7 +230,7 @@ impl<R: RawMutexCounted, G, T> ReentrantMutexGuard<'_, R, G, T> {
             share,
             here: _,
         } = self;
-        if let Some(guard) = mutex.raw.count_off(rt, token, &mutex.count, share) {
+        if let Some(guard) = mutex.raw.count_off(token, &mutex.count, share) {
             mutex.raw.unlock(rt, token, guard);
         }
     }
@@ -244,9 +244,8 @@ impl<'a, R: RawMutexCounted, G: GetThreadId<R>, T> ReentrantMutexGuard<'a, R, G,
     ///
     /// `LockCountFull` with the guard, where this thread has locked the mutex 4294967295 times.
     #[inline]
-    pub fn again<W: Wait>(
+    pub fn again(
         self,
-        rt: &W,
         token: &mut R::Token,
     ) -> Result<
         (
@@ -280,7 +279,7 @@ impl<'a, R: RawMutexCounted, G: GetThreadId<R>, T> ReentrantMutexGuard<'a, R, G,
             here: _,
         } = self;
         let thread = mutex.thread.nonzero_thread_id(token);
-        match mutex.raw.count_more(rt, token, &mutex.count, thread, share) {
+        match mutex.raw.count_more(token, &mutex.count, thread, share) {
             Ok((share, another)) => Ok((mutex.guard(share), mutex.guard(another))),
             Err((fault, share)) => Err((fault, mutex.guard(share))),
         }
@@ -289,15 +288,16 @@ impl<'a, R: RawMutexCounted, G: GetThreadId<R>, T> ReentrantMutexGuard<'a, R, G,
 
 impl<'a, R: RawMutexCounted + RawMutexFair, G: GetThreadId<R>, T> ReentrantMutexGuard<'a, R, G, T> {
     /// Hands the mutex to the first that waits for it, and waits to take it again. Where nobody
-    /// waits, or this thread has locked the mutex more than once, it keeps the mutex.
+    /// waits, or this thread has locked the mutex more than once, it keeps the mutex. The token is the
+    /// one that took the guard.
     #[inline]
     pub fn bump<W: Wait>(self, rt: &W, token: &mut R::Token) -> ReentrantMutexGuard<'a, R, G, T>
-        requires { R.is_token_of (R.lot_of self.mutex.now.0) token.old }
+        requires token { R.is_token_of (R.lot_of self.mutex.now.0) token.old }
+        requires named { R.thread_of self.share ≡ R.number_of token.old + 1 }
         ensures token { R.is_token_of (R.lot_of self.entry.mutex.now.0) token.new
             × R.stays token.old token.new }
         ensures guard { result.mutex.now ≡ self.entry.mutex.now }
-        ensures named { R.thread_of self.entry.share ≡ R.number_of token.old + 1
-            → R.thread_of result.share ≡ R.number_of token.old + 1 }
+        ensures named { R.thread_of result.share ≡ R.number_of token.old + 1 }
         ensures path { Bumped (SawMore (R.saw_count self.entry.mutex.now.0))
             (CountedOutAlone (R.saw_count self.entry.mutex.now.0)
             (R.stored_count self.entry.mutex.now.0))
@@ -310,13 +310,11 @@ impl<'a, R: RawMutexCounted + RawMutexFair, G: GetThreadId<R>, T> ReentrantMutex
             share,
             here: _,
         } = self;
-        match mutex.raw.count_off_only(rt, token, &mutex.count, share) {
+        match mutex.raw.count_off_only(token, &mutex.count, share) {
             Ok(guard) => {
                 let guard = mutex.raw.bump(rt, token, guard);
                 let thread = mutex.thread.nonzero_thread_id(token);
-                let share = mutex
-                    .raw
-                    .count_first(rt, token, &mutex.count, thread, guard);
+                let share = mutex.raw.count_first(token, &mutex.count, thread, guard);
                 mutex.guard(share)
             }
             Err(share) => mutex.guard(share),
@@ -328,7 +326,8 @@ impl<R: RawMutexCounted + RawMutexFair, G, T> ReentrantMutexGuard<'_, R, G, T> {
     /// Releases fairly, and else as `unlock` does.
     #[inline]
     pub fn unlock_fair<W: Wait>(self, rt: &W, token: &mut R::Token)
-        requires { R.is_token_of (R.lot_of self.mutex.now.0) token.old }
+        requires token { R.is_token_of (R.lot_of self.mutex.now.0) token.old }
+        requires named { R.thread_of self.share ≡ R.number_of token.old + 1 }
         ensures token { R.is_token_of (R.lot_of self.entry.mutex.now.0) token.new
             × R.stays token.old token.new }
         ensures path { WentOff (CountedLess (R.stored_count self.entry.mutex.now.0))
@@ -341,7 +340,7 @@ impl<R: RawMutexCounted + RawMutexFair, G, T> ReentrantMutexGuard<'_, R, G, T> {
             share,
             here: _,
         } = self;
-        if let Some(guard) = mutex.raw.count_off(rt, token, &mutex.count, share) {
+        if let Some(guard) = mutex.raw.count_off(token, &mutex.count, share) {
             mutex.raw.unlock_fair(rt, token, guard);
         }
     }
@@ -370,7 +369,8 @@ impl<R: RawMutexCounted, G, T> lock_values::Shows for ReentrantMutexGuard<'_, R,
 impl<'a, R: RawMutexCounted, G, T> Unlocks for ReentrantMutexGuard<'a, R, G, T> {
     type Token = R::Token;
 
-    ghost may_unlock = { λ guard token. R.is_token_of (R.lot_of guard.mutex.now.0) token };
+    ghost may_unlock = { λ guard token. R.is_token_of (R.lot_of guard.mutex.now.0) token
+        × (R.thread_of guard.share ≡ R.number_of token + 1) };
 
     ghost unlocked = { λ guard old new. R.is_token_of (R.lot_of guard.mutex.now.0) new
         × R.stays old new

@@ -1,5 +1,5 @@
 //! Mutexes that are shown.
-ghost use Rattle.std.specs.Prelude.{◌≡◌, ◌⊎◌, IfSome, MatchOption};
+ghost use Rattle.std.specs.Prelude.{◌≡◌, ◌⊎◌, ◌+◌, IfSome, MatchOption};
 ghost use Rattle.lock_raw.specs.Answers.{answer_by};
 ghost use Rattle.lock_raw.specs.Counts.{CountedAgain, SawFull, SawOthers, first_count};
 ghost use Rattle.lock_api.specs.Guards.{lock_of};
@@ -12,7 +12,6 @@ use crate::mutex::Mutex;
 use crate::reentrant::{ReentrantMutex, ReentrantMutexGuard};
 use lock_raw::{GetThreadId, RawMutex, RawMutexCounted};
 use lock_values::{LockName, Shown};
-use std::sync::Wait;
 
 impl<R: RawMutex, T> Mutex<R, T> {
     /// Shows the mutex, by one try: its value where nobody owns it, and `<locked>` where somebody
@@ -30,14 +29,12 @@ impl<R: RawMutex, T> Mutex<R, T> {
 impl<R: RawMutexCounted, G: GetThreadId<R>, T> ReentrantMutex<R, G, T> {
     /// Shows the mutex, by one try: its value where no other thread has it, and `<locked>` where
     /// another does, or where this one has locked it as often as can be counted.
-    pub fn show<W: Wait>(
-        &self,
-        rt: &W,
-        token: &mut R::Token,
-    ) -> Shown<ReentrantMutexGuard<'_, R, G, T>>
+    pub fn show(&self, token: &mut R::Token) -> Shown<ReentrantMutexGuard<'_, R, G, T>>
         requires { R.is_token_of (R.lot_of self.now.0) token.old }
         ensures token { R.is_token_of (R.lot_of self.now.0) token.new × R.stays token.old token.new }
         ensures guard { IfSome result.guard (λ guard. guard.mutex.now ≡ self.now) }
+        ensures named { IfSome result.guard
+            (λ guard. R.thread_of guard.share ≡ R.number_of token.old + 1) }
         ensures path { MatchOption result.guard
             (StayedOut (SawOthers (R.saw_count self.now.0) (R.number_of token.old))
             (R.walked self.now.0 TryLock answers.No) token.old token.new
@@ -50,7 +47,7 @@ impl<R: RawMutexCounted, G: GetThreadId<R>, T> ReentrantMutex<R, G, T> {
             (R.stored_count self.now.0 0 (first_count (R.number_of token.old)))
             token.old token.new) }
     {
-        let guard = match self.try_lock(rt, token) {
+        let guard = match self.try_lock(token) {
             Ok(guard) => guard,
             Err(_) => None,
         };

@@ -5,6 +5,8 @@ use Rattle.std.specs.List.{range_with_len}
 use Rattle.std.proofs.lemmas.List.{length-append, length-map}
 use Rattle.std.proofs.lemmas.List.Elements.{All-take}
 use Rattle.std.proofs.lemmas.List.FromFn.{length-range_with_len}
+use Rattle.core_names.specs.Names.{IsNameOf}
+use Rattle.core_names.specs.declared.name.Name.{Name}
 use Rattle.core_words.specs.Lots.{IsSeatOf}
 use Rattle.parking_lot_core.specs.Team.{IsIn}
 use Rattle.parking_lot_core.specs.Tokens.{IsNewTicketOf, IsTicketOf, IsTokenOf, number_of}
@@ -28,7 +30,7 @@ one_less tickets left last seats taken numbered =
 pub others : (lot : ParkingLot) (tickets left : List Ticket) (n : ℕ) → left ≡ take n tickets
     → All (IsNewTicketOf lot) tickets → All (IsTicketOf lot) left
 others lot tickets left n taken new = subst (All (IsTicketOf lot)) (sym taken)
-    (All-take (IsTicketOf lot) n tickets (λ k d near. let one = new k d near in (one.0, one.1)))
+    (All-take (IsTicketOf lot) n tickets (λ k d near. let one = new k d near in (one.0, one.1, one.3)))
 
 -- a thread that goes into the lot by a ticket is one of the lot
 pub enters : (lot : ParkingLot) (ticket : Ticket) (token : Token) → IsIn ticket token → IsTicketOf lot ticket
@@ -36,4 +38,6 @@ pub enters : (lot : ParkingLot) (ticket : Ticket) (token : Token) → IsIn ticke
 enters lot ticket token same of = (
   subst (IsSeatOf lot.words) (sym same.0) of.0,
   subst (λ number. number < lot.records.count) (sym same.1) of.1,
+  subst (λ (name : Name). IsNameOf lot.words token.number name) (sym same.2)
+      (subst (λ (number : ℕ). IsNameOf lot.words number ticket.name) (sym same.1) of.2),
 )

@@ -8,7 +8,7 @@ ghost use Rattle.core_base.specs.declared.faults.Fault.TheVariants.{LockCountFul
 
 use crate::RawMutex;
 use core_base::Fault;
-use std::sync::{Arc, Wait};
+use std::sync::Arc;
 
 /// Names the threads of a raw mutex's lot by their numbers.
 pub trait GetThreadId<R: RawMutexCounted> {
@@ -45,7 +45,7 @@ pub trait RawMutexCounted: RawMutex {
     ghost drew_pair: { Self → Self.Token → Self.Token → Type 0 };
     // Between them its last step found fewer than two words left, and it drew nothing.
     ghost found_few: { Self.Lot → Self.Token → Self.Token → Type 0 };
-    // Between them it looked at the count, and at last saw this.
+    // Between them it looked at the count, and saw this.
     ghost saw_count: { Self → ℕ → Self.Token → Self.Token → Type 0 };
     // Between them it stored a count: the one that it found, and the one that it left.
     ghost stored_count: { Self → ℕ → ℕ → Self.Token → Self.Token → Type 0 };
@@ -75,9 +75,8 @@ pub trait RawMutexCounted: RawMutex {
     /// # Errors
     ///
     /// `LockCountFull`, where it has locked the mutex as often as can be counted.
-    fn count_again<R: Wait>(
+    fn count_again(
         &self,
-        rt: &R,
         token: &mut Self::Token,
         count: &Self::Count,
         thread: usize,
@@ -102,9 +101,8 @@ pub trait RawMutexCounted: RawMutex {
     /// # Errors
     ///
     /// `LockCountFull` with the share, where it has locked the mutex as often as can be counted.
-    fn count_more<R: Wait>(
+    fn count_more(
         &self,
-        rt: &R,
         token: &mut Self::Token,
         count: &Self::Count,
         thread: usize,
@@ -127,9 +125,8 @@ pub trait RawMutexCounted: RawMutex {
 
     /// Begins to count for a thread that has the mutex. Its guard is spent, and comes back with the
     /// last share.
-    fn count_first<R: Wait>(
+    fn count_first(
         &self,
-        rt: &R,
         token: &mut Self::Token,
         count: &Self::Count,
         thread: usize,
@@ -146,17 +143,18 @@ pub trait RawMutexCounted: RawMutex {
             token.new }
         ensures named { thread_of result ≡ thread };
 
-    /// Counts once less. The guard comes back with the last share.
-    fn count_off<R: Wait>(
+    /// Counts once less, by the thread that the share names. The guard comes back with the last
+    /// share.
+    fn count_off(
         &self,
-        rt: &R,
         token: &mut Self::Token,
         count: &Self::Count,
         share: Self::Share,
     ) -> Option<Self::Guard>
         requires token { Self.is_token_of (Self.lot_of self.now) token.old }
         requires count { is_count_of self.now count.now }
-        requires share { is_share_of self.now share }
+        requires share { is_share_of self.now share
+            × (thread_of share ≡ Self.number_of token.old + 1) }
         ensures token { Self.is_token_of (Self.lot_of self.now) token.new
             × Self.stays token.old token.new }
         ensures guard { MatchOption result
@@ -164,18 +162,18 @@ pub trait RawMutexCounted: RawMutex {
             (λ guard. Self.is_guard_of self.now guard
             × CountedOut (stored_count self.now) token.old token.new) };
 
-    /// Counts the only share off, and gives the guard. Where there are others it gives the share
-    /// back, and does no more than look.
-    fn count_off_only<R: Wait>(
+    /// Counts the only share of the thread off, and gives the guard. Where there are others it
+    /// gives the share back, and does no more than look.
+    fn count_off_only(
         &self,
-        rt: &R,
         token: &mut Self::Token,
         count: &Self::Count,
         share: Self::Share,
     ) -> Result<Self::Guard, Self::Share>
         requires token { Self.is_token_of (Self.lot_of self.now) token.old }
         requires count { is_count_of self.now count.now }
-        requires share { is_share_of self.now share }
+        requires share { is_share_of self.now share
+            × (thread_of share ≡ Self.number_of token.old + 1) }
         ensures token { Self.is_token_of (Self.lot_of self.now) token.new
             × Self.stays token.old token.new }
         ensures guard { MatchResult result

@@ -25,7 +25,7 @@ use Rattle.lock_values.specs.Ownership.{open_owned}
 use Rattle.lock_values.proofs.Clash.{refutes}
 use Rattle.lock_values.proofs.Steps.{goes_to_read, comes_from_reading, goes_to_write, comes_from_writing}
 use Rattle.lock_values.proofs.Steps.{Reads, Writes}
-use Rattle.lock_values.proofs.Tracked.{tracks, untracks, by_before}
+use Rattle.core_parts.proofs.Tracked.{tracks, untracks, by_before}
 use Rattle.lock_values.proofs.Fresh.{Fresh, fresh}
 
 module _ {M : Type 1} {𝓤 : Ura M} (𝓛 : Logic 𝓤) (R : RattleType) {V : Type 0} (cv : Coded V) (alone among : V

@@ -29,7 +29,7 @@ use Rattle.core.proofs.cell.Borrows.{by_one}
 use Rattle.atomic_table.specs.Seated.{TableId}
 use Rattle.lock_values.specs.Ownership.{offset, lent, Id, part, entry_of, Inv, kept, place_shares, seen_at}
 use Rattle.lock_values.specs.Ownership.{seen_by, seen_owned, open_at, open_by, open_owned, open_shares}
-use Rattle.lock_values.proofs.Tracked.{Gives, Lends-tracked}
+use Rattle.core_parts.proofs.Tracked.{Gives, Lends-tracked}
 
 -- a `&` to a place can be had twice, and for less long
 pub place_laws : (R : RattleType) {V : Type 0} (cv : Coded V) (alone among : V → Type 0) (z : TableId)

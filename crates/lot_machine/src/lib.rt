@@ -1,6 +1,8 @@
 //! The world's machine: places, locks, sections and queues, and each act of a thread, exactly.
 #![tactic(auto)]
 
+mod acts;
+mod copies;
 pub mod debts;
 pub mod hands;
 pub mod laws;
@@ -8,6 +10,7 @@ pub mod locks;
 pub mod machine;
 pub mod parts;
 pub mod shares;
+mod turns;
 pub mod views;
 
 pub use debts::{Debt, DebtBook, Debts};

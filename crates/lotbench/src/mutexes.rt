@@ -1,8 +1,8 @@
 //! The operations on mutexes.
-ghost use Rattle.std.specs.Prelude.{◌≡◌, IfOk};
+ghost use Rattle.std.specs.Prelude.{◌≡◌, ◌+◌, IfOk};
 ghost use Rattle.std.specs.Arc.{arc_value};
-ghost use Rattle.parking_lot.specs.Names.{lock_of, lot_of};
-ghost use Rattle.parking_lot_core.specs.Tokens.{IsTokenOf};
+ghost use Rattle.parking_lot.specs.Names.{lock_of, lot_of, thread_of};
+ghost use Rattle.parking_lot_core.specs.Tokens.{IsSameThread, IsTokenOf};
 
 use crate::made::{both, unless_refused};
 use parking_lot::lock_api::RawMutex as RawLock;
@@ -152,8 +152,9 @@ fn guard_of<'a, R: Wait>(
     token: &mut Token,
 ) -> ReentrantMutexGuard<'a, u64>
     requires { IsTokenOf (lot_of mutex.now.0) token.old }
-    ensures token { IsTokenOf (lot_of mutex.now.0) token.new }
-    ensures guard { result.mutex.now ≡ mutex.now }
+    ensures token { IsSameThread (lot_of mutex.now.0) token.old token.new }
+    ensures guard { (result.mutex.now ≡ mutex.now)
+        × (thread_of result.share ≡ token.old.number + 1) }
 {
     for _ in rt.forever() {
         if let Ok(guard) = mutex.lock(rt, token) {

@@ -2,7 +2,7 @@
 -- first of the pair that a reentrant mutex or a monitor is.
 pub use Rattle.lock_api.specs.Guards.{lock_of, value_of}
 pub use Rattle.parking_lot_core.specs.Places.{IsPlaceOf}
-pub use Rattle.parking_lot_core.specs.Tokens.{IsTicketOf, IsTokenOf, view_of, last_of}
+pub use Rattle.parking_lot_core.specs.Tokens.{IsSameThread, IsTicketOf, IsTokenOf, view_of, last_of}
 pub use Rattle.raw_mutexes.specs.CondvarWords.{lot_of as lot_of_condvar}
 pub use Rattle.raw_mutexes.specs.Counting.{thread_of}
 pub use Rattle.raw_mutexes.specs.Words.{lot_of, word_of}

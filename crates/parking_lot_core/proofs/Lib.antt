@@ -1,6 +1,6 @@
 mod Lists
 mod Giving
+mod Counting
 mod Pairs
 mod Sleeps
-mod Counting
 pub mod Blanks

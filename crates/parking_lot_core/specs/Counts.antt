@@ -1,10 +1,11 @@
--- Mutexes that are counted, and what all guards of one have together.
-use Rattle.std.specs.Prelude.{◌≡◌, ℕ, ◌+◌, ◌*◌, ◌<◌}
-use Rattle.core_words.specs.RightsOf.{IsCountedOf}
-use Rattle.core_words.specs.declared.table.LotWords.{LotWords}
+-- Mutexes that are counted, and the threads that their counts name.
+use Rattle.std.specs.Prelude.{◌≡◌, ℕ, ◌+◌, ◌*◌, ◌/◌, List, ◌∷◌}
+use Rattle.core_names.specs.Names.{count_at, shares_of}
+use Rattle.core_names.specs.Shares.{sharing}
+use Rattle.core_names.specs.declared.name.Name.{Name}
+use Rattle.core_words.specs.declared.views.Counting.{Counting}
 use Rattle.core_words.specs.declared.words.Word.{Word}
 use Rattle.core_words.specs.declared.words.WordKind.TheVariants.{Mutex, Count}
-use Rattle.parking_lot_core.specs.declared.counts.Kept.{Kept}
 
 -- a mutex, and the word after it, on which it is counted
 abbrev pub IsPair : Word → Word → Type 0
@@ -15,8 +16,11 @@ IsPair mutex count = (mutex.kind ≡ Mutex) × (count.kind ≡ Count)
 abbrev pub first_said : ℕ → ℕ
 first_said thread = (thread + 1) * 4294967296 + 1
 
--- the mutex of this number is owned, and its count word names a thread with the number of guards
-abbrev pub IsKeptCount : LotWords → ℕ → Kept → ℕ → Type 0
-IsKeptCount lot number kept guards = IsCountedOf lot number kept.said kept.counted
-    × (guards < 4294967296)
-    × ((thread : ℕ) × (kept.said ≡ (thread + 1) * 4294967296 + guards))
+-- a count names the thread of this number
+abbrev pub Names : ℕ → ℕ → Type 0
+Names thread count = count / 4294967296 ≡ thread + 1
+
+-- the first of a name's shares is of the count word of this number, and names this thread
+abbrev pub HasShare : ℕ → ℕ → Name → Type 0
+HasShare thread number name =
+    (rest : List Counting) × (shares_of name ≡ sharing (count_at number) thread ∷ rest)

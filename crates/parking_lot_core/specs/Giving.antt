@@ -5,7 +5,7 @@ use Rattle.core_base.specs.declared.wants.Want.TheVariants as wants
 use Rattle.core_words.specs.Indices.{word_index}
 use Rattle.core_words.specs.Rights.{owner_given, owners_given}
 use Rattle.core_words.specs.Steps.{HasAll, without_all}
-use Rattle.core_words.specs.Views.{view}
+use Rattle.core_words.specs.Views.{going_on}
 use Rattle.core_words.specs.declared.owners.Owner.{Owner}
 use Rattle.core_words.specs.declared.owners.Ownership.{Ownership}
 use Rattle.core_words.specs.declared.views.View.{View}
@@ -24,5 +24,5 @@ HasEach word left wanted owns =
 -- a view without these rights
 abbrev pub less_each : Word → ℕ → List Want → View → View
 less_each word left wanted v =
-    view v.steps (without_all (word_index word.number word.kind)
+    going_on v v.steps (without_all (word_index word.number word.kind)
     (owners_given word.kind left wanted) v.owns) v.drawn v.saw

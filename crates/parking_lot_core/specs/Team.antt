@@ -11,3 +11,4 @@ AreSizes words seats = (0 < words) × (words ≤ most_words) × (0 < seats) × (
 -- the thread of this ticket is in the lot by this token
 abbrev pub IsIn : Ticket → Token → Type 0
 IsIn ticket token = (token.seat ≡ ticket.seat) × (token.number ≡ ticket.number)
+    × (token.name ≡ ticket.name)

@@ -1,5 +1,6 @@
 -- The threads that belong to a lot.
 use Rattle.std.specs.Prelude.{◌≡◌, ◌<◌, ◌==◌, ℕ, List, [], Option, Some, None, if◌then◌else◌}
+use Rattle.core_names.specs.Names.{IsNameOf}
 use Rattle.core_words.specs.Views.{blank, shown}
 use Rattle.core_words.specs.Lots.{IsSeatOf}
 use Rattle.core_words.specs.declared.table.LotWords.{LotWords}
@@ -12,9 +13,11 @@ use Rattle.parking_lot_core.specs.declared.tokens.Token.{Token}
 
 abbrev pub IsTicketOf : ParkingLot → Ticket → Type 0
 IsTicketOf lot ticket = IsSeatOf lot.words ticket.seat × (ticket.number < lot.records.count)
+    × IsNameOf lot.words ticket.number ticket.name
 
 abbrev pub IsTokenOf : ParkingLot → Token → Type 0
 IsTokenOf lot token = IsSeatOf lot.words token.seat × (token.number < lot.records.count)
+    × IsNameOf lot.words token.number token.name
 
 -- the steps that a thread has taken, and its ownership
 unfoldable pub view_of : Token → View
@@ -44,6 +47,7 @@ number_of ticket = ticket.number
 abbrev pub IsNewTicket : LotWords → ℕ → Ticket → Type 0
 IsNewTicket words seats ticket =
     IsSeatOf words ticket.seat × (ticket.number < seats) × (ticket.seat.me ≡ (blank, []))
+    × IsNameOf words ticket.number ticket.name
 
 abbrev pub IsNewTicketOf : ParkingLot → Ticket → Type 0
 IsNewTicketOf lot ticket = IsNewTicket lot.words lot.records.count ticket

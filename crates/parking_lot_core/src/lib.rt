@@ -21,9 +21,9 @@ pub mod words;
 pub use core_base::{
     Clock, Fault, Key, Keys, Note, Op, Requeue, SystemClock, TickClock, Waiter, Want, to_deadline,
 };
+pub use core_names::{CountShare, Name};
 pub use core_parts::Permit;
 pub use core_words::{Held, OpenHeld, Owner, Right, Word, WordKind};
-pub use counts::Kept;
 pub use lot::ParkingLot;
 pub use places::QueuePlace;
 pub use sections::Section;

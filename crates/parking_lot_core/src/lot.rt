@@ -5,13 +5,13 @@ ghost use Rattle.std.specs.Arc.{arc_value};
 ghost use Rattle.core_queues.specs.Chains.{IsLeast};
 ghost use Rattle.core_words.specs.Indices.{most_words};
 
-use crate::counts::Kept;
 use crate::same::Probes;
 use crate::tokens::Ticket;
 use crate::waiters::WakeRecord;
 use crate::wakes::Wakers;
 use core_base::Fault;
-use core_parts::{KeyedLocks, ShareRow};
+use core_names::Name;
+use core_parts::KeyedLocks;
 use core_queues::{Queueing, Stands, bits_for, bucket_among};
 use core_words::{LotWords, Seat};
 use crossbeam_utils::sync::{Parker, Unparker};
@@ -31,12 +31,9 @@ pub struct ParkingLot {
     // For each thread that was taken, the one that was taken next with it.
     pub(crate) next_taken: Vec<AtomicUsize>,
     pub(crate) stands: Stands,
-    // The mutexes that their owners lock again, by their numbers.
-    pub(crate) holders: ShareRow<LotWords, Kept>,
     pub(crate) probes: Probes,
     ghost hashed: { (length buckets.items ≡ 2 ^ bits) × (bits < 64) },
     ghost keyed: { records.table.shared.key ≡ words },
-    ghost kept: { (holders.table.shared.key ≡ words) × (holders.count ≡ words.count) },
     ghost for_each_seat: { length next_taken.items ≡ records.count },
     ghost enough: { IsLeast records.count bits },
     ghost few: { records.count ≤ 1024 },
@@ -53,7 +50,6 @@ impl Drop for ParkingLot {
             wakers: _wakers,
             next_taken: _next_taken,
             stands: _stands,
-            holders: _holders,
             probes: _probes,
         } = self;
     }
@@ -102,7 +98,7 @@ fn no_links(alloc: Global, seats: usize) -> Result<Vec<AtomicUsize>, AllocError>
 }
 
 impl ParkingLot {
-    ghost use Rattle.core_words.specs.Lots.{IsSeatOf};
+    ghost use Rattle.core_names.specs.Names.{IsNamer};
     ghost use Rattle.parking_lot_core.specs.Tokens.{IsNewTicket, IsNewTicketOf, number_of};
 
     // A ticket for each seat, numbered from 0, and what wakes its thread.
@@ -112,7 +108,7 @@ impl ParkingLot {
         mut first: Seat,
         seats: usize,
     ) -> Result<(Vec<Ticket>, Vec<Unparker>), AllocError>
-        requires { IsSeatOf words.now first }
+        requires { IsNamer words.now 0 first }
         ensures tickets { IfOk result (λ made. (map number_of made.0.items ≡ range_with_len 0 seats)
             × All (IsNewTicket words.now seats) made.0.items) }
         ensures unparkers { IfOk result (λ made. length made.1.items ≡ seats) }
@@ -123,7 +119,8 @@ impl ParkingLot {
             let parker = Parker::new(alloc)?;
             unparkers.push(parker.unparker().clone()?)?;
             let seat = words.another(&mut first);
-            tickets.push(Ticket::new(seat, number, parker))?;
+            let name = Name::draw(words, &mut first, number);
+            tickets.push(Ticket::new(seat, name, number, parker))?;
         }
         Ok((tickets, unparkers))
     }
@@ -144,7 +141,6 @@ impl ParkingLot {
     {
         let count = words;
         let (words, first) = LotWords::new(alloc, count)?;
-        let holders = ShareRow::new(alloc, count, &words)?;
         let records = empty_records(alloc, &words, seats)?;
         let stands = Stands::new(alloc, seats)?;
         let probes = Probes::new(alloc, bucket_among(63, count) + seats)?;
@@ -157,7 +153,6 @@ impl ParkingLot {
             wakers: Wakers::new(unparkers),
             next_taken: no_links(alloc, seats)?,
             stands,
-            holders,
             probes,
         };
         Ok((Arc::new(alloc, lot)?, tickets))

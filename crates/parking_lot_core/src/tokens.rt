@@ -4,6 +4,7 @@ ghost use Rattle.std.specs.Prelude.{◌≡◌, ◌==◌, not, None};
 use crate::expected::Expected;
 use crate::tellings::Tellings;
 use core_base::{Key, Requeue, Want};
+use core_names::Name;
 use core_words::Seat;
 use crossbeam_utils::sync::Parker;
 use std::marker::PhantomData;
@@ -47,6 +48,7 @@ const NOTHING: SectionRecord = SectionRecord {
 /// The place of a thread in a lot. It may go to another thread.
 pub struct Ticket {
     pub(crate) seat: Seat,
+    pub(crate) name: Name,
     pub(crate) number: usize,
     pub(crate) parker: Parker,
 }
@@ -56,6 +58,7 @@ impl Drop for Ticket {
     fn drop(self) {
         let Ticket {
             seat: _seat,
+            name: _name,
             number: _number,
             parker: _parker,
         } = self;
@@ -65,6 +68,8 @@ impl Drop for Ticket {
 /// A thread in the lot. It stays in its thread, and goes with each call that steps.
 pub struct Token {
     pub(crate) seat: Seat,
+    // By it the thread finds the mutexes that it has counted.
+    pub(crate) name: Name,
     pub(crate) number: usize,
     pub(crate) parker: Parker,
     // The record of the section that it left last, if it has taken no step since.
@@ -80,6 +85,7 @@ impl Drop for Token {
     fn drop(self) {
         let Token {
             seat: _seat,
+            name: _name,
             number: _number,
             parker: _parker,
             record: _record,
@@ -91,11 +97,12 @@ impl Drop for Token {
 }
 
 impl Ticket {
-    pub(crate) fn new(seat: Seat, number: usize, parker: Parker) -> Ticket
-        ensures { (result.seat ≡ seat) × (result.number ≡ number) }
+    pub(crate) fn new(seat: Seat, name: Name, number: usize, parker: Parker) -> Ticket
+        ensures { (result.seat ≡ seat) × (result.name ≡ name) × (result.number ≡ number) }
     {
         Ticket {
             seat,
+            name,
             number,
             parker,
         }
@@ -103,15 +110,18 @@ impl Ticket {
 
     /// The thread goes into the lot.
     pub fn enter(self) -> Token
-        ensures { (result.seat ≡ self.seat) × (result.number ≡ self.number) }
+        ensures { (result.seat ≡ self.seat) × (result.number ≡ self.number)
+            × (result.name ≡ self.name) }
     {
         let Ticket {
             seat,
+            name,
             number,
             parker,
         } = self;
         Token {
             seat,
+            name,
             number,
             parker,
             record: NOTHING,
@@ -127,10 +137,12 @@ impl Token {
 
     /// Takes the thread out of the lot. All that it owns stays with its ticket.
     pub fn leave(self) -> Ticket
-        ensures { (result.seat ≡ self.seat) × (result.number ≡ self.number) }
+        ensures { (result.seat ≡ self.seat) × (result.number ≡ self.number)
+            × (result.name ≡ self.name) }
     {
         let Token {
             seat,
+            name,
             number,
             parker,
             record: _,
@@ -140,6 +152,7 @@ impl Token {
         } = self;
         Ticket {
             seat,
+            name,
             number,
             parker,
         }
@@ -164,7 +177,8 @@ impl Token {
     // every write before it is done.
     #[inline]
     pub(crate) fn forget_section(&mut self)
-        ensures same { (self.new.seat ≡ self.old.seat) × (self.new.number ≡ self.old.number) }
+        ensures same { (self.new.seat ≡ self.old.seat) × (self.new.name ≡ self.old.name)
+            × (self.new.number ≡ self.old.number) }
         ensures forgotten { last_of self.new ≡ None }
         ensures untold { told_of self.new ≡ told_of self.old }
     {
@@ -177,7 +191,8 @@ impl Token {
     // the question.
     #[inline]
     pub(crate) fn forget_at_once(&mut self)
-        ensures same { (self.new.seat ≡ self.old.seat) × (self.new.number ≡ self.old.number) }
+        ensures same { (self.new.seat ≡ self.old.seat) × (self.new.name ≡ self.old.name)
+            × (self.new.number ≡ self.old.number) }
         ensures forgotten { last_of self.new ≡ None }
         ensures untold { told_of self.new ≡ told_of self.old }
     {
@@ -188,7 +203,8 @@ impl Token {
     #[cold]
     #[inline(never)]
     pub(crate) fn clear_record(&mut self)
-        ensures same { (self.new.seat ≡ self.old.seat) × (self.new.number ≡ self.old.number) }
+        ensures same { (self.new.seat ≡ self.old.seat) × (self.new.name ≡ self.old.name)
+            × (self.new.number ≡ self.old.number) }
         ensures forgotten { last_of self.new ≡ None }
         ensures untold { told_of self.new ≡ told_of self.old }
     {

@@ -10,7 +10,7 @@ ghost use Rattle.core_words.specs.Steps.{MayStep, CodesWith, after_step, has, ho
 ghost use Rattle.core_words.specs.Draws.{IsDrawn, IsDrawRefused};
 ghost use Rattle.core_words.specs.Lots.{IsWordOf, permit_of};
 ghost use Rattle.core_words.specs.Plays.{WithinPermits, entering_saw, left_over, stepping, takes_in};
-ghost use Rattle.core_words.specs.Rights.{leaving_alone, named_by, owner_for, piece_of, OwnsWith};
+ghost use Rattle.core_words.specs.Rights.{leaving_alone, named_by, owner_for, piece_of};
 ghost use Rattle.core_words.specs.Permits.{out_after};
 ghost use Rattle.core_words.specs.RightsOf.{IsHeldOf, IsOpenOf, IsRightOf};
 ghost use Rattle.core_words.specs.declared.owners.Owner.TheVariants.{Exclusive};

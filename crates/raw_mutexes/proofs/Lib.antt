@@ -1,2 +1,1 @@
 pub mod CondvarAnswers
-mod CountLemmas

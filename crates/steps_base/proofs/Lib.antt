@@ -1,1 +1,3 @@
 pub mod RowCheck
+pub mod Moving
+pub mod Deeds

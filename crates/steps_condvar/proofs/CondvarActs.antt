@@ -6,7 +6,7 @@ use Rattle.std.proofs.lemmas.Bool.Decides.{nat_tests}
 use Rattle.steps_mutex.specs.declared.lock.Entry.{Entry}
 use Rattle.spec_locks.specs.Locks.{putting}
 use Rattle.spec_locks.specs.Sites.{Has, Role}
-use Rattle.steps_condvar.proofs.NotifierFit.{put_same}
+use Rattle.steps_base.proofs.Deeds.{put_same}
 use Rattle.std.specs.Prelude.{nat_lt, not, ◌||◌}
 use Rattle.core_base.specs.declared.keys.Keys.TheVariants.{One}
 use Rattle.core_base.specs.declared.notes.Note.TheVariants as note
@@ -90,10 +90,7 @@ module _ (c m : ℕ) (timed : Bool) where
   subtracts : (st : Stands) (seen : ℕ) → StaysThere (releasing st unlock.Subtract) (Value seen)
       × StaysPutBeside (move_beside [] (releasing st unlock.Subtract)) (Value seen)
   subtracts st seen = (
-    record {
-      deeds = tt;
-      goes = by_there (is_parked seen);
-    },
+    record { deeds = tt; goes = by_there (is_parked seen) },
     record { deeds = by_deeds (is_parked seen); goes = by_beside (is_parked seen) },
   )
     where
@@ -120,12 +117,7 @@ module _ (c m : ℕ) (timed : Bool) where
   releases st unlock.Enter = inr (inl (
     refl,
     record { deeds = tt; goes = refl },
-    record {
-      out = refl;
-      deeds = refl;
-      goes = refl;
-      may = λ r s t free. free;
-    },
+    record { out = refl; deeds = refl; goes = refl; may = λ r s t free. free },
   ))
   releases st unlock.Take =
       inl (
@@ -161,10 +153,7 @@ module _ (c m : ℕ) (timed : Bool) where
       (inr refl, λ seen. (record { deeds = tt; goes = refl }, record { deeds = tt; goes = refl }))
   releases st (unlock.Leave any) = inr (inl (
     refl,
-    record {
-      deeds = tt;
-      goes = after_there st;
-    },
+    record { deeds = tt; goes = after_there st },
     record { any = any; notes = refl; inside = refl; carries = refl; deeds = tt; goes = after_beside st },
   ))
 
@@ -182,10 +171,7 @@ module _ (c m : ℕ) (timed : Bool) where
 
     tries : (seen : ℕ) → StayBoth lock.First (Value seen)
     tries seen = (
-      record {
-        deeds = deeds_there (seen == 0);
-        goes = by_there (seen == 0);
-      },
+      record { deeds = deeds_there (seen == 0); goes = by_there (seen == 0) },
       record { deeds = deeds_by (seen == 0); goes = by_beside (seen == 0) },
     )
       where
@@ -257,12 +243,7 @@ module _ (c m : ℕ) (timed : Bool) where
     decides expected true false = inr (inl (
       refl,
       record { deeds = tt; goes = refl },
-      record {
-        out = refl;
-        deeds = refl;
-        goes = refl;
-        may = λ r s t free. free;
-      },
+      record { out = refl; deeds = refl; goes = refl; may = λ r s t free. free },
     ))
 
     leaves : (parked : Bool) → CondvarMoves c m [] (locking (lock.Leave parked))
@@ -270,36 +251,19 @@ module _ (c m : ℕ) (timed : Bool) where
     leaves true = inr (inl (
       refl,
       record { deeds = tt; goes = refl },
-      record {
-        any = false;
-        notes = refl;
-        inside = refl;
-        carries = refl;
-        deeds = tt;
-        goes = refl;
-      },
+      record { any = false; notes = refl; inside = refl; carries = refl; deeds = tt; goes = refl },
     ))
     leaves false = inr (inl (
       refl,
       record { deeds = tt; goes = refl },
-      record {
-        any = false;
-        notes = refl;
-        inside = refl;
-        carries = refl;
-        deeds = tt;
-        goes = refl;
-      },
+      record { any = false; notes = refl; inside = refl; carries = refl; deeds = tt; goes = refl },
     ))
 
     locks : (at : LockAt) → IsLockOf at → CondvarMoves c m [] (locking at) (condvar_act c (locking at))
     locks lock.First is = (inr refl, tries)
     locks lock.Load is = (
       inr refl,
-      λ seen. (
-        record { deeds = tt; goes = refl },
-        record { deeds = tt; goes = refl },
-      ),
+      λ seen. (record { deeds = tt; goes = refl }, record { deeds = tt; goes = refl }),
     )
     locks (lock.Decide expected) is = decides expected (is_locked expected) (expected == 1)
     locks lock.Check is = (
@@ -321,12 +285,7 @@ module _ (c m : ℕ) (timed : Bool) where
     locks (lock.Handed by) is = tt
     locks lock.Accept is = (
       record { deeds = tt; goes = refl },
-      record {
-        was = refl;
-        deeds = refl;
-        goes = refl;
-        may = λ r s t. tt;
-      },
+      record { was = refl; deeds = refl; goes = refl; may = λ r s t. tt },
     )
     locks at is = absurd is
 
@@ -359,11 +318,7 @@ module _ (c m : ℕ) (timed : Bool) where
   removes : CondvarMoves c m [] (place wait.Remove) (act.Remove (2 * c))
   removes = inl (
     refl,
-    record {
-      was = refl;
-      deeds = λ none_left. refl;
-      goes = by_there;
-    },
+    record { was = refl; deeds = λ none_left. refl; goes = by_there },
     λ none_left. record { deeds = tt; goes = by_beside none_left },
   )
     where
@@ -380,40 +335,24 @@ module _ (c m : ℕ) (timed : Bool) where
   waits_so : (at : WaitAt) → IsReached (place at) → CondvarMoves c m [] (place at) (condvar_act c (place at))
   waits_so wait.Enter reached = inl (
     refl,
-    record {
-      out = refl;
-      deeds = refl;
-      goes = refl;
-    },
+    record { out = refl; deeds = refl; goes = refl },
     record { deeds = tt; goes = refl },
   )
   waits_so wait.Show reached = (inl refl, shows)
   waits_so wait.Stand reached = (
     refl,
     refl,
-    record {
-      was = refl;
-      deeds = refl;
-      goes = refl;
-    },
+    record { was = refl; deeds = refl; goes = refl },
     record { deeds = tt; goes = refl },
   )
   waits_so wait.Leave reached = inl (
     refl,
-    record {
-      inside = refl;
-      deeds = tt;
-      goes = refl;
-    },
+    record { inside = refl; deeds = tt; goes = refl },
     record { deeds = tt; goes = refl },
   )
   waits_so wait.Refuse reached = inl (
     refl,
-    record {
-      inside = refl;
-      deeds = tt;
-      goes = refl;
-    },
+    record { inside = refl; deeds = tt; goes = refl },
     record { deeds = tt; goes = refl },
   )
   waits_so (wait.Release st (mutex.Unlock at)) reached = releases st at
@@ -422,18 +361,11 @@ module _ (c m : ℕ) (timed : Bool) where
   waits_so wait.Remove reached = removes
   waits_so wait.Hide reached = (
     inl refl,
-    λ seen. (
-      record { deeds = tt; goes = refl },
-      record { deeds = tt; goes = refl },
-    ),
+    λ seen. (record { deeds = tt; goes = refl }, record { deeds = tt; goes = refl }),
   )
   waits_so wait.GiveUp reached = inl (
     refl,
-    record {
-      inside = refl;
-      deeds = tt;
-      goes = refl;
-    },
+    record { inside = refl; deeds = tt; goes = refl },
     record { deeds = tt; goes = refl },
   )
   waits_so wait.RemoveMoved reached =
@@ -451,14 +383,7 @@ module _ (c m : ℕ) (timed : Bool) where
   waits_so (wait.GiveUpMoved none_left) reached = inr (inl (
     refl,
     record { deeds = tt; goes = refl },
-    record {
-      any = false;
-      notes = refl;
-      inside = refl;
-      carries = refl;
-      deeds = tt;
-      goes = refl;
-    },
+    record { any = false; notes = refl; inside = refl; carries = refl; deeds = tt; goes = refl },
   ))
   waits_so (wait.Lock timed_out (mutex.Lock entry.Lock retries at)) reached =
       locks timed_out retries at reached.1
@@ -495,10 +420,7 @@ module _ (c m : ℕ) (q : List Queued) where
 
   sees : (all : Bool) (seen : ℕ) → Stays all notify.Again (Value seen)
   sees all seen = (
-    record {
-      deeds = deeds_there (is_shown seen m);
-      goes = by_there all (is_shown seen m);
-    },
+    record { deeds = deeds_there (is_shown seen m); goes = by_there all (is_shown seen m) },
     record { deeds = tt; goes = by_beside all (is_shown seen m) },
   )
     where
@@ -530,10 +452,7 @@ module _ (c m : ℕ) (q : List Queued) where
 
     sets : (expected seen : ℕ) → Stays all (notify.Set expected) (Value seen)
     sets expected seen = (
-      record {
-        deeds = tt;
-        goes = by_there (seen == expected);
-      },
+      record { deeds = tt; goes = by_there (seen == expected) },
       record { deeds = deeds_by (seen == expected); goes = by_beside (seen == expected) },
     )
       where
@@ -600,11 +519,7 @@ module _ (c m : ℕ) (q : List Queued) where
       (condvar_act c (notifying all at))
   notifies_so all notify.Enter = inr (inr (
     refl,
-    record {
-      out = refl;
-      deeds = refl;
-      goes = refl;
-    },
+    record { out = refl; deeds = refl; goes = refl },
     record { out = refl; deeds = refl; goes = refl; may = λ r s t free v. free },
   ))
   notifies_so all notify.Again = (inl refl, sees all)
@@ -613,10 +528,7 @@ module _ (c m : ℕ) (q : List Queued) where
   notifies_so all notify.Mark = (
     inr refl,
     λ seen. (
-      record {
-        deeds = tt;
-        goes = marked_there all seen (is_locked seen);
-      },
+      record { deeds = tt; goes = marked_there all seen (is_locked seen) },
       record { deeds = tt; goes = marked_beside all seen (is_locked seen) },
     ),
   )
@@ -647,13 +559,7 @@ module _ (c m : ℕ) (q : List Queued) where
       (inl refl, λ seen. (record { deeds = tt; goes = refl }, record { deeds = tt; goes = refl }))
   notifies_so all (notify.MarkMoved number) = (
     inr refl,
-    λ seen. (
-      record { deeds = tt; goes = refl },
-      record {
-        deeds = tt;
-        goes = leaving_is all true number;
-      },
-    ),
+    λ seen. (record { deeds = tt; goes = refl }, record { deeds = tt; goes = leaving_is all true number }),
   )
   notifies_so all (notify.Leave any number) =
       inr (inr (
@@ -679,10 +585,7 @@ pub looks_move : LooksMove
 looks_move c m all = (
   inl refl,
   λ seen. (
-    record {
-      deeds = tt;
-      goes = by_there seen (seen == 0);
-    },
+    record { deeds = tt; goes = by_there seen (seen == 0) },
     record { deeds = tt; goes = by_beside seen (seen == 0) },
   ),
 )
@@ -751,16 +654,9 @@ module _ (m : ℕ) (timed : Bool) where
     taken = λ u. (refl, refl);
   })) refl refl
   sleepers (wait.Release (stands.InHand by) (mutex.Unlock at)) reached = in_hand_of _ by false refl refl refl
-      (λ u e. record {
-        was = (e, refl, refl);
-        handed = λ alone. (refl, refl);
-        woken = (refl, refl);
-      })
+      (λ u e. record { was = (e, refl, refl); handed = λ alone. (refl, refl); woken = (refl, refl) })
   sleepers (wait.Release (stands.Handed by) (mutex.Unlock at)) reached = in_hand_of _ by true refl refl refl
-      (λ u e. record {
-        was = (e, refl, refl);
-        told = (refl, refl);
-      })
+      (λ u e. record { was = (e, refl, refl); told = (refl, refl) })
   sleepers (wait.Release (stands.Noted note) (mutex.Unlock at)) reached = awake _ refl refl refl
   sleepers (wait.Release st at) reached = absurd reached.0
   sleepers (wait.Asleep stands.Listed) reached = listed _ (inr (record {
@@ -797,10 +693,7 @@ module _ (m : ℕ) (timed : Bool) where
         woken = (refl, refl);
       })
   sleepers (wait.Lock timed_out (mutex.Lock entry.Lock retries (lock.Handed by))) reached =
-      in_hand_of _ by true refl refl refl (λ u e. record {
-        was = (e, refl, refl);
-        told = (refl, refl);
-      })
+      in_hand_of _ by true refl refl refl (λ u e. record { was = (e, refl, refl); told = (refl, refl) })
   sleepers (wait.Lock timed_out (mutex.Lock entry.Lock retries lock.Remove)) reached = absurd reached.1
   sleepers (wait.Lock timed_out (mutex.Lock entry.Lock retries lock.Clear)) reached = absurd reached.1
   sleepers (wait.Lock timed_out (mutex.Lock entry.Lock retries lock.GiveUp)) reached = absurd reached.1

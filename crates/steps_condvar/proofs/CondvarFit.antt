@@ -21,7 +21,7 @@ use Rattle.spec_locks.specs.Condvars.{MissIt, HideAndTakeAll, MoveFirst, MoveAll
 use Rattle.spec_locks.specs.Condvars.{MayLeaveSection, MayGoOut, IsAsInside, IsInsideAt, IsInsideNot, at}
 use Rattle.spec_locks.specs.Condvars.{condvar_leads, hidden, queued_to_wait}
 use Rattle.spec_locks.specs.Condvars as condvars
-use Rattle.spec_locks.specs.Locks.{Queued, putting, times, without}
+use Rattle.spec_locks.specs.Locks.{Queued, times, without}
 use Rattle.spec_locks.specs.Sites.{Role, is_empty}
 use Rattle.spec_locks.proofs.CondvarKeeps.{move_fits}
 use Rattle.spec_locks.proofs.LockKeeps.{times_append}
@@ -48,6 +48,7 @@ use Rattle.steps_condvar.specs.CondvarDeeds.{AllCondvarNeeded, CondvarMovesFit, 
 use Rattle.steps_condvar.specs.CondvarDeeds.{CondvarStepsCode, CondvarStepsFollow, Follows, IsAt, IsAtNext}
 use Rattle.steps_condvar.specs.CondvarDeeds.{IsListed, MayHear, after_condvar_deeds, condvar_deeds}
 use Rattle.steps_condvar.specs.CondvarDeeds.{relocked_deeds, word_showing}
+use Rattle.steps_base.proofs.Deeds.{put_same}
 
 times_gone : (t : ℕ) (q : List Queued) → times t (without t q) ≡ 0
 times_gone t [] = refl
@@ -59,9 +60,6 @@ times_after t q e = grind (arith, nat_tests, times_append t q (queued_to_wait t 
 times_rest : (t : ℕ) (q : List Queued) → times t q ≡ 0 → times t (drop 1 q) ≡ 0
 times_rest t [] e = refl
 times_rest t (x ∷ q) e = grind (arith, nat_tests)
-
-put_same : (f : ℕ → Option ℕ) (t : ℕ) (x : Option ℕ) → putting f t x t ≡ x
-put_same f t x = grind (arith, nat_tests)
 
 -- by the word of a condition variable, whether it shows this mutex
 same_shown : (n m : ℕ) → ((shown_as n == 0) || is_shown (shown_as n) m) ≡ true → n ≡ m

@@ -25,10 +25,9 @@ use Rattle.steps_condvar.specs.CondvarSteps.{is_shown, marks, notify_act}
 use Rattle.steps_condvar.specs.CondvarProfiles.{has_moved, notify_row}
 use Rattle.steps_condvar.specs.CondvarMutex.{FollowsBeside, MayHearBeside, NotifiersCode, NotifiersFollow}
 use Rattle.steps_condvar.specs.CondvarMutex.{beside_deeds, role_next}
+use Rattle.steps_base.proofs.Deeds.{put_same}
+use Rattle.steps_mutex.proofs.MutexWords.{coded, owned_word, word_of}
 use Rattle.steps_condvar.proofs.CondvarFit.{not_none, some_left}
-
-pub put_same : (f : ℕ → Role) (t : ℕ) (x : Role) → putting f t x t ≡ x
-put_same f t x = grind (arith, nat_tests)
 
 unlocked : (parked : Bool) → is_locked (0 + 2 * bit parked) ≡ false
 unlocked true = refl
@@ -212,18 +211,6 @@ pub notifiers_follow : NotifiersFollow
 notifiers_follow r s c t m all p told sort is h = notifies r s c t m sort all p told is h
 
 -- ---------------------------------------------------------------- the word
-
--- the word of a mutex, owned or not
-abbrev pub word_of : Bool → Option ℕ → ℕ
-word_of parked o = one_if_some o + 2 * bit parked
-
-coded : (r : Rules) (s : Site) → r.sort ≡ Mutex → code r s ≡ word_of s.parked s.lock.exclusive
-coded r s sort = ap (λ x. code_of x r.limit s) sort
-
-pub owned_word : (parked : Bool) (o : Option ℕ) → is_locked (word_of parked o) ≡ true → 3 ≡ word_of true o
-owned_word parked (Some u) e = refl
-owned_word true None e = absurd cc
-owned_word false None e = absurd cc
 
 or_word : (parked : Bool) (o : Option ℕ) → apply (op.Or 2) (word_of parked o) ≡ word_of true o
 or_word true (Some u) = refl

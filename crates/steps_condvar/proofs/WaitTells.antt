@@ -49,7 +49,8 @@ use Rattle.steps_condvar.specs.CondvarWaits as waits
 use Rattle.steps_condvar.specs.CondvarCalls.{CallOfTwoFollows, IsReached, MayComeOfTwo, WaitersAreTold}
 use Rattle.steps_condvar.specs.CondvarCalls.{WaitsTell, condvar_call_by, case_there, heard, or_else}
 use Rattle.steps_condvar.specs.CondvarCalls.{wait_event}
-use Rattle.steps_condvar.proofs.WaiterFit.{owns, unlocked_free, zero_free}
+use Rattle.steps_mutex.proofs.MutexWords.{unlocked_free, zero_free}
+use Rattle.steps_condvar.proofs.WaiterFit.{owns}
 
 -- a thread's rights at the mutex, seen anew
 module _ (t m : ℕ) (s s2 : LockState) (rights : ℕ → Rights) (is : rights m ≡ rights_of s t) where

@@ -8,7 +8,6 @@ use Rattle.core_base.specs.declared.notes.Note.TheVariants as note
 use Rattle.core_base.specs.declared.keys.Keys.TheVariants.{One}
 use Rattle.core_base.specs.declared.ops.Op.{Op}
 use Rattle.core_base.specs.declared.ops.Op.TheVariants as op
-use Rattle.core_base.specs.declared.wants.Want.{Want}
 use Rattle.core_base.specs.declared.wants.Want.TheVariants.{Exclusive}
 use Rattle.core_base.specs.Words.{apply}
 use Rattle.spec_locks.specs.declared.outcomes.Answer.TheVariants as answer
@@ -19,16 +18,13 @@ use Rattle.steps_base.specs.declared.acts.Reply.{Reply}
 use Rattle.steps_base.specs.declared.acts.Reply.TheVariants.{Done, Value, Parked, Took, Removed, TakenBy}
 use Rattle.steps_base.specs.declared.acts.Reply.TheVariants.{MovedTo, HandedBy, Late, Woken}
 use Rattle.steps_base.specs.declared.owners.Owners.{Owners}
-use Rattle.steps_base.specs.Moves.{IsSectionFree}
 use Rattle.steps_base.specs.Owners.{with_exclusive}
 use Rattle.spec_locks.specs.Codes.{code}
 use Rattle.spec_locks.specs.Deeds.{AllNeeded, after_all}
-use Rattle.spec_locks.specs.Locks.{Enter, HasTakenNobody, IsSomePending, KnowsAll, Pending, aside_without}
-use Rattle.spec_locks.specs.Locks.{Late as GivesUp, Leave, Mutex, Queued, Rules, Knows, first_thread}
-use Rattle.spec_locks.specs.Locks.{standing, times, without}
-use Rattle.spec_locks.specs.Sites.{Case, Deed, Role, End, Has, In, IsSite, Line, Main, Mark, Out, Second}
-use Rattle.spec_locks.specs.Sites.{Site, StandsIn, after_deed, counts_some, found, idle, is_empty, late_found}
-use Rattle.spec_locks.specs.Sites.{leaves, seen_main, wakened}
+use Rattle.spec_locks.specs.Locks.{Enter, HasTakenNobody, Late as GivesUp, Leave, Mutex, Rules, standing}
+use Rattle.spec_locks.specs.Locks.{times, without}
+use Rattle.spec_locks.specs.Sites.{Case, Deed, Role, End, Has, IsSite, Line, Main, Mark, Out, Second, Site}
+use Rattle.spec_locks.specs.Sites.{after_deed, found, idle, is_empty, leaves, seen_main, wakened}
 use Rattle.steps_mutex.specs.declared.lock.Entry.{Entry}
 use Rattle.steps_mutex.specs.declared.lock.Entry.TheVariants as entry
 use Rattle.steps_mutex.specs.declared.lock.LockAt.{LockAt}
@@ -37,7 +33,7 @@ use Rattle.steps_mutex.specs.declared.places.MutexPlace.TheVariants as mutex
 use Rattle.steps_mutex.specs.declared.places.TheConstants.{NOT_PARKED}
 use Rattle.steps_mutex.specs.declared.unlock.UnlockAt.{UnlockAt}
 use Rattle.steps_mutex.specs.declared.unlock.UnlockAt.TheVariants as unlock
-use Rattle.steps_mutex.specs.MutexDeeds.{enter_deeds, queued, take_deeds}
+use Rattle.steps_mutex.specs.MutexDeeds.{enter_deeds, take_deeds}
 use Rattle.steps_mutex.specs.MutexProfiles.{with_retry, carrying, inside, owner}
 use Rattle.steps_mutex.specs.MutexSteps.{entered, in_lock, in_unlock, is_locked, is_parked}
 use Rattle.steps_condvar.specs.declared.wait.Stands.{Stands}
@@ -49,50 +45,9 @@ use Rattle.steps_condvar.specs.CondvarProfiles.{befell, has_mutex, wait_row}
 use Rattle.steps_condvar.specs.CondvarWaits.{LeavesMutex, MayHearLocking, MayHearReleasing, MayHearWaiter}
 use Rattle.steps_condvar.specs.CondvarWaits.{TakesFirst, WaiterFollows, WaitersCode, WaitersFollow}
 use Rattle.steps_condvar.specs.CondvarWaits.{WaitersHear, unended, itself_woken, waiter_next}
-use Rattle.steps_condvar.proofs.NotifierFit.{owned_word, put_same, word_of}
-
--- ---------------------------------------------------------------- the word of a mutex
-
-pub parked_is : (p : Bool) (o : Option ℕ) → is_parked (word_of p o) ≡ p
-parked_is true None = refl
-parked_is true (Some u) = refl
-parked_is false None = refl
-parked_is false (Some u) = refl
-
-pub zero_free : (p : Bool) (o : Option ℕ) → (word_of p o == 0) ≡ true → o ≡ None
-zero_free p None e = refl
-zero_free true (Some u) e = absurd cc
-zero_free false (Some u) e = absurd cc
-
-pub unlocked_free : (p : Bool) (o : Option ℕ) → is_locked (word_of p o) ≡ false → o ≡ None
-unlocked_free p None e = refl
-unlocked_free true (Some u) e = absurd cc
-unlocked_free false (Some u) e = absurd cc
-
--- locked, and somebody may be parked
-three : (p : Bool) (o : Option ℕ) → (word_of p o == 3) ≡ true → (o ≢ None) × (p ≡ true)
-three true None e = absurd cc
-three false None e = absurd cc
-three true (Some u) e = ((λ f. cc), refl)
-three false (Some u) e = absurd cc
-
--- ---------------------------------------------------------------- deeds
-
-nobody_first : (q : List Queued) → first_thread q ≡ None → q ≡ []
-nobody_first [] e = refl
-nobody_first (x ∷ q) e = absurd cc
-
-exclusive_wanted : (x : Queued) → Knows Mutex x.want → x ≡ queued x.thread
-exclusive_wanted x k = λ i. record { thread = x.thread; want = wanted x.want k i }
-  where
-    wanted : (w : Want) → Knows Mutex w → w ≡ Exclusive
-    wanted Exclusive k = refl
-    wanted w k = absurd k
-
-first_is : (q : List Queued) (u : ℕ) → KnowsAll Mutex q → first_thread q ≡ Some u → q ≡ queued u ∷ drop 1 q
-first_is [] u k e = absurd cc
-first_is (x ∷ q) u k e = let same : x.thread ≡ u = cc in ap (λ y. y ∷ q) (exclusive_wanted x k.0
-    ∙ ap queued same)
+use Rattle.steps_base.proofs.Deeds.{clears, ends, gives_up, goes_in, nobody_first, put_same}
+use Rattle.steps_mutex.proofs.MutexWords.{cleared, entered_free, entered_zero, first_is, less_one, owned_word}
+use Rattle.steps_mutex.proofs.MutexWords.{parked_is, three, unlocked_free, word_of, zero_free}
 
 after_row : (m : ℕ) (st : Stands) → (wait_row m (past_release st)).role ≡ befell st idle
 after_row m stands.Listed = refl
@@ -205,16 +160,14 @@ module _ (limit : ℕ) (s : Site) (t m : ℕ) (h : IsSite (record { sort = Mutex
         let d = subtracts is f.1 (is_parked seen)
         (sym (ap is_parked f.0 ∙ parked_is s.parked s.lock.exclusive))
         in record { needed = d.0; role = d.1 }
-    releases timed unlock.Enter whom Done is f = record {
-      needed = ((f, ap (λ (d : Role). d.inside) is, ap (λ (d : Role). d.empty) is), tt);
-      role = put_same s.role t _ ∙ ap (λ (d : Role). record d { inside = Some Main }) is;
-    }
+    releases timed unlock.Enter whom Done is f =
+        let d = goes_in r s t (befell st (record idle { wakes = Some Main })) is refl refl f
+        in record { needed = d.0; role = d.1 }
     releases timed unlock.Take whom (Took any none_left) is f = let d = takes_first is whom any none_left f.0
         f.1 in record { needed = d.0; role = d.1 }
-    releases timed (unlock.Clear any) whom (Value seen) is f = record {
-      needed = (ap (λ (d : Role). d.empty) is, tt);
-      role = put_same s.role t _ ∙ ap (λ (d : Role). record d { empty = None; brings = false }) is;
-    }
+    releases timed (unlock.Clear any) whom (Value seen) is f =
+        let d = clears r s t (befell st (record carrying { empty = Some Main })) is refl
+        in record { needed = d.0; role = d.1 }
     releases timed (unlock.Leave any) whom Done is f = record {
       needed = (
         (
@@ -254,16 +207,8 @@ module _ (limit : ℕ) (s : Site) (t m : ℕ) (h : IsSite (record { sort = Mutex
               subst (λ w. (w ≡ None) ⊎ (w ≡ Some Exclusive))
                   (sym (ap (λ (d : Role). d.retries) is)) (wants_it retries),
             ),
-            (
-              (
-                ap (λ (d : Role). d.inside) own ∙ ap (λ (d : Role). d.inside) is,
-                ap (λ (d : Role). d.wakes) own ∙ ap (λ (d : Role). d.wakes) is,
-                ap (λ (d : Role). d.carries) own ∙ ap (λ (d : Role). d.carries) is,
-                λ some. absurd (let g : false ≡ true =
-                    sym (ap (λ (d : Role). counts_some Mutex d.retries) own) ∙ some in cc),
-              ),
-              tt,
-            ),
+            ends r (after_deed r (Case (Enter Exclusive)) s t) t refl None
+                (own ∙ ap (λ (d : Role). record d { retries = None; claims = None }) is),
           ),
           put_same (after_deed r (Case (Enter Exclusive)) s t).role t idle,
         )
@@ -329,19 +274,7 @@ module _ (limit : ℕ) (s : Site) (t m : ℕ) (h : IsSite (record { sort = Mutex
 
     -- it was handed the mutex
     accepts : s.role t ≡ owner → Locks (End ∷ []) retries (Over (entered e))
-    accepts is = (
-      (
-        (
-          ap (λ (d : Role). d.inside) is,
-          ap (λ (d : Role). d.wakes) is,
-          ap (λ (d : Role). d.carries) is,
-          λ some. absurd (let g : false ≡ true =
-              sym (ap (λ (d : Role). counts_some Mutex d.retries) is) ∙ some in cc),
-        ),
-        tt,
-      ),
-      put_same s.role t idle,
-    )
+    accepts is = (ends r s t refl (Some (Has Exclusive)) is, put_same s.role t idle)
 
     locks : (at : LockAt) (whom : Option ℕ) (told : Reply)
         → s.role t ≡ (wait_row m (wait.Lock timed_out (mutex.Lock e retries at))).role
@@ -354,10 +287,8 @@ module _ (limit : ℕ) (s : Site) (t m : ℕ) (h : IsSite (record { sort = Mutex
     locks (lock.Decide expected) whom (Value seen) is f =
         let d = decides is seen (seen == expected) (is_locked seen) (λ z. unlocked_free s.parked
         s.lock.exclusive (ap is_locked (sym f) ∙ z)) in record { needed = d.0; role = d.1 }
-    locks (lock.Decide expected) whom Done is f = record {
-      needed = ((f, ap (λ (d : Role). d.inside) is, ap (λ (d : Role). d.empty) is), tt);
-      role = put_same s.role t _ ∙ ap (λ (d : Role). record d { inside = Some Main }) is;
-    }
+    locks (lock.Decide expected) whom Done is f =
+        let d = goes_in r s t (with_retry retries idle) is refl refl f in record { needed = d.0; role = d.1 }
     locks lock.Check whom (Parked b) is f = let d = parks is b f.0 f.1 in record {
       needed = d.needed;
       role = d.role;
@@ -371,55 +302,12 @@ module _ (limit : ℕ) (s : Site) (t m : ℕ) (h : IsSite (record { sort = Mutex
 
   -- ---------------------------------------------------------------- each place
 
-  goes_in : s.role t ≡ idle → IsSectionFree s Main → Does (In Main ∷ []) inside
-  goes_in is free = (
-    ((free, ap (λ (d : Role). d.inside) is, ap (λ (d : Role). d.empty) is), tt),
-    put_same s.role t _ ∙ ap (λ (d : Role). record d { inside = Some Main }) is,
-  )
-
   late : s.role t ≡ inside → (b : Bool) → 1 ≤ times t s.lock.queue → b ≡ is_empty (without t s.lock.queue)
       → Does (Case GivesUp ∷ []) (record inside { empty = found Main b })
-  late is b listed e = (
-    (
-      (
-        omega (arith, listed),
-        subst (λ n. StandsIn s.lock t n × ((s.role t).carries ≡ false))
-            (sym (ap (λ (d : Role). d.inside) is)) (beside, ap (λ (d : Role). d.carries) is),
-      ),
-      tt,
-    ),
-    put_same s.role t _
-        ∙ (λ i. record (is i) {
-          empty = late_found (record s.lock {
-            queue = without t s.lock.queue;
-            aside = aside_without t s.lock.aside;
-          }) (is i).inside;
-        })
-        ∙ ap (λ c. record inside { empty = found Main c }) (sym e),
-  )
-    where
-      beside : s.lock.aside ≢ Some t
-      beside a = let p = h.state.aside_pending t a
-          in absurd (nobody_pends s.lock.pending (h.state.unpending (λ x. x)).0 p)
-        where
-          nobody_pends : (o : Option Pending) → o ≡ None → IsSomePending o t → ⊥
-          nobody_pends None e p = p
-          nobody_pends (Some x) e p = cc
+  late is b listed e = gives_up r s t h (h.state.unpending (λ x. x)).0 is b listed e
 
   refuses : s.role t ≡ owner → Does (End ∷ []) idle
-  refuses is = (
-    (
-      (
-        ap (λ (d : Role). d.inside) is,
-        ap (λ (d : Role). d.wakes) is,
-        ap (λ (d : Role). d.carries) is,
-        λ some. absurd (let g : false ≡ true =
-            sym (ap (λ (d : Role). counts_some Mutex d.retries) is) ∙ some in cc),
-      ),
-      tt,
-    ),
-    put_same s.role t idle,
-  )
+  refuses is = (ends r s t refl (Some (Has Exclusive)) is, put_same s.role t idle)
 
   goes_out : (o : Option Line) → s.role t ≡ record inside { empty = o } → Does (Out ∷ []) idle
   goes_out o is = (
@@ -456,7 +344,7 @@ module _ (limit : ℕ) (s : Site) (t m : ℕ) (h : IsSite (record { sort = Mutex
   waits timed wait.Refuse whom Done is f = let d = refuses is in record { needed = d.0; role = d.1 }
   waits timed (wait.Release st (mutex.Unlock at)) whom told is f = releases st timed at whom told is f
   waits timed (wait.Asleep stands.Listed) whom Late is f = record { needed = tt; role = is }
-  waits timed (wait.Asleep stands.Moved) whom Late is f = let d = goes_in is f
+  waits timed (wait.Asleep stands.Moved) whom Late is f = let d = goes_in r s t idle is refl refl f
       in record { needed = d.0; role = d.1 }
   waits timed wait.Remove whom (Removed none_left) is f = record { needed = tt; role = unlisted none_left is }
   waits timed wait.Hide whom (Value seen) is f = record { needed = tt; role = is }
@@ -478,29 +366,6 @@ waiters_follow r s t m timed at whom told sort h is f =
     }) (λ h f. waits r.limit s t m h timed at whom told is f) h f
 
 -- ---------------------------------------------------------------- the word, and the owner
-
-cleared : (p : Bool) (o : Option ℕ) → apply (op.And NOT_PARKED) (word_of p o) ≡ word_of false o
-cleared true None = refl
-cleared true (Some u) = refl
-cleared false None = refl
-cleared false (Some u) = refl
-
-less_one : (p : Bool) (u : ℕ) → apply (op.Sub 1) (word_of p (Some u)) ≡ word_of p None
-less_one true u = refl
-less_one false u = refl
-
-entered_zero : (p : Bool) (o : Option ℕ) (t : ℕ) → (word_of p o == 0) ≡ true → 1 ≡ word_of p (Some t)
-entered_zero false None t e = refl
-entered_zero true None t e = absurd cc
-entered_zero true (Some u) t e = absurd cc
-entered_zero false (Some u) t e = absurd cc
-
-entered_free : (p : Bool) (o : Option ℕ) (t : ℕ) → is_locked (word_of p o) ≡ false → word_of p o + 1
-    ≡ word_of p (Some t)
-entered_free true None t e = refl
-entered_free false None t e = refl
-entered_free true (Some u) t e = absurd cc
-entered_free false (Some u) t e = absurd cc
 
 module _ (limit : ℕ) (s : Site) (t k m : ℕ) (apart : k ≢ m)
     (h : IsSite (record { sort = Mutex; limit = limit }) s) (o : Owners) (owned : o.exclusive

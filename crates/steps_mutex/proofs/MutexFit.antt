@@ -1,6 +1,6 @@
 -- Each step of a mutex may do to it what its deeds say, and leaves its word and its owner.
-use Rattle.std.proofs.Common.{ℕ, Bool, true, false, Option, Some, None, if◌then◌else◌, ◌==◌, ◌≡◌, ◌≢◌, ◌⊎◌}
-use Rattle.std.proofs.Common.{inl, inr, List, [], ◌∷◌, refl, sym, ap, ◌∙◌, subst, arith}
+use Rattle.std.proofs.Common.{ℕ, Bool, true, false, Option, Some, None, if◌then◌else◌, ◌==◌, ◌≡◌, ◌⊎◌, inl}
+use Rattle.std.proofs.Common.{inr, List, [], ◌∷◌, refl, sym, ap, ◌∙◌, subst}
 use Rattle.std.specs.Prelude.{not, drop, is_none, ◌&&◌}
 use Rattle.core_base.specs.declared.wants.Want.TheVariants.{Exclusive}
 use Rattle.spec_locks.specs.declared.outcomes.Answer.TheVariants as answer
@@ -8,14 +8,12 @@ use Rattle.steps_base.specs.declared.acts.Next.{Next}
 use Rattle.steps_base.specs.declared.acts.Next.TheVariants.{At, End as Over}
 use Rattle.steps_base.specs.declared.acts.Reply.{Reply}
 use Rattle.steps_base.specs.declared.acts.Reply.TheVariants.{Done, Value, Parked, Took, Removed, Late}
-use Rattle.steps_base.specs.Moves.{IsSectionFree, StandsAlone}
+use Rattle.steps_base.specs.Moves.{StandsAlone}
 use Rattle.spec_locks.specs.Deeds.{AllNeeded, after_all}
-use Rattle.spec_locks.specs.Locks.{Enter, HandOff as HandsOff, HasTakenNobody, IsSomePending, IsSuccessor}
-use Rattle.spec_locks.specs.Locks.{Late as GivesUp, Leave, Mutex, Pending, Rules, aside_without, putting}
-use Rattle.spec_locks.specs.Locks.{standing, without}
-use Rattle.spec_locks.specs.Sites.{Case, Clear, Deed, Role, End, Has, In, IsSite, Main, Mark, Out, Second}
-use Rattle.spec_locks.specs.Sites.{Site, StandsIn, after_deed, counts_some, found, idle, is_empty, late_found}
-use Rattle.spec_locks.specs.Sites.{leaves, seen_main, wakened}
+use Rattle.spec_locks.specs.Locks.{Enter, HandOff as HandsOff, HasTakenNobody, IsSuccessor, Late as GivesUp}
+use Rattle.spec_locks.specs.Locks.{Leave, Mutex, Rules, standing}
+use Rattle.spec_locks.specs.Sites.{Case, Clear, Deed, Role, End, Has, IsSite, Main, Mark, Out, Second, Site}
+use Rattle.spec_locks.specs.Sites.{after_deed, found, idle, is_empty, leaves, seen_main}
 use Rattle.steps_mutex.specs.declared.lock.Entry.{Entry}
 use Rattle.steps_mutex.specs.declared.lock.LockAt.{LockAt}
 use Rattle.steps_mutex.specs.declared.lock.LockAt.TheVariants as lock
@@ -32,7 +30,8 @@ use Rattle.steps_mutex.specs.MutexLaws.{MutexStepsFollow, TakesFirst, role_next,
 use Rattle.steps_mutex.specs.MutexProfiles.{with_retry, carrying, inside, owner, seen_empty}
 use Rattle.steps_mutex.specs.MutexSteps.{entered, in_hand_off, in_lock, in_unlock, is_locked, is_parked}
 use Rattle.steps_mutex.specs.MutexSteps.{looked, mutex_next}
-use Rattle.steps_mutex.proofs.MutexWords.{first_is, nobody_first, one, parked_is, put_same, three}
+use Rattle.steps_base.proofs.Deeds.{clears, ends, gives_up, goes_in, goes_out, nobody_first, put_same}
+use Rattle.steps_mutex.proofs.MutexWords.{first_is, one, parked_is, three}
 use Rattle.steps_mutex.proofs.MutexWords.{unlocked_free, word_of, zero_free}
 
 module _ (limit : ℕ) (s : Site) (t : ℕ) (h : IsSite (record { sort = Mutex; limit = limit }) s) where
@@ -49,58 +48,6 @@ module _ (limit : ℕ) (s : Site) (t : ℕ) (h : IsSite (record { sort = Mutex; 
 
   owns : s.role t ≡ owner → s.lock.exclusive ≡ Some t
   owns is = h.held t (Has Exclusive) (ap (λ (d : Role). d.claims) is)
-
-  -- a call ends outside of the section, and nothing is owed
-  ends : (c : Option _) → s.role t ≡ record idle { claims = c } → AllNeeded r (End ∷ []) s t
-  ends c is = (
-    (
-      ap (λ (d : Role). d.inside) is,
-      ap (λ (d : Role). d.wakes) is,
-      ap (λ (d : Role). d.carries) is,
-      λ some. absurd (let g : false ≡ true =
-          sym (ap (λ (d : Role). counts_some Mutex d.retries) is) ∙ some in cc),
-    ),
-    tt,
-  )
-
-  goes_in : (d : Role) → s.role t ≡ d → d.inside ≡ None → d.empty ≡ None → IsSectionFree s Main
-      → AllNeeded r (In Main ∷ []) s t
-      × ((after_all r (In Main ∷ []) s t).role t ≡ record d { inside = Some Main })
-  goes_in d is out e free = (
-    (
-      (free, ap (λ (d : Role). d.inside) is ∙ out, ap (λ (d : Role). d.empty) is ∙ e),
-      tt,
-    ),
-    put_same s.role t _ ∙ ap (λ (d : Role). record d { inside = Some Main }) is,
-  )
-
-  goes_out : (d : Role) → s.role t ≡ d → d.inside ≡ Some Main → d.wakes ≡ None → d.sets ≡ false
-      → s.lock.taken t ≡ None
-      → AllNeeded r (Out ∷ []) s t × ((after_all r (Out ∷ []) s t).role t ≡ leaves d)
-  goes_out d is i w b free = (
-    (
-      (
-        λ e. let g : Some Main ≡ None = sym (ap (λ (d : Role). d.inside) is ∙ i) ∙ e in cc,
-        ap (λ (d : Role). d.wakes) is ∙ w,
-        ap (λ (d : Role). d.sets) is ∙ b,
-      ),
-      tt,
-    ),
-    ap (λ o. wakened t o (putting s.role t (leaves (s.role t)) t)) free ∙ put_same s.role t _ ∙ ap leaves is,
-  )
-
-  clears : (d : Role) → s.role t ≡ d → d.empty ≡ Some Main → AllNeeded r (Clear Main ∷ []) s t
-      × ((after_all r (Clear Main ∷ []) s t).role t ≡ record d {
-        empty = None;
-        brings = false;
-      })
-  clears d is e = (
-    (ap (λ (d : Role). d.empty) is ∙ e, tt),
-    put_same s.role t _ ∙ ap (λ (d : Role). record d {
-      empty = None;
-      brings = false;
-    }) is,
-  )
 
   -- ---------------------------------------------------------------- calls that enter
 
@@ -123,16 +70,8 @@ module _ (limit : ℕ) (s : Site) (t : ℕ) (h : IsSite (record { sort = Mutex; 
             subst (λ w. (w ≡ None) ⊎ (w ≡ Some Exclusive))
                 (sym (ap (λ (d : Role). d.retries) is)) (wants_it retries),
           ),
-          (
-            (
-              ap (λ (d : Role). d.inside) own ∙ ap (λ (d : Role). d.inside) is,
-              ap (λ (d : Role). d.wakes) own ∙ ap (λ (d : Role). d.wakes) is,
-              ap (λ (d : Role). d.carries) own ∙ ap (λ (d : Role). d.carries) is,
-              λ some. absurd (let g : false ≡ true = sym (ap (λ (d : Role). counts_some Mutex d.retries) own)
-                  ∙ some in cc),
-            ),
-            tt,
-          ),
+          ends r (after_deed r (Case (Enter Exclusive)) s t) t refl None
+              (own ∙ ap (λ (d : Role). record d { retries = None; claims = None }) is),
         ),
         put_same (after_deed r (Case (Enter Exclusive)) s t).role t idle,
       )
@@ -187,43 +126,19 @@ module _ (limit : ℕ) (s : Site) (t : ℕ) (h : IsSite (record { sort = Mutex; 
 
     late : s.role t ≡ inside → (b : Bool) → StandsAlone s t Main b → Does (Case GivesUp ∷ [])
         (in_lock e retries (if b then At lock.Clear else At lock.GiveUp))
-    late is b f = (
-      (
-        (
-          omega (arith, f.0),
-          subst (λ n. StandsIn s.lock t n × ((s.role t).carries ≡ false))
-              (sym (ap (λ (d : Role). d.inside) is)) (beside, ap (λ (d : Role). d.carries) is),
-        ),
-        tt,
-      ),
-      put_same s.role t _
-          ∙ (λ i. record (is i) {
-            empty = late_found (record s.lock {
-              queue = without t s.lock.queue;
-              aside = aside_without t s.lock.aside;
-            }) (is i).inside;
-          })
-          ∙ ap (λ c. record inside { empty = found Main c }) (sym f.1) ∙ left b,
-    )
+    late is b f =
+        let d = gives_up r s t h (h.state.unpending (λ x. x)).0 is b f.0 f.1 in (d.0, d.1 ∙ left b)
       where
         left : (c : Bool) → record inside { empty = found Main c } ≡ role_next
             (in_lock e retries (if c then At lock.Clear else At lock.GiveUp))
         left true = refl
         left false = refl
 
-        beside : s.lock.aside ≢ Some t
-        beside a = let p = h.state.aside_pending t a
-            in absurd (nobody_pends s.lock.pending (h.state.unpending (λ x. x)).0 p)
-          where
-            nobody_pends : (o : Option Pending) → o ≡ None → IsSomePending o t → ⊥
-            nobody_pends None e p = p
-            nobody_pends (Some x) e p = cc
-
     leaves_section : (parked : Bool) → s.role t ≡ with_retry (if parked then false else retries) inside
         → s.lock.taken t ≡ None
         → Does (Out ∷ []) (in_lock e retries (if parked then At lock.Asleep else At lock.Load))
-    leaves_section true is free = let d = goes_out inside is refl refl refl free in (d.0, d.1)
-    leaves_section false is free = let d = goes_out (with_retry retries inside) is refl refl refl free
+    leaves_section true is free = let d = goes_out r s t inside is refl refl refl free in (d.0, d.1)
+    leaves_section false is free = let d = goes_out r s t (with_retry retries inside) is refl refl refl free
         in (d.0, d.1)
 
     locks : (at : LockAt) (whom : Option ℕ) (told : Reply) → s.role t ≡ mutex_role (Lock e retries at)
@@ -237,7 +152,7 @@ module _ (limit : ℕ) (s : Site) (t : ℕ) (h : IsSite (record { sort = Mutex; 
         follows _ whom (Value seen) (decides is seen (seen == expected) (is_locked seen)
         (λ z. unlocked_free s.parked s.lock.exclusive (ap is_locked (sym f) ∙ z)))
     locks (lock.Decide expected) whom Done is f =
-        follows _ whom Done (goes_in (with_retry retries idle) is refl refl f)
+        follows _ whom Done (goes_in r s t (with_retry retries idle) is refl refl f)
     locks lock.Check whom (Parked true) is f = let d = parks is true f.0 f.1 in record {
       needed = d.needed;
       role = d.role;
@@ -247,16 +162,16 @@ module _ (limit : ℕ) (s : Site) (t : ℕ) (h : IsSite (record { sort = Mutex; 
       role = d.role;
     }
     locks (lock.Leave parked) whom Done is f = follows _ whom Done (leaves_section parked is f)
-    locks lock.Asleep whom Late is f = follows _ whom Late (goes_in idle is refl refl f.1)
+    locks lock.Asleep whom Late is f = follows _ whom Late (goes_in r s t idle is refl refl f.1)
     locks lock.Accept whom Done is f = record {
-      needed = ends (Some (Has Exclusive)) is;
+      needed = ends r s t refl (Some (Has Exclusive)) is;
       role = put_same s.role t idle;
     }
     locks lock.Remove whom (Removed none_left) is f = follows _ whom (Removed none_left)
         (late is none_left f.1)
     locks lock.Clear whom (Value seen) is f =
-        follows _ whom (Value seen) (clears (record inside { empty = Some Main }) is refl)
-    locks lock.GiveUp whom Done is f = follows _ whom Done (goes_out inside is refl refl refl f.1)
+        follows _ whom (Value seen) (clears r s t (record inside { empty = Some Main }) is refl)
+    locks lock.GiveUp whom Done is f = follows _ whom Done (goes_out r s t inside is refl refl refl f.1)
     locks at whom told is f = absurd f
 
   -- ---------------------------------------------------------------- calls that release
@@ -276,16 +191,7 @@ module _ (limit : ℕ) (s : Site) (t : ℕ) (h : IsSite (record { sort = Mutex; 
   subtracts is false e = let d = left_mutex is false e in (
     (
       (owns is, ap (λ (d : Role). d.wakes) is),
-      (
-        (
-          ap (λ (d : Role). d.inside) d,
-          ap (λ (d : Role). d.wakes) d,
-          ap (λ (d : Role). d.carries) d,
-          λ some. absurd (let g : false ≡ true = sym (ap (λ (d : Role). counts_some Mutex d.retries) d) ∙ some
-              in cc),
-        ),
-        tt,
-      ),
+      ends r (after_deed r (Case (Leave Exclusive)) s t) t refl None d,
     ),
     put_same (after_deed r (Case (Leave Exclusive)) s t).role t idle,
   )
@@ -356,7 +262,7 @@ module _ (limit : ℕ) (s : Site) (t : ℕ) (h : IsSite (record { sort = Mutex; 
   unlocks unlock.Subtract whom (Value seen) is f = follows _ whom (Value seen)
       (subtracts is (is_parked seen) (sym (ap is_parked f ∙ parked_is s.parked s.lock.exclusive)))
   unlocks unlock.Enter whom Done is f =
-      follows _ whom Done (goes_in (record idle { wakes = Some Main }) is refl refl f)
+      follows _ whom Done (goes_in r s t (record idle { wakes = Some Main }) is refl refl f)
   unlocks unlock.Take whom (Took any none_left) is f =
       let d = takes_first (record inside { wakes = Some Main }) is refl refl (inr refl) whom any none_left f.0
       f.1 in follows _ whom (Took any none_left) (d.0, d.1 ∙ took none_left)
@@ -366,8 +272,9 @@ module _ (limit : ℕ) (s : Site) (t : ℕ) (h : IsSite (record { sort = Mutex; 
       took true = refl
       took false = refl
   unlocks (unlock.Clear any) whom (Value seen) is f = follows _ whom (Value seen)
-      (clears (record carrying { empty = Some Main }) is refl)
-  unlocks (unlock.Leave any) whom Done is f = follows _ whom Done (goes_out carrying is refl refl refl f)
+      (clears r s t (record carrying { empty = Some Main }) is refl)
+  unlocks (unlock.Leave any) whom Done is f = follows _ whom Done (goes_out r s t carrying is refl refl refl
+      f)
   unlocks at whom told is f = absurd f
 
   -- ---------------------------------------------------------------- hand-offs
@@ -380,7 +287,7 @@ module _ (limit : ℕ) (s : Site) (t : ℕ) (h : IsSite (record { sort = Mutex; 
 
   bumps : s.role t ≡ owner → (b : Bool) → Does (if b then [] else End ∷ []) (looked true b)
   bumps is true = (tt, is)
-  bumps is false = (ends (Some (Has Exclusive)) is, put_same s.role t idle)
+  bumps is false = (ends r s t refl (Some (Has Exclusive)) is, put_same s.role t idle)
 
   -- it hands the mutex to the heir, and the store writes the bit anew
   module _ (bumping any : Bool) where
@@ -463,7 +370,7 @@ module _ (limit : ℕ) (s : Site) (t : ℕ) (h : IsSite (record { sort = Mutex; 
   hands_off : (bumping : Bool) (at : HandOffAt) (whom : Option ℕ) (told : Reply)
       → s.role t ≡ mutex_role (HandOff bumping at) → MayHearHandingOff r s t at whom told
       → Follows r s t (HandOff bumping at) whom told
-  hands_off bumping hand_off.Enter whom Done is f = follows _ whom Done (goes_in owner is refl refl f)
+  hands_off bumping hand_off.Enter whom Done is f = follows _ whom Done (goes_in r s t owner is refl refl f)
   hands_off bumping hand_off.Take whom (Took any none_left) is f =
       let d = takes_first (record owner { inside = Some Main }) is refl refl (inl refl) whom any none_left f.0
       f.1 in
@@ -481,15 +388,16 @@ module _ (limit : ℕ) (s : Site) (t : ℕ) (h : IsSite (record { sort = Mutex; 
       seen (Some u) b f = sym (ap (λ c. seen_empty c none_left) f.some)
   hands_off bumping (hand_off.Store any none_left) whom (Value seen) is f =
       follows _ whom (Value seen) (stores bumping any whom none_left is f.1 f.2)
-  hands_off bumping (hand_off.Leave any) whom Done is f = let d = goes_out (record inside { carries = true })
-      is refl refl refl f in follows _ whom Done (d.0, d.1 ∙ left_section bumping)
+  hands_off bumping (hand_off.Leave any) whom Done is f =
+      let d = goes_out r s t (record inside { carries = true }) is refl refl refl f in
+      follows _ whom Done (d.0, d.1 ∙ left_section bumping)
   hands_off bumping at whom told is f = absurd f
 
   -- ---------------------------------------------------------------- each place
 
   tries_once : s.role t ≡ idle → (b : Bool) → (b ≡ false → s.lock.exclusive ≡ None)
       → Does (if b then End ∷ [] else enter_deeds) (if b then Over answer.No else Over answer.Yes)
-  tries_once is true free = (ends None is, put_same s.role t idle)
+  tries_once is true free = (ends r s t refl None is, put_same s.role t idle)
   tries_once is false free = comes_in false answer.Yes is (free refl)
 
   each_follows : (p : MutexPlace) (whom : Option ℕ) (told : Reply) → s.role t ≡ mutex_role p

@@ -1,22 +1,18 @@
 -- The word of a mutex tells a thread the truth, and each operation leaves the word that its deeds
 -- say.
 use Rattle.std.proofs.Common.{ℕ, Bool, true, false, Option, Some, None, ◌==◌, ◌≡◌, ◌≢◌, ◌+◌, ◌*◌, List, []}
-use Rattle.std.proofs.Common.{◌∷◌, refl, ap, ◌∙◌, arith}
-use Rattle.std.proofs.lemmas.Bool.Decides.{nat_tests}
+use Rattle.std.proofs.Common.{◌∷◌, refl, ap, ◌∙◌}
 use Rattle.std.specs.Prelude.{drop}
 use Rattle.core_base.specs.declared.ops.Op.TheVariants as op
 use Rattle.core_base.specs.declared.wants.Want.{Want}
 use Rattle.core_base.specs.declared.wants.Want.TheVariants.{Exclusive}
 use Rattle.core_base.specs.Words.{apply}
 use Rattle.spec_locks.specs.Codes.{bit, code, code_of}
-use Rattle.spec_locks.specs.Locks.{Knows, KnowsAll, Mutex, Queued, Rules, first_thread, one_if_some, putting}
+use Rattle.spec_locks.specs.Locks.{Knows, KnowsAll, Mutex, Queued, Rules, first_thread, one_if_some}
 use Rattle.spec_locks.specs.Sites.{Site}
 use Rattle.steps_mutex.specs.declared.places.TheConstants.{NOT_PARKED}
 use Rattle.steps_mutex.specs.MutexDeeds.{queued}
 use Rattle.steps_mutex.specs.MutexSteps.{is_locked, is_parked}
-
-pub put_same : {A : Type 0} (f : ℕ → A) (t : ℕ) (x : A) → putting f t x t ≡ x
-put_same f t x = grind (arith, nat_tests)
 
 -- the word, by its bit and its owner
 abbrev pub word_of : Bool → Option ℕ → ℕ
@@ -106,10 +102,6 @@ tried_owned true None e = absurd cc
 tried_owned false None e = absurd cc
 
 -- ---------------------------------------------------------------- the first waiter
-
-pub nobody_first : (q : List Queued) → first_thread q ≡ None → q ≡ []
-nobody_first [] e = refl
-nobody_first (x ∷ q) e = absurd cc
 
 exclusive_wanted : (x : Queued) → Knows Mutex x.want → x ≡ queued x.thread
 exclusive_wanted x k = λ i. record { thread = x.thread; want = wanted x.want k i }

@@ -1,7 +1,7 @@
 -- Each step of a `Once` takes its thread in the machine where its act says, and so does what befalls it
 -- asleep.
-use Rattle.std.proofs.Common.{ℕ, Bool, true, false, Option, Some, None, if◌then◌else◌, ◌==◌, ◌≡◌, inl, inr}
-use Rattle.std.proofs.Common.{refl, sym, ap, ◌∙◌, subst}
+use Rattle.std.proofs.Common.{ℕ, Bool, true, false, Some, if◌then◌else◌, ◌==◌, ◌≡◌, inr}
+use Rattle.std.proofs.Common.{refl, sym, ap, subst}
 use Rattle.std.specs.Prelude.{◌&&◌}
 use Rattle.core_base.specs.declared.wants.Want.TheVariants as wants
 use Rattle.spec_locks.specs.declared.calls.OnceCall.{OnceCall}
@@ -10,10 +10,10 @@ use Rattle.steps_base.specs.declared.acts.Next.{Next}
 use Rattle.steps_base.specs.declared.acts.Next.TheVariants.{At, End as Over}
 use Rattle.steps_base.specs.declared.acts.Reply.TheVariants as reply
 use Rattle.steps_base.specs.Moves.{AreOfWord, GoesIn, inside_of, location_then, IsHeld, Sleeps, StaysPut}
-use Rattle.steps_base.specs.Moves.{RowWaits, row_of}
-use Rattle.steps_base.specs.Profiles.{Hand, hand}
+use Rattle.steps_base.specs.Moves.{row_of}
+use Rattle.steps_base.specs.Profiles.{hand}
 use Rattle.steps_base.specs.Locations.{Location, location_by, nowhere}
-use Rattle.spec_locks.specs.Sites.{Line, Main, Second}
+use Rattle.spec_locks.specs.Sites.{Line, Main}
 use Rattle.spec_locks.specs.Codes.{is_marked}
 use Rattle.steps_once.specs.declared.look.LookAt.TheVariants as look
 use Rattle.steps_once.specs.declared.look.Course.{Course}
@@ -24,11 +24,11 @@ use Rattle.steps_once.specs.declared.places.OncePlace.{OncePlace}
 use Rattle.steps_once.specs.declared.places.OncePlace.TheVariants.{Look, Run, GiveUp}
 use Rattle.steps_once.specs.OnceSteps.{course_act, course_of, ended, closure_begun, in_look, in_run}
 use Rattle.steps_once.specs.OnceSteps.{is_forced, is_mark, is_run, looked_by, marked, want_of}
-use Rattle.steps_once.specs.OnceProfiles.{once_profile}
 use Rattle.steps_once.specs.OnceDeeds.{closes, exchanged_deeds, looked_deeds}
 use Rattle.steps_once.specs.OnceCalls.{next_row}
 use Rattle.steps_once.specs.OnceMoves.{OnceActsMove, OnceLateMove, OnceMoves, OnceSleepersMove, once_hears}
 use Rattle.steps_once.specs.OnceMoves.{once_move}
+use Rattle.steps_base.proofs.Moving.{awake, goes_in, goes_out, stands_inside, stays_put}
 
 abbrev location_next : Next OncePlace → Location
 location_next n = location_by (row_of (next_row n))
@@ -82,12 +82,8 @@ closes_rest forced succeeded false = refl
 
 decides_put : (c : OnceCall) (again : Bool) (expected : ℕ)
     → StaysPut (once_move (Look c again (look.Decide expected)))
-decides_put c again expected = record {
-  out = refl;
-  free = refl;
-  deeds = λ seen. exchanged_word c (seen == expected) (course_of c seen);
-  goes = λ seen. exchanged_rest c again (seen == expected) seen (course_of c seen);
-}
+decides_put c again expected = stays_put refl (λ seen. exchanged_word c (seen == expected) (course_of c seen))
+    (λ seen. exchanged_rest c again (seen == expected) seen (course_of c seen))
 
 -- ---------------------------------------------------------------- each place
 
@@ -97,27 +93,12 @@ decides : (l : ℕ) (c : OnceCall) (again : Bool) (expected : ℕ) (k : Course)
 decides l c again expected (Ends answer) = (refl, decides_put c again expected)
 decides l c again expected Runs = (refl, decides_put c again expected)
 decides l c again expected Marks = (refl, decides_put c again expected)
-decides l c again expected Parks = (
-  Main,
-  refl,
-  record {
-    out = refl;
-    free = refl;
-    deeds = refl;
-    goes = refl;
-    may = λ r s t free. free;
-  },
-)
+decides l c again expected Parks = (Main, refl, goes_in refl refl refl (λ r s t free. free))
 
 pub once_acts_move : OnceActsMove
 once_acts_move l (Look c again look.Load) = (
   refl,
-  record {
-    out = refl;
-    free = refl;
-    deeds = λ seen. looks_word (course_of c seen);
-    goes = λ seen. looks_rest c again seen (course_of c seen);
-  },
+  stays_put refl (λ seen. looks_word (course_of c seen)) (λ seen. looks_rest c again seen (course_of c seen)),
 )
 once_acts_move l (Look c again (look.Decide expected)) = decides l c again expected (course_of c expected)
 once_acts_move l (Look c again look.Check) = (
@@ -136,30 +117,12 @@ once_acts_move l (Look c again look.Check) = (
 once_acts_move l (Look c again (look.Leave true)) = (
   Main,
   refl,
-  record {
-    any = false;
-    notes = refl;
-    inside = refl;
-    carries = refl;
-    free = refl;
-    deeds = tt;
-    goes = refl;
-    may = λ r s t out. out;
-  },
+  goes_out false refl tt refl (λ r s t out. out),
 )
 once_acts_move l (Look c again (look.Leave false)) = (
   Main,
   refl,
-  record {
-    any = false;
-    notes = refl;
-    inside = refl;
-    carries = refl;
-    free = refl;
-    deeds = tt;
-    goes = refl;
-    may = λ r s t out. out;
-  },
+  goes_out false refl tt refl (λ r s t out. out),
 )
 once_acts_move l (Look c again look.Asleep) = tt
 once_acts_move l (Look c again (look.Taken by)) = tt
@@ -171,23 +134,13 @@ once_acts_move l (Run forced (run.Closure poisoned)) = record {
 }
 once_acts_move l (Run forced (run.Close succeeded)) = (
   refl,
-  record {
-    out = refl;
-    free = refl;
-    deeds = λ seen. closes_word succeeded (is_marked seen);
-    goes = λ seen. closes_rest forced succeeded (is_marked seen);
-  },
+  stays_put refl (λ seen. closes_word succeeded (is_marked seen))
+      (λ seen. closes_rest forced succeeded (is_marked seen)),
 )
 once_acts_move l (Run forced (run.Enter succeeded)) = (
   Main,
   refl,
-  record {
-    out = refl;
-    free = refl;
-    deeds = refl;
-    goes = refl;
-    may = λ r s t free. free;
-  },
+  goes_in refl refl refl (λ r s t free. free),
 )
 once_acts_move l (Run forced (run.Take succeeded)) = (
   refl,
@@ -201,16 +154,7 @@ once_acts_move l (Run forced (run.Take succeeded)) = (
 once_acts_move l (Run forced (run.Leave succeeded any)) = (
   Main,
   refl,
-  record {
-    any = any;
-    notes = refl;
-    inside = refl;
-    carries = refl;
-    free = refl;
-    deeds = tt;
-    goes = refl;
-    may = λ r s t out. out;
-  },
+  goes_out any refl tt refl (λ r s t out. out),
 )
 once_acts_move l (GiveUp retries give_up.Remove) = (
   Main,
@@ -228,40 +172,10 @@ once_acts_move l (GiveUp retries give_up.Remove) = (
         (reply.Removed none_left) ≡ inside_of Main
     removed true = refl
     removed false = refl
-once_acts_move l (GiveUp retries give_up.Clear) = (
-  refl,
-  record {
-    out = refl;
-    free = refl;
-    deeds = λ seen. tt;
-    goes = λ seen. refl;
-  },
-)
-once_acts_move l (GiveUp retries give_up.Leave) = (
-  Main,
-  refl,
-  record {
-    any = false;
-    notes = refl;
-    inside = refl;
-    carries = refl;
-    free = refl;
-    deeds = tt;
-    goes = refl;
-    may = λ r s t out. out;
-  },
-)
+once_acts_move l (GiveUp retries give_up.Clear) = (refl, stays_put refl (λ seen. tt) (λ seen. refl))
+once_acts_move l (GiveUp retries give_up.Leave) = (Main, refl, goes_out false refl tt refl (λ r s t out. out))
 
 -- ---------------------------------------------------------------- threads asleep
-
--- it stands in no line, and is in nobody's hand
-awake : (p : OncePlace) → (once_profile p).stands ≡ None → (once_profile p).hand ≡ None
-    → RowWaits (once_move p)
-awake p out free = record {
-  aside = λ h. absurd (let e : ◌≡◌ {A = Option Line} None (Some Second) = sym out ∙ h in cc);
-  stands = λ m h. absurd (let e : ◌≡◌ {A = Option Line} None (Some m) = sym out ∙ h in cc);
-  held = λ u handed h. absurd (let e : ◌≡◌ {A = Option Hand} None (hand u handed) = sym free ∙ h in cc);
-}
 
 asleep_in : (c : OnceCall) (again : Bool) (m : Line) → m ≡ Main
     → Sleeps (once_move (Look c again look.Asleep)) m
@@ -297,34 +211,20 @@ once_sleepers_move (Look c again (look.Taken by)) = record {
         role = refl;
       },
     )
-once_sleepers_move (Look c again (look.Leave true)) = record {
-  aside = λ h. absurd cc;
-  stands = λ m h. inl (let e : m ≡ Main = cc in ap Some (sym e));
-  held = λ u handed h. absurd cc;
-}
-once_sleepers_move (Look c again (look.Leave false)) = awake (Look c again (look.Leave false)) refl refl
-once_sleepers_move (Look c again at) = awake (Look c again at) refl refl
-once_sleepers_move (Run forced (run.Closure poisoned)) = awake (Run forced (run.Closure poisoned)) refl refl
-once_sleepers_move (Run forced at) = awake (Run forced at) refl refl
-once_sleepers_move (GiveUp retries give_up.Remove) = record {
-  aside = λ h. absurd cc;
-  stands = λ m h. inl (let e : m ≡ Main = cc in ap Some (sym e));
-  held = λ u handed h. absurd cc;
-}
-once_sleepers_move (GiveUp retries give_up.Clear) = awake (GiveUp retries give_up.Clear) refl refl
-once_sleepers_move (GiveUp retries give_up.Leave) = awake (GiveUp retries give_up.Leave) refl refl
+once_sleepers_move (Look c again (look.Leave true)) = stands_inside refl refl refl
+once_sleepers_move (Look c again (look.Leave false)) = awake refl refl
+once_sleepers_move (Look c again at) = awake refl refl
+once_sleepers_move (Run forced (run.Closure poisoned)) = awake refl refl
+once_sleepers_move (Run forced at) = awake refl refl
+once_sleepers_move (GiveUp retries give_up.Remove) = stands_inside refl refl refl
+once_sleepers_move (GiveUp retries give_up.Clear) = awake refl refl
+once_sleepers_move (GiveUp retries give_up.Leave) = awake refl refl
 
 -- ---------------------------------------------------------------- giving up
 
 goes_late : (again : Bool) → GoesIn (once_move (Look WaitTimed again look.Asleep))
     (once_hears (Look WaitTimed again look.Asleep)) Main reply.Late
-goes_late again = record {
-  out = refl;
-  free = refl;
-  deeds = refl;
-  goes = refl;
-  may = λ r s t free. (refl, free);
-}
+goes_late again = goes_in refl refl refl (λ r s t free. (refl, free))
 
 pub once_late_move : OnceLateMove
 once_late_move (Look WaitTimed again look.Asleep) m h =

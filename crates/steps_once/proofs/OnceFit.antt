@@ -18,7 +18,7 @@ use Rattle.steps_base.specs.declared.owners.Owners.{Owners}
 use Rattle.steps_base.specs.declared.owners.Phase.TheVariants as phases
 use Rattle.steps_base.specs.Owners.{lock_seen}
 use Rattle.spec_locks.specs.Onces.{Poisoned, InProgress, Done, MayStart, Finish, Fail}
-use Rattle.spec_locks.specs.Locks.{Rules, Once, OfOnce, Taken, LockState, putting}
+use Rattle.spec_locks.specs.Locks.{Rules, Once, OfOnce, Taken, LockState}
 use Rattle.spec_locks.specs.Sites.{Role, Site, IsSite, Deed, End, Case, Runs as Running, idle, counts_some}
 use Rattle.spec_locks.specs.Sites.{after_deed, seen_main}
 use Rattle.spec_locks.specs.Deeds.{after_all, AllNeeded}
@@ -38,11 +38,9 @@ use Rattle.steps_once.specs.OnceProfiles.{with_retry, retried_want, running_role
 use Rattle.steps_once.specs.OnceDeeds.{once_deeds, looked_deeds, exchanged_deeds, run_ending, closes}
 use Rattle.steps_once.specs.OnceDeeds.{role_next, IsAt, Follows, OnceStepsFollow, OnceStepsCode}
 use Rattle.steps_once.specs.OnceDeeds.{OnceOwnersFollow}
+use Rattle.steps_base.proofs.Deeds.{put_same}
 use Rattle.steps_once.proofs.OnceWords.{word_of, coded, MayGo, may_go, marks_tell, started_is, marked_is}
 use Rattle.steps_once.proofs.OnceWords.{unmarked_is}
-
-put_same : {A : Type 0} (f : ℕ → A) (t : ℕ) (x : A) → putting f t x t ≡ x
-put_same f t x = grind (arith, nat_tests)
 
 -- some deeds may be done, and the thread stands so after them
 record Does (r : Rules) (s : Site) (t : ℕ) (ds : List Deed) (n : Next OncePlace) : Type 0 where

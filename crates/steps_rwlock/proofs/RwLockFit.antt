@@ -19,7 +19,7 @@ use Rattle.spec_locks.specs.declared.outcomes.Answer.{Answer}
 use Rattle.spec_locks.specs.declared.outcomes.Answer.TheVariants.{No, ReadersFull}
 use Rattle.steps_base.specs.declared.acts.Next.TheVariants as next
 use Rattle.spec_locks.specs.Locks.{Rules, Enter, Pend, Settle, Leave, Convert, Rollback, Knows, MayEnter}
-use Rattle.spec_locks.specs.Locks.{HasRoom, Owns, readers, standing, putting, count}
+use Rattle.spec_locks.specs.Locks.{HasRoom, Owns, readers, standing, count}
 use Rattle.spec_locks.specs.Sites.{Claim, Has, Pends, Role, idle, Site, IsSite, End, Mark, Clear, Case}
 use Rattle.spec_locks.specs.Sites.{has_readers}
 use Rattle.spec_locks.specs.Codes.{code, TellsTrue, count_in, has_parked, has_aside, is_blocked}
@@ -45,9 +45,7 @@ use Rattle.steps_rwlock.specs.RwLockDeeds.{at_rest, kept_claim, enters_deeds, rw
 use Rattle.steps_rwlock.specs.RwLockDeeds.{missed_deeds, looked_deeds, exchanged_deeds, counted_deeds}
 use Rattle.steps_rwlock.specs.RwLockDeeds.{does_and_wakes, rwlock_deeds, Admits, IsFreshTry, AtFits, AtTry}
 use Rattle.steps_rwlock.specs.RwLockDeeds.{AtPending, AtUpgrade, Follows, RwLockStepsFollow}
-
-pub put_same : {A : Type 0} (f : ℕ → A) (t : ℕ) (x : A) → putting f t x t ≡ x
-put_same f t x = grind (arith, nat_tests)
+use Rattle.steps_base.proofs.Deeds.{put_same}
 
 abbrev tries_for : Option Want → Want → Type 0
 tries_for again x = (again ≡ None) ⊎ (again ≡ Some x)

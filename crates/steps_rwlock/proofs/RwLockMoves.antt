@@ -47,6 +47,7 @@ use Rattle.steps_rwlock.specs.RwLockProfiles.{rwlock_profile, late_line_at, want
 use Rattle.steps_rwlock.specs.RwLockCalls.{StandsAt, next_row}
 use Rattle.steps_rwlock.specs.RwLockMoves.{rwlock_move, rwlock_hears, RwLockActsMove, RwLockSleepersMove}
 use Rattle.steps_rwlock.specs.RwLockMoves.{RwLockLateMove}
+use Rattle.steps_base.proofs.Moving.{goes_in, goes_out, stays_put}
 
 module _ (l : ℕ) (a : Admission) where
   abbrev of : RwLockPurpose → Bool → RwLockAt → RwLockPlace
@@ -200,54 +201,27 @@ module _ (l : ℕ) (a : Admission) where
 
   module _ (q : RwLockPurpose) (again : Bool) where
     decides_word : (was : ℕ) → StaysPut (rwlock_move a (of q again (at.Decide was)))
-    decides_word was = record {
-      out = refl;
-      free = refl;
-      deeds = λ seen. exchanged_word q (decided_for a q was) (decided_for a q seen) (seen == was);
-      goes = λ seen. exchanged_rest q again was seen (decided_for a q was);
-    }
+    decides_word was = stays_put refl
+        (λ seen. exchanged_word q (decided_for a q was) (decided_for a q seen) (seen == was))
+        (λ seen. exchanged_rest q again was seen (decided_for a q was))
 
     decides : (was : ℕ) (d : Decision) → decided_for a q was ≡ d
         → MovesByAct l a.recursive (rwlock_move a (of q again (at.Decide was)))
         (rwlock_hears a (of q again (at.Decide was))) (decided_act l q was d)
     decides was decisions.Take e = (refl, decides_word was)
     decides was decisions.Mark e = (refl, decides_word was)
-    decides was decisions.Park e = (
-      Main,
-      refl,
-      record {
-        out = refl;
-        free = refl;
-        deeds = refl;
-        goes = refl;
-        may = λ r s t free. (e, free);
-      },
-    )
+    decides was decisions.Park e = (Main, refl, goes_in refl refl refl (λ r s t free. (e, free)))
     decides was (decisions.Refuse answer) e = tt
 
     counts : (was : ℕ) (b : Bool) → has_aside was ≡ b → MovesByAct l a.recursive
         (rwlock_move a (of q again (at.Count was))) (rwlock_hears a (of q again (at.Count was)))
         (if b then act.Enter (One (2 * l + 1)) else exchange l was (plus was 2))
-    counts was true e = (
-      Second,
-      refl,
-      record {
-        out = refl;
-        free = refl;
-        deeds = refl;
-        goes = refl;
-        may = λ r s t free. free;
-      },
-    )
+    counts was true e = (Second, refl, goes_in refl refl refl (λ r s t free. free))
     counts was false e = (
       refl,
-      record {
-        out = refl;
-        free = refl;
-        deeds = λ seen. counts_word (seen == was) (count_in seen == 0);
-        goes = λ seen. counts_rest (of q again (at.Count was)) seen (seen == was) (count_in seen == 0)
-            (entered (patience_of q));
-      },
+      stays_put refl (λ seen. counts_word (seen == was) (count_in seen == 0))
+          (λ seen. counts_rest (of q again (at.Count was)) seen (seen == was) (count_in seen == 0)
+          (entered (patience_of q))),
     )
 
     leaves_home : (start : Option Want) → AreLeaving (leaves_with start)
@@ -265,17 +239,7 @@ module _ (l : ℕ) (a : Admission) where
     aside_taken (Some u) = refl
 
     wakes_move : (m : Line) (to : WakeAt) → MovesAt (of q again (at.Wake m to))
-    wakes_move m waking.Enter = (
-      m,
-      refl,
-      record {
-        out = refl;
-        free = refl;
-        deeds = refl;
-        goes = refl;
-        may = λ r s t free. free;
-      },
-    )
+    wakes_move m waking.Enter = (m, refl, goes_in refl refl refl (λ r s t free. free))
     wakes_move Main waking.Take = (
       refl,
       refl,
@@ -295,28 +259,11 @@ module _ (l : ℕ) (a : Admission) where
         may = λ r s t any none_left. refl;
       },
     )
-    wakes_move m (waking.Clear any) = (
-      refl,
-      record {
-        out = refl;
-        free = refl;
-        deeds = λ seen. tt;
-        goes = λ seen. refl;
-      },
-    )
+    wakes_move m (waking.Clear any) = (refl, stays_put refl (λ seen. tt) (λ seen. refl))
     wakes_move m (waking.Leave any) = (
       m,
       refl,
-      record {
-        any = any;
-        notes = refl;
-        inside = refl;
-        carries = refl;
-        free = refl;
-        deeds = leaves_home (start_of q);
-        goes = refl;
-        may = λ r s t free. free;
-      },
+      goes_out any refl (leaves_home (start_of q)) refl (λ r s t free. free),
     )
 
     -- ---------------------------------------------------------------- lines
@@ -342,34 +289,8 @@ module _ (l : ℕ) (a : Admission) where
           may = λ r s t b e nowhere. (e, nowhere);
         },
       )
-      parks_move (parking.Leave true) = (
-        Main,
-        refl,
-        record {
-          any = false;
-          notes = refl;
-          inside = refl;
-          carries = refl;
-          free = refl;
-          deeds = tt;
-          goes = refl;
-          may = λ r s t free. free;
-        },
-      )
-      parks_move (parking.Leave false) = (
-        Main,
-        refl,
-        record {
-          any = false;
-          notes = refl;
-          inside = refl;
-          carries = refl;
-          free = refl;
-          deeds = tt;
-          goes = refl;
-          may = λ r s t free. free;
-        },
-      )
+      parks_move (parking.Leave true) = (Main, refl, goes_out false refl tt refl (λ r s t free. free))
+      parks_move (parking.Leave false) = (Main, refl, goes_out false refl tt refl (λ r s t free. free))
       parks_move parking.Asleep = tt
       parks_move (parking.Taken by) = tt
       parks_move parking.Remove = (
@@ -389,29 +310,8 @@ module _ (l : ℕ) (a : Admission) where
               ≡ inside_of Main
           left true = refl
           left false = refl
-      parks_move parking.Clear = (
-        refl,
-        record {
-          out = refl;
-          free = refl;
-          deeds = λ seen. tt;
-          goes = λ seen. refl;
-        },
-      )
-      parks_move parking.GiveUp = (
-        Main,
-        refl,
-        record {
-          any = false;
-          notes = refl;
-          inside = refl;
-          carries = refl;
-          free = refl;
-          deeds = tt;
-          goes = refl;
-          may = λ r s t free. free;
-        },
-      )
+      parks_move parking.Clear = (refl, stays_put refl (λ seen. tt) (λ seen. refl))
+      parks_move parking.GiveUp = (Main, refl, goes_out false refl tt refl (λ r s t free. free))
 
       asides_move : (to : ParkAt) → MovesAt (of q again (at.Aside to))
       asides_move parking.Check = (
@@ -427,34 +327,8 @@ module _ (l : ℕ) (a : Admission) where
           may = λ r s t b e nowhere. (e, nowhere);
         },
       )
-      asides_move (parking.Leave true) = (
-        Second,
-        refl,
-        record {
-          any = false;
-          notes = refl;
-          inside = refl;
-          carries = refl;
-          free = refl;
-          deeds = tt;
-          goes = refl;
-          may = λ r s t free. free;
-        },
-      )
-      asides_move (parking.Leave false) = (
-        Second,
-        refl,
-        record {
-          any = false;
-          notes = refl;
-          inside = refl;
-          carries = refl;
-          free = refl;
-          deeds = tt;
-          goes = refl;
-          may = λ r s t free. free;
-        },
-      )
+      asides_move (parking.Leave true) = (Second, refl, goes_out false refl tt refl (λ r s t free. free))
+      asides_move (parking.Leave false) = (Second, refl, goes_out false refl tt refl (λ r s t free. free))
       asides_move parking.Asleep = tt
       asides_move (parking.Taken by) = tt
       asides_move parking.Remove = (
@@ -468,42 +342,13 @@ module _ (l : ℕ) (a : Admission) where
           may = λ r s t none_left alone. alone;
         },
       )
-      asides_move parking.Clear = (
-        refl,
-        record {
-          out = refl;
-          free = refl;
-          deeds = λ seen. tt;
-          goes = λ seen. refl;
-        },
-      )
-      asides_move parking.GiveUp = (
-        Second,
-        refl,
-        record {
-          any = false;
-          notes = refl;
-          inside = refl;
-          carries = refl;
-          free = refl;
-          deeds = tt;
-          goes = refl;
-          may = λ r s t free. free;
-        },
-      )
+      asides_move parking.Clear = (refl, stays_put refl (λ seen. tt) (λ seen. refl))
+      asides_move parking.GiveUp = (Second, refl, goes_out false refl tt refl (λ r s t free. free))
 
   -- ---------------------------------------------------------------- every place
 
   first_move : (q : RwLockPurpose) (again : Bool) → MovesAt (of q again at.First)
-  first_move q again = (
-    refl,
-    record {
-      out = refl;
-      free = refl;
-      deeds = λ seen. word (seen == 0);
-      goes = λ seen. rest (seen == 0);
-    },
-  )
+  first_move q again = (refl, stays_put refl (λ seen. word (seen == 0)) (λ seen. rest (seen == 0)))
     where
       word : (b : Bool) → AreOfWord (if b then Case (Enter Exclusive) ∷ End ∷ [] else missed_deeds
           (patience_of q))
@@ -539,54 +384,27 @@ module _ (l : ℕ) (a : Admission) where
   moves_all q again at.First fits = first_move q again
   moves_all q again at.Load fits = (
     refl,
-    record {
-      out = refl;
-      free = refl;
-      deeds = λ seen. looks_deeds (decided_for a q seen);
-      goes = λ seen. looks_rest (of q again at.Load) seen (decided_for a q seen);
-    },
+    stays_put refl (λ seen. looks_deeds (decided_for a q seen))
+        (λ seen. looks_rest (of q again at.Load) seen (decided_for a q seen)),
   )
   moves_all q again (at.Decide was) fits = decides q again was (decided_for a q was) refl
   moves_all q again (at.Park to) fits = parks_only q again to fits
   moves_all q again at.Look fits = (
     refl,
-    record {
-      out = refl;
-      free = refl;
-      deeds = λ seen. settles_word (count_in seen == 0);
-      goes = λ seen. settles_rest (of q again at.Look) seen (count_in seen == 0) (entered (patience_of q));
-    },
+    stays_put refl (λ seen. settles_word (count_in seen == 0))
+        (λ seen. settles_rest (of q again at.Look) seen (count_in seen == 0) (entered (patience_of q))),
   )
   moves_all q again (at.Count was) fits = counts q again was (has_aside was) refl
-  moves_all q again at.Marked fits = (
-    Second,
-    refl,
-    record {
-      out = refl;
-      free = refl;
-      deeds = refl;
-      goes = refl;
-      may = λ r s t free. free;
-    },
-  )
+  moves_all q again at.Marked fits = (Second, refl, goes_in refl refl refl (λ r s t free. free))
   moves_all q again (at.Aside to) fits = asides_only q again to fits
   moves_all q again at.RollBack fits = (
     refl,
-    record {
-      out = refl;
-      free = refl;
-      deeds = λ seen. rolls_word (has_parked seen);
-      goes = λ seen. wakes_rest (of q again at.RollBack) Main (has_parked seen) No;
-    },
+    stays_put refl (λ seen. rolls_word (has_parked seen))
+        (λ seen. wakes_rest (of q again at.RollBack) Main (has_parked seen) No),
   )
   moves_all q again at.GiveWay fits = (
     refl,
-    record {
-      out = refl;
-      free = refl;
-      deeds = λ seen. gives_word q seen;
-      goes = λ seen. gave_rest (of q again at.GiveWay) seen q;
-    },
+    stays_put refl (λ seen. gives_word q seen) (λ seen. gave_rest (of q again at.GiveWay) seen q),
   )
   moves_all q again (at.Wake m to) fits = wakes_move q again m to
 
@@ -755,13 +573,7 @@ module _ (a : Admission) where
   parks_late : (q : RwLockPurpose) (again : Bool) (how : Patience) (to : ParkAt) (m : Line)
       → late_line_at how (at.Park to) ≡ Some m → GoesIn (move q again (at.Park to))
       (rwlock_hears a (place q again (at.Park to))) m reply.Late
-  parks_late q again Timed parking.Asleep Main e = record {
-    out = refl;
-    free = refl;
-    deeds = refl;
-    goes = refl;
-    may = λ r s t free. free;
-  }
+  parks_late q again Timed parking.Asleep Main e = goes_in refl refl refl (λ r s t free. free)
   parks_late q again Timed parking.Asleep Second e = absurd cc
   parks_late q again Patient parking.Asleep m e = absurd cc
   parks_late q again Try parking.Asleep m e = absurd cc
@@ -770,13 +582,7 @@ module _ (a : Admission) where
   asides_late : (q : RwLockPurpose) (again : Bool) (how : Patience) (to : ParkAt) (m : Line)
       → late_line_at how (at.Aside to) ≡ Some m → GoesIn (move q again (at.Aside to))
       (rwlock_hears a (place q again (at.Aside to))) m reply.Late
-  asides_late q again Timed parking.Asleep Second e = record {
-    out = refl;
-    free = refl;
-    deeds = refl;
-    goes = refl;
-    may = λ r s t free. free;
-  }
+  asides_late q again Timed parking.Asleep Second e = goes_in refl refl refl (λ r s t free. free)
   asides_late q again Timed parking.Asleep Main e = absurd cc
   asides_late q again Patient parking.Asleep m e = absurd cc
   asides_late q again Try parking.Asleep m e = absurd cc

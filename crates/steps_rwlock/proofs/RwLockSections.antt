@@ -41,7 +41,8 @@ use Rattle.steps_rwlock.specs.RwLockDeeds.{AtUpgrade, within, finding, pends, pa
 use Rattle.steps_rwlock.specs.RwLockDeeds.{rwlock_role, role_next, IsFreshTry, AtFits, Admits, MayHear}
 use Rattle.steps_rwlock.specs.RwLockDeeds.{MayHearParking, MayHearWaking, take_deed, park_deeds, wake_deeds}
 use Rattle.steps_rwlock.specs.RwLockDeeds.{Follows, FollowsBy, RwLockSectionsFollow}
-use Rattle.steps_rwlock.proofs.RwLockFit.{put_same, knows_all, retrying}
+use Rattle.steps_rwlock.proofs.RwLockFit.{knows_all, retrying}
+use Rattle.steps_base.proofs.Deeds.{put_same}
 
 module _ (r : Rules) (s : Site) (t : ℕ) (rw_sort : has_readers r.sort ≡ true) (h : IsSite r s)
     (tells : TellsTrue r s) where

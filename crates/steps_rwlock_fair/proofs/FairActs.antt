@@ -60,6 +60,7 @@ use Rattle.steps_rwlock_fair.specs.FairLaws.{next_rows}
 use Rattle.steps_rwlock_fair.specs.FairCalls.{HandsOverAt, IsOfBump}
 use Rattle.steps_rwlock_fair.specs.FairMoves.{call_move, call_hears, CallMoves, CallWaits, FairActsMove}
 use Rattle.steps_rwlock_fair.specs.FairMoves.{FairSleepersMove, FairLateMove}
+use Rattle.steps_base.proofs.Moving.{goes_in, goes_out, stays_put}
 use Rattle.steps_rwlock_fair.proofs.FairMoves.{hand_overs_move}
 
 -- ---------------------------------------------------------------- calls that move alike
@@ -233,12 +234,7 @@ module _ (l : ℕ) (a : Admission) where
   glance_moves : (x : Access) → MovesAt (PeekQueue x)
   glance_moves x = (
     refl,
-    record {
-      out = refl;
-      free = refl;
-      deeds = λ seen. word (gives_way a x seen);
-      goes = λ seen. rest x (gives_way a x seen);
-    },
+    stays_put refl (λ seen. word (gives_way a x seen)) (λ seen. rest x (gives_way a x seen)),
   )
     where
       word : (b : Bool) → AreOfWord (glance_deeds b)
@@ -270,25 +266,12 @@ module _ (l : ℕ) (a : Admission) where
     freed_rest access.Exclusive seen = refl
 
     load_moves : MovesAt (over handing.Load)
-    load_moves = (
-      refl,
-      record {
-        out = refl;
-        free = refl;
-        deeds = λ seen. tt;
-        goes = λ seen. looked_rest seen;
-      },
-    )
+    load_moves = (refl, stays_put refl (λ seen. tt) (λ seen. looked_rest seen))
 
     free_moves : (expected : ℕ) → MovesAt (over (handing.Free expected))
     free_moves expected = (
       refl,
-      record {
-        out = refl;
-        free = refl;
-        deeds = λ seen. word (seen == expected);
-        goes = λ seen. rest seen (seen == expected);
-      },
+      stays_put refl (λ seen. word (seen == expected)) (λ seen. rest seen (seen == expected)),
     )
       where
         word : (c : Bool) → AreOfWord (freed_deeds (wanted x) b c)
@@ -305,17 +288,7 @@ module _ (l : ℕ) (a : Admission) where
         rest seen false = freed_rest x seen
 
     enter_moves : MovesAt (over handing.Enter)
-    enter_moves = (
-      Main,
-      refl,
-      record {
-        out = refl;
-        free = refl;
-        deeds = refl;
-        goes = refl;
-        may = λ r s t free. free;
-      },
-    )
+    enter_moves = (Main, refl, goes_in refl refl refl (λ r s t free. free))
 
     take_moves : MovesAt (over handing.Take)
     take_moves = (
@@ -340,7 +313,7 @@ module _ (l : ℕ) (a : Admission) where
         goes access.Exclusive n y none_left = refl
 
     look_moves : (k : Taken) → MovesAt (over (handing.Look k))
-    look_moves k = (refl, record { out = refl; free = refl; deeds = λ seen. tt; goes = λ seen. refl })
+    look_moves k = (refl, stays_put refl (λ seen. tt) (λ seen. refl))
 
     leave_moves : (any told : Bool) → MovesAt (over (handing.Leave any told))
     leave_moves any true = inr (
@@ -354,20 +327,7 @@ module _ (l : ℕ) (a : Admission) where
         may = λ r s t free. free;
       },
     )
-    leave_moves any false = inl (
-      Main,
-      refl,
-      record {
-        any = any;
-        notes = refl;
-        inside = refl;
-        carries = refl;
-        free = refl;
-        deeds = tt;
-        goes = released_rest x b;
-        may = λ r s t free. free;
-      },
-    )
+    leave_moves any false = inl (Main, refl, goes_out any refl tt (released_rest x b) (λ r s t free. free))
 
   store_moves : (b : Bool) (k : Taken) → MovesAt (HandOver access.Exclusive b (handing.Store k))
   store_moves b k = hand_overs_move l l a (HandOver access.Exclusive b (handing.Store k)) _ k tt refl refl
@@ -384,12 +344,7 @@ module _ (l : ℕ) (a : Admission) where
       either true e = rw e (hand_overs_move l l a c _ k tt refl (rw e refl))
       either false e = rw e (
         refl,
-        record {
-          out = refl;
-          free = refl;
-          deeds = λ seen. rw e (word (seen == expected));
-          goes = λ seen. rest seen (seen == expected) refl;
-        },
+        stays_put refl (λ seen. rw e (word (seen == expected))) (λ seen. rest seen (seen == expected) refl),
       )
         where
           word : (won : Bool) → AreOfWord (exchanged_deeds Upgradable k None won false)
@@ -424,15 +379,7 @@ module _ (l : ℕ) (a : Admission) where
   over_moves x b (handing.Leave any told) fits = leave_moves x b any told
 
   accepts_moves : (x : Access) (how : Patience) (b : Bool) → MovesAt (Handed x how b handed.Accept)
-  accepts_moves access.Exclusive how b = (
-    refl,
-    record {
-      out = refl;
-      free = refl;
-      deeds = λ seen. tt;
-      goes = λ seen. refl;
-    },
-  )
+  accepts_moves access.Exclusive how b = (refl, stays_put refl (λ seen. tt) (λ seen. refl))
   accepts_moves access.Shared how b = record { was = refl; deeds = refl; goes = refl; may = λ r s t. tt }
   accepts_moves access.Upgradable how b = record { was = refl; deeds = refl; goes = refl; may = λ r s t. tt }
 

@@ -28,7 +28,8 @@ use Rattle.steps_rwlock.specs.RwLockSteps.{wanted, start_of, rwlock_next}
 use Rattle.steps_rwlock.specs.RwLockDeeds.{at_rest, within, rwlock_role, rwlock_deeds, role_next, Admits}
 use Rattle.steps_rwlock.specs.RwLockDeeds.{MayHear, MayHearParking, MayHearWaking, Follows}
 use Rattle.steps_rwlock.specs.RwLockCalls.{MayStand}
-use Rattle.steps_rwlock.proofs.RwLockFit.{put_same, knows_all}
+use Rattle.steps_rwlock.proofs.RwLockFit.{knows_all}
+use Rattle.steps_base.proofs.Deeds.{put_same}
 use Rattle.steps_rwlock.proofs.RwLockSections.{rwlock_sections_follow}
 use Rattle.steps_rwlock.proofs.RwLockStands.{is_at}
 use Rattle.steps_rwlock_fair.specs.declared.places.RwLockCallPlace.TheVariants.{Plain, PeekQueue, HandOver}

@@ -1,6 +1,6 @@
 -- Each step of a semaphore may do to it what its deeds say.
-use Rattle.std.proofs.Common.{ℕ, Bool, true, false, Option, Some, None, if◌then◌else◌, ◌==◌, ◌≡◌, ◌≢◌, ◌⊎◌}
-use Rattle.std.proofs.Common.{◌≤◌, inl, inr, List, [], ◌∷◌, refl, sym, ap, ◌∙◌, subst, arith}
+use Rattle.std.proofs.Common.{ℕ, Bool, true, false, Option, Some, None, if◌then◌else◌, ◌==◌, ◌≡◌, ◌⊎◌, ◌≤◌}
+use Rattle.std.proofs.Common.{inl, inr, List, [], ◌∷◌, refl, sym, ap, ◌∙◌, subst, arith}
 use Rattle.std.specs.Prelude.{not, drop, ◌&&◌}
 use Rattle.core_base.specs.declared.wants.Want.TheVariants.{Shared}
 use Rattle.spec_locks.specs.declared.outcomes.Answer.TheVariants as answer
@@ -8,15 +8,13 @@ use Rattle.steps_base.specs.declared.acts.Next.{Next}
 use Rattle.steps_base.specs.declared.acts.Next.TheVariants.{At, End as Over}
 use Rattle.steps_base.specs.declared.acts.Reply.{Reply}
 use Rattle.steps_base.specs.declared.acts.Reply.TheVariants.{Done, Value, Parked, Took, Removed, Late}
-use Rattle.steps_base.specs.Moves.{IsSectionFree, StandsAlone}
+use Rattle.steps_base.specs.Moves.{StandsAlone}
 use Rattle.spec_locks.specs.Codes.{has_parked}
 use Rattle.spec_locks.specs.Deeds.{AllNeeded, after_all}
-use Rattle.spec_locks.specs.Locks.{Enter, HasTakenNobody, IsSomePending, Late as GivesUp, Leave, Owns}
-use Rattle.spec_locks.specs.Locks.{Pending, Rules, Semaphore, aside_without, one_if_some, putting, standing}
-use Rattle.spec_locks.specs.Locks.{without}
-use Rattle.spec_locks.specs.Sites.{Case, Clear, Deed, Role, End, Has, In, IsSite, Main, Mark, Out, Second}
-use Rattle.spec_locks.specs.Sites.{Site, StandsIn, after_deed, counts_some, found, idle, is_empty, late_found}
-use Rattle.spec_locks.specs.Sites.{leaves, seen_main, shares_less, wakened}
+use Rattle.spec_locks.specs.Locks.{Enter, HasTakenNobody, Late as GivesUp, Leave, Owns, Rules, Semaphore}
+use Rattle.spec_locks.specs.Locks.{one_if_some, standing}
+use Rattle.spec_locks.specs.Sites.{Case, Clear, Deed, Role, End, Has, IsSite, Main, Mark, Out, Second, Site}
+use Rattle.spec_locks.specs.Sites.{after_deed, found, idle, is_empty, seen_main, shares_less}
 use Rattle.steps_semaphore.specs.declared.acquire.AcquireAt.{AcquireAt}
 use Rattle.steps_semaphore.specs.declared.acquire.AcquireAt.TheVariants as acquire
 use Rattle.steps_semaphore.specs.declared.tries.TryAt.{TryAt}
@@ -32,7 +30,8 @@ use Rattle.steps_semaphore.specs.SemaphoreLaws.{semaphore_role}
 use Rattle.steps_semaphore.specs.SemaphoreProfiles.{with_retry, carrying, permit_holder, inside}
 use Rattle.steps_semaphore.specs.SemaphoreSteps.{acquired, in_acquire, in_release, in_try, is_free}
 use Rattle.steps_semaphore.specs.SemaphoreSteps.{semaphore_next}
-use Rattle.steps_semaphore.proofs.SemaphoreWords.{first_is, free_in, nobody_first, one, parked_is, put_same}
+use Rattle.steps_base.proofs.Deeds.{clears, ends, gives_up, goes_in, goes_out, nobody_first, put_same}
+use Rattle.steps_semaphore.proofs.SemaphoreWords.{first_is, free_in, one, parked_is}
 use Rattle.steps_semaphore.proofs.SemaphoreWords.{some_free, word_of}
 
 module _ (limit : ℕ) (s : Site) (t : ℕ) (h : IsSite (record { sort = Semaphore; limit = limit }) s) where
@@ -52,58 +51,6 @@ module _ (limit : ℕ) (s : Site) (t : ℕ) (h : IsSite (record { sort = Semapho
 
   holds : s.role t ≡ permit_holder → Owns s.lock t Shared
   holds is = h.held t (Has Shared) (ap (λ (d : Role). d.claims) is)
-
-  -- a call ends outside of the section, and nothing is owed
-  ends : (c : Option _) → s.role t ≡ record idle { claims = c } → AllNeeded r (End ∷ []) s t
-  ends c is = (
-    (
-      ap (λ (d : Role). d.inside) is,
-      ap (λ (d : Role). d.wakes) is,
-      ap (λ (d : Role). d.carries) is,
-      λ some. absurd (let g : false ≡ true =
-          sym (ap (λ (d : Role). counts_some Semaphore d.retries) is) ∙ some in cc),
-    ),
-    tt,
-  )
-
-  goes_in : (d : Role) → s.role t ≡ d → d.inside ≡ None → d.empty ≡ None → IsSectionFree s Main
-      → AllNeeded r (In Main ∷ []) s t
-      × ((after_all r (In Main ∷ []) s t).role t ≡ record d { inside = Some Main })
-  goes_in d is out e free = (
-    (
-      (free, ap (λ (d : Role). d.inside) is ∙ out, ap (λ (d : Role). d.empty) is ∙ e),
-      tt,
-    ),
-    put_same s.role t _ ∙ ap (λ (d : Role). record d { inside = Some Main }) is,
-  )
-
-  goes_out : (d : Role) → s.role t ≡ d → d.inside ≡ Some Main → d.wakes ≡ None → d.sets ≡ false
-      → s.lock.taken t ≡ None
-      → AllNeeded r (Out ∷ []) s t × ((after_all r (Out ∷ []) s t).role t ≡ leaves d)
-  goes_out d is i w b free = (
-    (
-      (
-        λ e. let g : Some Main ≡ None = sym (ap (λ (d : Role). d.inside) is ∙ i) ∙ e in cc,
-        ap (λ (d : Role). d.wakes) is ∙ w,
-        ap (λ (d : Role). d.sets) is ∙ b,
-      ),
-      tt,
-    ),
-    ap (λ o. wakened t o (putting s.role t (leaves (s.role t)) t)) free ∙ put_same s.role t _ ∙ ap leaves is,
-  )
-
-  clears : (d : Role) → s.role t ≡ d → d.empty ≡ Some Main → AllNeeded r (Clear Main ∷ []) s t
-      × ((after_all r (Clear Main ∷ []) s t).role t ≡ record d {
-        empty = None;
-        brings = false;
-      })
-  clears d is e = (
-    (ap (λ (d : Role). d.empty) is ∙ e, tt),
-    put_same s.role t _ ∙ ap (λ (d : Role). record d {
-      empty = None;
-      brings = false;
-    }) is,
-  )
 
   -- ---------------------------------------------------------------- calls that acquire
 
@@ -127,16 +74,8 @@ module _ (limit : ℕ) (s : Site) (t : ℕ) (h : IsSite (record { sort = Semapho
             subst (λ w. (w ≡ None) ⊎ (w ≡ Some Shared))
                 (sym (ap (λ (d : Role). d.retries) is)) (wants_it retries),
           ),
-          (
-            (
-              ap (λ (d : Role). d.inside) own ∙ ap (λ (d : Role). d.inside) is,
-              ap (λ (d : Role). d.wakes) own ∙ ap (λ (d : Role). d.wakes) is,
-              ap (λ (d : Role). d.carries) own ∙ ap (λ (d : Role). d.carries) is,
-              λ some. absurd (let g : false ≡ true =
-                  sym (ap (λ (d : Role). counts_some Semaphore d.retries) own) ∙ some in cc),
-            ),
-            tt,
-          ),
+          ends r (after_deed r (Case (Enter Shared)) s t) t refl None
+              (own ∙ ap (λ (d : Role). record d { retries = None; claims = None }) is),
         ),
         put_same (after_deed r (Case (Enter Shared)) s t).role t idle,
       )
@@ -185,43 +124,19 @@ module _ (limit : ℕ) (s : Site) (t : ℕ) (h : IsSite (record { sort = Semapho
 
     late : s.role t ≡ inside → (b : Bool) → StandsAlone s t Main b → Does (Case GivesUp ∷ [])
         (in_acquire timed retries (if b then At acquire.Clear else At acquire.GiveUp))
-    late is b f = (
-      (
-        (
-          omega (arith, f.0),
-          subst (λ n. StandsIn s.lock t n × ((s.role t).carries ≡ false))
-              (sym (ap (λ (d : Role). d.inside) is)) (beside, ap (λ (d : Role). d.carries) is),
-        ),
-        tt,
-      ),
-      put_same s.role t _
-          ∙ (λ i. record (is i) {
-            empty = late_found (record s.lock {
-              queue = without t s.lock.queue;
-              aside = aside_without t s.lock.aside;
-            }) (is i).inside;
-          })
-          ∙ ap (λ c. record inside { empty = found Main c }) (sym f.1) ∙ left b,
-    )
+    late is b f =
+        let d = gives_up r s t h (h.state.unpending (λ x. x)).0 is b f.0 f.1 in (d.0, d.1 ∙ left b)
       where
         left : (c : Bool) → record inside { empty = found Main c } ≡ role_next
             (in_acquire timed retries (if c then At acquire.Clear else At acquire.GiveUp))
         left true = refl
         left false = refl
 
-        beside : s.lock.aside ≢ Some t
-        beside a = let p = h.state.aside_pending t a
-            in absurd (nobody_pends s.lock.pending (h.state.unpending (λ x. x)).0 p)
-          where
-            nobody_pends : (o : Option Pending) → o ≡ None → IsSomePending o t → ⊥
-            nobody_pends None e p = p
-            nobody_pends (Some x) e p = cc
-
     leaves_section : (parked : Bool) → s.role t ≡ with_retry (if parked then false else retries) inside
         → s.lock.taken t ≡ None
         → Does (Out ∷ []) (in_acquire timed retries (if parked then At acquire.Asleep else At acquire.Load))
-    leaves_section true is free = let d = goes_out inside is refl refl refl free in (d.0, d.1)
-    leaves_section false is free = let d = goes_out (with_retry retries inside) is refl refl refl free
+    leaves_section true is free = let d = goes_out r s t inside is refl refl refl free in (d.0, d.1)
+    leaves_section false is free = let d = goes_out r s t (with_retry retries inside) is refl refl refl free
         in (d.0, d.1)
 
     acquires : (at : AcquireAt) (whom : Option ℕ) (told : Reply) → s.role t ≡ semaphore_role
@@ -232,7 +147,7 @@ module _ (limit : ℕ) (s : Site) (t : ℕ) (h : IsSite (record { sort = Semapho
         follows _ whom (Value seen) (decides is seen (seen == expected) (is_free seen)
         (λ z. some_free (free_in limit s) s.parked (ap is_free (sym f) ∙ z)))
     acquires (acquire.Decide expected) whom Done is f = follows _ whom Done
-        (goes_in (with_retry retries idle) is refl refl f)
+        (goes_in r s t (with_retry retries idle) is refl refl f)
     acquires acquire.Check whom (Parked true) is f = let d = parks is true f.0 f.1 in record {
       needed = d.needed;
       role = d.role;
@@ -248,12 +163,12 @@ module _ (limit : ℕ) (s : Site) (t : ℕ) (h : IsSite (record { sort = Semapho
             (if b then false else retries) inside
         leaving true = refl
         leaving false = refl
-    acquires acquire.Asleep whom Late is f = follows _ whom Late (goes_in idle is refl refl f.1)
+    acquires acquire.Asleep whom Late is f = follows _ whom Late (goes_in r s t idle is refl refl f.1)
     acquires acquire.Remove whom (Removed none_left) is f = follows _ whom (Removed none_left)
         (late is none_left f.1)
     acquires acquire.Clear whom (Value seen) is f = follows _ whom (Value seen)
-        (clears (record inside { empty = Some Main }) is refl)
-    acquires acquire.GiveUp whom Done is f = follows _ whom Done (goes_out inside is refl refl refl f.1)
+        (clears r s t (record inside { empty = Some Main }) is refl)
+    acquires acquire.GiveUp whom Done is f = follows _ whom Done (goes_out r s t inside is refl refl refl f.1)
     acquires at whom told is f = absurd f
 
   -- ---------------------------------------------------------------- tries
@@ -261,7 +176,7 @@ module _ (limit : ℕ) (s : Site) (t : ℕ) (h : IsSite (record { sort = Semapho
   looks : s.role t ≡ idle → (seen : ℕ) (free : Bool) → Does (if free then [] else End ∷ [])
       (in_try (if free then At (tries.Decide seen) else Over answer.No))
   looks is seen true = (tt, is)
-  looks is seen false = (ends None is, put_same s.role t idle)
+  looks is seen false = (ends r s t refl None is, put_same s.role t idle)
 
   attempts : s.role t ≡ idle → (seen : ℕ) (same free : Bool) → (free ≡ true → 1 ≤ free_in limit s)
       → Does (if same && free then enter_deeds else if free then [] else End ∷ [])
@@ -294,16 +209,7 @@ module _ (limit : ℕ) (s : Site) (t : ℕ) (h : IsSite (record { sort = Semapho
   gives is false e = let d = given_back is false e in (
     (
       (holds is, ap (λ (d : Role). d.wakes) is),
-      (
-        (
-          ap (λ (d : Role). d.inside) d,
-          ap (λ (d : Role). d.wakes) d,
-          ap (λ (d : Role). d.carries) d,
-          λ some. absurd (let g : false ≡ true = sym (ap (λ (d : Role). counts_some Semaphore d.retries) d)
-              ∙ some in cc),
-        ),
-        tt,
-      ),
+      ends r (after_deed r (Case (Leave Shared)) s t) t refl None d,
     ),
     put_same (after_deed r (Case (Leave Shared)) s t).role t idle,
   )
@@ -369,7 +275,7 @@ module _ (limit : ℕ) (s : Site) (t : ℕ) (h : IsSite (record { sort = Semapho
   releases release.Add whom (Value seen) is f = follows _ whom (Value seen)
       (gives is (has_parked seen) (sym (ap has_parked f ∙ parked_is (free_in limit s) s.parked)))
   releases release.Enter whom Done is f =
-      follows _ whom Done (goes_in (record idle { wakes = Some Main }) is refl refl f)
+      follows _ whom Done (goes_in r s t (record idle { wakes = Some Main }) is refl refl f)
   releases release.Take whom (Took any none_left) is f =
       let d = takes_first (record inside { wakes = Some Main }) is refl refl refl whom any none_left f.0 f.1
       in follows _ whom (Took any none_left) (d.0, d.1 ∙ took none_left)
@@ -379,8 +285,9 @@ module _ (limit : ℕ) (s : Site) (t : ℕ) (h : IsSite (record { sort = Semapho
       took true = refl
       took false = refl
   releases (release.Clear any) whom (Value seen) is f = follows _ whom (Value seen)
-      (clears (record carrying { empty = Some Main }) is refl)
-  releases (release.Leave any) whom Done is f = follows _ whom Done (goes_out carrying is refl refl refl f)
+      (clears r s t (record carrying { empty = Some Main }) is refl)
+  releases (release.Leave any) whom Done is f = follows _ whom Done (goes_out r s t carrying is refl refl
+      refl f)
   releases at whom told is f = absurd f
 
   -- ---------------------------------------------------------------- each place

@@ -1,7 +1,7 @@
 -- The word of a semaphore tells a thread the truth, and each operation leaves the word that its
 -- deeds say.
-use Rattle.std.proofs.Common.{ℕ, Bool, true, false, Some, None, ◌==◌, ◌≡◌, ◌<◌, ◌≤◌, ◌+◌, ◌-◌, ◌*◌, ◌^◌, List}
-use Rattle.std.proofs.Common.{[], ◌∷◌, refl, ap, ◌∙◌, arith, length, slice_index}
+use Rattle.std.proofs.Common.{ℕ, Bool, true, false, Some, ◌==◌, ◌≡◌, ◌<◌, ◌≤◌, ◌+◌, ◌-◌, ◌*◌, ◌^◌, List, []}
+use Rattle.std.proofs.Common.{◌∷◌, refl, ap, ◌∙◌, arith, length, slice_index}
 use Rattle.std.proofs.lemmas.Bool.{eqb-true}
 use Rattle.std.proofs.lemmas.Bool.Decides.{nat_tests}
 use Rattle.std.proofs.lemmas.List.Sums.{get_or-le-sum_by, sum_by-set}
@@ -12,16 +12,13 @@ use Rattle.core_base.specs.declared.wants.Want.TheVariants.{Shared}
 use Rattle.core_base.specs.Words.{apply}
 use Rattle.spec_locks.specs.Codes.{bit, code, code_of, has_parked}
 use Rattle.spec_locks.specs.Locks.{Knows, KnowsAll, LockState, Queued, Rules, Semaphore, first_thread}
-use Rattle.spec_locks.specs.Locks.{putting, readers, with_owner, without_owner}
+use Rattle.spec_locks.specs.Locks.{readers, with_owner, without_owner}
 use Rattle.spec_locks.specs.Sites.{Site}
 use Rattle.spec_locks.proofs.Seen.{clears_low}
 use Rattle.spec_locks.proofs.SiteFacts.{fewer_share}
 use Rattle.steps_semaphore.specs.declared.places.TheConstants.{NOT_PARKED}
 use Rattle.steps_semaphore.specs.SemaphoreDeeds.{queued}
 use Rattle.steps_semaphore.specs.SemaphoreSteps.{free_permits, is_free}
-
-pub put_same : {A : Type 0} (f : ℕ → A) (t : ℕ) (x : A) → putting f t x t ≡ x
-put_same f t x = grind (arith, nat_tests)
 
 -- the word, by the free permits and its bit
 abbrev pub word_of : ℕ → Bool → ℕ
@@ -76,10 +73,6 @@ pub held_few : (s : LockState) (t : ℕ) → t < length s.shared → slice_index
 held_few s t here = get_or-le-sum_by (λ (n : ℕ). n) s.shared t 0 here
 
 -- ---------------------------------------------------------------- the first waiter
-
-pub nobody_first : (q : List Queued) → first_thread q ≡ None → q ≡ []
-nobody_first [] e = refl
-nobody_first (x ∷ q) e = absurd cc
 
 shared_wanted : (x : Queued) → Knows Semaphore x.want → x ≡ queued x.thread
 shared_wanted x k = λ i. record { thread = x.thread; want = wanted x.want k i }

@@ -25,6 +25,7 @@ use Rattle.steps_mutex.specs.declared.places.MutexPlace.TheVariants.{HandOff}
 use Rattle.steps_mutex.specs.MutexLaws.{MayHear}
 use Rattle.steps_mutex.specs.MutexSteps.{entered, in_lock}
 use Rattle.lot_laws.proofs.mutex.Acts.{IsOfWord}
+use Rattle.steps_base.proofs.Moving.{goes_in, goes_out}
 use Rattle.lot_laws.proofs.sites.FirstTaken.{TakesFirst}
 
 abbrev pub mutex_move : MutexPlace → Move
@@ -44,6 +45,12 @@ pub record Works (x : Move) (hears : Hears) : Type 0 where
   pub deeds : (seen : ℕ) → IsOfWord (x.deeds None (reply.Value seen))
   pub goes : (seen : ℕ) → location_then x (reply.Value seen) ≡ location_of x
   pub may : (r : Rules) (s : Site) (t : ℕ) → hears r s t None (reply.Value (code r s))
+
+works : {x : Move} {hears : Hears} → (location_of x).hand ≡ None
+    → ((seen : ℕ) → IsOfWord (x.deeds None (reply.Value seen)))
+    → ((seen : ℕ) → location_then x (reply.Value seen) ≡ location_of x)
+    → ((r : Rules) (s : Site) (t : ℕ) → hears r s t None (reply.Value (code r s))) → Works x hears
+works free deeds goes may = record { free = free; deeds = deeds; goes = goes; may = may }
 
 -- by its act, on the one line of a mutex
 abbrev pub MutexMoves : ℕ → Move → Hears → Act → Type 0
@@ -91,16 +98,14 @@ owner_alone (HandOff bumps at) t seen o = refl
 
 decides_put : (e : Entry) (retries : Bool) (was : ℕ) → Works (mutex_move (Lock e retries (lock.Decide was)))
     (mutex_hears (Lock e retries (lock.Decide was)))
-decides_put e retries was = record {
-  free = refl;
-  deeds = λ seen. by_test IsOfWord (not (seen == was)) [] (if is_locked seen then Mark Main ∷ []
-      else enter_deeds) tt (by_test IsOfWord (is_locked seen) (Mark Main ∷ []) enter_deeds tt tt);
-  goes = λ seen. by_test (λ n. location_next (in_lock e retries n) ≡ nowhere) (not (seen == was))
-      (At (lock.Decide seen)) (if is_locked seen then At (lock.Decide 3) else Over (entered e)) refl
-      (by_test (λ n. location_next (in_lock e retries n) ≡ nowhere) (is_locked seen) (At (lock.Decide 3))
-      (Over (entered e)) refl refl);
-  may = λ r s t. refl;
-}
+decides_put e retries was = works refl
+    (λ seen. by_test IsOfWord (not (seen == was)) [] (if is_locked seen then Mark Main ∷ [] else enter_deeds)
+    tt (by_test IsOfWord (is_locked seen) (Mark Main ∷ []) enter_deeds tt tt))
+    (λ seen. by_test (λ n. location_next (in_lock e retries n) ≡ nowhere) (not (seen == was)) (At
+    (lock.Decide seen)) (if is_locked seen then At (lock.Decide 3) else Over (entered e)) refl (by_test (λ n.
+    location_next (in_lock e retries n) ≡ nowhere) (is_locked seen) (At (lock.Decide 3)) (Over (entered e))
+    refl refl))
+    (λ r s t. refl)
 
 decides : (l : ℕ) (e : Entry) (retries : Bool) (was : ℕ) (locked one : Bool)
     → MutexMoves l (mutex_move (Lock e retries (lock.Decide was)))
@@ -109,16 +114,7 @@ decides : (l : ℕ) (e : Entry) (retries : Bool) (was : ℕ) (locked one : Bool)
     else act.Enter (One (2 * l)))
 decides l e retries was false one = (refl, decides_put e retries was)
 decides l e retries was true true = (refl, decides_put e retries was)
-decides l e retries was true false = (
-  refl,
-  record {
-    out = refl;
-    free = refl;
-    deeds = refl;
-    goes = refl;
-    may = λ r s t free. free;
-  },
-)
+decides l e retries was true false = (refl, goes_in refl refl refl (λ r s t free. free))
 
 -- but for the store of a hand-off
 abbrev pub StoresNothing : MutexPlace → Type 0
@@ -129,22 +125,14 @@ pub mutex_acts_move : (l : ℕ) (p : MutexPlace) → GivesUpTimed p → StoresNo
     → MutexMoves l (mutex_move p) (mutex_hears p) (mutex_act l p)
 mutex_acts_move l (Lock e retries lock.First) timed h = (
   refl,
-  record {
-    free = refl;
-    deeds = λ seen. by_test IsOfWord (seen == 0) enter_deeds [] tt tt;
-    goes = λ seen. by_test (λ n. location_next (in_lock e retries n) ≡ nowhere) (seen == 0) (Over (entered e))
-        (At lock.Load) refl refl;
-    may = λ r s t. refl;
-  },
+  works refl (λ seen. by_test IsOfWord (seen == 0) enter_deeds [] tt tt)
+      (λ seen. by_test (λ n. location_next (in_lock e retries n) ≡ nowhere) (seen == 0) (Over (entered e))
+      (At lock.Load) refl refl)
+      (λ r s t. refl),
 )
 mutex_acts_move l (Lock e retries lock.Load) timed h = (
   refl,
-  record {
-    free = refl;
-    deeds = λ seen. tt;
-    goes = λ seen. refl;
-    may = λ r s t. refl;
-  },
+  works refl (λ seen. tt) (λ seen. refl) (λ r s t. refl),
 )
 mutex_acts_move l (Lock e retries (lock.Decide was)) timed h = decides l e retries was (is_locked was)
     (was == 1)
@@ -162,29 +150,11 @@ mutex_acts_move l (Lock e retries lock.Check) timed h = (
 )
 mutex_acts_move l (Lock e retries (lock.Leave true)) timed h = (
   refl,
-  inl (record {
-    any = false;
-    notes = refl;
-    inside = refl;
-    carries = refl;
-    free = refl;
-    deeds = tt;
-    goes = refl;
-    may = λ r s t out. out;
-  }),
+  inl (goes_out false refl tt refl (λ r s t out. out)),
 )
 mutex_acts_move l (Lock e retries (lock.Leave false)) timed h = (
   refl,
-  inl (record {
-    any = false;
-    notes = refl;
-    inside = refl;
-    carries = refl;
-    free = refl;
-    deeds = tt;
-    goes = refl;
-    may = λ r s t out. out;
-  }),
+  inl (goes_out false refl tt refl (λ r s t out. out)),
 )
 mutex_acts_move l (Lock e retries lock.Accept) timed h = record {
   was = refl;
@@ -205,58 +175,29 @@ mutex_acts_move l (Lock e retries lock.Remove) timed h = (
 )
 mutex_acts_move l (Lock e retries lock.Clear) timed h = (
   refl,
-  record {
-    free = refl;
-    deeds = λ seen. tt;
-    goes = λ seen. refl;
-    may = λ r s t. refl;
-  },
+  works refl (λ seen. tt) (λ seen. refl) (λ r s t. refl),
 )
 mutex_acts_move l (Lock e retries lock.GiveUp) timed h = (
   refl,
-  inl (record {
-    any = false;
-    notes = refl;
-    inside = refl;
-    carries = refl;
-    free = refl;
-    deeds = tt;
-    goes = refl;
-    may = λ r s t out. (timed, out);
-  }),
+  inl (goes_out false refl tt refl (λ r s t out. (timed, out))),
 )
 mutex_acts_move l (Lock e retries at) timed h = tt
 mutex_acts_move l TryLock timed h = (
   refl,
-  record {
-    free = refl;
-    deeds = λ seen. by_test IsOfWord (is_locked seen) (End ∷ []) enter_deeds tt tt;
-    goes = λ seen. by_test (λ n. location_next n ≡ nowhere) (is_locked seen) (Over answer.No)
-        (Over answer.Yes) refl refl;
-    may = λ r s t. refl;
-  },
+  works refl (λ seen. by_test IsOfWord (is_locked seen) (End ∷ []) enter_deeds tt tt)
+      (λ seen. by_test (λ n. location_next n ≡ nowhere) (is_locked seen) (Over answer.No) (Over answer.Yes)
+      refl refl)
+      (λ r s t. refl),
 )
 mutex_acts_move l (Unlock unlock.Subtract) timed h = (
   refl,
-  record {
-    free = refl;
-    deeds = λ seen. by_test (λ ds. IsOfWord (Case (Leave Exclusive) ∷ ds)) (is_parked seen) [] (End ∷ []) tt
-        tt;
-    goes = λ seen. by_test (λ n. location_next (in_unlock n) ≡ nowhere) (is_parked seen) (At unlock.Enter)
-        (Over answer.Ok) refl refl;
-    may = λ r s t. refl;
-  },
+  works refl
+      (λ seen. by_test (λ ds. IsOfWord (Case (Leave Exclusive) ∷ ds)) (is_parked seen) [] (End ∷ []) tt tt)
+      (λ seen. by_test (λ n. location_next (in_unlock n) ≡ nowhere) (is_parked seen) (At unlock.Enter) (Over
+      answer.Ok) refl refl)
+      (λ r s t. refl),
 )
-mutex_acts_move l (Unlock unlock.Enter) timed h = (
-  refl,
-  record {
-    out = refl;
-    free = refl;
-    deeds = refl;
-    goes = refl;
-    may = λ r s t free. free;
-  },
-)
+mutex_acts_move l (Unlock unlock.Enter) timed h = (refl, goes_in refl refl refl (λ r s t free. free))
 mutex_acts_move l (Unlock unlock.Take) timed h = (
   refl,
   record {
@@ -267,67 +208,34 @@ mutex_acts_move l (Unlock unlock.Take) timed h = (
           in_hand any false;
     }) none_left (At (unlock.Clear any)) (At (unlock.Leave any)) refl refl;
     may = λ r s t whom any none_left first some left nobody. (
-      record {
-        first = first;
-        some = some;
-        left = left;
-      },
+      record { first = first; some = some; left = left },
       nobody,
     );
   },
 )
 mutex_acts_move l (Unlock (unlock.Clear any)) timed h = (
   refl,
-  record {
-    free = refl;
-    deeds = λ seen. tt;
-    goes = λ seen. refl;
-    may = λ r s t. refl;
-  },
+  works refl (λ seen. tt) (λ seen. refl) (λ r s t. refl),
 )
 mutex_acts_move l (Unlock (unlock.Leave any)) timed h = (
   refl,
-  inl (record {
-    any = any;
-    notes = refl;
-    inside = refl;
-    carries = refl;
-    free = refl;
-    deeds = tt;
-    goes = refl;
-    may = λ r s t out. out;
-  }),
+  inl (goes_out any refl tt refl (λ r s t out. out)),
 )
 mutex_acts_move l UnlockFair timed h = (
   refl,
-  record {
-    free = refl;
-    deeds = λ seen. by_test IsOfWord (seen == 1) (Case (Leave Exclusive) ∷ End ∷ []) [] tt tt;
-    goes = λ seen. by_test (λ n. location_next n ≡ nowhere) (not (seen == 1))
-        (At (HandOff false hand_off.Enter)) (Over answer.Ok) refl refl;
-    may = λ r s t. refl;
-  },
+  works refl (λ seen. by_test IsOfWord (seen == 1) (Case (Leave Exclusive) ∷ End ∷ []) [] tt tt)
+      (λ seen. by_test (λ n. location_next n ≡ nowhere) (not (seen == 1)) (At (HandOff false hand_off.Enter))
+      (Over answer.Ok) refl refl)
+      (λ r s t. refl),
 )
 mutex_acts_move l Bump timed h = (
   refl,
-  record {
-    free = refl;
-    deeds = λ seen. by_test IsOfWord (is_parked seen) [] (End ∷ []) tt tt;
-    goes = λ seen. by_test (λ n. location_next n ≡ nowhere) (is_parked seen)
-        (At (HandOff true hand_off.Enter)) (Over answer.Ok) refl refl;
-    may = λ r s t. refl;
-  },
+  works refl (λ seen. by_test IsOfWord (is_parked seen) [] (End ∷ []) tt tt)
+      (λ seen. by_test (λ n. location_next n ≡ nowhere) (is_parked seen) (At (HandOff true hand_off.Enter))
+      (Over answer.Ok) refl refl)
+      (λ r s t. refl),
 )
-mutex_acts_move l (HandOff bumps hand_off.Enter) timed h = (
-  refl,
-  record {
-    out = refl;
-    free = refl;
-    deeds = refl;
-    goes = refl;
-    may = λ r s t free. free;
-  },
-)
+mutex_acts_move l (HandOff bumps hand_off.Enter) timed h = (refl, goes_in refl refl refl (λ r s t free. free))
 mutex_acts_move l (HandOff bumps hand_off.Take) timed h = (
   refl,
   record {
@@ -335,11 +243,7 @@ mutex_acts_move l (HandOff bumps hand_off.Take) timed h = (
     deeds = λ whom any none_left. refl;
     goes = λ any none_left. refl;
     may = λ r s t whom any none_left first some left nobody. (
-      record {
-        first = first;
-        some = some;
-        left = left;
-      },
+      record { first = first; some = some; left = left },
       nobody,
     );
   },
@@ -347,25 +251,11 @@ mutex_acts_move l (HandOff bumps hand_off.Take) timed h = (
 mutex_acts_move l (HandOff bumps (hand_off.Store any none_left)) timed h = absurd h
 mutex_acts_move l (HandOff true (hand_off.Leave any)) timed h = (
   refl,
-  inr (record {
-    any = any;
-    notes = refl;
-    was = refl;
-    deeds = tt;
-    goes = refl;
-    may = λ r s t out. out;
-  }),
+  inr (record { any = any; notes = refl; was = refl; deeds = tt; goes = refl; may = λ r s t out. out }),
 )
 mutex_acts_move l (HandOff false (hand_off.Leave any)) timed h = (
   refl,
-  inr (record {
-    any = any;
-    notes = refl;
-    was = refl;
-    deeds = tt;
-    goes = refl;
-    may = λ r s t out. out;
-  }),
+  inr (record { any = any; notes = refl; was = refl; deeds = tt; goes = refl; may = λ r s t out. out }),
 )
 
 -- ---------------------------------------------------------------- giving up
@@ -376,7 +266,7 @@ pub mutex_late_move : (p : MutexPlace) (m : Line) → mutex_late_line p ≡ Some
 mutex_late_move (Lock entries.LockTimed retries lock.Asleep) m h =
     subst (λ n. GoesIn (mutex_move (Lock entries.LockTimed retries lock.Asleep))
     (mutex_hears (Lock entries.LockTimed retries lock.Asleep)) n reply.Late) (let e : Main ≡ m = cc in e)
-    (record { out = refl; free = refl; deeds = refl; goes = refl; may = λ r s t free. (refl, free) })
+    (goes_in refl refl refl (λ r s t free. (refl, free)))
 mutex_late_move (Lock entries.Lock retries lock.Asleep) m h = absurd cc
 mutex_late_move (Lock entries.Bump retries lock.Asleep) m h = absurd cc
 mutex_late_move (Lock e retries lock.First) m h = absurd cc

@@ -1,13 +1,13 @@
 -- Each step of a semaphore takes its thread in the machine where its act says, and so does what befalls it
 -- asleep.
 use Rattle.lot_laws.proofs.Names
-use Names.{ℕ, Bool, true, false, Option, Some, None, if◌then◌else◌, ◌==◌, ◌≡◌, ◌-◌, ◌*◌, [], ◌∷◌, inl, inr}
-use Names.{refl, sym, ap, ◌∙◌, subst, not, One, Shared, Act, Next, At, AreOfWord, GoesIn, Hears, IsHeld, Move}
-use Names.{MovesByAct, Sleeps, StaysPut, RowWaits, inside_of, row_of, location_then, Hand, hand, in_hand}
-use Names.{Location, location_by, has_parked, Leave as GivesBack, Case, End, Line, Main, Mark, Second, Normal}
-use Names.{Reply, TryAt, ReleaseAt, SemaphorePlace, Acquire, Release, semaphore_deeds, semaphore_late_line}
-use Names.{semaphore_profile, acquired, in_acquire, in_release, in_try, is_free, next_release, next_try}
-use Names.{semaphore_act, semaphore_next, LateIsTimed}
+use Names.{ℕ, Bool, true, false, Some, if◌then◌else◌, ◌==◌, ◌≡◌, ◌-◌, ◌*◌, [], ◌∷◌, inr, refl, sym, ap, subst}
+use Names.{not, One, Shared, Act, Next, At, AreOfWord, GoesIn, Hears, IsHeld, Move, MovesByAct, Sleeps}
+use Names.{StaysPut, RowWaits, inside_of, row_of, location_then, hand, in_hand, Location, location_by}
+use Names.{has_parked, Leave as GivesBack, Case, End, Line, Main, Mark, Normal, Reply, TryAt, ReleaseAt}
+use Names.{SemaphorePlace, Acquire, Release, semaphore_deeds, semaphore_late_line, semaphore_profile}
+use Names.{acquired, in_acquire, in_release, in_try, is_free, next_release, next_try, semaphore_act}
+use Names.{semaphore_next, LateIsTimed}
 use Rattle.std.specs.Prelude.{◌&&◌}
 use Rattle.core_base.specs.declared.ops.Op.TheVariants as op
 use Rattle.core_base.specs.Keys.{key_of}
@@ -24,6 +24,7 @@ use Rattle.steps_semaphore.specs.declared.release.ReleaseAt.TheVariants as relea
 use Rattle.steps_semaphore.specs.declared.places.SemaphorePlace.TheVariants.{Try}
 use Rattle.steps_semaphore.specs.SemaphoreDeeds.{enter_deeds, take_deeds}
 use Rattle.steps_semaphore.specs.SemaphoreLaws.{MayHear, next_row}
+use Rattle.steps_base.proofs.Moving.{awake, goes_in, goes_out, stands_inside, stays_put}
 use Rattle.lot_laws.proofs.sites.FirstTaken.{TakesFirst}
 
 abbrev pub semaphore_move : SemaphorePlace → Move
@@ -94,12 +95,8 @@ given_rest false = refl
 
 decides_put : (timed again : Bool) (was : ℕ)
     → StaysPut (semaphore_move (Acquire timed again (acquire.Decide was)))
-decides_put timed again was = record {
-  out = refl;
-  free = refl;
-  deeds = λ seen. exchanged_word (not (seen == was)) (is_free seen);
-  goes = λ seen. exchanged_rest timed again (not (seen == was)) (is_free seen) seen;
-}
+decides_put timed again was = stays_put refl (λ seen. exchanged_word (not (seen == was)) (is_free seen))
+    (λ seen. exchanged_rest timed again (not (seen == was)) (is_free seen) seen)
 
 decides : (l : ℕ) (timed again : Bool) (was : ℕ) (free empty : Bool)
     → SemaphoreMoves l (semaphore_move (Acquire timed again (acquire.Decide was)))
@@ -108,25 +105,11 @@ decides : (l : ℕ) (timed again : Bool) (was : ℕ) (free empty : Bool)
     else act.Enter (One (2 * l)))
 decides l timed again was true empty = (refl, decides_put timed again was)
 decides l timed again was false true = (refl, decides_put timed again was)
-decides l timed again was false false = (
-  Main,
-  refl,
-  record {
-    out = refl;
-    free = refl;
-    deeds = refl;
-    goes = refl;
-    may = λ r s t free. free;
-  },
-)
+decides l timed again was false false = (Main, refl, goes_in refl refl refl (λ r s t free. free))
 
 attempts_put : (was : ℕ) → StaysPut (semaphore_move (Try (tries.Decide was)))
-attempts_put was = record {
-  out = refl;
-  free = refl;
-  deeds = λ seen. attempted_word ((seen == was) && is_free seen) (is_free seen);
-  goes = λ seen. attempted_rest ((seen == was) && is_free seen) (is_free seen) seen;
-}
+attempts_put was = stays_put refl (λ seen. attempted_word ((seen == was) && is_free seen) (is_free seen))
+    (λ seen. attempted_rest ((seen == was) && is_free seen) (is_free seen) seen)
 
 attempts : (l was : ℕ) (free : Bool)
     → SemaphoreMoves l (semaphore_move (Try (tries.Decide was))) (semaphore_hears (Try (tries.Decide was)))
@@ -138,12 +121,7 @@ pub semaphore_acts_move : (l : ℕ) (p : SemaphorePlace) → LateIsTimed p → S
     (semaphore_hears p) (semaphore_act l p)
 semaphore_acts_move l (Acquire timed again acquire.Load) h = (
   refl,
-  record {
-    out = refl;
-    free = refl;
-    deeds = λ seen. tt;
-    goes = λ seen. refl;
-  },
+  stays_put refl (λ seen. tt) (λ seen. refl),
 )
 semaphore_acts_move l (Acquire timed again (acquire.Decide was)) h = decides l timed again was (is_free was)
     (was == 0)
@@ -163,30 +141,12 @@ semaphore_acts_move l (Acquire timed again acquire.Check) h = (
 semaphore_acts_move l (Acquire timed again (acquire.Leave true)) h = (
   Main,
   refl,
-  record {
-    any = false;
-    notes = refl;
-    inside = refl;
-    carries = refl;
-    free = refl;
-    deeds = tt;
-    goes = refl;
-    may = λ r s t out. out;
-  },
+  goes_out false refl tt refl (λ r s t out. out),
 )
 semaphore_acts_move l (Acquire timed again (acquire.Leave false)) h = (
   Main,
   refl,
-  record {
-    any = false;
-    notes = refl;
-    inside = refl;
-    carries = refl;
-    free = refl;
-    deeds = tt;
-    goes = refl;
-    may = λ r s t out. out;
-  },
+  goes_out false refl tt refl (λ r s t out. out),
 )
 semaphore_acts_move l (Acquire timed again acquire.Asleep) h = tt
 semaphore_acts_move l (Acquire timed again (acquire.Taken by)) h = tt
@@ -208,57 +168,23 @@ semaphore_acts_move l (Acquire timed again acquire.Remove) h = (
     removed false = refl
 semaphore_acts_move l (Acquire timed again acquire.Clear) h = (
   refl,
-  record {
-    out = refl;
-    free = refl;
-    deeds = λ seen. tt;
-    goes = λ seen. refl;
-  },
+  stays_put refl (λ seen. tt) (λ seen. refl),
 )
 semaphore_acts_move l (Acquire timed again acquire.GiveUp) h = (
   Main,
   refl,
-  record {
-    any = false;
-    notes = refl;
-    inside = refl;
-    carries = refl;
-    free = refl;
-    deeds = tt;
-    goes = refl;
-    may = λ r s t out. (h refl, out);
-  },
+  goes_out false refl tt refl (λ r s t out. (h refl, out)),
 )
 semaphore_acts_move l (Try tries.Load) h = (
   refl,
-  record {
-    out = refl;
-    free = refl;
-    deeds = λ seen. looked_word (is_free seen);
-    goes = λ seen. looked_rest (is_free seen) seen;
-  },
+  stays_put refl (λ seen. looked_word (is_free seen)) (λ seen. looked_rest (is_free seen) seen),
 )
 semaphore_acts_move l (Try (tries.Decide was)) h = attempts l was (is_free was)
 semaphore_acts_move l (Release release.Add) h = (
   refl,
-  record {
-    out = refl;
-    free = refl;
-    deeds = λ seen. given_word (has_parked seen);
-    goes = λ seen. given_rest (has_parked seen);
-  },
+  stays_put refl (λ seen. given_word (has_parked seen)) (λ seen. given_rest (has_parked seen)),
 )
-semaphore_acts_move l (Release release.Enter) h = (
-  Main,
-  refl,
-  record {
-    out = refl;
-    free = refl;
-    deeds = refl;
-    goes = refl;
-    may = λ r s t free. free;
-  },
-)
+semaphore_acts_move l (Release release.Enter) h = (Main, refl, goes_in refl refl refl (λ r s t free. free))
 semaphore_acts_move l (Release release.Take) h = (
   refl,
   record {
@@ -266,11 +192,7 @@ semaphore_acts_move l (Release release.Take) h = (
     deeds = λ whom any none_left. refl;
     goes = took;
     may = λ r s t whom any none_left first some left nobody. (
-      record {
-        first = first;
-        some = some;
-        left = left;
-      },
+      record { first = first; some = some; left = left },
       nobody,
     );
   },
@@ -280,40 +202,14 @@ semaphore_acts_move l (Release release.Take) h = (
         (reply.Took any none_left) ≡ record (inside_of Main) { carries = in_hand any false }
     took any true = refl
     took any false = refl
-semaphore_acts_move l (Release (release.Clear any)) h = (
-  refl,
-  record {
-    out = refl;
-    free = refl;
-    deeds = λ seen. tt;
-    goes = λ seen. refl;
-  },
-)
+semaphore_acts_move l (Release (release.Clear any)) h = (refl, stays_put refl (λ seen. tt) (λ seen. refl))
 semaphore_acts_move l (Release (release.Leave any)) h = (
   Main,
   refl,
-  record {
-    any = any;
-    notes = refl;
-    inside = refl;
-    carries = refl;
-    free = refl;
-    deeds = tt;
-    goes = refl;
-    may = λ r s t out. out;
-  },
+  goes_out any refl tt refl (λ r s t out. out),
 )
 
 -- ---------------------------------------------------------------- threads asleep
-
--- it stands in no line, and is in nobody's hand
-awake : (p : SemaphorePlace) → (semaphore_profile p).stands ≡ None → (semaphore_profile p).hand ≡ None
-    → RowWaits (semaphore_move p)
-awake p out free = record {
-  aside = λ h. absurd (let e : ◌≡◌ {A = Option Line} None (Some Second) = sym out ∙ h in cc);
-  stands = λ m h. absurd (let e : ◌≡◌ {A = Option Line} None (Some m) = sym out ∙ h in cc);
-  held = λ u handed h. absurd (let e : ◌≡◌ {A = Option Hand} None (hand u handed) = sym free ∙ h in cc);
-}
 
 asleep_in : (timed again : Bool) (m : Line) → m ≡ Main
     → Sleeps (semaphore_move (Acquire timed again acquire.Asleep)) m
@@ -349,34 +245,20 @@ semaphore_sleepers_move (Acquire timed again (acquire.Taken by)) = record {
         role = refl;
       },
     )
-semaphore_sleepers_move (Acquire timed again (acquire.Leave true)) = record {
-  aside = λ h. absurd cc;
-  stands = λ m h. inl (let e : m ≡ Main = cc in ap Some (sym e));
-  held = λ u handed h. absurd cc;
-}
+semaphore_sleepers_move (Acquire timed again (acquire.Leave true)) = stands_inside refl refl refl
 semaphore_sleepers_move (Acquire timed again (acquire.Leave false)) =
-    awake (Acquire timed again (acquire.Leave false)) refl refl
-semaphore_sleepers_move (Acquire timed again acquire.Remove) = record {
-  aside = λ h. absurd cc;
-  stands = λ m h. inl (let e : m ≡ Main = cc in ap Some (sym e));
-  held = λ u handed h. absurd cc;
-}
-semaphore_sleepers_move (Acquire timed again at) = awake (Acquire timed again at) refl refl
-semaphore_sleepers_move (Try at) = awake (Try at) refl refl
-semaphore_sleepers_move (Release release.Add) = awake (Release release.Add) refl refl
-semaphore_sleepers_move (Release at) = awake (Release at) refl refl
+    awake refl refl
+semaphore_sleepers_move (Acquire timed again acquire.Remove) = stands_inside refl refl refl
+semaphore_sleepers_move (Acquire timed again at) = awake refl refl
+semaphore_sleepers_move (Try at) = awake refl refl
+semaphore_sleepers_move (Release release.Add) = awake refl refl
+semaphore_sleepers_move (Release at) = awake refl refl
 
 -- ---------------------------------------------------------------- giving up
 
 goes_late : (again : Bool) → GoesIn (semaphore_move (Acquire true again acquire.Asleep))
     (semaphore_hears (Acquire true again acquire.Asleep)) Main reply.Late
-goes_late again = record {
-  out = refl;
-  free = refl;
-  deeds = refl;
-  goes = refl;
-  may = λ r s t free. (refl, free);
-}
+goes_late again = goes_in refl refl refl (λ r s t free. (refl, free))
 
 -- a thread that gives up goes into the section of the line in which it sleeps
 pub semaphore_late_move : (p : SemaphorePlace) (m : Line) → semaphore_late_line p ≡ Some m

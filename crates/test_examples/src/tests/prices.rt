@@ -1,5 +1,5 @@
 //! A function that locks, and calls another that locks.
-ghost use Rattle.parking_lot.specs.Names.{IsTokenOf, lot_of};
+ghost use Rattle.parking_lot.specs.Names.{IsSameThread, IsTokenOf, lot_of};
 
 use super::check_eq;
 use parking_lot::{Fault, ReentrantMutex, Team, Token};
@@ -10,7 +10,7 @@ type Prices = ReentrantMutex<[u64; 3]>;
 
 fn sum<R: Wait>(rt: &R, prices: &Prices, token: &mut Token) -> Result<u64, Fault>
     requires { IsTokenOf (lot_of prices.now.0) token.old }
-    ensures { IsTokenOf (lot_of prices.now.0) token.new }
+    ensures { IsSameThread (lot_of prices.now.0) token.old token.new }
 {
     let guard = prices.lock(rt, token)?;
     let sum = guard.iter().fold(0u64, |all, one| all.wrapping_add(*one));
@@ -21,7 +21,7 @@ fn sum<R: Wait>(rt: &R, prices: &Prices, token: &mut Token) -> Result<u64, Fault
 // The mutex is this thread's already when `sum` locks it.
 fn mean<R: Wait>(rt: &R, prices: &Prices, token: &mut Token) -> Result<u64, Fault>
     requires { IsTokenOf (lot_of prices.now.0) token.old }
-    ensures { IsTokenOf (lot_of prices.now.0) token.new }
+    ensures { IsSameThread (lot_of prices.now.0) token.old token.new }
 {
     let guard = prices.lock(rt, token)?;
     let sum = sum(rt, prices, token);

@@ -1,8 +1,8 @@
 //! Mutexes that their owner locks again, tried by one thread and by two.
-ghost use Rattle.std.specs.Prelude.{◌≡◌, All, IfSome};
+ghost use Rattle.std.specs.Prelude.{◌≡◌, ◌+◌, All, IfSome};
 ghost use Rattle.std.specs.Arc.{arc_value};
-ghost use Rattle.parking_lot_core.specs.Tokens.{IsTicketOf, IsTokenOf};
-ghost use Rattle.parking_lot.specs.Names.{lot_of};
+ghost use Rattle.parking_lot_core.specs.Tokens.{IsSameThread, IsTicketOf, IsTokenOf};
+ghost use Rattle.parking_lot.specs.Names.{lot_of, thread_of};
 
 use super::check_eq;
 use super::parts::{Point, TheX};
@@ -53,8 +53,9 @@ fn locked<'a, T, R: Wait + Abort>(
     token: &mut Token,
 ) -> ReentrantMutexGuard<'a, T>
     requires { IsTokenOf (lot_of mutex.now.0) token.old }
-    ensures token { IsTokenOf (lot_of mutex.now.0) token.new }
-    ensures guard { result.mutex.now ≡ mutex.now }
+    ensures token { IsSameThread (lot_of mutex.now.0) token.old token.new }
+    ensures guard { (result.mutex.now ≡ mutex.now)
+        × (thread_of result.share ≡ token.old.number + 1) }
 {
     match mutex.lock(rt, token) {
         Ok(guard) => guard,
@@ -69,10 +70,11 @@ fn tried<'a, T, R: Wait + Abort>(
     token: &mut Token,
 ) -> Option<ReentrantMutexGuard<'a, T>>
     requires { IsTokenOf (lot_of mutex.now.0) token.old }
-    ensures token { IsTokenOf (lot_of mutex.now.0) token.new }
-    ensures guard { IfSome result (λ guard. guard.mutex.now ≡ mutex.now) }
+    ensures token { IsSameThread (lot_of mutex.now.0) token.old token.new }
+    ensures guard { IfSome result (λ guard. (guard.mutex.now ≡ mutex.now)
+        × (thread_of guard.share ≡ token.old.number + 1)) }
 {
-    match mutex.try_lock(rt, token) {
+    match mutex.try_lock(token) {
         Ok(taken) => taken,
         Err(_) => panic!(rt; "full"),
     }
@@ -84,10 +86,11 @@ fn value_of<'g, T>(guard: &'g ReentrantMutexGuard<'_, T>) -> &'g T {
     &**guard
 }
 
-// Unlocks by a guard.
+// Unlocks by a guard of this thread.
 fn end<T, R: Wait>(rt: &R, token: &mut Token, guard: ReentrantMutexGuard<'_, T>)
-    requires { IsTokenOf (lot_of guard.mutex.now.0) token.old }
-    ensures { IsTokenOf (lot_of guard.entry.mutex.now.0) token.new }
+    requires { IsTokenOf (lot_of guard.mutex.now.0) token.old
+        × (thread_of guard.share ≡ token.old.number + 1) }
+    ensures { IsSameThread (lot_of guard.entry.mutex.now.0) token.old token.new }
 {
     guard.unlock(rt, token);
 }
@@ -100,8 +103,9 @@ fn given_up<T, R: Wait>(
     taken: Option<ReentrantMutexGuard<'_, T>>,
 ) -> bool
     requires { IsTokenOf (lot_of mutex.now.0) token.old
-        × IfSome taken (λ guard. guard.mutex.now ≡ mutex.now) }
-    ensures { IsTokenOf (lot_of mutex.now.0) token.new }
+        × IfSome taken (λ guard. (guard.mutex.now ≡ mutex.now)
+        × (thread_of guard.share ≡ token.old.number + 1)) }
+    ensures { IsSameThread (lot_of mutex.now.0) token.old token.new }
 {
     match taken {
         Some(guard) => {
@@ -162,7 +166,7 @@ fn locked_by_a_guard<R: Wait + Abort>(
     let Ok(guard) = mutex.lock(rt, one) else {
         panic!(rt; "full");
     };
-    let (guard, another) = match guard.again(rt, one) {
+    let (guard, another) = match guard.again(one) {
         Ok(guards) => guards,
         Err((_, guard)) => {
             end(rt, one, guard);
@@ -255,10 +259,10 @@ fn shown_to_two<R: Wait + Abort>(
     requires { IsTokenOf (lot_of mutex.now.0) one.old × IsTokenOf (lot_of mutex.now.0) other.old }
 {
     let guard = locked(rt, mutex, one);
-    let shown = mutex.show(rt, one);
+    let shown = mutex.show(one);
     let own = text_of(rt, alloc, &shown);
     shown.close(rt, one);
-    let shown = mutex.show(rt, other);
+    let shown = mutex.show(other);
     let others = text_of(rt, alloc, &shown);
     shown.close(rt, other);
     end(rt, one, guard);
@@ -297,7 +301,7 @@ fn a_part_of_a_reentrant_value_is_read(rt: HostRuntime) {
 // Adds to a number with a load and a store, under two guards, of which the first goes first.
 fn add_under<R: Wait + Abort>(rt: &R, mutex: &ReentrantMutex<AtomicU64>, token: &mut Token, by: u64)
     requires { IsTokenOf (lot_of mutex.now.0) token.old }
-    ensures { IsTokenOf (lot_of mutex.now.0) token.new }
+    ensures { IsSameThread (lot_of mutex.now.0) token.old token.new }
 {
     let first = locked(rt, mutex, token);
     let second = locked(rt, mutex, token);

@@ -25,5 +25,5 @@ returns-clause-ran g c = let all : c.loop.counter ≡ c.args.times = omega (
   enters c.args.lot.now c.args.ticket c.enter-token.result c.enter-token.ensures c.requires.0,
   subst (λ (n : ℕ). CalledTimes g.F.Fn c.args.f.now n c.enter-token.result c.loop.token) all
       c.loop.invariant.called,
-  (sym c.leave.ensures.0, sym c.leave.ensures.1),
+  (sym c.leave.ensures.0, sym c.leave.ensures.1, sym c.leave.ensures.2),
 )

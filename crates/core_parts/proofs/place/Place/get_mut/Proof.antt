@@ -24,6 +24,7 @@ use Rattle.core_parts.specs.Ownership.{offset}
 use Rattle.core_parts.specs.PermitIds.{PermitId}
 use Rattle.core_parts.proofs.Apart.{out}
 use Rattle.core_parts.specs.contracts.place.Place as place
+use Rattle.core_parts.specs.contracts.place.Place.TheInside as inside
 use Rattle.core_parts.specs.contracts.place.Place.get_mut.{ended, clauses}
 use Rattle.core_parts.specs.contracts.place.Place.get_mut.Key.{name as #self}
 use Rattle.core_parts.proofs.place.Place.get_mut.Statement.{statement}
@@ -36,6 +37,7 @@ get_mut_spec 𝓤 𝓛 𝓜 𝓡 wired X L =
     ended X in let c = clauses X 𝓛 𝓜.mem 𝓡.returns in
     let inst = layouts (a_type ∷ []) (X, tt) in let fn = inst_fn inst code.function in let closed =
     code.unfolded 𝓤 H 𝓜 𝓡 wired (X, tt) in let Row : RattleType = place.the_row R in
+    let ν = (denote.Struct.Declared.shape (inside.the_type R)).name in
     let hs : Stays En.signature.params En.kept =
     (stay_dropped (RefMutOf (0 ∷ []) tt (plain (λ _. Row)) (λ _. tt)) no, tt) in
     proved 𝓛 En hs c 𝓜 𝓡 (Goes-spent_ref 𝓛 2 (0 ∷ []) tt (plain (λ _. Row)), tt) (#self inst) fn closed
@@ -53,7 +55,7 @@ get_mut_spec 𝓤 𝓛 𝓜 𝓡 wired X L =
     split ! $ split ! $ move ! (2 ∷ []) $ fsplit ! $ fsplit3 ! $ keep ! (1 ∷ 2 ∷ 4 ∷ 5 ∷ []) $
     enter ! 𝓣.C 𝓣.Λ fn (vptr b o ∷ []) Post $ alloc_all ! (λ l. pass_all ! refl ((tt, tt), tt) $
     open_ref ! tt (mem Row) $ use1 𝓛 (some (λ (x : X.Denot). ‵ (part_at R full_share x b e) ⊛ raw Back))
-    (out 𝓛 m LR d b o) $ pick ! (λ x. split ! $
+    (out 𝓛 m LR ν d b o) $ pick ! (λ x. split ! $
     move ! (2 ∷ 3 ∷ 4 ∷ 0 ∷ 1 ∷ []) $ group ! 5 $
     use1 𝓛 (later (some (λ (δ : GName). ‵ ((MutRef (named 0) κ R).own_val (record {
       ref_ptr = (b, e);

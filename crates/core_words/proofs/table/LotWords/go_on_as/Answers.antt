@@ -1,5 +1,9 @@
-use Rattle.std.proofs.Common.{ap, ◌∙◌}
+use Rattle.std.proofs.Common.{ap, subst, sym, ◌∙◌}
+use Rattle.atomic_table.specs.declared.shared.Seat.{Seat}
+use Rattle.core_parts.specs.declared.slot.PermitSlot.{PermitSlot}
 use Rattle.core_words.specs.Permits.{slots_of}
+use Rattle.core_words.specs.Plays.{BringsNoName}
+use Rattle.core_words.specs.declared.views.View.{View}
 use Rattle.core_words.proofs.Seats.{goes_on_as}
 use Rattle.core_words.proofs.table.LotWords.go_on_as.Goals as goal
 
@@ -12,6 +16,7 @@ join_seat-requires c = let lot = c.args.self.now in let sized = lot.sized in let
       ap (λ s. s.table_id) is ∙ c.requires.own.1.0,
       ap (λ s. s.table_id) was ∙ c.lay_back.ensures.own.0,
       ap (λ s. s.me.1) was ∙ c.lay_back.ensures.own.1 ∙ ap (λ v. slots_of family v.out) laid,
-      goes_on_as lot.table.shared.key.0 family owner.id owner.me.0 thread.id thread.me.0
-          (ap (λ s. s.me.0.drawn) is ∙ c.requires.left) (ap (λ s. s.me.0.out) was ∙ ap (λ v. v.out) laid),
+      goes_on_as lot.table.shared.key.0 family owner.id owner.me.0 thread.id thread.me.0 (ap (λ s.
+          s.me.0.drawn) is ∙ c.requires.left) (ap (λ s. s.me.0.out) was ∙ ap (λ v. v.out) laid)
+          (subst (λ (s : Seat PermitSlot View). BringsNoName s.me.0) (sym is) c.requires.nameless),
     )

@@ -1,4 +1,4 @@
-use Rattle.std.proofs.Common.{◌≡◌, cond, ap, sym, ◌∙◌}
+use Rattle.std.proofs.Common.{◌≡◌, cond, ap, refl, sym, ◌∙◌}
 use Rattle.core_words.specs.Permits.{slots_of}
 use Rattle.core_words.specs.Rights.{named_by, piece_of, takes_permit, with_permit}
 use Rattle.core_words.proofs.Seats.{takes_back}
@@ -15,5 +15,5 @@ join_seat-requires c = let lot = c.args.self.now in let sized = lot.sized in let
       c.requires.1.0.0,
       c.requires.1.0.1 ∙ ap (λ v. slots_of family v.out) names,
       takes_back lot.table.shared.key.0 family c.args.seat.now.id c.args.seat.now.me.0 right.seat.id
-          (named_by right.word right.owner) right.seat.me.0 names,
+          (named_by right.word right.owner) right.seat.me.0 refl names,
     )

@@ -4,7 +4,7 @@ use Rattle.atomic_table.specs.Table.{opening}
 use Rattle.core_parts.specs.declared.slot.PermitSlot.{PermitSlot}
 use Rattle.core_words.specs.Permits.{laid}
 use Rattle.core_words.specs.Rule.{LotRule}
-use Rattle.core_words.specs.Views.{blank}
+use Rattle.core_words.specs.Views.{namer}
 use Rattle.core_words.proofs.PermitSteps.{opens_at_first}
 use Rattle.core_words.proofs.table.LotWords.new.Goals as goal
 
@@ -16,5 +16,5 @@ new-requires c =
     let zeros : c.as_slice.result.now ≡ replicate (8 * (c.args.count + 1)) 0 = c.as_slice.ensures.value
     ∙ c.in_ok-zeros.ensures.items_if_clones_equal (λ y e. e) in
     let family : ℕ = c.loop-slots.permits.family in
-    subst (λ (t : List ℕ × List PermitSlot). LotRule c.args.count family (opening t.0 t.1 blank))
-    (λ k. (sym zeros k, sym (i.0 ∙ ap (laid family) full) k)) (opens_at_first c.args.count family)
+    subst (λ (t : List ℕ × List PermitSlot). LotRule c.args.count family (opening t.0 t.1 namer)) (λ k.
+    (sym zeros k, sym (i.0 ∙ ap (laid family) full) k)) (opens_at_first c.args.count family)

@@ -27,7 +27,7 @@ use Rattle.lock_values.specs.Written.{with_value}
 use Rattle.lock_values.proofs.Fields.{open_val, Words, told}
 use Rattle.core_parts.proofs.Reading.{look_in_raw}
 use Rattle.lock_values.proofs.Opening.{held_out}
-use Rattle.lock_values.proofs.Through.{Opened, through_before}
+use Rattle.core_parts.proofs.Through.{Opened, through_before}
 use Rattle.lock_values.specs.contracts.place.Open as guard
 use Rattle.lock_values.specs.contracts.lends.OpenDerefMut.deref_mut.{ended, clauses}
 use Rattle.lock_values.specs.contracts.lends.OpenDerefMut.deref_mut.Key.{name as #self}

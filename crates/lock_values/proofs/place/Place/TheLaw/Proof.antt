@@ -34,6 +34,7 @@ use base.Fml.{GName, Incl-trans, fauth, fobs}
 use contract.BorrowLft.{meet_⊑_left}
 use base.Logic.{via}
 use Rattle.atomic_table.specs.Seated.{halved, unused}
+use Rattle.core_words.specs.Views.{blank}
 use Rattle.core_words.specs.declared.views.View.{View}
 use Rattle.core_words.specs.contracts.views.View as view
 use Rattle.lock_values.specs.Owning.{alone, among}
@@ -125,7 +126,7 @@ module _ {M : Type 1} {𝓤 : Ura M} (𝓛 : Logic 𝓤) (m : Member) (d : Place
       use1 𝓛 (‵ (fbor κ Value) ⊛ ‵ ftrue) (id⊢ 𝓤 _) $ split ! $ now ! $ keep ! (0 ∷ 2 ∷ []) $ done !)
 
   abbrev V₀ : View
-  V₀ = record { steps = []; owns = []; drawn = []; saw = 0; out = [] }
+  V₀ = blank
 
   abbrev D₀ : Rec View
   D₀ = (false, (0, (0, V₀)))

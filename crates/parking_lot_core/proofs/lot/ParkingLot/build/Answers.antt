@@ -9,7 +9,6 @@ invariant_of-lot c = let seats = sym c.in_ok-records.ensures.1 in record {
   hashed = (c.requires.hashed.0, c.requires.hashed.1);
   enough = subst (λ (n : ℕ). IsLeast n c.args.bits) seats c.requires.hashed.2;
   keyed = c.in_ok-records.ensures.0;
-  kept = (c.in_ok-holders.ensures.0, c.in_ok-holders.ensures.1 ∙ sym c.in_ok-words.ensures.0);
   few = subst (λ (n : ℕ). n ≤ 1024) seats c.requires.sizes.2;
   for_each_seat = c.in_ok-no_links.ensures ∙ seats;
 }

@@ -9,7 +9,7 @@ loop-number-preserved c = record {
   first = search rules;
   numbers = numbers_more number_of c.loop-number.tickets.items c.push-in-loop-number.new.self.items
       c.new-in-loop-number.result c.loop-number.number c.in_ok-push-2.ensures.items
-      c.new-in-loop-number.ensures.1 c.loop-number.invariant.numbers;
+      c.new-in-loop-number.ensures.2 c.loop-number.invariant.numbers;
   woken = search rules;
   new = all_more (IsNewTicket c.args.words.now c.args.seats) c.loop-number.tickets.items
       c.push-in-loop-number.new.self.items c.new-in-loop-number.result c.in_ok-push-2.ensures.items

@@ -1,35 +1,19 @@
-use Rattle.std.proofs.Common.{rules, ◌≡◌, ◌++◌, ◌∷◌, ◌∙◌, [], ap}
+use Rattle.std.proofs.Common.{rules, ◌≡◌}
 use Rattle.lock_raw.specs.Counts.{times_in}
-use Rattle.run_base.specs.Telling.{steps_of}
-use Rattle.parking_lot_core.specs.Tokens.{IsTokenOf}
-use Rattle.raw_mutexes.specs.Counting.{IsShareOf, StoredCount, count_at}
-use Rattle.raw_mutexes.specs.MutexGuards.{IsGuardOf, StaysAs}
+use Rattle.raw_mutexes.specs.Counting.{SawCount, StoredCount}
+use Rattle.raw_mutexes.specs.MutexGuards.{IsGuardOf}
 use Rattle.raw_mutexes.specs.Words.{lot_of}
-use Rattle.raw_mutexes.proofs.CountLemmas.{seen_last}
 use Rattle.raw_mutexes.proofs.counting.RawMutexRawMutexCounted.count_off_only.Goals as goal
 
-pub returns-in-Ok-clause-guard : goal.returns-in-Ok-clause-guard
-returns-in-Ok-clause-guard g c = let mutex = c.args.self.now in let n = mutex.word.number in let old =
-    c.args.token.now in let looked = c.look_count-seen.new.token in let new = c.count_out.new.token in
-    let seen = c.look_count-seen.result in let before = c.loop.invariant.saw in
-    let got : IsGuardOf (lot_of mutex) mutex.word c.in-Ok.guard × StoredCount n seen 0 looked new =
-    search rules in
+pub returns-clause-guard : goal.returns-clause-guard
+returns-clause-guard c = let mutex = c.args.self.now in let n = mutex.word.number in let old =
+    c.args.token.now in let looked = c.look_count-seen.new.token in let new = c.count_out-opened.new.token in
+    let seen = c.look_count-seen.result in
+    let guard : IsGuardOf (lot_of mutex) mutex.word record {
+      opened = c.count_out-opened.result.0;
+      permit = c.count_out-opened.result.1;
+    } = search rules in
+    let saw : SawCount n seen old looked = search rules in
     let once : times_in seen ≡ 1 = search rules in
-    let saw = seen_last (count_at n) seen before.0 (steps_of old) (steps_of c.loop.token) (steps_of looked)
-    before.1 c.look_count-seen.ensures.stepped in
-    (got.0, (seen, looked, (before.0, saw), once, got.1))
-
-pub loop-preserved : goal.loop-preserved
-loop-preserved g c = let mutex = c.args.self.now in let n = mutex.word.number in let old = c.args.token.now
-    in let looked = c.look_count-seen.new.token in let new = c.count_out.new.token in
-    let seen = c.look_count-seen.result in let before = c.loop.invariant.saw in
-    let got : IsShareOf (lot_of mutex) mutex.word c.in-Err.again × (new ≡ looked) = search rules in
-    let saw = seen_last (count_at n) seen before.0 (steps_of old) (steps_of c.loop.token) (steps_of looked)
-    before.1 c.look_count-seen.ensures.stepped in
-    let own : IsTokenOf (lot_of mutex) new × StaysAs old new = search rules in record {
-      turns = search rules;
-      own = own;
-      share = got.0;
-      named = search rules;
-      saw = (before.0 ++ seen ∷ [], ap steps_of got.1 ∙ saw);
-    }
+    let stored : StoredCount n seen 0 looked new = search rules in
+    (guard, (seen, looked, saw, once, stored))

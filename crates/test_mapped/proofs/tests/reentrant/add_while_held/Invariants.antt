@@ -1,6 +1,7 @@
-use Rattle.parking_lot.specs.Names.{lot_of}
+use Rattle.std.proofs.Common.{◌≡◌, ◌+◌}
+use Rattle.parking_lot.specs.Names.{lot_of, thread_of}
 use Rattle.parking_lot_core.specs.Tokens.{IsTokenOf}
 use Rattle.test_mapped.proofs.tests.reentrant.add_while_held.Given as goal
 
 abbrev pub invariant-loop-n : goal.invariant-loop-n
-invariant-loop-n g l = IsTokenOf (lot_of l.mutex.0) l.token
+invariant-loop-n g l = IsTokenOf (lot_of l.mutex.0) l.token × (thread_of l.guard.share ≡ l.token.number + 1)

@@ -1,0 +1,4 @@
+mod Named
+mod Stores
+mod Parts
+mod AtCount

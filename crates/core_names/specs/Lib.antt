@@ -1,0 +1,2 @@
+pub mod Shares
+pub mod Names

@@ -1,0 +1,363 @@
+//! Names and shares.
+ghost use Rattle.std.specs.Prelude.{◌≡◌, ◌⊎◌, ℕ, List, ◌+◌, ◌/◌, ◌%◌, ◌<◌, [], ◌∷◌};
+ghost use Rattle.core_base.specs.declared.ops.Op.TheVariants.{Load, Store};
+ghost use Rattle.core_words.specs.Codes.{IsCountCode};
+ghost use Rattle.core_words.specs.Indices.{word_index};
+ghost use Rattle.core_words.specs.Lots.{IsSeatOf, IsWordOf, permit_of};
+ghost use Rattle.core_words.specs.Plays.{goes_on_with, stepping};
+ghost use Rattle.core_words.specs.RightsOf.{IsOpenOf};
+ghost use Rattle.core_words.specs.Views.{shown};
+ghost use Rattle.core_words.specs.declared.views.Counting.{Counting};
+ghost use Rattle.core_words.specs.declared.words.WordKind.TheVariants.{Count, Mutex};
+ghost use Rattle.core_names.specs.Shares.{counting, rest_of, sharing, steps_alone, without_steps};
+
+use crate::plays::{
+    CountPick, Draws, GivesShare, LooksNamed, PassesSteps, SeesOwn, StoresLess, StoresMore,
+    TakesShare,
+};
+use core_parts::seats::{join_seat, split_seat};
+use core_parts::{Permit, PermitSlot, Permits};
+use core_words::plays::{OwnershipRule, PermitPick};
+use core_words::{LotWords, OpenHeld, Seat, View, Word};
+use std::marker::Brand;
+
+/// The name of a thread in a lot: its number, which no other name has. The mutexes that the thread
+/// has counted are owned by its name, which says what their counts are. It has no bytes.
+#[derive(Drop)]
+pub struct Name {
+    seat: Seat,
+}
+
+/// A share of a count: one of the times that a thread has locked a mutex. It borrows nothing, and
+/// has no bytes.
+pub struct CountShare {
+    seat: Seat,
+}
+
+impl Name {
+    ghost use Rattle.core_names.specs.Names.{IsNameOf, IsNamer, IsShareOf, Says, count_at, shares_of};
+    ghost use Rattle.core_names.specs.Names.{thread_named};
+
+    /// Takes the number of a thread off the first seat of a lot, which has the numbers from this
+    /// one on.
+    pub fn draw(words: &LotWords, first: &mut Seat, thread: usize) -> Name
+        requires { IsNamer words.now thread first.old }
+        ensures first { IsNamer words.now (thread + 1) first.new }
+        ensures name { IsNameOf words.now thread result }
+    {
+        Name::draw_picked::<Brand>(words, first, thread)
+    }
+
+    fn draw_picked<C: CountPick>(words: &LotWords, first: &mut Seat, thread: usize) -> Name
+        requires pick { C.thread ≡ thread }
+        requires own { IsNamer words.now thread first.old }
+        ensures first { IsNamer words.now (thread + 1) first.new }
+        ensures name { IsNameOf words.now thread result }
+    {
+        let _thread = thread;
+        let seat = split_seat::<PermitSlot, View, (usize, Permits), OwnershipRule, Draws<C>>(
+            words.seats(),
+            first,
+        );
+        Name { seat }
+    }
+
+    // The steps of the name go to the thread's seat. It reads no word.
+    #[inline]
+    fn pass_steps(&mut self, words: &LotWords, seat: &mut Seat)
+        requires own { IsSeatOf words.now seat.old
+            × (self.old.seat.table_id ≡ words.now.table.shared.table_id) }
+        ensures seat { IsSeatOf words.now seat.new
+            × (shown seat.new.me.0 ≡ goes_on_with seat.old.me.0 (steps_alone self.old.seat.me.0)) }
+        ensures name { (self.new.seat.table_id ≡ self.old.seat.table_id)
+            × (self.new.seat.me ≡ (without_steps self.old.seat.me.0, self.old.seat.me.1)) }
+    {
+        let steps = split_seat::<PermitSlot, View, (usize, Permits), OwnershipRule, PassesSteps>(
+            words.seats(),
+            &mut self.seat,
+        );
+        words.go_on(seat, steps);
+    }
+
+    /// Looks at a count, by one load as a step of the thread's seat. A thread that it finds named
+    /// says what it has seen, and a thread that says a count sees that.
+    #[inline]
+    pub fn look(&mut self, words: &LotWords, seat: &mut Seat, thread: usize, count: Word) -> u64
+        requires own { IsNameOf words.now thread self.old × IsSeatOf words.now seat.old
+            × IsWordOf words.now count × (count.kind ≡ Count) }
+        ensures own { IsNameOf words.now thread self.new × IsSeatOf words.now seat.new
+            × (shares_of self.new ≡ shares_of self.old) }
+        ensures stepped { shown seat.new.me.0
+            ≡ stepping seat.old.me.0 (count_at count.number) Load result }
+        ensures named { result / 4294967296 ≡ thread + 1 → Says count.number result self.new }
+        ensures same { (said : ℕ) → Says count.number said self.old
+            → (result ≡ said) × Says count.number said self.new }
+    {
+        let seen = self.look_picked::<Brand, Brand>(words, thread, count);
+        self.pass_steps(words, seat);
+        seen
+    }
+
+    #[inline]
+    fn look_picked<C: CountPick, P: PermitPick>(
+        &mut self,
+        words: &LotWords,
+        thread: usize,
+        count: Word,
+    ) -> u64
+        requires pick { (C.thread ≡ thread) × (P.family ≡ words.now.table.shared.key.1.family) }
+        requires own { IsNameOf words.now thread self.old × IsWordOf words.now count
+            × (count.kind ≡ Count) }
+        ensures stepped { (self.new.seat.table_id ≡ words.now.table.shared.table_id)
+            × (self.new.seat.me
+            ≡ (stepping self.old.seat.me.0 (count_at count.number) Load result, [])) }
+        ensures named { result / 4294967296 ≡ thread + 1 → Says count.number result self.old }
+        ensures same { (said : ℕ) → Says count.number said self.old → result ≡ said }
+    {
+        let _thread = thread;
+        words
+            .seats()
+            .load::<LooksNamed<C, P>>(&mut self.seat, count.index())
+    }
+
+    /// Takes a share in, and loads its count, which is no step of a call. The count names the
+    /// thread, which says it, with one share at least.
+    #[inline]
+    pub fn see(&mut self, words: &LotWords, thread: usize, count: Word, share: CountShare) -> u64
+        requires own { IsNameOf words.now thread self.old × IsWordOf words.now count
+            × (count.kind ≡ Count) }
+        requires share { IsShareOf words.now count.number share × (thread_named share ≡ thread) }
+        ensures own { IsNameOf words.now thread self.new }
+        ensures shares { shares_of self.new
+            ≡ sharing (count_at count.number) thread ∷ shares_of self.old }
+        ensures named { (result / 4294967296 ≡ thread + 1) × (0 < result % 4294967296)
+            × Says count.number result self.new }
+    {
+        self.take_share(words, thread, count, share);
+        self.see_picked::<Brand>(words, thread, count)
+    }
+
+    #[inline]
+    fn take_share(&mut self, words: &LotWords, thread: usize, count: Word, share: CountShare)
+        requires own { IsNameOf words.now thread self.old }
+        requires share { IsShareOf words.now count.number share × (thread_named share ≡ thread) }
+        ensures own { IsNameOf words.now thread self.new }
+        ensures shares { shares_of self.new
+            ≡ sharing (count_at count.number) thread ∷ shares_of self.old }
+    {
+        let _share = (thread, count);
+        let CountShare { seat } = share;
+        join_seat::<PermitSlot, View, (usize, Permits), OwnershipRule, TakesShare>(
+            words.seats(),
+            &mut self.seat,
+            seat,
+        );
+    }
+
+    #[inline]
+    fn see_picked<C: CountPick>(&mut self, words: &LotWords, thread: usize, count: Word) -> u64
+        requires pick { C.thread ≡ thread }
+        requires own { IsNameOf words.now thread self.old × IsWordOf words.now count
+            × (count.kind ≡ Count) }
+        requires share { (rest : List Counting)
+            × (shares_of self.old ≡ sharing (count_at count.number) thread ∷ rest) }
+        ensures own { IsNameOf words.now thread self.new × (self.new.seat.me ≡ self.old.seat.me) }
+        ensures named { (result / 4294967296 ≡ thread + 1) × (0 < result % 4294967296)
+            × Says count.number result self.new }
+    {
+        let _thread = thread;
+        words
+            .seats()
+            .load::<SeesOwn<C>>(&mut self.seat, count.index())
+    }
+
+    /// Gives a share that the name has. It reads no word.
+    #[inline]
+    pub fn give_share(&mut self, words: &LotWords, thread: usize, count: Word) -> CountShare
+        requires own { IsNameOf words.now thread self.old }
+        requires share { (rest : List Counting)
+            × (shares_of self.old ≡ sharing (count_at count.number) thread ∷ rest) }
+        ensures own { IsNameOf words.now thread self.new }
+        ensures share { IsShareOf words.now count.number result × (thread_named result ≡ thread) }
+        ensures rest { shares_of self.old
+            ≡ sharing (count_at count.number) thread ∷ shares_of self.new }
+    {
+        self.give_picked::<Brand>(words, thread, count)
+    }
+
+    #[inline]
+    fn give_picked<C: CountPick>(
+        &mut self,
+        words: &LotWords,
+        thread: usize,
+        count: Word,
+    ) -> CountShare
+        requires pick { (C.thread ≡ thread) × (C.at ≡ count_at count.number) }
+        requires own { IsNameOf words.now thread self.old }
+        requires share { (rest : List Counting)
+            × (shares_of self.old ≡ sharing (count_at count.number) thread ∷ rest) }
+        ensures own { IsNameOf words.now thread self.new }
+        ensures share { IsShareOf words.now count.number result × (thread_named result ≡ thread) }
+        ensures rest { shares_of self.old
+            ≡ sharing (count_at count.number) thread ∷ shares_of self.new }
+    {
+        let _share = (thread, count);
+        let seat = split_seat::<PermitSlot, View, (usize, Permits), OwnershipRule, GivesShare<C>>(
+            words.seats(),
+            &mut self.seat,
+        );
+        CountShare { seat }
+    }
+
+    /// Counts once more, by one store as a step of the thread's seat. The thread says the count
+    /// that was there.
+    #[inline]
+    pub fn count_more(
+        &mut self,
+        words: &LotWords,
+        seat: &mut Seat,
+        thread: usize,
+        count: Word,
+        said: u64,
+        next: u64,
+    )
+        requires own { IsNameOf words.now thread self.old × IsSeatOf words.now seat.old
+            × IsWordOf words.now count × (count.kind ≡ Count) }
+        requires said { Says count.number said self.old
+            × ((said ≡ 0) ⊎ (said / 4294967296 ≡ thread + 1)) }
+        requires next { IsCountCode next × (next / 4294967296 ≡ thread + 1)
+            × (next % 4294967296 ≡ said % 4294967296 + 1) }
+        ensures own { IsNameOf words.now thread self.new × IsSeatOf words.now seat.new }
+        ensures stepped { shown seat.new.me.0
+            ≡ stepping seat.old.me.0 (count_at count.number) (Store next) said }
+        ensures shares { shares_of self.new
+            ≡ sharing (count_at count.number) thread ∷ shares_of self.old }
+    {
+        self.more_picked::<Brand>(words, thread, count, said, next);
+        self.pass_steps(words, seat);
+    }
+
+    #[inline]
+    fn more_picked<C: CountPick>(
+        &mut self,
+        words: &LotWords,
+        thread: usize,
+        count: Word,
+        said: u64,
+        next: u64,
+    )
+        requires pick { (C.thread ≡ thread) × (C.said ≡ said) }
+        requires own { IsNameOf words.now thread self.old × IsWordOf words.now count
+            × (count.kind ≡ Count) }
+        requires said { Says count.number said self.old
+            × ((said ≡ 0) ⊎ (said / 4294967296 ≡ thread + 1)) }
+        requires next { IsCountCode next × (next / 4294967296 ≡ thread + 1)
+            × (next % 4294967296 ≡ said % 4294967296 + 1) }
+        ensures { (self.new.seat.table_id ≡ words.now.table.shared.table_id)
+            × (self.new.seat.me ≡ (
+              counting (count_at count.number) said next
+                  (sharing (count_at count.number) thread ∷ shares_of self.old) self.old.seat.me.0,
+              [],
+            )) }
+    {
+        let _said = (thread, said);
+        words
+            .seats()
+            .swap::<StoresMore<C>>(&mut self.seat, count.index(), next);
+    }
+
+    /// Counts once less, by one store as a step of the thread's seat, and spends a share.
+    #[inline]
+    pub fn count_less(
+        &mut self,
+        words: &LotWords,
+        seat: &mut Seat,
+        thread: usize,
+        count: Word,
+        said: u64,
+        next: u64,
+    )
+        requires own { IsNameOf words.now thread self.old × IsSeatOf words.now seat.old
+            × IsWordOf words.now count × (count.kind ≡ Count) }
+        requires said { Says count.number said self.old × (said / 4294967296 ≡ thread + 1) }
+        requires share { (rest : List Counting)
+            × (shares_of self.old ≡ sharing (count_at count.number) thread ∷ rest) }
+        requires next { IsCountCode next × ((next ≡ 0) ⊎ (next / 4294967296 ≡ thread + 1))
+            × (said % 4294967296 ≡ next % 4294967296 + 1) }
+        ensures own { IsNameOf words.now thread self.new × IsSeatOf words.now seat.new }
+        ensures stepped { shown seat.new.me.0
+            ≡ stepping seat.old.me.0 (count_at count.number) (Store next) said }
+        ensures says { Says count.number next self.new }
+    {
+        self.less_picked::<Brand>(words, thread, count, said, next);
+        self.pass_steps(words, seat);
+    }
+
+    #[inline]
+    fn less_picked<C: CountPick>(
+        &mut self,
+        words: &LotWords,
+        thread: usize,
+        count: Word,
+        said: u64,
+        next: u64,
+    )
+        requires pick { (C.thread ≡ thread) × (C.said ≡ said) }
+        requires own { IsNameOf words.now thread self.old × IsWordOf words.now count
+            × (count.kind ≡ Count) }
+        requires said { Says count.number said self.old × (said / 4294967296 ≡ thread + 1) }
+        requires share { (rest : List Counting)
+            × (shares_of self.old ≡ sharing (count_at count.number) thread ∷ rest) }
+        requires next { IsCountCode next × ((next ≡ 0) ⊎ (next / 4294967296 ≡ thread + 1))
+            × (said % 4294967296 ≡ next % 4294967296 + 1) }
+        ensures { (self.new.seat.table_id ≡ words.now.table.shared.table_id)
+            × (self.new.seat.me ≡ (
+              counting (count_at count.number) said next
+                  (rest_of (shares_of self.old)) self.old.seat.me.0,
+              [],
+            )) }
+    {
+        let _said = (thread, said);
+        words
+            .seats()
+            .swap::<StoresLess<C>>(&mut self.seat, count.index(), next);
+    }
+
+    /// Takes a mutex in, whose permit lies in its slot from then on. The name says that its count
+    /// is 0. It reads no word.
+    #[inline]
+    pub fn keep(
+        &mut self,
+        words: &LotWords,
+        thread: usize,
+        mutex: Word,
+        opened: OpenHeld,
+        permit: Permit,
+    )
+        requires own { IsNameOf words.now thread self.old × IsWordOf words.now mutex
+            × (mutex.kind ≡ Mutex) }
+        requires opened { IsOpenOf words.now mutex opened × (permit.id ≡ permit_of words.now mutex) }
+        ensures own { IsNameOf words.now thread self.new }
+        ensures says { Says (mutex.number + 1) 0 self.new }
+    {
+        let _thread = thread;
+        words.join_open(&mut self.seat, mutex, opened, permit);
+        words.lay_back(&mut self.seat);
+    }
+
+    /// Gives a mutex whose count is 0, with the permit of its value. It reads no word.
+    #[inline]
+    pub fn let_go(&mut self, words: &LotWords, thread: usize, mutex: Word) -> (OpenHeld, Permit)
+        requires own { IsNameOf words.now thread self.old × IsWordOf words.now mutex
+            × (mutex.kind ≡ Mutex) }
+        requires says { Says (mutex.number + 1) 0 self.old }
+        ensures own { IsNameOf words.now thread self.new }
+        ensures opened { IsOpenOf words.now mutex result.0
+            × (result.1.id ≡ permit_of words.now mutex) }
+    {
+        let _thread = thread;
+        let opened = words.split_open(&mut self.seat, mutex);
+        words.lay_back(&mut self.seat);
+        opened
+    }
+}

@@ -1,0 +1,106 @@
+//! What a name's steps and looks tell, and how it is split and joined.
+ghost use Rattle.std.specs.Prelude.{ℕ, ◌+◌};
+ghost use Rattle.core_words.specs.Views.{blank};
+ghost use Rattle.core_names.specs.Shares.{named, namer_from, share_view, sees_own, looks_named, stores_less};
+ghost use Rattle.core_names.specs.Shares.{stores_more, takes_shares, without_first_share, without_steps};
+ghost use Rattle.core_names.specs.Shares.{steps_alone};
+
+use atomic_table::{Join, Play, Split};
+use core_parts::PermitSlot;
+use core_words::View;
+use core_words::plays::PermitPick;
+use std::marker::{Brand, PhantomData};
+
+/// Picks a count at each call: the number of the thread that it is to name, the index at which it
+/// stands, and what it says.
+pub trait CountPick {
+    ghost thread: { ℕ };
+
+    ghost at: { ℕ };
+
+    ghost said: { ℕ };
+}
+
+impl CountPick for Brand {
+    ghost thread = { 0 };
+
+    ghost at = { 0 };
+
+    ghost said = { 0 };
+}
+
+/// A load of a count, as a step. A thread that it names says it.
+pub struct LooksNamed<C: CountPick, P: PermitPick> {
+    pick: PhantomData<(C, P)>,
+}
+
+impl<C: CountPick, P: PermitPick> Play<PermitSlot, View> for LooksNamed<C, P> {
+    ghost then = { looks_named P.family C.thread };
+}
+
+/// A load of a count of which a name has a share, which is no step.
+pub struct SeesOwn<C: CountPick> {
+    pick: PhantomData<C>,
+}
+
+impl<C: CountPick> Play<PermitSlot, View> for SeesOwn<C> {
+    ghost then = { sees_own C.thread };
+}
+
+/// A store that counts once more.
+pub struct StoresMore<C: CountPick> {
+    pick: PhantomData<C>,
+}
+
+impl<C: CountPick> Play<PermitSlot, View> for StoresMore<C> {
+    ghost then = { stores_more C.thread C.said };
+}
+
+/// A store that counts once less.
+pub struct StoresLess<C: CountPick> {
+    pick: PhantomData<C>,
+}
+
+impl<C: CountPick> Play<PermitSlot, View> for StoresLess<C> {
+    ghost then = { stores_less C.said };
+}
+
+/// The number of a thread goes to a name of its own.
+pub struct Draws<C: CountPick> {
+    pick: PhantomData<C>,
+}
+
+impl<C: CountPick> Split<View> for Draws<C> {
+    ghost left = { λ _. namer_from (C.thread + 1) };
+
+    ghost right = { λ _. named C.thread };
+}
+
+/// A share goes to a seat of its own.
+pub struct GivesShare<C: CountPick> {
+    pick: PhantomData<C>,
+}
+
+impl<C: CountPick> Split<View> for GivesShare<C> {
+    ghost left = { without_first_share };
+
+    ghost right = { λ _. share_view C.at C.thread };
+}
+
+/// A name takes a share in.
+pub struct TakesShare;
+
+impl Join<View> for TakesShare {
+    ghost both = { takes_shares };
+
+    ghost spent = { blank };
+}
+
+/// The steps of a name go to a seat of their own.
+pub struct PassesSteps;
+
+impl Split<View> for PassesSteps {
+    ghost left = { without_steps };
+
+    ghost right = { steps_alone };
+}
