@@ -342,7 +342,7 @@ impl Name {
     {
         let _thread = thread;
         words.join_open(&mut self.seat, mutex, opened, permit);
-        words.lay_back(&mut self.seat);
+        words.put_back_permit(&mut self.seat);
     }
 
     /// Gives a mutex whose count is 0, with the permit of its value. It reads no word.
@@ -357,7 +357,7 @@ impl Name {
     {
         let _thread = thread;
         let opened = words.split_open(&mut self.seat, mutex);
-        words.lay_back(&mut self.seat);
+        words.put_back_permit(&mut self.seat);
         opened
     }
 }

@@ -57,12 +57,12 @@ module _ {M : Type 1} {𝓤 : Ura M} (𝓛 : Logic 𝓤) (G R : RattleType) (F :
       → ent 𝓤 (sep 𝓤 (A.obs x.ghost_name (G.coded.code x.now))
       (sep 𝓤 (A.bor κ (Body (mem G) x.ref_ptr.0 x.ref_ptr.1 x.ghost_name)) (A.lft κ q)))
       (H.⇛ (ex 𝓤 (Lent 𝓛 G R F ℓ κ q x.ghost_name inside)))
-  through_before cut =
+  through_before split_views =
       qed 𝓛 (‵ (fobs x.ghost_name (G.coded.code x.now)) ∷ ‵
       (fbor κ (Body (mem G) x.ref_ptr.0 x.ref_ptr.1 x.ghost_name)) ∷ ‵ (flft κ q) ∷ []) ∵ updating ! $
       use3 𝓛 (later (some (λ (γ' : GName). ‵ (fobs γ' (R.coded.code y)) ⊛ ‵ (fbor κ (named_content R c e γ'))
       ⊛ ‵ (flft κ q) ⊛ ‵ (follows G R x.ghost_name γ' F))))
       (hands_before 𝓛 (mem G) (mem R) F inj x.ref_ptr.0 x.ref_ptr.1 c e x.ghost_name κ β inc (Lft × GName)
-      (λ i. i.0) (λ i. i.1) (λ i. all 𝓤 (Again i.0)) Parts-in q x.now y (via 𝓤 _ cut Parts-out)) $
+      (λ i. i.0) (λ i. i.1) (λ i. all 𝓤 (Again i.0)) Parts-in q x.now y (via 𝓤 _ split_views Parts-out)) $
       await ! tt $ pick ! (λ γ'. split3 ! $ feq_i ! (List Val) (mut_vals inside) (mut_vals inside) refl
       $ fjoin3 ! $ now ! $ show ! (Lent 𝓛 G R F ℓ κ q x.ghost_name inside) γ' $ done !)

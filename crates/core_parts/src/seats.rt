@@ -7,7 +7,7 @@ use atomic_table::{Badge, Join, Seat, Shared, Split, TableRule};
 
 /// A seat takes in another's view, and the other is spent. No word is read.
 #[inline]
-pub fn merge<S, V, K, P: TableRule<S, V, K>, M: Join<V>>(
+pub fn join_views<S, V, K, P: TableRule<S, V, K>, M: Join<V>>(
     table: &Shared<S, V, K, P>,
     seat: &mut Seat<S, V>,
     other: &mut Seat<S, V>,
@@ -18,7 +18,7 @@ pub fn merge<S, V, K, P: TableRule<S, V, K>, M: Join<V>>(
 
 /// A seat's view is cut in two, and the badge becomes a seat that has the second. No word is read.
 #[inline]
-pub fn cut<S, V, K, P: TableRule<S, V, K>, M: Split<V>>(
+pub fn split_views<S, V, K, P: TableRule<S, V, K>, M: Split<V>>(
     table: &Shared<S, V, K, P>,
     seat: &mut Seat<S, V>,
     other: &mut Badge<V>,
@@ -37,7 +37,7 @@ pub fn split_seat<S, V, K, P: TableRule<S, V, K>, M: Split<V>>(
     ensures { (seat.new.table_id ≡ seat.old.table_id) × (seat.new.id ≡ seat.old.id) × (seat.new.me ≡ (M.left seat.old.me.0, seat.old.me.1)) × (result.table_id ≡ seat.old.table_id) × (result.me ≡ (M.right seat.old.me.0, [])) }
 {
     let mut other = Badge::blank();
-    cut::<S, V, K, P, M>(table, seat, &mut other);
+    split_views::<S, V, K, P, M>(table, seat, &mut other);
     other.into_seat()
 }
 
@@ -51,7 +51,7 @@ pub fn join_seat<S, V, K, P: TableRule<S, V, K>, M: Join<V>>(
     requires { (seat.old.table_id ≡ table.now.table_id) × (other.table_id ≡ table.now.table_id) × (other.me.1 ≡ []) × Joins (P.holds table.now.key) seat.old.id seat.old.me.0 other.id other.me.0 (M.both seat.old.me.0 other.me.0) M.spent }
     ensures { (seat.new.table_id ≡ seat.old.table_id) × (seat.new.id ≡ seat.old.id) × (seat.new.me ≡ (M.both seat.old.me.0 other.me.0, seat.old.me.1)) }
 {
-    merge::<S, V, K, P, M>(table, seat, &mut other);
+    join_views::<S, V, K, P, M>(table, seat, &mut other);
 }
 
 /// A change of a seat, which tells its caller of the seat before and after.
@@ -61,7 +61,7 @@ pub trait Change<S, V> {
 
 /// A seat's view changes, and slots are taken or given back, as the rule allows. No word is read.
 #[inline]
-pub fn stir<S, V, K, P: TableRule<S, V, K>, M: Change<S, V>>(
+pub fn change_view<S, V, K, P: TableRule<S, V, K>, M: Change<S, V>>(
     table: &Shared<S, V, K, P>,
     seat: &mut Seat<S, V>,
 )

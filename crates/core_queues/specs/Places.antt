@@ -1,23 +1,23 @@
 -- Calls that leave a bucket where it is, and calls that take nobody.
 use Rattle.std.specs.Prelude.{ℕ, ◌≡◌, ◌≢◌}
 use Rattle.core_queues.specs.Buckets.{AreApart}
-use Rattle.core_queues.specs.declared.queueing.Queueing.{Queueing}
+use Rattle.core_queues.specs.declared.section_queues.SectionQueues.{SectionQueues}
 
 -- the same bucket of the same lot
-abbrev pub IsSameBucket : Queueing → Queueing → Type 0
+abbrev pub IsSameBucket : SectionQueues → SectionQueues → Type 0
 IsSameBucket old new = (new.seats ≡ old.seats) × (new.number ≡ old.number) × (new.bits ≡ old.bits)
 
 -- the waiters that its section took
-abbrev pub TookSame : Queueing → Queueing → Type 0
+abbrev pub TookSame : SectionQueues → SectionQueues → Type 0
 TookSame old new = (new.taken.items ≡ old.taken.items) × (new.rightless.items ≡ old.rightless.items)
     × (new.wants.items ≡ old.wants.items)
 
 -- two buckets of one lot
-abbrev pub AreTwo : Queueing → Queueing → Type 0
+abbrev pub AreTwo : SectionQueues → SectionQueues → Type 0
 AreTwo one other = (other.seats ≡ one.seats) × (other.bits ≡ one.bits) × (other.number ≢ one.number)
 
 -- the waiters of a key that stood in one of two buckets alone do so still
-abbrev pub KeepApart : Queueing → Queueing → Queueing → Queueing → Type 0
+abbrev pub KeepApart : SectionQueues → SectionQueues → SectionQueues → SectionQueues → Type 0
 KeepApart one other one' other' = (key : ℕ) → (AreApart key one.queues.waiters other.queues.waiters
     → AreApart key one'.queues.waiters other'.queues.waiters)
     × (AreApart key other.queues.waiters one.queues.waiters

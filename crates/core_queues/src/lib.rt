@@ -8,12 +8,12 @@ mod formula;
 mod kind;
 mod links;
 mod pairs;
-mod queueing;
 mod records;
+mod section_queues;
 mod stands;
 mod wants;
 
 pub use buckets::BucketQueues;
 pub use formula::{bits_for, bucket_among};
-pub use queueing::Queueing;
+pub use section_queues::SectionQueues;
 pub use stands::Stands;

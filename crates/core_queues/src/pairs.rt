@@ -9,11 +9,11 @@ ghost use Rattle.core_queues.specs.Buckets.{AreApart};
 ghost use Rattle.core_queues.specs.Wants.{wants_of, taken_in_line};
 
 use crate::bucket_among;
-use crate::queueing::Queueing;
+use crate::section_queues::SectionQueues;
 use crate::stands::Stands;
 use core_base::{Key, Queues, Requeue, Want};
 
-impl Queueing {
+impl SectionQueues {
     ghost use Rattle.core_queues.specs.Places.{AreTwo, IsSameBucket, KeepApart, TookSame};
 
     /// Whether a key has this bucket.
@@ -27,7 +27,7 @@ impl Queueing {
 
     /// Finds the first thread under a key that stands in another bucket as well. None where nobody
     /// does.
-    pub fn doubled(&self, key: Key, other: &Queueing) -> Option<usize>
+    pub fn doubled(&self, key: Key, other: &SectionQueues) -> Option<usize>
         ensures { result ≡ None → AreApart key self.now.queues.waiters other.now.queues.waiters }
     {
         let mut place = 0;
@@ -42,7 +42,7 @@ impl Queueing {
 
     /// Puts a thread after the last under a key of one of the buckets. One that stands in them leaves
     /// that place first.
-    pub fn append_beside(&mut self, other: &mut Queueing, key: Key, thread: usize, want: Want)
+    pub fn append_beside(&mut self, other: &mut SectionQueues, key: Key, thread: usize, want: Want)
         requires two { AreTwo self.old other.old × (self.old.bits < 64) }
         requires key { bucket_of self.old.bits key ≢ self.old.number
             → bucket_of self.old.bits key ≡ other.old.number }
@@ -64,7 +64,7 @@ impl Queueing {
     }
 
     /// Removes a thread from where it stands in the buckets.
-    pub fn remove_beside(&mut self, other: &mut Queueing, thread: usize)
+    pub fn remove_beside(&mut self, other: &mut SectionQueues, thread: usize)
         ensures lines { lines (self.new.queues.waiters ++ other.new.queues.waiters)
             ≡ lines (without thread (self.old.queues.waiters ++ other.old.queues.waiters)) }
         ensures apart { KeepApart self.old other.old self.new other.new }
@@ -76,7 +76,7 @@ impl Queueing {
     }
 
     /// How many stand under a key of one of the buckets.
-    pub fn count_beside(&self, other: &Queueing, key: Key) -> usize
+    pub fn count_beside(&self, other: &SectionQueues, key: Key) -> usize
         requires two { AreTwo self.now other.now × (self.now.bits < 64) }
         requires key { bucket_of self.now.bits key ≢ self.now.number
             → bucket_of self.now.bits key ≡ other.now.number }
@@ -91,7 +91,7 @@ impl Queueing {
     }
 
     /// The key under which a thread stands in the buckets.
-    pub fn key_beside(&self, other: &Queueing, thread: usize) -> Option<Key>
+    pub fn key_beside(&self, other: &SectionQueues, thread: usize) -> Option<Key>
         ensures { result
             ≡ queued_under thread (self.now.queues.waiters ++ other.now.queues.waiters) }
     {
@@ -111,7 +111,7 @@ impl Queueing {
     }
 
     // Moves the first under a key after the last under a key of another bucket.
-    fn move_first(&mut self, other: &mut Queueing, from: Key, to: Key) -> bool
+    fn move_first(&mut self, other: &mut SectionQueues, from: Key, to: Key) -> bool
         requires keys { (bucket_of self.old.bits from ≡ self.old.number)
             × (bucket_of other.old.bits to ≡ other.old.number) }
         requires two { AreTwo self.old other.old }
@@ -135,7 +135,7 @@ impl Queueing {
 
     // Moves all under a key after the last under a key of another bucket, and answers how many there
     // were.
-    fn move_all(&mut self, other: &mut Queueing, from: Key, to: Key) -> usize
+    fn move_all(&mut self, other: &mut SectionQueues, from: Key, to: Key) -> usize
         requires keys { (bucket_of self.old.bits from ≡ self.old.number)
             × (bucket_of other.old.bits to ≡ other.old.number) × (from ≢ to) }
         requires two { AreTwo self.old other.old }
@@ -159,7 +159,7 @@ impl Queueing {
     /// Moves waiters from under a key after the last under a key of another bucket.
     pub fn requeue_beside(
         &mut self,
-        other: &mut Queueing,
+        other: &mut SectionQueues,
         from: Key,
         to: Key,
         op: Requeue,

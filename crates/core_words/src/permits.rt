@@ -13,13 +13,13 @@ ghost use Rattle.core_words.specs.declared.owners.Owner.TheVariants.{Exclusive};
 ghost use Rattle.core_words.specs.declared.words.WordKind.TheVariants.{Mutex};
 
 use crate::plays::{
-    Enters, GoesOn, GoesOnAs, KeepsOwner, LaysBack, Leaves, LeavesAlone, Ors, OwnershipRule,
-    PermitPick, SeesLocked, TakesOut, TriesSeen,
+    Enters, GoesOn, GoesOnAs, KeepsOwner, Leaves, LeavesAlone, Ors, OwnershipRule, PermitPick,
+    PutsBack, SeesLocked, TakesOut, TriesSeen,
 };
 use crate::table::{LotWords, Seat};
 use crate::views::View;
 use crate::words::Word;
-use core_parts::seats::{join_seat, split_seat, stir};
+use core_parts::seats::{change_view, join_seat, split_seat};
 use core_parts::{Permit, PermitSlot, Permits};
 use std::marker::Brand;
 use std::mem;
@@ -52,7 +52,7 @@ impl LotWords {
             ≡ with_out (word_index word.number word.kind ∷ []) seat.old.me.0 }
     {
         let _mutex = word;
-        stir::<PermitSlot, View, (usize, Permits), OwnershipRule, TakesOut<P>>(
+        change_view::<PermitSlot, View, (usize, Permits), OwnershipRule, TakesOut<P>>(
             &self.table.shared,
             seat,
         );
@@ -60,12 +60,12 @@ impl LotWords {
 
     /// Lays back what is out with a seat. It reads no word.
     #[inline]
-    pub fn lay_back(&self, seat: &mut Seat)
+    pub fn put_back_permit(&self, seat: &mut Seat)
         requires { IsSeatOf self.now seat.old }
         ensures own { IsSeatOf self.now seat.new }
         ensures laid { seat.new.me.0 ≡ shown seat.old.me.0 }
     {
-        stir::<PermitSlot, View, (usize, Permits), OwnershipRule, LaysBack>(
+        change_view::<PermitSlot, View, (usize, Permits), OwnershipRule, PutsBack>(
             &self.table.shared,
             seat,
         );
@@ -163,7 +163,7 @@ impl LotWords {
         ensures gone_on { seat.new.me.0
             ≡ with_out owner.me.0.out (goes_on_with seat.old.me.0 owner.me.0) }
     {
-        self.lay_back(seat);
+        self.put_back_permit(seat);
         let thread = mem::replace(seat, owner);
         join_seat::<PermitSlot, View, (usize, Permits), OwnershipRule, GoesOnAs>(
             &self.table.shared,

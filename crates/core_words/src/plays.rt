@@ -298,9 +298,9 @@ impl<P: PermitPick> Change<PermitSlot, View> for TakesOut<P> {
 }
 
 /// A seat lays back what is out with it.
-pub struct LaysBack;
+pub struct PutsBack;
 
-impl Change<PermitSlot, View> for LaysBack {
+impl Change<PermitSlot, View> for PutsBack {
     ghost then = { lays_back };
 }
 

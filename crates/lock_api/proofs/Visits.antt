@@ -5,16 +5,16 @@ use Rattle.spec_locks.specs.declared.outcomes.Answer.TheVariants as answers
 use Rattle.lock_api.specs.Visits.{CameAndWent}
 
 -- a thread that came in with a guard of the lock and released that guard came and went
-pub came_and_went : {Raw Token Call : Type 0} (walked : Raw → Call → Answer → Token → Token → Type 0)
+pub came_and_went : {Raw Token Call : Type 0} (took_steps : Raw → Call → Answer → Token → Token → Type 0)
     (released : Raw → Call → Token → Token → Type 0) (taken raw : Raw) (entry : Call) (answer : Answer)
-    (release : Call) (old inside new : Token) → taken ≡ raw → walked raw entry answer old inside
-    → walked taken release answers.Ok inside new → released taken release inside new
-    → CameAndWent (walked raw) (released raw) entry answer release old new
-came_and_went walked released taken raw entry answer release old inside new of came went woke = (
+    (release : Call) (old inside new : Token) → taken ≡ raw → took_steps raw entry answer old inside
+    → took_steps taken release answers.Ok inside new → released taken release inside new
+    → CameAndWent (took_steps raw) (released raw) entry answer release old new
+came_and_went took_steps released taken raw entry answer release old inside new of came went woke_waiters = (
   inside,
   came,
-  subst (λ lock. walked lock release answers.Ok inside new) of went,
-  subst (λ lock. released lock release inside new) of woke,
+  subst (λ lock. took_steps lock release answers.Ok inside new) of went,
+  subst (λ lock. released lock release inside new) of woke_waiters,
 )
 
 -- a thread of the guard's lot is one of the lock's

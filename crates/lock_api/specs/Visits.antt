@@ -6,7 +6,7 @@ use Rattle.spec_locks.specs.declared.outcomes.Answer.TheVariants as answers
 -- of the steps of calls and of what releases have woken, as the lock tells both
 abbrev pub CameAndWent : {Token Call : Type 0} → (Call → Answer → Token → Token → Type 0)
     → (Call → Token → Token → Type 0) → Call → Answer → Call → Token → Token → Type 0
-CameAndWent {Token = Token} walked woke entry answer release old new = (inside : Token)
-    × walked entry answer old inside
-    × walked release answers.Ok inside new
-    × woke release inside new
+CameAndWent {Token = Token} took_steps woke_waiters entry answer release old new = (inside : Token)
+    × took_steps entry answer old inside
+    × took_steps release answers.Ok inside new
+    × woke_waiters release inside new

@@ -57,7 +57,7 @@ impl<R: RawCondvar> Condvar<R> {
     ) -> Result<Condvar<R>, Fault>
         requires { R.RawMutex.is_token_of (arc_value lot.now) token.old }
         ensures token { R.RawMutex.is_token_of (arc_value lot.now) token.new
-            × R.RawMutex.stays token.old token.new }
+            × R.RawMutex.keeps_rights token.old token.new }
         ensures made { MatchResult result (λ condvar. R.lot_of condvar ≡ arc_value lot.now)
             (IsRefusal (R.RawMutex.found_full (arc_value lot.now)) token.old token.new) }
         ensures drawn { IfOk result (λ condvar. R.drew condvar token.old token.new) }
@@ -83,7 +83,7 @@ impl<R: RawCondvar> Condvar<R> {
         requires token { R.RawMutex.is_token_of (R.lot_of self.now) token.old }
         requires lot { R.RawMutex.lot_of (lock_of guard) ≡ R.lot_of self.now }
         ensures token { R.RawMutex.is_token_of (R.lot_of self.now) token.new
-            × R.RawMutex.stays token.old token.new }
+            × R.RawMutex.keeps_rights token.old token.new }
         ensures guard { GivesBack result (λ back. lock_of back ≡ lock_of guard.entry) }
         ensures path { R.waited self.now (lock_of guard.entry) false
             (waiting_answer result) token.old token.new }
@@ -100,7 +100,7 @@ impl<R: RawCondvar> Condvar<R> {
     pub fn notify_one<W: Wait>(&self, rt: &W, token: &mut TokenOf<R>) -> bool
         requires { R.RawMutex.is_token_of (R.lot_of self.now) token.old }
         ensures token { R.RawMutex.is_token_of (R.lot_of self.now) token.new
-            × R.RawMutex.stays token.old token.new }
+            × R.RawMutex.keeps_rights token.old token.new }
         ensures path { R.notified self.now false (notifying_answer result) token.old token.new }
         ensures record { R.moved self.now false (moved_first result) token.old token.new }
     {
@@ -118,7 +118,7 @@ impl<R: RawCondvar> Condvar<R> {
     pub fn notify_all<W: Wait>(&self, rt: &W, token: &mut TokenOf<R>) -> usize
         requires { R.RawMutex.is_token_of (R.lot_of self.now) token.old }
         ensures token { R.RawMutex.is_token_of (R.lot_of self.now) token.new
-            × R.RawMutex.stays token.old token.new }
+            × R.RawMutex.keeps_rights token.old token.new }
         ensures path { R.notified self.now true (Number result) token.old token.new }
         ensures record { R.moved self.now true result token.old token.new }
     {

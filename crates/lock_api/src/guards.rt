@@ -50,8 +50,8 @@ impl<'a, R: RawMutex, T> Guarded<Taken<'a, R, T>, Open<'a, T>> {
     pub fn unlock<W: Wait>(self, rt: &W, token: &mut R::Token)
         requires { R.is_token_of (R.lot_of (lock_of self)) token.old }
         ensures token { R.is_token_of (R.lot_of (lock_of self.entry)) token.new
-            × R.stays token.old token.new }
-        ensures path { R.walked (lock_of self.entry) Unlock answers.Ok token.old token.new }
+            × R.keeps_rights token.old token.new }
+        ensures path { R.took_steps (lock_of self.entry) Unlock answers.Ok token.old token.new }
         ensures record { R.released (lock_of self.entry) Unlock token.old token.new }
     {
         let (mutex, lot, guard) = self.close();
@@ -78,8 +78,8 @@ impl<'a, R: RawMutexFair, T> Guarded<Taken<'a, R, T>, Open<'a, T>> {
     pub fn unlock_fair<W: Wait>(self, rt: &W, token: &mut R::Token)
         requires { R.is_token_of (R.lot_of (lock_of self)) token.old }
         ensures token { R.is_token_of (R.lot_of (lock_of self.entry)) token.new
-            × R.stays token.old token.new }
-        ensures path { R.walked (lock_of self.entry) UnlockFair answers.Ok token.old token.new }
+            × R.keeps_rights token.old token.new }
+        ensures path { R.took_steps (lock_of self.entry) UnlockFair answers.Ok token.old token.new }
         ensures record { R.released (lock_of self.entry) UnlockFair token.old token.new }
     {
         let (mutex, _, guard) = self.close();
@@ -92,9 +92,9 @@ impl<'a, R: RawMutexFair, T> Guarded<Taken<'a, R, T>, Open<'a, T>> {
     pub fn bump<W: Wait>(self, rt: &W, token: &mut R::Token) -> MutexGuard<'a, R, T>
         requires { R.is_token_of (R.lot_of (lock_of self)) token.old }
         ensures token { R.is_token_of (R.lot_of (lock_of self.entry)) token.new
-            × R.stays token.old token.new }
+            × R.keeps_rights token.old token.new }
         ensures guard { lock_of result ≡ lock_of self.entry }
-        ensures path { R.walked (lock_of self.entry) Bump answers.Ok token.old token.new }
+        ensures path { R.took_steps (lock_of self.entry) Bump answers.Ok token.old token.new }
     {
         let (mutex, lot, guard) = self.close();
         let guard = mutex.raw().bump(rt, token, guard);

@@ -50,8 +50,8 @@ impl<'a, R: RawMutex, T> Unlocks for Guarded<Taken<'a, R, T>, Open<'a, T>> {
     ghost may_unlock = { λ guard token. R.is_token_of (R.lot_of (lock_of guard)) token };
 
     ghost unlocked = { λ guard old new. R.is_token_of (R.lot_of (lock_of guard)) new
-        × R.stays old new
-        × R.walked (lock_of guard) Unlock answers.Ok old new
+        × R.keeps_rights old new
+        × R.took_steps (lock_of guard) Unlock answers.Ok old new
         × R.released (lock_of guard) Unlock old new };
 
     #[inline]
@@ -62,8 +62,8 @@ impl<'a, R: RawMutex, T> Unlocks for Guarded<Taken<'a, R, T>, Open<'a, T>> {
 
 impl<'a, R: RawMutexFair, T> UnlocksFair for Guarded<Taken<'a, R, T>, Open<'a, T>> {
     ghost unlocked_fair = { λ guard old new. R.is_token_of (R.lot_of (lock_of guard)) new
-        × R.stays old new
-        × R.walked (lock_of guard) UnlockFair answers.Ok old new
+        × R.keeps_rights old new
+        × R.took_steps (lock_of guard) UnlockFair answers.Ok old new
         × R.released (lock_of guard) UnlockFair old new };
 
     #[inline]

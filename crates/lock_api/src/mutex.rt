@@ -65,7 +65,7 @@ impl<R: RawMutex, T> Mutex<R, T> {
     #[inline]
     pub fn new(lot: &Arc<R::Lot>, token: &mut R::Token, value: T) -> Result<Mutex<R, T>, (Fault, T)>
         requires { R.is_token_of (arc_value lot.now) token.old }
-        ensures token { R.is_token_of (arc_value lot.now) token.new × R.stays token.old token.new }
+        ensures token { R.is_token_of (arc_value lot.now) token.new × R.keeps_rights token.old token.new }
         ensures made { MatchResult result (λ mutex. R.lot_of mutex ≡ arc_value lot.now)
             (λ refused. (refused.1 ≡ value)
             × IsRefusal (R.found_full (arc_value lot.now)) token.old token.new refused.0) }
@@ -84,9 +84,9 @@ impl<R: RawMutex, T> Mutex<R, T> {
     #[inline]
     pub fn lock<W: Wait>(&self, rt: &W, token: &mut R::Token) -> MutexGuard<'_, R, T>
         requires { R.is_token_of (R.lot_of self.now) token.old }
-        ensures token { R.is_token_of (R.lot_of self.now) token.new × R.stays token.old token.new }
+        ensures token { R.is_token_of (R.lot_of self.now) token.new × R.keeps_rights token.old token.new }
         ensures guard { lock_of result ≡ self.now }
-        ensures path { R.walked self.now Lock answers.Ok token.old token.new }
+        ensures path { R.took_steps self.now Lock answers.Ok token.old token.new }
     {
         let lot = self.raw.lot();
         // As `lock` of the raw one. It isn't called, since after each call that may wait a flag is
@@ -112,9 +112,9 @@ impl<R: RawMutex, T> Mutex<R, T> {
     #[inline]
     pub fn try_lock(&self, token: &mut R::Token) -> Option<MutexGuard<'_, R, T>>
         requires { R.is_token_of (R.lot_of self.now) token.old }
-        ensures token { R.is_token_of (R.lot_of self.now) token.new × R.stays token.old token.new }
+        ensures token { R.is_token_of (R.lot_of self.now) token.new × R.keeps_rights token.old token.new }
         ensures guard { IfSome result (λ guard. lock_of guard ≡ self.now) }
-        ensures path { R.walked self.now TryLock (answer_by result) token.old token.new }
+        ensures path { R.took_steps self.now TryLock (answer_by result) token.old token.new }
     {
         let lot = self.raw.lot();
         let raw = self.raw.try_lock(token)?;
@@ -125,7 +125,7 @@ impl<R: RawMutex, T> Mutex<R, T> {
     #[inline]
     pub fn is_locked(&self, token: &mut R::Token) -> bool
         requires { R.is_token_of (R.lot_of self.now) token.old }
-        ensures token { R.is_token_of (R.lot_of self.now) token.new × R.stays token.old token.new }
+        ensures token { R.is_token_of (R.lot_of self.now) token.new × R.keeps_rights token.old token.new }
         ensures seen { R.looked self.now result token.old token.new }
     {
         self.raw.is_locked(token)
@@ -138,9 +138,9 @@ impl<R: RawMutex, T> Mutex<R, T> {
     pub fn with<W: Wait, U, F: FnOnce(&mut T) -> U>(&self, rt: &W, token: &mut R::Token, f: F) -> U
         requires token { R.is_token_of (R.lot_of self.now) token.old }
         requires callable { F.IsAlwaysCallable f }
-        ensures token { R.is_token_of (R.lot_of self.now) token.new × R.stays token.old token.new }
+        ensures token { R.is_token_of (R.lot_of self.now) token.new × R.keeps_rights token.old token.new }
         ensures ran { (found : T) × (left : T) × FnOnceReturnsAtMut F.FnOnce f found result left }
-        ensures path { CameAndWent (R.walked self.now) (R.released self.now)
+        ensures path { CameAndWent (R.took_steps self.now) (R.released self.now)
             Lock answers.Ok Unlock token.old token.new }
     {
         let mut guard = self.lock(rt, token);
@@ -159,11 +159,11 @@ impl<R: RawMutex, T> Mutex<R, T> {
     ) -> Option<U>
         requires token { R.is_token_of (R.lot_of self.now) token.old }
         requires callable { F.IsAlwaysCallable f }
-        ensures token { R.is_token_of (R.lot_of self.now) token.new × R.stays token.old token.new }
+        ensures token { R.is_token_of (R.lot_of self.now) token.new × R.keeps_rights token.old token.new }
         ensures ran { IfSome result (λ answer. (found : T) × (left : T)
             × FnOnceReturnsAtMut F.FnOnce f found answer left) }
-        ensures path { MatchOption result (R.walked self.now TryLock answers.No token.old token.new)
-            (λ _. CameAndWent (R.walked self.now) (R.released self.now)
+        ensures path { MatchOption result (R.took_steps self.now TryLock answers.No token.old token.new)
+            (λ _. CameAndWent (R.took_steps self.now) (R.released self.now)
             TryLock answers.Yes Unlock token.old token.new) }
     {
         let mut guard = self.try_lock(token)?;
@@ -187,9 +187,9 @@ impl<R: RawMutexTimed, T> Mutex<R, T> {
         timeout: Duration,
     ) -> Option<MutexGuard<'_, R, T>>
         requires { R.is_token_of (R.lot_of self.now) token.old }
-        ensures token { R.is_token_of (R.lot_of self.now) token.new × R.stays token.old token.new }
+        ensures token { R.is_token_of (R.lot_of self.now) token.new × R.keeps_rights token.old token.new }
         ensures guard { IfSome result (λ guard. lock_of guard ≡ self.now) }
-        ensures path { R.walked self.now LockTimed (answer_by result) token.old token.new }
+        ensures path { R.took_steps self.now LockTimed (answer_by result) token.old token.new }
         ensures left { IfNone result (R.gave_up self.now token.new) }
         ensures late { IfNone result (HasElapsed (C.tells clock.now) (as_nanos timeout)) }
     {
@@ -209,9 +209,9 @@ impl<R: RawMutexTimed, T> Mutex<R, T> {
         deadline: u64,
     ) -> Option<MutexGuard<'_, R, T>>
         requires { R.is_token_of (R.lot_of self.now) token.old }
-        ensures token { R.is_token_of (R.lot_of self.now) token.new × R.stays token.old token.new }
+        ensures token { R.is_token_of (R.lot_of self.now) token.new × R.keeps_rights token.old token.new }
         ensures guard { IfSome result (λ guard. lock_of guard ≡ self.now) }
-        ensures path { R.walked self.now LockTimed (answer_by result) token.old token.new }
+        ensures path { R.took_steps self.now LockTimed (answer_by result) token.old token.new }
         ensures left { IfNone result (R.gave_up self.now token.new) }
         ensures late { IfNone result (HasPassed (C.tells clock.now) deadline) }
     {

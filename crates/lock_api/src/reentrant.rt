@@ -61,7 +61,7 @@ impl<R: RawMutexCounted, G: GetThreadId<R>, T> ReentrantMutex<R, G, T> {
         value: T,
     ) -> Result<ReentrantMutex<R, G, T>, (Fault, T)>
         requires { R.is_token_of (arc_value lot.now) token.old }
-        ensures token { R.is_token_of (arc_value lot.now) token.new × R.stays token.old token.new }
+        ensures token { R.is_token_of (arc_value lot.now) token.new × R.keeps_rights token.old token.new }
         ensures made { MatchResult result
             (λ mutex. (R.lot_of mutex.0 ≡ arc_value lot.now) × (mutex.1 ≡ value)
             × R.drew_pair mutex.0 token.old token.new)
@@ -103,7 +103,7 @@ impl<R: RawMutexCounted, G: GetThreadId<R>, T> ReentrantMutex<R, G, T> {
         token: &mut R::Token,
     ) -> Result<ReentrantMutexGuard<'_, R, G, T>, Fault>
         requires { R.is_token_of (R.lot_of self.now.0) token.old }
-        ensures token { R.is_token_of (R.lot_of self.now.0) token.new × R.stays token.old token.new }
+        ensures token { R.is_token_of (R.lot_of self.now.0) token.new × R.keeps_rights token.old token.new }
         ensures guard { MatchResult result (λ guard. guard.mutex.now ≡ self.now)
             (λ fault. fault ≡ LockCountFull) }
         ensures named { IfOk result (λ guard. R.thread_of guard.share ≡ R.number_of token.old + 1) }
@@ -112,7 +112,7 @@ impl<R: RawMutexCounted, G: GetThreadId<R>, T> ReentrantMutex<R, G, T> {
             (CountedAgain (R.saw_count self.now.0) (R.stored_count self.now.0)
             (R.number_of token.old))
             (SawOthers (R.saw_count self.now.0) (R.number_of token.old))
-            (R.walked self.now.0 Lock answers.Ok)
+            (R.took_steps self.now.0 Lock answers.Ok)
             (R.stored_count self.now.0 0 (first_count (R.number_of token.old)))
             token.old token.new)
             (λ _. SawFull (R.saw_count self.now.0) (R.number_of token.old) token.old token.new) }
@@ -139,7 +139,7 @@ impl<R: RawMutexCounted, G: GetThreadId<R>, T> ReentrantMutex<R, G, T> {
         token: &mut R::Token,
     ) -> Result<Option<ReentrantMutexGuard<'_, R, G, T>>, Fault>
         requires { R.is_token_of (R.lot_of self.now.0) token.old }
-        ensures token { R.is_token_of (R.lot_of self.now.0) token.new × R.stays token.old token.new }
+        ensures token { R.is_token_of (R.lot_of self.now.0) token.new × R.keeps_rights token.old token.new }
         ensures guard { MatchResult result
             (λ taken. IfSome taken (λ guard. guard.mutex.now ≡ self.now))
             (λ fault. fault ≡ LockCountFull) }
@@ -148,12 +148,12 @@ impl<R: RawMutexCounted, G: GetThreadId<R>, T> ReentrantMutex<R, G, T> {
         ensures path { MatchResult result
             (λ taken. MatchOption taken
             (StayedOut (SawOthers (R.saw_count self.now.0) (R.number_of token.old))
-            (R.walked self.now.0 TryLock answers.No) token.old token.new)
+            (R.took_steps self.now.0 TryLock answers.No) token.old token.new)
             (λ _. CameIn
             (CountedAgain (R.saw_count self.now.0) (R.stored_count self.now.0)
             (R.number_of token.old))
             (SawOthers (R.saw_count self.now.0) (R.number_of token.old))
-            (R.walked self.now.0 TryLock answers.Yes)
+            (R.took_steps self.now.0 TryLock answers.Yes)
             (R.stored_count self.now.0 0 (first_count (R.number_of token.old)))
             token.old token.new))
             (λ _. SawFull (R.saw_count self.now.0) (R.number_of token.old) token.old token.new) }
@@ -219,10 +219,10 @@ impl<R: RawMutexCounted, G, T> ReentrantMutexGuard<'_, R, G, T> {
         requires token { R.is_token_of (R.lot_of self.mutex.now.0) token.old }
         requires named { R.thread_of self.share ≡ R.number_of token.old + 1 }
         ensures token { R.is_token_of (R.lot_of self.entry.mutex.now.0) token.new
-            × R.stays token.old token.new }
+            × R.keeps_rights token.old token.new }
         ensures path { WentOff (CountedLess (R.stored_count self.entry.mutex.now.0))
             (CountedOut (R.stored_count self.entry.mutex.now.0))
-            (Both (R.walked self.entry.mutex.now.0 Unlock answers.Ok)
+            (Both (R.took_steps self.entry.mutex.now.0 Unlock answers.Ok)
             (R.released self.entry.mutex.now.0 Unlock)) token.old token.new }
     {
         let ReentrantMutexGuard {
@@ -257,7 +257,7 @@ impl<'a, R: RawMutexCounted, G: GetThreadId<R>, T> ReentrantMutexGuard<'a, R, G,
         requires token { R.is_token_of (R.lot_of self.mutex.now.0) token.old }
         requires named { R.thread_of self.share ≡ R.number_of token.old + 1 }
         ensures token { R.is_token_of (R.lot_of self.entry.mutex.now.0) token.new
-            × R.stays token.old token.new }
+            × R.keeps_rights token.old token.new }
         ensures guard { MatchResult result
             (λ guards. (guards.0.mutex.now ≡ self.entry.mutex.now)
             × (guards.1.mutex.now ≡ self.entry.mutex.now))
@@ -295,13 +295,13 @@ impl<'a, R: RawMutexCounted + RawMutexFair, G: GetThreadId<R>, T> ReentrantMutex
         requires token { R.is_token_of (R.lot_of self.mutex.now.0) token.old }
         requires named { R.thread_of self.share ≡ R.number_of token.old + 1 }
         ensures token { R.is_token_of (R.lot_of self.entry.mutex.now.0) token.new
-            × R.stays token.old token.new }
+            × R.keeps_rights token.old token.new }
         ensures guard { result.mutex.now ≡ self.entry.mutex.now }
         ensures named { R.thread_of result.share ≡ R.number_of token.old + 1 }
         ensures path { Bumped (SawMore (R.saw_count self.entry.mutex.now.0))
             (CountedOutAlone (R.saw_count self.entry.mutex.now.0)
             (R.stored_count self.entry.mutex.now.0))
-            (R.walked self.entry.mutex.now.0 Bump answers.Ok)
+            (R.took_steps self.entry.mutex.now.0 Bump answers.Ok)
             (λ inside new. R.stored_count self.entry.mutex.now.0 0
             (first_count (R.number_of inside)) inside new) token.old token.new }
     {
@@ -329,10 +329,10 @@ impl<R: RawMutexCounted + RawMutexFair, G, T> ReentrantMutexGuard<'_, R, G, T> {
         requires token { R.is_token_of (R.lot_of self.mutex.now.0) token.old }
         requires named { R.thread_of self.share ≡ R.number_of token.old + 1 }
         ensures token { R.is_token_of (R.lot_of self.entry.mutex.now.0) token.new
-            × R.stays token.old token.new }
+            × R.keeps_rights token.old token.new }
         ensures path { WentOff (CountedLess (R.stored_count self.entry.mutex.now.0))
             (CountedOut (R.stored_count self.entry.mutex.now.0))
-            (Both (R.walked self.entry.mutex.now.0 UnlockFair answers.Ok)
+            (Both (R.took_steps self.entry.mutex.now.0 UnlockFair answers.Ok)
             (R.released self.entry.mutex.now.0 UnlockFair)) token.old token.new }
     {
         let ReentrantMutexGuard {
@@ -373,10 +373,10 @@ impl<'a, R: RawMutexCounted, G, T> Unlocks for ReentrantMutexGuard<'a, R, G, T> 
         × (R.thread_of guard.share ≡ R.number_of token + 1) };
 
     ghost unlocked = { λ guard old new. R.is_token_of (R.lot_of guard.mutex.now.0) new
-        × R.stays old new
+        × R.keeps_rights old new
         × WentOff (CountedLess (R.stored_count guard.mutex.now.0))
         (CountedOut (R.stored_count guard.mutex.now.0))
-        (Both (R.walked guard.mutex.now.0 Unlock answers.Ok)
+        (Both (R.took_steps guard.mutex.now.0 Unlock answers.Ok)
         (R.released guard.mutex.now.0 Unlock)) old new };
 
     #[inline]
@@ -387,10 +387,10 @@ impl<'a, R: RawMutexCounted, G, T> Unlocks for ReentrantMutexGuard<'a, R, G, T> 
 
 impl<'a, R: RawMutexCounted + RawMutexFair, G, T> UnlocksFair for ReentrantMutexGuard<'a, R, G, T> {
     ghost unlocked_fair = { λ guard old new. R.is_token_of (R.lot_of guard.mutex.now.0) new
-        × R.stays old new
+        × R.keeps_rights old new
         × WentOff (CountedLess (R.stored_count guard.mutex.now.0))
         (CountedOut (R.stored_count guard.mutex.now.0))
-        (Both (R.walked guard.mutex.now.0 UnlockFair answers.Ok)
+        (Both (R.took_steps guard.mutex.now.0 UnlockFair answers.Ok)
         (R.released guard.mutex.now.0 UnlockFair)) old new };
 
     #[inline]

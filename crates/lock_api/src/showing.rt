@@ -18,9 +18,9 @@ impl<R: RawMutex, T> Mutex<R, T> {
     /// does. The call `close` spends what is shown, and unlocks.
     pub fn show(&self, token: &mut R::Token) -> Shown<MutexGuard<'_, R, T>>
         requires { R.is_token_of (R.lot_of self.now) token.old }
-        ensures token { R.is_token_of (R.lot_of self.now) token.new × R.stays token.old token.new }
+        ensures token { R.is_token_of (R.lot_of self.now) token.new × R.keeps_rights token.old token.new }
         ensures guard { IfSome result.guard (λ guard. lock_of guard ≡ self.now) }
-        ensures path { R.walked self.now TryLock (answer_by result.guard) token.old token.new }
+        ensures path { R.took_steps self.now TryLock (answer_by result.guard) token.old token.new }
     {
         Shown::new(LockName::Mutex, self.try_lock(token))
     }
@@ -31,19 +31,19 @@ impl<R: RawMutexCounted, G: GetThreadId<R>, T> ReentrantMutex<R, G, T> {
     /// another does, or where this one has locked it as often as can be counted.
     pub fn show(&self, token: &mut R::Token) -> Shown<ReentrantMutexGuard<'_, R, G, T>>
         requires { R.is_token_of (R.lot_of self.now.0) token.old }
-        ensures token { R.is_token_of (R.lot_of self.now.0) token.new × R.stays token.old token.new }
+        ensures token { R.is_token_of (R.lot_of self.now.0) token.new × R.keeps_rights token.old token.new }
         ensures guard { IfSome result.guard (λ guard. guard.mutex.now ≡ self.now) }
         ensures named { IfSome result.guard
             (λ guard. R.thread_of guard.share ≡ R.number_of token.old + 1) }
         ensures path { MatchOption result.guard
             (StayedOut (SawOthers (R.saw_count self.now.0) (R.number_of token.old))
-            (R.walked self.now.0 TryLock answers.No) token.old token.new
+            (R.took_steps self.now.0 TryLock answers.No) token.old token.new
             ⊎ SawFull (R.saw_count self.now.0) (R.number_of token.old) token.old token.new)
             (λ _. CameIn
             (CountedAgain (R.saw_count self.now.0) (R.stored_count self.now.0)
             (R.number_of token.old))
             (SawOthers (R.saw_count self.now.0) (R.number_of token.old))
-            (R.walked self.now.0 TryLock answers.Yes)
+            (R.took_steps self.now.0 TryLock answers.Yes)
             (R.stored_count self.now.0 0 (first_count (R.number_of token.old)))
             token.old token.new) }
     {

@@ -14,8 +14,8 @@ impl<R: RawMutex, T> Mutex<R, T> {
     where
         T: Copy,
         requires { R.is_token_of (R.lot_of self.now) token.old }
-        ensures token { R.is_token_of (R.lot_of self.now) token.new × R.stays token.old token.new }
-        ensures path { CameAndWent (R.walked self.now) (R.released self.now)
+        ensures token { R.is_token_of (R.lot_of self.now) token.new × R.keeps_rights token.old token.new }
+        ensures path { CameAndWent (R.took_steps self.now) (R.released self.now)
             Lock answers.Ok Unlock token.old token.new }
     {
         let guard = self.lock(rt, token);
@@ -28,8 +28,8 @@ impl<R: RawMutex, T> Mutex<R, T> {
     /// unlocks.
     pub fn replace<W: Wait>(&self, rt: &W, token: &mut R::Token, value: T) -> T
         requires { R.is_token_of (R.lot_of self.now) token.old }
-        ensures token { R.is_token_of (R.lot_of self.now) token.new × R.stays token.old token.new }
-        ensures path { CameAndWent (R.walked self.now) (R.released self.now)
+        ensures token { R.is_token_of (R.lot_of self.now) token.new × R.keeps_rights token.old token.new }
+        ensures path { CameAndWent (R.took_steps self.now) (R.released self.now)
             Lock answers.Ok Unlock token.old token.new }
     {
         let mut guard = self.lock(rt, token);
@@ -43,8 +43,8 @@ impl<R: RawMutex, T> Mutex<R, T> {
     where
         T: Drop,
         requires { R.is_token_of (R.lot_of self.now) token.old }
-        ensures token { R.is_token_of (R.lot_of self.now) token.new × R.stays token.old token.new }
-        ensures path { CameAndWent (R.walked self.now) (R.released self.now)
+        ensures token { R.is_token_of (R.lot_of self.now) token.new × R.keeps_rights token.old token.new }
+        ensures path { CameAndWent (R.took_steps self.now) (R.released self.now)
             Lock answers.Ok Unlock token.old token.new }
     {
         drop(self.replace(rt, token, value));

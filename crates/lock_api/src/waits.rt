@@ -69,7 +69,7 @@ impl<R: RawCondvar> Condvar<R> {
         requires lot { R.RawMutex.lot_of (lock_of guard) ≡ R.lot_of self.now }
         requires callable { F.IsAlwaysCallable condition }
         ensures token { R.RawMutex.is_token_of (R.lot_of self.now) token.new
-            × WaitedOrNot R.RawMutex.stays token.old token.new }
+            × WaitedOrNot R.RawMutex.keeps_rights token.old token.new }
         ensures guard { GivesBack result (λ back. lock_of back ≡ lock_of guard.entry) }
         ensures path { WaitsWhile (R.waited self.now (lock_of guard.entry) false)
             result token.old token.new }
@@ -108,7 +108,7 @@ impl<R: RawCondvarTimed> Condvar<R> {
         requires token { R.RawMutex.is_token_of (R.lot_of self.now) token.old }
         requires lot { R.RawMutex.lot_of (lock_of guard) ≡ R.lot_of self.now }
         ensures token { R.RawMutex.is_token_of (R.lot_of self.now) token.new
-            × R.RawMutex.stays token.old token.new }
+            × R.RawMutex.keeps_rights token.old token.new }
         ensures guard { GivesBackTimed result (λ back. lock_of back ≡ lock_of guard.entry) }
         ensures path { R.waited self.now (lock_of guard.entry) true
             (timed_answer result) token.old token.new }
@@ -141,7 +141,7 @@ impl<R: RawCondvarTimed> Condvar<R> {
         requires token { R.RawMutex.is_token_of (R.lot_of self.now) token.old }
         requires lot { R.RawMutex.lot_of (lock_of guard) ≡ R.lot_of self.now }
         ensures token { R.RawMutex.is_token_of (R.lot_of self.now) token.new
-            × R.RawMutex.stays token.old token.new }
+            × R.RawMutex.keeps_rights token.old token.new }
         ensures guard { GivesBackTimed result (λ back. lock_of back ≡ lock_of guard.entry) }
         ensures path { R.waited self.now (lock_of guard.entry) true
             (timed_answer result) token.old token.new }
@@ -179,7 +179,7 @@ impl<R: RawCondvarTimed> Condvar<R> {
         requires lot { R.RawMutex.lot_of (lock_of guard) ≡ R.lot_of self.now }
         requires callable { F.IsAlwaysCallable condition }
         ensures token { R.RawMutex.is_token_of (R.lot_of self.now) token.new
-            × WaitedOrNot R.RawMutex.stays token.old token.new }
+            × WaitedOrNot R.RawMutex.keeps_rights token.old token.new }
         ensures guard { GivesBackTimed result (λ back. lock_of back ≡ lock_of guard.entry) }
         ensures path { WaitsInTime (R.waited self.now (lock_of guard.entry) true)
             result token.old token.new }
@@ -225,7 +225,7 @@ impl<R: RawCondvarTimed> Condvar<R> {
         requires lot { R.RawMutex.lot_of (lock_of guard) ≡ R.lot_of self.now }
         requires callable { F.IsAlwaysCallable condition }
         ensures token { R.RawMutex.is_token_of (R.lot_of self.now) token.new
-            × WaitedOrNot R.RawMutex.stays token.old token.new }
+            × WaitedOrNot R.RawMutex.keeps_rights token.old token.new }
         ensures guard { GivesBackTimed result (λ back. lock_of back ≡ lock_of guard.entry) }
         ensures path { WaitsInTime (R.waited self.now (lock_of guard.entry) true)
             result token.old token.new

@@ -9,36 +9,36 @@ use Rattle.spec_locks.specs.declared.calls.RwLockCall.TheVariants.{Enter, Releas
 use Rattle.spec_locks.specs.declared.outcomes.Answer.{Answer}
 use Rattle.spec_locks.specs.declared.outcomes.Answer.TheVariants as answers
 
-module _ {Raw Token : Type 0} (walked : Raw → RwLockCall → Answer → Token → Token → Type 0)
-    (woke : Raw → RwLockCall → Token → Token → Type 0) where
+module _ {Raw Token : Type 0} (took_steps : Raw → RwLockCall → Answer → Token → Token → Type 0)
+    (woke_waiters : Raw → RwLockCall → Token → Token → Type 0) where
   -- it came in with a guard, and released that
   pub came_and_went : (held lock : Raw) (entry : RwLockCall) (answer : Answer) (release : RwLockCall)
-      (old inside new : Token) → held ≡ lock → walked lock entry answer old inside
-      → walked held release answers.Ok inside new → woke held release inside new
-      → CameAndWent (walked lock) (woke lock) entry answer release old new
+      (old inside new : Token) → held ≡ lock → took_steps lock entry answer old inside
+      → took_steps held release answers.Ok inside new → woke_waiters held release inside new
+      → CameAndWent (took_steps lock) (woke_waiters lock) entry answer release old new
   came_and_went held lock entry answer release old inside new of came went woken = (
     inside,
     came,
-    subst (λ l. walked l release answers.Ok inside new) of went,
-    subst (λ l. woke l release inside new) of woken,
+    subst (λ l. took_steps l release answers.Ok inside new) of went,
+    subst (λ l. woke_waiters l release inside new) of woken,
   )
 
   -- it came in with a guard, upgraded that, and released the other
   pub came_up_and_went : (held alone lock : Raw) (old inside owned new : Token) → held ≡ lock → alone ≡ held
-      → walked lock (Enter access.Upgradable Patient) answers.Ok old inside
-      → walked held (Upgrade Patient) answers.Ok inside owned
-      → walked alone (Release access.Exclusive) answers.Ok owned new
-      → woke alone (Release access.Exclusive) owned new
-      → CameUpAndWent (walked lock) (woke lock) old new
+      → took_steps lock (Enter access.Upgradable Patient) answers.Ok old inside
+      → took_steps held (Upgrade Patient) answers.Ok inside owned
+      → took_steps alone (Release access.Exclusive) answers.Ok owned new
+      → woke_waiters alone (Release access.Exclusive) owned new
+      → CameUpAndWent (took_steps lock) (woke_waiters lock) old new
   came_up_and_went held alone lock old inside owned new of same came up went woken = (
     inside,
     owned,
     came,
-    subst (λ l. walked l (Upgrade Patient) answers.Ok inside owned) of up,
-    subst (λ l. walked l (Release access.Exclusive) answers.Ok owned new) of
-        (subst (λ l. walked l (Release access.Exclusive) answers.Ok owned new) same went),
-    subst (λ l. woke l (Release access.Exclusive) owned new) of
-        (subst (λ l. woke l (Release access.Exclusive) owned new) same woken),
+    subst (λ l. took_steps l (Upgrade Patient) answers.Ok inside owned) of up,
+    subst (λ l. took_steps l (Release access.Exclusive) answers.Ok owned new) of
+        (subst (λ l. took_steps l (Release access.Exclusive) answers.Ok owned new) same went),
+    subst (λ l. woke_waiters l (Release access.Exclusive) owned new) of
+        (subst (λ l. woke_waiters l (Release access.Exclusive) owned new) same woken),
   )
 
 -- a thread of the second guard's lot is one of the lock's

@@ -10,8 +10,8 @@ use Rattle.spec_locks.specs.declared.outcomes.Answer.TheVariants as answers
 -- has woken the threads that it lets in
 abbrev pub CameUpAndWent : {Token : Type 0} → (RwLockCall → Answer → Token → Token → Type 0)
     → (RwLockCall → Token → Token → Type 0) → Token → Token → Type 0
-CameUpAndWent {Token = Token} walked woke old new = (inside : Token) × (alone : Token)
-    × walked (Enter access.Upgradable Patient) answers.Ok old inside
-    × walked (Upgrade Patient) answers.Ok inside alone
-    × walked (Release access.Exclusive) answers.Ok alone new
-    × woke (Release access.Exclusive) alone new
+CameUpAndWent {Token = Token} took_steps woke_waiters old new = (inside : Token) × (alone : Token)
+    × took_steps (Enter access.Upgradable Patient) answers.Ok old inside
+    × took_steps (Upgrade Patient) answers.Ok inside alone
+    × took_steps (Release access.Exclusive) answers.Ok alone new
+    × woke_waiters (Release access.Exclusive) alone new

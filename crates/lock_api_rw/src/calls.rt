@@ -33,9 +33,9 @@ impl<R: RawRwLockTimed, T> RwLock<R, T> {
         timeout: Duration,
     ) -> Result<Option<RwLockReadGuard<'_, R, T>>, Fault>
         requires { R.is_token_of (R.lot_of self.now) token.old }
-        ensures token { R.is_token_of (R.lot_of self.now) token.new × R.stays token.old token.new }
+        ensures token { R.is_token_of (R.lot_of self.now) token.new × R.keeps_rights token.old token.new }
         ensures guard { TriesOrFull result (λ guard. lock_of guard ≡ self.now) }
-        ensures path { R.walked self.now (Enter access.Shared Timed)
+        ensures path { R.took_steps self.now (Enter access.Shared Timed)
             (counted_answer result) token.old token.new }
         ensures full { IfErr result (λ _. R.saw_full self.now access.Shared token.old token.new) }
         ensures left { IfOk result
@@ -64,9 +64,9 @@ impl<R: RawRwLockTimed, T> RwLock<R, T> {
         deadline: u64,
     ) -> Result<Option<RwLockReadGuard<'_, R, T>>, Fault>
         requires { R.is_token_of (R.lot_of self.now) token.old }
-        ensures token { R.is_token_of (R.lot_of self.now) token.new × R.stays token.old token.new }
+        ensures token { R.is_token_of (R.lot_of self.now) token.new × R.keeps_rights token.old token.new }
         ensures guard { TriesOrFull result (λ guard. lock_of guard ≡ self.now) }
-        ensures path { R.walked self.now (Enter access.Shared Timed)
+        ensures path { R.took_steps self.now (Enter access.Shared Timed)
             (counted_answer result) token.old token.new }
         ensures full { IfErr result (λ _. R.saw_full self.now access.Shared token.old token.new) }
         ensures left { IfOk result
@@ -94,9 +94,9 @@ impl<R: RawRwLockTimed, T> RwLock<R, T> {
         timeout: Duration,
     ) -> Option<RwLockWriteGuard<'_, R, T>>
         requires { R.is_token_of (R.lot_of self.now) token.old }
-        ensures token { R.is_token_of (R.lot_of self.now) token.new × R.stays token.old token.new }
+        ensures token { R.is_token_of (R.lot_of self.now) token.new × R.keeps_rights token.old token.new }
         ensures guard { IfSome result (λ guard. lock_of guard ≡ self.now) }
-        ensures path { R.walked self.now (Enter access.Exclusive Timed)
+        ensures path { R.took_steps self.now (Enter access.Exclusive Timed)
             (answer_by result) token.old token.new }
         ensures left { IfNone result (R.gave_up self.now (Enter access.Exclusive Timed) token.new) }
         ensures late { IfNone result (HasElapsed (C.tells clock.now) (as_nanos timeout)) }
@@ -117,9 +117,9 @@ impl<R: RawRwLockTimed, T> RwLock<R, T> {
         deadline: u64,
     ) -> Option<RwLockWriteGuard<'_, R, T>>
         requires { R.is_token_of (R.lot_of self.now) token.old }
-        ensures token { R.is_token_of (R.lot_of self.now) token.new × R.stays token.old token.new }
+        ensures token { R.is_token_of (R.lot_of self.now) token.new × R.keeps_rights token.old token.new }
         ensures guard { IfSome result (λ guard. lock_of guard ≡ self.now) }
-        ensures path { R.walked self.now (Enter access.Exclusive Timed)
+        ensures path { R.took_steps self.now (Enter access.Exclusive Timed)
             (answer_by result) token.old token.new }
         ensures left { IfNone result (R.gave_up self.now (Enter access.Exclusive Timed) token.new) }
         ensures late { IfNone result (HasPassed (C.tells clock.now) deadline) }
@@ -149,9 +149,9 @@ impl<R: RawRwLockUpgradeTimed, T> RwLock<R, T> {
         timeout: Duration,
     ) -> Result<Option<RwLockUpgradableReadGuard<'_, R, T>>, Fault>
         requires { R.is_token_of (R.lot_of self.now) token.old }
-        ensures token { R.is_token_of (R.lot_of self.now) token.new × R.stays token.old token.new }
+        ensures token { R.is_token_of (R.lot_of self.now) token.new × R.keeps_rights token.old token.new }
         ensures guard { TriesOrFull result (λ guard. lock_of guard ≡ self.now) }
-        ensures path { R.walked self.now (Enter access.Upgradable Timed)
+        ensures path { R.took_steps self.now (Enter access.Upgradable Timed)
             (counted_answer result) token.old token.new }
         ensures full { IfErr result
             (λ _. R.saw_full self.now access.Upgradable token.old token.new) }
@@ -185,9 +185,9 @@ impl<R: RawRwLockUpgradeTimed, T> RwLock<R, T> {
         deadline: u64,
     ) -> Result<Option<RwLockUpgradableReadGuard<'_, R, T>>, Fault>
         requires { R.is_token_of (R.lot_of self.now) token.old }
-        ensures token { R.is_token_of (R.lot_of self.now) token.new × R.stays token.old token.new }
+        ensures token { R.is_token_of (R.lot_of self.now) token.new × R.keeps_rights token.old token.new }
         ensures guard { TriesOrFull result (λ guard. lock_of guard ≡ self.now) }
-        ensures path { R.walked self.now (Enter access.Upgradable Timed)
+        ensures path { R.took_steps self.now (Enter access.Upgradable Timed)
             (counted_answer result) token.old token.new }
         ensures full { IfErr result
             (λ _. R.saw_full self.now access.Upgradable token.old token.new) }

@@ -21,10 +21,10 @@ impl<'a, R: RawRwLockFair, T> Held<Reading<'a, R, T>, Seen<'a, T>> {
     pub fn unlock_fair<W: Wait>(self, rt: &W, token: &mut R::Token)
         requires { R.is_token_of (R.lot_of (lock_of self)) token.old }
         ensures token { R.is_token_of (R.lot_of (lock_of self.entry)) token.new
-            × R.stays token.old token.new }
-        ensures path { R.walked (lock_of self.entry)
+            × R.keeps_rights token.old token.new }
+        ensures path { R.took_steps (lock_of self.entry)
             (ReleaseFair access.Shared) answers.Ok token.old token.new }
-        ensures record { R.woke (lock_of self.entry)
+        ensures record { R.woke_waiters (lock_of self.entry)
             (ReleaseFair access.Shared) token.old token.new }
     {
         let (lock, raw) = self.close_shared();
@@ -46,9 +46,9 @@ impl<'a, R: RawRwLockFair, T> Held<Reading<'a, R, T>, Seen<'a, T>> {
     ) -> Result<RwLockReadGuard<'a, R, T>, Fault>
         requires { R.is_token_of (R.lot_of (lock_of self)) token.old }
         ensures token { R.is_token_of (R.lot_of (lock_of self.entry)) token.new
-            × R.stays token.old token.new }
+            × R.keeps_rights token.old token.new }
         ensures guard { MatchResult result (λ guard. lock_of guard ≡ lock_of self.entry) IsReadersFull }
-        ensures path { R.walked (lock_of self.entry) (Bump access.Shared)
+        ensures path { R.took_steps (lock_of self.entry) (Bump access.Shared)
             (reading_answer result) token.old token.new }
         ensures full { IfErr result
             (λ _. R.saw_full (lock_of self.entry) access.Shared token.old token.new) }
@@ -69,10 +69,10 @@ impl<'a, R: RawRwLockUpgradeFair, T> Held<Upgrading<'a, R, T>, Seen<'a, T>> {
     pub fn unlock_fair<W: Wait>(self, rt: &W, token: &mut R::Token)
         requires { R.is_token_of (R.lot_of (lock_of self)) token.old }
         ensures token { R.is_token_of (R.lot_of (lock_of self.entry)) token.new
-            × R.stays token.old token.new }
-        ensures path { R.walked (lock_of self.entry)
+            × R.keeps_rights token.old token.new }
+        ensures path { R.took_steps (lock_of self.entry)
             (ReleaseFair access.Upgradable) answers.Ok token.old token.new }
-        ensures record { R.woke (lock_of self.entry)
+        ensures record { R.woke_waiters (lock_of self.entry)
             (ReleaseFair access.Upgradable) token.old token.new }
     {
         let (lock, raw) = self.close_upgradable();
@@ -94,9 +94,9 @@ impl<'a, R: RawRwLockUpgradeFair, T> Held<Upgrading<'a, R, T>, Seen<'a, T>> {
     ) -> Result<RwLockUpgradableReadGuard<'a, R, T>, Fault>
         requires { R.is_token_of (R.lot_of (lock_of self)) token.old }
         ensures token { R.is_token_of (R.lot_of (lock_of self.entry)) token.new
-            × R.stays token.old token.new }
+            × R.keeps_rights token.old token.new }
         ensures guard { MatchResult result (λ guard. lock_of guard ≡ lock_of self.entry) IsReadersFull }
-        ensures path { R.walked (lock_of self.entry) (Bump access.Upgradable)
+        ensures path { R.took_steps (lock_of self.entry) (Bump access.Upgradable)
             (reading_answer result) token.old token.new }
         ensures full { IfErr result
             (λ _. R.saw_full (lock_of self.entry) access.Upgradable token.old token.new) }
@@ -116,10 +116,10 @@ impl<'a, R: RawRwLockFair, T> Held<Writing<'a, R, T>, Open<'a, T>> {
     pub fn unlock_fair<W: Wait>(self, rt: &W, token: &mut R::Token)
         requires { R.is_token_of (R.lot_of (lock_of self)) token.old }
         ensures token { R.is_token_of (R.lot_of (lock_of self.entry)) token.new
-            × R.stays token.old token.new }
-        ensures path { R.walked (lock_of self.entry)
+            × R.keeps_rights token.old token.new }
+        ensures path { R.took_steps (lock_of self.entry)
             (ReleaseFair access.Exclusive) answers.Ok token.old token.new }
-        ensures record { R.woke (lock_of self.entry)
+        ensures record { R.woke_waiters (lock_of self.entry)
             (ReleaseFair access.Exclusive) token.old token.new }
     {
         let (lock, raw) = self.close_exclusive();
@@ -132,9 +132,9 @@ impl<'a, R: RawRwLockFair, T> Held<Writing<'a, R, T>, Open<'a, T>> {
     pub fn bump<W: Wait>(self, rt: &W, token: &mut R::Token) -> RwLockWriteGuard<'a, R, T>
         requires { R.is_token_of (R.lot_of (lock_of self)) token.old }
         ensures token { R.is_token_of (R.lot_of (lock_of self.entry)) token.new
-            × R.stays token.old token.new }
+            × R.keeps_rights token.old token.new }
         ensures guard { lock_of result ≡ lock_of self.entry }
-        ensures path { R.walked (lock_of self.entry)
+        ensures path { R.took_steps (lock_of self.entry)
             (Bump access.Exclusive) answers.Ok token.old token.new }
     {
         let (lock, raw) = self.close_exclusive();

@@ -49,10 +49,10 @@ impl<'a, R: RawRwLock, T> Held<Reading<'a, R, T>, Seen<'a, T>> {
     pub fn unlock<W: Wait>(self, rt: &W, token: &mut R::Token)
         requires { R.is_token_of (R.lot_of (lock_of self)) token.old }
         ensures token { R.is_token_of (R.lot_of (lock_of self.entry)) token.new
-            × R.stays token.old token.new }
-        ensures path { R.walked (lock_of self.entry)
+            × R.keeps_rights token.old token.new }
+        ensures path { R.took_steps (lock_of self.entry)
             (Release access.Shared) answers.Ok token.old token.new }
-        ensures record { R.woke (lock_of self.entry) (Release access.Shared) token.old token.new }
+        ensures record { R.woke_waiters (lock_of self.entry) (Release access.Shared) token.old token.new }
     {
         let (lock, raw) = self.close_shared();
         if let Some(rest) = lock.raw().unlock_shared_fast(token, raw) {
@@ -76,10 +76,10 @@ impl<'a, R: RawRwLockUpgrade, T> Held<Upgrading<'a, R, T>, Seen<'a, T>> {
     pub fn unlock<W: Wait>(self, rt: &W, token: &mut R::Token)
         requires { R.is_token_of (R.lot_of (lock_of self)) token.old }
         ensures token { R.is_token_of (R.lot_of (lock_of self.entry)) token.new
-            × R.stays token.old token.new }
-        ensures path { R.walked (lock_of self.entry)
+            × R.keeps_rights token.old token.new }
+        ensures path { R.took_steps (lock_of self.entry)
             (Release access.Upgradable) answers.Ok token.old token.new }
-        ensures record { R.woke (lock_of self.entry)
+        ensures record { R.woke_waiters (lock_of self.entry)
             (Release access.Upgradable) token.old token.new }
     {
         let (lock, raw) = self.close_upgradable();
@@ -105,9 +105,9 @@ impl<'a, R: RawRwLockUpgrade, T> Held<Upgrading<'a, R, T>, Seen<'a, T>> {
     pub fn upgrade<W: Wait>(self, rt: &W, token: &mut R::Token) -> RwLockWriteGuard<'a, R, T>
         requires { R.is_token_of (R.lot_of (lock_of self)) token.old }
         ensures token { R.is_token_of (R.lot_of (lock_of self.entry)) token.new
-            × R.stays token.old token.new }
+            × R.keeps_rights token.old token.new }
         ensures guard { lock_of result ≡ lock_of self.entry }
-        ensures path { R.walked (lock_of self.entry)
+        ensures path { R.took_steps (lock_of self.entry)
             (Upgrade Patient) answers.Ok token.old token.new }
     {
         let (lock, raw) = self.close_upgradable();
@@ -128,10 +128,10 @@ impl<'a, R: RawRwLockUpgrade, T> Held<Upgrading<'a, R, T>, Seen<'a, T>> {
     ) -> Result<RwLockWriteGuard<'a, R, T>, RwLockUpgradableReadGuard<'a, R, T>>
         requires { R.is_token_of (R.lot_of (lock_of self)) token.old }
         ensures token { R.is_token_of (R.lot_of (lock_of self.entry)) token.new
-            × R.stays token.old token.new }
+            × R.keeps_rights token.old token.new }
         ensures guard { MatchResult result (λ guard. lock_of guard ≡ lock_of self.entry)
             (λ guard. lock_of guard ≡ lock_of self.entry) }
-        ensures path { R.walked (lock_of self.entry) (Upgrade Try)
+        ensures path { R.took_steps (lock_of self.entry) (Upgrade Try)
             (upgrade_answer result) token.old token.new }
     {
         let (lock, raw) = self.close_upgradable();
@@ -159,10 +159,10 @@ impl<'a, R: RawRwLockUpgradeTimed, T> Held<Upgrading<'a, R, T>, Seen<'a, T>> {
     ) -> Result<RwLockWriteGuard<'a, R, T>, RwLockUpgradableReadGuard<'a, R, T>>
         requires { R.is_token_of (R.lot_of (lock_of self)) token.old }
         ensures token { R.is_token_of (R.lot_of (lock_of self.entry)) token.new
-            × R.stays token.old token.new }
+            × R.keeps_rights token.old token.new }
         ensures guard { MatchResult result (λ guard. lock_of guard ≡ lock_of self.entry)
             (λ guard. lock_of guard ≡ lock_of self.entry) }
-        ensures path { R.walked (lock_of self.entry) (Upgrade Timed)
+        ensures path { R.took_steps (lock_of self.entry) (Upgrade Timed)
             (upgrade_answer result) token.old token.new }
         ensures left { IfErr result
             (λ _. R.gave_up (lock_of self.entry) (Upgrade Timed) token.new) }
@@ -190,10 +190,10 @@ impl<'a, R: RawRwLockUpgradeTimed, T> Held<Upgrading<'a, R, T>, Seen<'a, T>> {
     ) -> Result<RwLockWriteGuard<'a, R, T>, RwLockUpgradableReadGuard<'a, R, T>>
         requires { R.is_token_of (R.lot_of (lock_of self)) token.old }
         ensures token { R.is_token_of (R.lot_of (lock_of self.entry)) token.new
-            × R.stays token.old token.new }
+            × R.keeps_rights token.old token.new }
         ensures guard { MatchResult result (λ guard. lock_of guard ≡ lock_of self.entry)
             (λ guard. lock_of guard ≡ lock_of self.entry) }
-        ensures path { R.walked (lock_of self.entry) (Upgrade Timed)
+        ensures path { R.took_steps (lock_of self.entry) (Upgrade Timed)
             (upgrade_answer result) token.old token.new }
         ensures left { IfErr result
             (λ _. R.gave_up (lock_of self.entry) (Upgrade Timed) token.new) }
@@ -216,11 +216,11 @@ impl<'a, R: RawRwLockUpgradeDowngrade, T> Held<Upgrading<'a, R, T>, Seen<'a, T>>
     pub fn downgrade<W: Wait>(self, rt: &W, token: &mut R::Token) -> RwLockReadGuard<'a, R, T>
         requires { R.is_token_of (R.lot_of (lock_of self)) token.old }
         ensures token { R.is_token_of (R.lot_of (lock_of self.entry)) token.new
-            × R.stays token.old token.new }
+            × R.keeps_rights token.old token.new }
         ensures guard { lock_of result ≡ lock_of self.entry }
-        ensures path { R.walked (lock_of self.entry) (Downgrade downgrades.UpgradableToShared)
+        ensures path { R.took_steps (lock_of self.entry) (Downgrade downgrades.UpgradableToShared)
             answers.Ok token.old token.new }
-        ensures record { R.woke (lock_of self.entry)
+        ensures record { R.woke_waiters (lock_of self.entry)
             (Downgrade downgrades.UpgradableToShared) token.old token.new }
     {
         let (lock, raw) = self.close_upgradable();
@@ -244,10 +244,10 @@ impl<'a, R: RawRwLock, T> Held<Writing<'a, R, T>, Open<'a, T>> {
     pub fn unlock<W: Wait>(self, rt: &W, token: &mut R::Token)
         requires { R.is_token_of (R.lot_of (lock_of self)) token.old }
         ensures token { R.is_token_of (R.lot_of (lock_of self.entry)) token.new
-            × R.stays token.old token.new }
-        ensures path { R.walked (lock_of self.entry)
+            × R.keeps_rights token.old token.new }
+        ensures path { R.took_steps (lock_of self.entry)
             (Release access.Exclusive) answers.Ok token.old token.new }
-        ensures record { R.woke (lock_of self.entry)
+        ensures record { R.woke_waiters (lock_of self.entry)
             (Release access.Exclusive) token.old token.new }
     {
         let (lock, raw) = self.close_exclusive();
@@ -299,11 +299,11 @@ impl<'a, R: RawRwLockDowngrade, T> Held<Writing<'a, R, T>, Open<'a, T>> {
     pub fn downgrade<W: Wait>(self, rt: &W, token: &mut R::Token) -> RwLockReadGuard<'a, R, T>
         requires { R.is_token_of (R.lot_of (lock_of self)) token.old }
         ensures token { R.is_token_of (R.lot_of (lock_of self.entry)) token.new
-            × R.stays token.old token.new }
+            × R.keeps_rights token.old token.new }
         ensures guard { lock_of result ≡ lock_of self.entry }
-        ensures path { R.walked (lock_of self.entry)
+        ensures path { R.took_steps (lock_of self.entry)
             (Downgrade downgrades.ToShared) answers.Ok token.old token.new }
-        ensures record { R.woke (lock_of self.entry)
+        ensures record { R.woke_waiters (lock_of self.entry)
             (Downgrade downgrades.ToShared) token.old token.new }
     {
         let (lock, raw) = self.close_exclusive();
@@ -322,11 +322,11 @@ impl<'a, R: RawRwLockUpgradeDowngrade, T> Held<Writing<'a, R, T>, Open<'a, T>> {
     ) -> RwLockUpgradableReadGuard<'a, R, T>
         requires { R.is_token_of (R.lot_of (lock_of self)) token.old }
         ensures token { R.is_token_of (R.lot_of (lock_of self.entry)) token.new
-            × R.stays token.old token.new }
+            × R.keeps_rights token.old token.new }
         ensures guard { lock_of result ≡ lock_of self.entry }
-        ensures path { R.walked (lock_of self.entry) (Downgrade downgrades.ToUpgradable)
+        ensures path { R.took_steps (lock_of self.entry) (Downgrade downgrades.ToUpgradable)
             answers.Ok token.old token.new }
-        ensures record { R.woke (lock_of self.entry)
+        ensures record { R.woke_waiters (lock_of self.entry)
             (Downgrade downgrades.ToUpgradable) token.old token.new }
     {
         let (lock, raw) = self.close_exclusive();

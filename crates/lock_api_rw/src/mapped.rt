@@ -54,9 +54,9 @@ impl<'a, R: RawRwLock, T> Unlocks for Held<Reading<'a, R, T>, Seen<'a, T>> {
     ghost may_unlock = { λ guard token. R.is_token_of (R.lot_of (lock_of guard)) token };
 
     ghost unlocked = { λ guard old new. R.is_token_of (R.lot_of (lock_of guard)) new
-        × R.stays old new
-        × R.walked (lock_of guard) (Release access.Shared) answers.Ok old new
-        × R.woke (lock_of guard) (Release access.Shared) old new };
+        × R.keeps_rights old new
+        × R.took_steps (lock_of guard) (Release access.Shared) answers.Ok old new
+        × R.woke_waiters (lock_of guard) (Release access.Shared) old new };
 
     #[inline]
     fn unlock<W: Wait>(self, rt: &W, token: &mut R::Token) {
@@ -66,9 +66,9 @@ impl<'a, R: RawRwLock, T> Unlocks for Held<Reading<'a, R, T>, Seen<'a, T>> {
 
 impl<'a, R: RawRwLockFair, T> UnlocksFair for Held<Reading<'a, R, T>, Seen<'a, T>> {
     ghost unlocked_fair = { λ guard old new. R.is_token_of (R.lot_of (lock_of guard)) new
-        × R.stays old new
-        × R.walked (lock_of guard) (ReleaseFair access.Shared) answers.Ok old new
-        × R.woke (lock_of guard) (ReleaseFair access.Shared) old new };
+        × R.keeps_rights old new
+        × R.took_steps (lock_of guard) (ReleaseFair access.Shared) answers.Ok old new
+        × R.woke_waiters (lock_of guard) (ReleaseFair access.Shared) old new };
 
     #[inline]
     fn unlock_fair<W: Wait>(self, rt: &W, token: &mut R::Token) {
@@ -107,9 +107,9 @@ impl<'a, R: RawRwLock, T> Unlocks for Held<Writing<'a, R, T>, Open<'a, T>> {
     ghost may_unlock = { λ guard token. R.is_token_of (R.lot_of (lock_of guard)) token };
 
     ghost unlocked = { λ guard old new. R.is_token_of (R.lot_of (lock_of guard)) new
-        × R.stays old new
-        × R.walked (lock_of guard) (Release access.Exclusive) answers.Ok old new
-        × R.woke (lock_of guard) (Release access.Exclusive) old new };
+        × R.keeps_rights old new
+        × R.took_steps (lock_of guard) (Release access.Exclusive) answers.Ok old new
+        × R.woke_waiters (lock_of guard) (Release access.Exclusive) old new };
 
     #[inline]
     fn unlock<W: Wait>(self, rt: &W, token: &mut R::Token) {
@@ -119,9 +119,9 @@ impl<'a, R: RawRwLock, T> Unlocks for Held<Writing<'a, R, T>, Open<'a, T>> {
 
 impl<'a, R: RawRwLockFair, T> UnlocksFair for Held<Writing<'a, R, T>, Open<'a, T>> {
     ghost unlocked_fair = { λ guard old new. R.is_token_of (R.lot_of (lock_of guard)) new
-        × R.stays old new
-        × R.walked (lock_of guard) (ReleaseFair access.Exclusive) answers.Ok old new
-        × R.woke (lock_of guard) (ReleaseFair access.Exclusive) old new };
+        × R.keeps_rights old new
+        × R.took_steps (lock_of guard) (ReleaseFair access.Exclusive) answers.Ok old new
+        × R.woke_waiters (lock_of guard) (ReleaseFair access.Exclusive) old new };
 
     #[inline]
     fn unlock_fair<W: Wait>(self, rt: &W, token: &mut R::Token) {

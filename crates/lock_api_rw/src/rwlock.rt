@@ -60,7 +60,7 @@ impl<R: RawRwLock, T> RwLock<R, T> {
         value: T,
     ) -> Result<RwLock<R, T>, (Fault, T)>
         requires { R.is_token_of (arc_value lot.now) token.old }
-        ensures token { R.is_token_of (arc_value lot.now) token.new × R.stays token.old token.new }
+        ensures token { R.is_token_of (arc_value lot.now) token.new × R.keeps_rights token.old token.new }
         ensures made { MatchResult result
             (λ lock. (R.lot_of lock ≡ arc_value lot.now) × (R.limit_of lock ≡ 1152921504606846974))
             (λ refused. (refused.1 ≡ value)
@@ -93,7 +93,7 @@ impl<R: RawRwLock, T> RwLock<R, T> {
         requires token { R.is_token_of (arc_value lot.now) token.old }
         requires limit { (R.seats_of (arc_value lot.now) ≤ limit)
             × (limit ≤ 1152921504606846974) }
-        ensures token { R.is_token_of (arc_value lot.now) token.new × R.stays token.old token.new }
+        ensures token { R.is_token_of (arc_value lot.now) token.new × R.keeps_rights token.old token.new }
         ensures made { MatchResult result
             (λ lock. (R.lot_of lock ≡ arc_value lot.now) × (R.limit_of lock ≡ limit))
             (λ refused. (refused.1 ≡ value)
@@ -144,9 +144,9 @@ impl<R: RawRwLock, T> RwLock<R, T> {
         token: &mut R::Token,
     ) -> Result<RwLockReadGuard<'_, R, T>, Fault>
         requires { R.is_token_of (R.lot_of self.now) token.old }
-        ensures token { R.is_token_of (R.lot_of self.now) token.new × R.stays token.old token.new }
+        ensures token { R.is_token_of (R.lot_of self.now) token.new × R.keeps_rights token.old token.new }
         ensures guard { MatchResult result (λ guard. lock_of guard ≡ self.now) IsReadersFull }
-        ensures path { R.walked self.now (Enter access.Shared Patient)
+        ensures path { R.took_steps self.now (Enter access.Shared Patient)
             (reading_answer result) token.old token.new }
         ensures full { IfErr result (λ _. R.saw_full self.now access.Shared token.old token.new) }
     {
@@ -172,9 +172,9 @@ impl<R: RawRwLock, T> RwLock<R, T> {
         token: &mut R::Token,
     ) -> Result<Option<RwLockReadGuard<'_, R, T>>, Fault>
         requires { R.is_token_of (R.lot_of self.now) token.old }
-        ensures token { R.is_token_of (R.lot_of self.now) token.new × R.stays token.old token.new }
+        ensures token { R.is_token_of (R.lot_of self.now) token.new × R.keeps_rights token.old token.new }
         ensures guard { TriesOrFull result (λ guard. lock_of guard ≡ self.now) }
-        ensures path { R.walked self.now (Enter access.Shared Try)
+        ensures path { R.took_steps self.now (Enter access.Shared Try)
             (counted_answer result) token.old token.new }
         ensures full { IfErr result (λ _. R.saw_full self.now access.Shared token.old token.new) }
     {
@@ -189,9 +189,9 @@ impl<R: RawRwLock, T> RwLock<R, T> {
     #[inline]
     pub fn write<W: Wait>(&self, rt: &W, token: &mut R::Token) -> RwLockWriteGuard<'_, R, T>
         requires { R.is_token_of (R.lot_of self.now) token.old }
-        ensures token { R.is_token_of (R.lot_of self.now) token.new × R.stays token.old token.new }
+        ensures token { R.is_token_of (R.lot_of self.now) token.new × R.keeps_rights token.old token.new }
         ensures guard { lock_of result ≡ self.now }
-        ensures path { R.walked self.now
+        ensures path { R.took_steps self.now
             (Enter access.Exclusive Patient) answers.Ok token.old token.new }
     {
         let raw = match self.raw.lock_exclusive_fast(token) {
@@ -205,9 +205,9 @@ impl<R: RawRwLock, T> RwLock<R, T> {
     #[inline]
     pub fn try_write(&self, token: &mut R::Token) -> Option<RwLockWriteGuard<'_, R, T>>
         requires { R.is_token_of (R.lot_of self.now) token.old }
-        ensures token { R.is_token_of (R.lot_of self.now) token.new × R.stays token.old token.new }
+        ensures token { R.is_token_of (R.lot_of self.now) token.new × R.keeps_rights token.old token.new }
         ensures guard { IfSome result (λ guard. lock_of guard ≡ self.now) }
-        ensures path { R.walked self.now (Enter access.Exclusive Try)
+        ensures path { R.took_steps self.now (Enter access.Exclusive Try)
             (answer_by result) token.old token.new }
     {
         let raw = self.raw.try_lock_exclusive(token)?;
@@ -218,7 +218,7 @@ impl<R: RawRwLock, T> RwLock<R, T> {
     #[inline]
     pub fn is_locked(&self, token: &mut R::Token) -> bool
         requires { R.is_token_of (R.lot_of self.now) token.old }
-        ensures token { R.is_token_of (R.lot_of self.now) token.new × R.stays token.old token.new }
+        ensures token { R.is_token_of (R.lot_of self.now) token.new × R.keeps_rights token.old token.new }
         ensures seen { R.looked self.now result token.old token.new }
     {
         self.raw.is_locked(token)
@@ -228,7 +228,7 @@ impl<R: RawRwLock, T> RwLock<R, T> {
     #[inline]
     pub fn is_locked_exclusive(&self, token: &mut R::Token) -> bool
         requires { R.is_token_of (R.lot_of self.now) token.old }
-        ensures token { R.is_token_of (R.lot_of self.now) token.new × R.stays token.old token.new }
+        ensures token { R.is_token_of (R.lot_of self.now) token.new × R.keeps_rights token.old token.new }
         ensures seen { R.looked_for_writer self.now result token.old token.new }
     {
         self.raw.is_locked_exclusive(token)
@@ -263,9 +263,9 @@ impl<R: RawRwLockUpgrade, T> RwLock<R, T> {
         token: &mut R::Token,
     ) -> Result<RwLockUpgradableReadGuard<'_, R, T>, Fault>
         requires { R.is_token_of (R.lot_of self.now) token.old }
-        ensures token { R.is_token_of (R.lot_of self.now) token.new × R.stays token.old token.new }
+        ensures token { R.is_token_of (R.lot_of self.now) token.new × R.keeps_rights token.old token.new }
         ensures guard { MatchResult result (λ guard. lock_of guard ≡ self.now) IsReadersFull }
-        ensures path { R.walked self.now (Enter access.Upgradable Patient)
+        ensures path { R.took_steps self.now (Enter access.Upgradable Patient)
             (reading_answer result) token.old token.new }
         ensures full { IfErr result
             (λ _. R.saw_full self.now access.Upgradable token.old token.new) }
@@ -292,9 +292,9 @@ impl<R: RawRwLockUpgrade, T> RwLock<R, T> {
         token: &mut R::Token,
     ) -> Result<Option<RwLockUpgradableReadGuard<'_, R, T>>, Fault>
         requires { R.is_token_of (R.lot_of self.now) token.old }
-        ensures token { R.is_token_of (R.lot_of self.now) token.new × R.stays token.old token.new }
+        ensures token { R.is_token_of (R.lot_of self.now) token.new × R.keeps_rights token.old token.new }
         ensures guard { TriesOrFull result (λ guard. lock_of guard ≡ self.now) }
-        ensures path { R.walked self.now (Enter access.Upgradable Try)
+        ensures path { R.took_steps self.now (Enter access.Upgradable Try)
             (counted_answer result) token.old token.new }
         ensures full { IfErr result
             (λ _. R.saw_full self.now access.Upgradable token.old token.new) }

@@ -16,13 +16,13 @@ impl<R: RawRwLock, T> RwLock<R, T> {
     // One try to read, which a full lock refuses as a writer does.
     fn look<W: Wait>(&self, rt: &W, token: &mut R::Token) -> Option<RwLockReadGuard<'_, R, T>>
         requires { R.is_token_of (R.lot_of self.now) token.old }
-        ensures token { R.is_token_of (R.lot_of self.now) token.new × R.stays token.old token.new }
+        ensures token { R.is_token_of (R.lot_of self.now) token.new × R.keeps_rights token.old token.new }
         ensures guard { IfSome result (λ guard. lock_of guard ≡ self.now) }
         ensures path { MatchOption result
-            ((R.walked self.now (Enter access.Shared Try) answers.No token.old token.new)
-            ⊎ (R.walked self.now (Enter access.Shared Try) answers.ReadersFull token.old token.new
+            ((R.took_steps self.now (Enter access.Shared Try) answers.No token.old token.new)
+            ⊎ (R.took_steps self.now (Enter access.Shared Try) answers.ReadersFull token.old token.new
             × R.saw_full self.now access.Shared token.old token.new))
-            (λ _. R.walked self.now (Enter access.Shared Try) answers.Yes token.old token.new) }
+            (λ _. R.took_steps self.now (Enter access.Shared Try) answers.Yes token.old token.new) }
     {
         match self.try_read(rt, token) {
             Ok(Some(guard)) => Some(guard),
@@ -36,13 +36,13 @@ impl<R: RawRwLock, T> RwLock<R, T> {
     /// what is shown, and unlocks.
     pub fn show<W: Wait>(&self, rt: &W, token: &mut R::Token) -> Shown<RwLockReadGuard<'_, R, T>>
         requires { R.is_token_of (R.lot_of self.now) token.old }
-        ensures token { R.is_token_of (R.lot_of self.now) token.new × R.stays token.old token.new }
+        ensures token { R.is_token_of (R.lot_of self.now) token.new × R.keeps_rights token.old token.new }
         ensures guard { IfSome result.guard (λ guard. lock_of guard ≡ self.now) }
         ensures path { MatchOption result.guard
-            ((R.walked self.now (Enter access.Shared Try) answers.No token.old token.new)
-            ⊎ (R.walked self.now (Enter access.Shared Try) answers.ReadersFull token.old token.new
+            ((R.took_steps self.now (Enter access.Shared Try) answers.No token.old token.new)
+            ⊎ (R.took_steps self.now (Enter access.Shared Try) answers.ReadersFull token.old token.new
             × R.saw_full self.now access.Shared token.old token.new))
-            (λ _. R.walked self.now (Enter access.Shared Try) answers.Yes token.old token.new) }
+            (λ _. R.took_steps self.now (Enter access.Shared Try) answers.Yes token.old token.new) }
     {
         let guard = self.look(rt, token);
         Shown::new(LockName::RwLock, guard)

@@ -37,13 +37,13 @@ impl<R: RawRwLock, T> RwLock<R, T> {
     ) -> Result<U, Fault>
         requires token { R.is_token_of (R.lot_of self.now) token.old }
         requires callable { F.IsAlwaysCallable f }
-        ensures token { R.is_token_of (R.lot_of self.now) token.new × R.stays token.old token.new }
+        ensures token { R.is_token_of (R.lot_of self.now) token.new × R.keeps_rights token.old token.new }
         ensures ran { MatchResult result
             (λ answer. (found : T) × FnOnceReturnsAt F.FnOnce f found answer) IsReadersFull }
         ensures path { MatchResult result
-            (λ _. CameAndWent (R.walked self.now) (R.woke self.now)
+            (λ _. CameAndWent (R.took_steps self.now) (R.woke_waiters self.now)
             (Enter access.Shared Patient) answers.Ok (Release access.Shared) token.old token.new)
-            (λ _. R.walked self.now
+            (λ _. R.took_steps self.now
             (Enter access.Shared Patient) answers.ReadersFull token.old token.new) }
         ensures full { IfErr result (λ _. R.saw_full self.now access.Shared token.old token.new) }
     {
@@ -67,9 +67,9 @@ impl<R: RawRwLock, T> RwLock<R, T> {
     ) -> U
         requires token { R.is_token_of (R.lot_of self.now) token.old }
         requires callable { F.IsAlwaysCallable f }
-        ensures token { R.is_token_of (R.lot_of self.now) token.new × R.stays token.old token.new }
+        ensures token { R.is_token_of (R.lot_of self.now) token.new × R.keeps_rights token.old token.new }
         ensures ran { (found : T) × (left : T) × FnOnceReturnsAtMut F.FnOnce f found result left }
-        ensures path { CameAndWent (R.walked self.now) (R.woke self.now)
+        ensures path { CameAndWent (R.took_steps self.now) (R.woke_waiters self.now)
             (Enter access.Exclusive Patient) answers.Ok (Release access.Exclusive)
             token.old token.new }
     {
@@ -93,15 +93,15 @@ impl<R: RawRwLock, T> RwLock<R, T> {
     ) -> Result<Option<U>, Fault>
         requires token { R.is_token_of (R.lot_of self.now) token.old }
         requires callable { F.IsAlwaysCallable f }
-        ensures token { R.is_token_of (R.lot_of self.now) token.new × R.stays token.old token.new }
+        ensures token { R.is_token_of (R.lot_of self.now) token.new × R.keeps_rights token.old token.new }
         ensures ran { TriesOrFull result
             (λ answer. (found : T) × FnOnceReturnsAt F.FnOnce f found answer) }
         ensures path { MatchResult result
             (λ tried. MatchOption tried
-            (R.walked self.now (Enter access.Shared Try) answers.No token.old token.new)
-            (λ _. CameAndWent (R.walked self.now) (R.woke self.now)
+            (R.took_steps self.now (Enter access.Shared Try) answers.No token.old token.new)
+            (λ _. CameAndWent (R.took_steps self.now) (R.woke_waiters self.now)
             (Enter access.Shared Try) answers.Yes (Release access.Shared) token.old token.new))
-            (λ _. R.walked self.now
+            (λ _. R.took_steps self.now
             (Enter access.Shared Try) answers.ReadersFull token.old token.new) }
         ensures full { IfErr result (λ _. R.saw_full self.now access.Shared token.old token.new) }
     {
@@ -126,12 +126,12 @@ impl<R: RawRwLock, T> RwLock<R, T> {
     ) -> Option<U>
         requires token { R.is_token_of (R.lot_of self.now) token.old }
         requires callable { F.IsAlwaysCallable f }
-        ensures token { R.is_token_of (R.lot_of self.now) token.new × R.stays token.old token.new }
+        ensures token { R.is_token_of (R.lot_of self.now) token.new × R.keeps_rights token.old token.new }
         ensures ran { IfSome result (λ answer. (found : T) × (left : T)
             × FnOnceReturnsAtMut F.FnOnce f found answer left) }
         ensures path { MatchOption result
-            (R.walked self.now (Enter access.Exclusive Try) answers.No token.old token.new)
-            (λ _. CameAndWent (R.walked self.now) (R.woke self.now)
+            (R.took_steps self.now (Enter access.Exclusive Try) answers.No token.old token.new)
+            (λ _. CameAndWent (R.took_steps self.now) (R.woke_waiters self.now)
             (Enter access.Exclusive Try) answers.Yes (Release access.Exclusive)
             token.old token.new) }
     {
@@ -158,15 +158,15 @@ impl<R: RawRwLockUpgrade, T> RwLock<R, T> {
     >(&self, rt: &W, token: &mut R::Token, look: L, write: F) -> Result<U, Fault>
         requires token { R.is_token_of (R.lot_of self.now) token.old }
         requires callable { L.IsAlwaysCallable look × F.IsAlwaysCallable write }
-        ensures token { R.is_token_of (R.lot_of self.now) token.new × R.stays token.old token.new }
+        ensures token { R.is_token_of (R.lot_of self.now) token.new × R.keeps_rights token.old token.new }
         ensures visit { MatchResult result
             (λ answer. (((found : T) × FnOnceReturnsAt L.FnOnce look found (Some answer))
-            × CameAndWent (R.walked self.now) (R.woke self.now) (Enter access.Upgradable Patient)
+            × CameAndWent (R.took_steps self.now) (R.woke_waiters self.now) (Enter access.Upgradable Patient)
             answers.Ok (Release access.Upgradable) token.old token.new)
             ⊎ (((found : T) × FnOnceReturnsAt L.FnOnce look found None)
             × ((found : T) × (left : T) × FnOnceReturnsAtMut F.FnOnce write found answer left)
-            × CameUpAndWent (R.walked self.now) (R.woke self.now) token.old token.new))
-            (λ fault. IsReadersFull fault × R.walked self.now
+            × CameUpAndWent (R.took_steps self.now) (R.woke_waiters self.now) token.old token.new))
+            (λ fault. IsReadersFull fault × R.took_steps self.now
             (Enter access.Upgradable Patient) answers.ReadersFull token.old token.new) }
         ensures full { IfErr result
             (λ _. R.saw_full self.now access.Upgradable token.old token.new) }

@@ -6,11 +6,12 @@ use Rattle.lock_monitor.specs.Conditions.{IsRefusedAtLast}
 use Rattle.lock_raw.specs.Answers.{IsRefusal}
 
 -- the thread is the same after one more wait, and after all before it
-pub stays_after : {Token : Type 0} (stays : Token → Token → Type 0)
-    → ((first next last : Token) → stays first next → stays next last → stays first last)
-    → (first next last : Token) → WaitedOrNot stays first next → stays next last → stays first last
-stays_after stays on first next last (inl same) then = subst (λ t. stays t last) same then
-stays_after stays on first next last (inr afterwards) then = on first next last afterwards then
+pub stays_after : {Token : Type 0} (keeps_rights : Token → Token → Type 0)
+    → ((first next last : Token) → keeps_rights first next → keeps_rights next last → keeps_rights first last)
+    → (first next last : Token) → WaitedOrNot keeps_rights first next → keeps_rights next last
+    → keeps_rights first last
+stays_after keeps_rights on first next last (inl same) then = subst (λ t. keeps_rights t last) same then
+stays_after keeps_rights on first next last (inr afterwards) then = on first next last afterwards then
 
 -- a refusal is one at last
 pub refused_at_last : {Token : Type 0} (found_full : Token → Token → Type 0) (old new : Token) (fault : Fault)

@@ -47,7 +47,7 @@ fn conditions<R: RawCondvar + Drop>(
 ) -> Result<Vec<Condvar<R>>, Fault>
     requires { R.RawMutex.is_token_of (arc_value lot.now) token.old }
     ensures token { R.RawMutex.is_token_of (arc_value lot.now) token.new
-        × WaitedOrNot R.RawMutex.stays token.old token.new }
+        × WaitedOrNot R.RawMutex.keeps_rights token.old token.new }
     ensures made { IfOk result (λ made. (length made.items ≡ number)
         × All (λ condition. R.lot_of condition ≡ arc_value lot.now) made.items) }
     ensures err { IfErr result
@@ -79,7 +79,7 @@ impl<R: RawCondvar + Drop, T, const N: usize> Monitor<R, T, N> {
     ) -> Result<Monitor<R, T, N>, (Fault, T)>
         requires { R.RawMutex.is_token_of (arc_value lot.now) token.old }
         ensures token { R.RawMutex.is_token_of (arc_value lot.now) token.new
-            × WaitedOrNot R.RawMutex.stays token.old token.new }
+            × WaitedOrNot R.RawMutex.keeps_rights token.old token.new }
         ensures made { MatchResult result
             (λ monitor. R.RawMutex.lot_of monitor.0 ≡ arc_value lot.now)
             (λ refused. (refused.1 ≡ value) × IsRefusedAtLast
@@ -118,9 +118,9 @@ impl<R: RawCondvar, T, const N: usize> Monitor<R, T, N> {
     pub fn lock<W: Wait>(&self, rt: &W, token: &mut TokenOf<R>) -> MutexGuard<'_, R::RawMutex, T>
         requires { R.RawMutex.is_token_of (R.RawMutex.lot_of self.now.0) token.old }
         ensures token { R.RawMutex.is_token_of (R.RawMutex.lot_of self.now.0) token.new
-            × R.RawMutex.stays token.old token.new }
+            × R.RawMutex.keeps_rights token.old token.new }
         ensures guard { lock_of result ≡ self.now.0 }
-        ensures path { R.RawMutex.walked self.now.0 Lock answers.Ok token.old token.new }
+        ensures path { R.RawMutex.took_steps self.now.0 Lock answers.Ok token.old token.new }
     {
         self.mutex.lock(rt, token)
     }
@@ -135,9 +135,9 @@ impl<R: RawCondvar, T, const N: usize> Monitor<R, T, N> {
         requires token { R.RawMutex.is_token_of (R.RawMutex.lot_of self.now.0) token.old }
         requires callable { F.IsAlwaysCallable f }
         ensures token { R.RawMutex.is_token_of (R.RawMutex.lot_of self.now.0) token.new
-            × R.RawMutex.stays token.old token.new }
+            × R.RawMutex.keeps_rights token.old token.new }
         ensures ran { (found : T) × (left : T) × FnOnceReturnsAtMut F.FnOnce f found result left }
-        ensures path { CameAndWent (R.RawMutex.walked self.now.0) (R.RawMutex.released self.now.0)
+        ensures path { CameAndWent (R.RawMutex.took_steps self.now.0) (R.RawMutex.released self.now.0)
             Lock answers.Ok Unlock token.old token.new }
     {
         self.mutex.with(rt, token, f)
@@ -149,7 +149,7 @@ impl<R: RawCondvar, T, const N: usize> Monitor<R, T, N> {
         requires token { R.RawMutex.is_token_of (R.RawMutex.lot_of self.now.0) token.old }
         requires number { at < N }
         ensures token { R.RawMutex.is_token_of (R.RawMutex.lot_of self.now.0) token.new
-            × R.RawMutex.stays token.old token.new }
+            × R.RawMutex.keeps_rights token.old token.new }
         ensures path { At self.now.1 at (λ condition. R.notified condition false
             (notifying_answer result) token.old token.new) }
         ensures record { At self.now.1 at (λ condition. R.moved condition false
@@ -164,7 +164,7 @@ impl<R: RawCondvar, T, const N: usize> Monitor<R, T, N> {
         requires token { R.RawMutex.is_token_of (R.RawMutex.lot_of self.now.0) token.old }
         requires number { at < N }
         ensures token { R.RawMutex.is_token_of (R.RawMutex.lot_of self.now.0) token.new
-            × R.RawMutex.stays token.old token.new }
+            × R.RawMutex.keeps_rights token.old token.new }
         ensures path { At self.now.1 at (λ condition. R.notified condition true
             (answers.Number result) token.old token.new) }
         ensures record { At self.now.1 at (λ condition. R.moved condition true

@@ -27,7 +27,7 @@ pub(crate) fn wait_on<'a, R: RawCondvar, W: Wait, T>(
     requires token { R.RawMutex.is_token_of (R.lot_of condvar.now) token.old }
     requires lot { R.RawMutex.lot_of (lock_of guard) ≡ R.lot_of condvar.now }
     ensures token { R.RawMutex.is_token_of (R.lot_of condvar.now) token.new
-        × R.RawMutex.stays token.old token.new }
+        × R.RawMutex.keeps_rights token.old token.new }
     ensures guard { lock_of result ≡ lock_of guard.entry }
     ensures path { WaitsAtLast (R.waited condvar.now (lock_of guard.entry) false)
         answers.Ok token.old token.new }
@@ -53,7 +53,7 @@ pub(crate) fn wait_while_on<'a, R: RawCondvar, W: Wait, T, F: FnMut(&mut T) -> b
     requires lot { R.RawMutex.lot_of (lock_of guard) ≡ R.lot_of condvar.now }
     requires callable { F.IsAlwaysCallable condition }
     ensures token { R.RawMutex.is_token_of (R.lot_of condvar.now) token.new
-        × WaitedOrNot R.RawMutex.stays token.old token.new }
+        × WaitedOrNot R.RawMutex.keeps_rights token.old token.new }
     ensures guard { lock_of result ≡ lock_of guard.entry }
     ensures path { WaitsOften (R.waited condvar.now (lock_of guard.entry) false)
         answers.Ok token.old token.new }
@@ -81,7 +81,7 @@ pub(crate) fn wait_until_on<'a, R: RawCondvarTimed, W: Wait, C: Clock, T>(
     requires token { R.RawMutex.is_token_of (R.lot_of condvar.now) token.old }
     requires lot { R.RawMutex.lot_of (lock_of guard) ≡ R.lot_of condvar.now }
     ensures token { R.RawMutex.is_token_of (R.lot_of condvar.now) token.new
-        × R.RawMutex.stays token.old token.new }
+        × R.RawMutex.keeps_rights token.old token.new }
     ensures guard { lock_of result.0 ≡ lock_of guard.entry }
     ensures path { WaitsAtLast (R.waited condvar.now (lock_of guard.entry) true)
         (late_answer result.1) token.old token.new }
@@ -118,7 +118,7 @@ pub(crate) fn wait_while_until_on<
     requires lot { R.RawMutex.lot_of (lock_of guard) ≡ R.lot_of condvar.now }
     requires callable { F.IsAlwaysCallable condition }
     ensures token { R.RawMutex.is_token_of (R.lot_of condvar.now) token.new
-        × WaitedOrNot R.RawMutex.stays token.old token.new }
+        × WaitedOrNot R.RawMutex.keeps_rights token.old token.new }
     ensures guard { lock_of result.0 ≡ lock_of guard.entry }
     ensures path { WaitsOftenInTime (R.waited condvar.now (lock_of guard.entry) true)
         token.old token.new }

@@ -152,7 +152,7 @@ impl Team {
         f: &F,
     ) -> Result<Team, Fault>
         requires may { MayRun F.Fn f.now self }
-        requires stays { GivesTokenBack F.Fn f.now self }
+        requires keeps_rights { GivesTokenBack F.Fn f.now self }
         ensures team { IfOk result (λ team. team ≡ self) }
         ensures calls { IfOk result (λ _. EachHasRun F.Fn f.now self times) }
         ensures err { IfErr result (λ fault. fault ≡ Fault.NoMemory) }

@@ -33,7 +33,7 @@ impl<R: RawCondvar, T, const N: usize> Monitor<R, T, N> {
         requires mutex { lock_of guard ≡ self.now.0 }
         requires number { at < N }
         ensures token { R.RawMutex.is_token_of (R.RawMutex.lot_of self.now.0) token.new
-            × R.RawMutex.stays token.old token.new }
+            × R.RawMutex.keeps_rights token.old token.new }
         ensures guard { lock_of result ≡ self.now.0 }
         ensures path { At self.now.1 at (λ condvar. WaitsAtLast
             (R.waited condvar self.now.0 false) answers.Ok token.old token.new) }
@@ -56,7 +56,7 @@ impl<R: RawCondvar, T, const N: usize> Monitor<R, T, N> {
         requires number { at < N }
         requires callable { F.IsAlwaysCallable condition }
         ensures token { R.RawMutex.is_token_of (R.RawMutex.lot_of self.now.0) token.new
-            × WaitedOrNot R.RawMutex.stays token.old token.new }
+            × WaitedOrNot R.RawMutex.keeps_rights token.old token.new }
         ensures guard { lock_of result ≡ self.now.0 }
         ensures path { At self.now.1 at (λ condvar. WaitsOften
             (R.waited condvar self.now.0 false) answers.Ok token.old token.new) }
@@ -80,14 +80,14 @@ impl<R: RawCondvar, T, const N: usize> Monitor<R, T, N> {
         requires number { at < N }
         requires callable { C.IsAlwaysCallable condition × F.IsAlwaysCallable f }
         ensures token { R.RawMutex.is_token_of (R.RawMutex.lot_of self.now.0) token.new
-            × R.RawMutex.stays token.old token.new }
+            × R.RawMutex.keeps_rights token.old token.new }
         ensures ran { (found : T) × (left : T)
             × StoppedAt C.step (CallKeepsClosure C.FnMut condition) condition found
             × FnOnceReturnsAtMut F.FnOnce f found result left }
-        ensures path { CameWaitedAndWent (R.RawMutex.walked self.now.0 Lock answers.Ok)
+        ensures path { CameWaitedAndWent (R.RawMutex.took_steps self.now.0 Lock answers.Ok)
             (λ inside awake. At self.now.1 at (λ condvar. WaitsOften
             (R.waited condvar self.now.0 false) answers.Ok inside awake))
-            (λ awake new. R.RawMutex.walked self.now.0 Unlock answers.Ok awake new
+            (λ awake new. R.RawMutex.took_steps self.now.0 Unlock answers.Ok awake new
             × R.RawMutex.released self.now.0 Unlock awake new) token.old token.new }
     {
         let guard = self.lock(rt, token);
@@ -114,7 +114,7 @@ impl<R: RawCondvarTimed, T, const N: usize> Monitor<R, T, N> {
         requires mutex { lock_of guard ≡ self.now.0 }
         requires number { at < N }
         ensures token { R.RawMutex.is_token_of (R.RawMutex.lot_of self.now.0) token.new
-            × R.RawMutex.stays token.old token.new }
+            × R.RawMutex.keeps_rights token.old token.new }
         ensures guard { lock_of result.0 ≡ self.now.0 }
         ensures path { At self.now.1 at (λ condvar. WaitsAtLast
             (R.waited condvar self.now.0 true) (late_answer result.1) token.old token.new) }
@@ -140,7 +140,7 @@ impl<R: RawCondvarTimed, T, const N: usize> Monitor<R, T, N> {
         requires number { at < N }
         requires callable { F.IsAlwaysCallable condition }
         ensures token { R.RawMutex.is_token_of (R.RawMutex.lot_of self.now.0) token.new
-            × WaitedOrNot R.RawMutex.stays token.old token.new }
+            × WaitedOrNot R.RawMutex.keeps_rights token.old token.new }
         ensures guard { lock_of result.0 ≡ self.now.0 }
         ensures path { At self.now.1 at (λ condvar. WaitsOftenInTime
             (R.waited condvar self.now.0 true) token.old token.new) }

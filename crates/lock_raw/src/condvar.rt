@@ -51,7 +51,7 @@ pub trait RawCondvar {
     ) -> Result<Self, Fault>
         requires { Self.RawMutex.is_token_of (arc_value lot.now) token.old }
         ensures token { Self.RawMutex.is_token_of (arc_value lot.now) token.new
-            × Self.RawMutex.stays token.old token.new }
+            × Self.RawMutex.keeps_rights token.old token.new }
         ensures made { MatchResult result (λ condvar. lot_of condvar ≡ arc_value lot.now)
             (IsRefusal (Self.RawMutex.found_full (arc_value lot.now)) token.old token.new) }
         ensures drawn { IfOk result (λ condvar. drew condvar token.old token.new) };
@@ -73,7 +73,7 @@ pub trait RawCondvar {
         requires lot { Self.RawMutex.lot_of mutex.now ≡ lot_of self.now }
         requires guard { Self.RawMutex.is_guard_of mutex.now guard }
         ensures token { Self.RawMutex.is_token_of (lot_of self.now) token.new
-            × Self.RawMutex.stays token.old token.new }
+            × Self.RawMutex.keeps_rights token.old token.new }
         ensures guard { GivesBack result (Self.RawMutex.is_guard_of mutex.now) }
         ensures path { waited self.now mutex.now false
             (waiting_answer result) token.old token.new };
@@ -83,7 +83,7 @@ pub trait RawCondvar {
     fn notify_fast(&self, token: &mut <Self::RawMutex as RawMutex>::Token) -> u64
         requires { Self.RawMutex.is_token_of (lot_of self.now) token.old }
         ensures token { Self.RawMutex.is_token_of (lot_of self.now) token.new
-            × Self.RawMutex.stays token.old token.new }
+            × Self.RawMutex.keeps_rights token.old token.new }
         ensures looked { looked self.now result token.old token.new }
         ensures one { result ≡ 0
             → notified self.now false No token.old token.new
@@ -103,7 +103,7 @@ pub trait RawCondvar {
         requires looked { (before : Self.RawMutex.Token) × looked self.now seen before token.old }
         requires some { seen ≢ 0 }
         ensures token { Self.RawMutex.is_token_of (lot_of self.now) token.new
-            × Self.RawMutex.stays token.old token.new }
+            × Self.RawMutex.keeps_rights token.old token.new }
         ensures path { (before : Self.RawMutex.Token) → looked self.now seen before token.old
             → notified self.now false (notifying_answer result) before token.new
             × moved self.now false (moved_first result) before token.new };
@@ -119,7 +119,7 @@ pub trait RawCondvar {
         requires looked { (before : Self.RawMutex.Token) × looked self.now seen before token.old }
         requires some { seen ≢ 0 }
         ensures token { Self.RawMutex.is_token_of (lot_of self.now) token.new
-            × Self.RawMutex.stays token.old token.new }
+            × Self.RawMutex.keeps_rights token.old token.new }
         ensures path { (before : Self.RawMutex.Token) → looked self.now seen before token.old
             → notified self.now true (Number result) before token.new
             × moved self.now true result before token.new };
@@ -129,7 +129,7 @@ pub trait RawCondvar {
     fn notify_one<R: Wait>(&self, rt: &R, token: &mut <Self::RawMutex as RawMutex>::Token) -> bool
         requires { Self.RawMutex.is_token_of (lot_of self.now) token.old }
         ensures token { Self.RawMutex.is_token_of (lot_of self.now) token.new
-            × Self.RawMutex.stays token.old token.new }
+            × Self.RawMutex.keeps_rights token.old token.new }
         ensures path { notified self.now false (notifying_answer result) token.old token.new }
         ensures record { moved self.now false (moved_first result) token.old token.new }
     {
@@ -145,7 +145,7 @@ pub trait RawCondvar {
     fn notify_all<R: Wait>(&self, rt: &R, token: &mut <Self::RawMutex as RawMutex>::Token) -> usize
         requires { Self.RawMutex.is_token_of (lot_of self.now) token.old }
         ensures token { Self.RawMutex.is_token_of (lot_of self.now) token.new
-            × Self.RawMutex.stays token.old token.new }
+            × Self.RawMutex.keeps_rights token.old token.new }
         ensures path { notified self.now true (Number result) token.old token.new }
         ensures record { moved self.now true result token.old token.new }
     {
@@ -192,7 +192,7 @@ pub trait RawCondvarTimed: RawCondvar {
         requires lot { Self.RawMutex.lot_of mutex.now ≡ Self.lot_of self.now }
         requires guard { Self.RawMutex.is_guard_of mutex.now guard }
         ensures token { Self.RawMutex.is_token_of (Self.lot_of self.now) token.new
-            × Self.RawMutex.stays token.old token.new }
+            × Self.RawMutex.keeps_rights token.old token.new }
         ensures guard { GivesBackTimed result (Self.RawMutex.is_guard_of mutex.now) }
         ensures path { Self.waited self.now mutex.now true
             (timed_answer result) token.old token.new }
@@ -220,7 +220,7 @@ pub trait RawCondvarTimed: RawCondvar {
         requires lot { Self.RawMutex.lot_of mutex.now ≡ Self.lot_of self.now }
         requires guard { Self.RawMutex.is_guard_of mutex.now guard }
         ensures token { Self.RawMutex.is_token_of (Self.lot_of self.now) token.new
-            × Self.RawMutex.stays token.old token.new }
+            × Self.RawMutex.keeps_rights token.old token.new }
         ensures guard { GivesBackTimed result (Self.RawMutex.is_guard_of mutex.now) }
         ensures path { Self.waited self.now mutex.now true
             (timed_answer result) token.old token.new }

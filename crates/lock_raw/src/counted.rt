@@ -62,7 +62,7 @@ pub trait RawMutexCounted: RawMutex {
     ) -> Result<(Self, Self::Count), Fault>
         requires { Self.is_token_of (arc_value lot.now) token.old }
         ensures token { Self.is_token_of (arc_value lot.now) token.new
-            × Self.stays token.old token.new }
+            × Self.keeps_rights token.old token.new }
         ensures made { MatchResult result
             (λ pair. (Self.lot_of pair.0 ≡ arc_value lot.now) × is_count_of pair.0 pair.1
             × drew_pair pair.0 token.old token.new)
@@ -85,7 +85,7 @@ pub trait RawMutexCounted: RawMutex {
         requires count { is_count_of self.now count.now }
         requires thread { thread ≡ Self.number_of token.old + 1 }
         ensures token { Self.is_token_of (Self.lot_of self.now) token.new
-            × Self.stays token.old token.new }
+            × Self.keeps_rights token.old token.new }
         ensures share { MatchResult result
             (λ taken. MatchOption taken
             (SawOthers (saw_count self.now) (Self.number_of token.old) token.old token.new)
@@ -113,7 +113,7 @@ pub trait RawMutexCounted: RawMutex {
         requires thread { thread ≡ Self.number_of token.old + 1 }
         requires share { is_share_of self.now share × (thread_of share ≡ thread) }
         ensures token { Self.is_token_of (Self.lot_of self.now) token.new
-            × Self.stays token.old token.new }
+            × Self.keeps_rights token.old token.new }
         ensures share { MatchResult result
             (λ shares. is_share_of self.now shares.0 × is_share_of self.now shares.1
             × CountedMore (stored_count self.now) (Self.number_of token.old) token.old token.new)
@@ -137,7 +137,7 @@ pub trait RawMutexCounted: RawMutex {
         requires thread { thread ≡ Self.number_of token.old + 1 }
         requires guard { Self.is_guard_of self.now guard }
         ensures token { Self.is_token_of (Self.lot_of self.now) token.new
-            × Self.stays token.old token.new }
+            × Self.keeps_rights token.old token.new }
         ensures share { is_share_of self.now result }
         ensures begun { stored_count self.now 0 (first_count (Self.number_of token.old)) token.old
             token.new }
@@ -156,7 +156,7 @@ pub trait RawMutexCounted: RawMutex {
         requires share { is_share_of self.now share
             × (thread_of share ≡ Self.number_of token.old + 1) }
         ensures token { Self.is_token_of (Self.lot_of self.now) token.new
-            × Self.stays token.old token.new }
+            × Self.keeps_rights token.old token.new }
         ensures guard { MatchOption result
             (CountedLess (stored_count self.now) token.old token.new)
             (λ guard. Self.is_guard_of self.now guard
@@ -175,7 +175,7 @@ pub trait RawMutexCounted: RawMutex {
         requires share { is_share_of self.now share
             × (thread_of share ≡ Self.number_of token.old + 1) }
         ensures token { Self.is_token_of (Self.lot_of self.now) token.new
-            × Self.stays token.old token.new }
+            × Self.keeps_rights token.old token.new }
         ensures guard { MatchResult result
             (λ guard. Self.is_guard_of self.now guard
             × CountedOutAlone (saw_count self.now) (stored_count self.now) token.old token.new)

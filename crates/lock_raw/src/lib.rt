@@ -50,14 +50,14 @@ pub trait RawMutex {
     // A thread belongs to a lot.
     ghost is_token_of: { Self.Lot → Self.Token → Type 0 };
     // It is the same thread, and owns what it did.
-    ghost stays: { Self.Token → Self.Token → Type 0 };
+    ghost keeps_rights: { Self.Token → Self.Token → Type 0 };
     // What stays through each of two calls stays through both.
-    ghost stays_on: { (first next last : Self.Token) → stays first next → stays next last
-        → stays first last };
+    ghost keeps_rights_on: { (first next last : Self.Token) → keeps_rights first next → keeps_rights next last
+        → keeps_rights first last };
     // The number of a thread, from 0, which it keeps meanwhile.
     ghost number_of: { Self.Token → ℕ };
 
-    ghost number_stays: { (old new : Self.Token) → stays old new
+    ghost number_stays: { (old new : Self.Token) → keeps_rights old new
         → number_of new ≡ number_of old };
     // A guard is of this mutex.
     ghost is_guard_of: { Self → Self.Guard → Type 0 };
@@ -76,7 +76,7 @@ pub trait RawMutex {
     // Between them its last step found the lot full, and it drew nothing.
     ghost found_full: { Self.Lot → Self.Token → Self.Token → Type 0 };
     // Between them it took the steps of this call of the mutex, to this answer.
-    ghost walked: { Self → MutexCall → Answer → Self.Token → Self.Token → Type 0 };
+    ghost took_steps: { Self → MutexCall → Answer → Self.Token → Self.Token → Type 0 };
     // Between them it gave the mutex up by this call, and took the first that waits where it saw a
     // waiter.
     ghost released: { Self → MutexCall → Self.Token → Self.Token → Type 0 };
@@ -93,7 +93,7 @@ pub trait RawMutex {
     /// `LotFull`, where the lot has no word left, and `NoMemory`, where memory was refused.
     fn new(lot: &Arc<Self::Lot>, token: &mut Self::Token) -> Result<Self, Fault>
         requires { is_token_of (arc_value lot.now) token.old }
-        ensures token { is_token_of (arc_value lot.now) token.new × stays token.old token.new }
+        ensures token { is_token_of (arc_value lot.now) token.new × keeps_rights token.old token.new }
         ensures made { MatchResult result (λ mutex. lot_of mutex ≡ arc_value lot.now)
             (IsRefusal (found_full (arc_value lot.now)) token.old token.new) }
         ensures drawn { IfOk result (λ mutex. drew mutex token.old token.new) };
@@ -101,29 +101,29 @@ pub trait RawMutex {
     /// Waits until nobody has the mutex, and takes it.
     fn lock<R: Wait>(&self, rt: &R, token: &mut Self::Token) -> Self::Guard
         requires { is_token_of (lot_of self.now) token.old }
-        ensures token { is_token_of (lot_of self.now) token.new × stays token.old token.new }
+        ensures token { is_token_of (lot_of self.now) token.new × keeps_rights token.old token.new }
         ensures guard { is_guard_of self.now result }
-        ensures path { walked self.now Lock answers.Ok token.old token.new };
+        ensures path { took_steps self.now Lock answers.Ok token.old token.new };
 
     /// Takes the mutex where nobody has it.
     fn try_lock(&self, token: &mut Self::Token) -> Option<Self::Guard>
         requires { is_token_of (lot_of self.now) token.old }
-        ensures token { is_token_of (lot_of self.now) token.new × stays token.old token.new }
+        ensures token { is_token_of (lot_of self.now) token.new × keeps_rights token.old token.new }
         ensures guard { IfSome result (is_guard_of self.now) }
-        ensures path { walked self.now TryLock (answer_by result) token.old token.new };
+        ensures path { took_steps self.now TryLock (answer_by result) token.old token.new };
 
     /// Gives the mutex up, and wakes the first that waits for it. The guard is spent.
     fn unlock<R: Wait>(&self, rt: &R, token: &mut Self::Token, guard: Self::Guard)
         requires token { is_token_of (lot_of self.now) token.old }
         requires guard { is_guard_of self.now guard }
-        ensures token { is_token_of (lot_of self.now) token.new × stays token.old token.new }
-        ensures path { walked self.now Unlock answers.Ok token.old token.new }
+        ensures token { is_token_of (lot_of self.now) token.new × keeps_rights token.old token.new }
+        ensures path { took_steps self.now Unlock answers.Ok token.old token.new }
         ensures record { released self.now Unlock token.old token.new };
 
     /// Whether somebody has the mutex.
     fn is_locked(&self, token: &mut Self::Token) -> bool
         requires { is_token_of (lot_of self.now) token.old }
-        ensures token { is_token_of (lot_of self.now) token.new × stays token.old token.new }
+        ensures token { is_token_of (lot_of self.now) token.new × keeps_rights token.old token.new }
         ensures seen { looked self.now result token.old token.new };
 
     /// Takes the permit of the value out of a guard. It does nothing at run time.
@@ -146,8 +146,8 @@ pub trait RawMutex {
         requires { is_token_of (lot_of self.now) token.old }
         ensures token { is_token_of (lot_of self.now) token.new }
         ensures over { IfOk result
-            (λ guard. stays token.old token.new
-            × walked self.now Lock answers.Ok token.old token.new
+            (λ guard. keeps_rights token.old token.new
+            × took_steps self.now Lock answers.Ok token.old token.new
             × is_guard_of self.now guard) }
         ensures begun { IfErr result (λ seen. begun self.now Lock seen token.old token.new) };
 
@@ -158,7 +158,7 @@ pub trait RawMutex {
         ensures token { is_token_of (lot_of self.now) token.new }
         ensures guard { is_guard_of self.now result }
         ensures over { (before : Self.Token) → begun self.now Lock seen before token.old
-            → stays before token.new × walked self.now Lock answers.Ok before token.new };
+            → keeps_rights before token.new × took_steps self.now Lock answers.Ok before token.new };
 
     /// The lot of the mutex.
     fn lot(&self) -> &Self::Lot
@@ -180,7 +180,7 @@ pub trait RawMutex {
         requires guard { is_guard_of self.now guard }
         ensures token { is_token_of (lot_of self.now) token.new }
         ensures over { IfNone result
-            (stays token.old token.new × walked self.now Unlock answers.Ok token.old token.new
+            (keeps_rights token.old token.new × took_steps self.now Unlock answers.Ok token.old token.new
             × released self.now Unlock token.old token.new) }
         ensures begun { IfSome result (λ seen. begun self.now Unlock seen token.old token.new) };
 
@@ -190,8 +190,8 @@ pub trait RawMutex {
         requires begun { (before : Self.Token) × begun self.now Unlock seen before token.old }
         ensures token { is_token_of (lot_of self.now) token.new }
         ensures over { (before : Self.Token) → begun self.now Unlock seen before token.old
-            → stays before token.new
-            × walked self.now Unlock answers.Ok before token.new
+            → keeps_rights before token.new
+            × took_steps self.now Unlock answers.Ok before token.new
             × released self.now Unlock before token.new };
 
     /// Two guards of one mutex exclude each other: nobody ever has both, so this can't be called.
@@ -208,8 +208,8 @@ pub trait RawMutexFair: RawMutex {
         requires token { Self.is_token_of (Self.lot_of self.now) token.old }
         requires guard { Self.is_guard_of self.now guard }
         ensures token { Self.is_token_of (Self.lot_of self.now) token.new
-            × Self.stays token.old token.new }
-        ensures path { Self.walked self.now UnlockFair answers.Ok token.old token.new }
+            × Self.keeps_rights token.old token.new }
+        ensures path { Self.took_steps self.now UnlockFair answers.Ok token.old token.new }
         ensures record { Self.released self.now UnlockFair token.old token.new };
 
     /// Hands the mutex to the first that waits for it, and waits to take it again. Where nobody
@@ -218,9 +218,9 @@ pub trait RawMutexFair: RawMutex {
         requires token { Self.is_token_of (Self.lot_of self.now) token.old }
         requires guard { Self.is_guard_of self.now guard }
         ensures token { Self.is_token_of (Self.lot_of self.now) token.new
-            × Self.stays token.old token.new }
+            × Self.keeps_rights token.old token.new }
         ensures guard { Self.is_guard_of self.now result }
-        ensures path { Self.walked self.now Bump answers.Ok token.old token.new };
+        ensures path { Self.took_steps self.now Bump answers.Ok token.old token.new };
 }
 
 /// A mutex whose waiters may give up.
@@ -241,9 +241,9 @@ pub trait RawMutexTimed: RawMutex {
     ) -> Option<Self::Guard>
         requires { Self.is_token_of (Self.lot_of self.now) token.old }
         ensures token { Self.is_token_of (Self.lot_of self.now) token.new
-            × Self.stays token.old token.new }
+            × Self.keeps_rights token.old token.new }
         ensures guard { IfSome result (Self.is_guard_of self.now) }
-        ensures path { Self.walked self.now LockTimed (answer_by result) token.old token.new }
+        ensures path { Self.took_steps self.now LockTimed (answer_by result) token.old token.new }
         ensures left { IfNone result (gave_up self.now token.new) }
         ensures late { IfNone result (HasElapsed (C.tells clock.now) (as_nanos timeout)) };
 
@@ -258,9 +258,9 @@ pub trait RawMutexTimed: RawMutex {
     ) -> Option<Self::Guard>
         requires { Self.is_token_of (Self.lot_of self.now) token.old }
         ensures token { Self.is_token_of (Self.lot_of self.now) token.new
-            × Self.stays token.old token.new }
+            × Self.keeps_rights token.old token.new }
         ensures guard { IfSome result (Self.is_guard_of self.now) }
-        ensures path { Self.walked self.now LockTimed (answer_by result) token.old token.new }
+        ensures path { Self.took_steps self.now LockTimed (answer_by result) token.old token.new }
         ensures left { IfNone result (gave_up self.now token.new) }
         ensures late { IfNone result (HasPassed (C.tells clock.now) deadline) };
 }

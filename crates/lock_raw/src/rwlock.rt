@@ -48,7 +48,8 @@ pub trait RawRwLock: RawRwLockHalves {
     /// `LotFull`, where the lot has no word left, and `NoMemory`, where memory was refused.
     fn new(lot: &Arc<Self::Lot>, token: &mut Self::Token) -> Result<Self, Fault>
         requires { Self.is_token_of (arc_value lot.now) token.old }
-        ensures token { Self.is_token_of (arc_value lot.now) token.new × Self.stays token.old token.new }
+        ensures token { Self.is_token_of (arc_value lot.now) token.new
+            × Self.keeps_rights token.old token.new }
         ensures made { MatchResult result
             (λ lock. (Self.lot_of lock ≡ arc_value lot.now) × (limit_of lock ≡ 1152921504606846974))
             (IsRefusal (found_full (arc_value lot.now)) token.old token.new) }
@@ -64,7 +65,8 @@ pub trait RawRwLock: RawRwLockHalves {
         requires token { Self.is_token_of (arc_value lot.now) token.old }
         requires limit { (seats_of (arc_value lot.now) ≤ limit)
             × (limit ≤ 1152921504606846974) }
-        ensures token { Self.is_token_of (arc_value lot.now) token.new × Self.stays token.old token.new }
+        ensures token { Self.is_token_of (arc_value lot.now) token.new
+            × Self.keeps_rights token.old token.new }
         ensures made { MatchResult result
             (λ lock. (Self.lot_of lock ≡ arc_value lot.now) × (limit_of lock ≡ limit))
             (IsRefusal (found_full (arc_value lot.now)) token.old token.new) }
@@ -81,9 +83,10 @@ pub trait RawRwLock: RawRwLockHalves {
         token: &mut Self::Token,
     ) -> Result<Self::SharedGuard, Fault>
         requires { Self.is_token_of (Self.lot_of self.now) token.old }
-        ensures token { Self.is_token_of (Self.lot_of self.now) token.new × Self.stays token.old token.new }
+        ensures token { Self.is_token_of (Self.lot_of self.now) token.new
+            × Self.keeps_rights token.old token.new }
         ensures guard { MatchResult result (Self.is_shared_of self.now) IsReadersFull }
-        ensures path { Self.walked self.now (Enter access.Shared Patient)
+        ensures path { Self.took_steps self.now (Enter access.Shared Patient)
             (reading_answer result) token.old token.new }
         ensures full { IfErr result (λ _. Self.saw_full self.now access.Shared token.old token.new) };
 
@@ -99,9 +102,10 @@ pub trait RawRwLock: RawRwLockHalves {
         token: &mut Self::Token,
     ) -> Result<Option<Self::SharedGuard>, Fault>
         requires { Self.is_token_of (Self.lot_of self.now) token.old }
-        ensures token { Self.is_token_of (Self.lot_of self.now) token.new × Self.stays token.old token.new }
+        ensures token { Self.is_token_of (Self.lot_of self.now) token.new
+            × Self.keeps_rights token.old token.new }
         ensures guard { TriesOrFull result (Self.is_shared_of self.now) }
-        ensures path { Self.walked self.now (Enter access.Shared Try)
+        ensures path { Self.took_steps self.now (Enter access.Shared Try)
             (counted_answer result) token.old token.new }
         ensures full { IfErr result (λ _. Self.saw_full self.now access.Shared token.old token.new) };
 
@@ -109,24 +113,27 @@ pub trait RawRwLock: RawRwLockHalves {
     fn unlock_shared<R: Wait>(&self, rt: &R, token: &mut Self::Token, guard: Self::SharedGuard)
         requires token { Self.is_token_of (Self.lot_of self.now) token.old }
         requires guard { Self.is_shared_of self.now guard }
-        ensures token { Self.is_token_of (Self.lot_of self.now) token.new × Self.stays token.old token.new }
-        ensures path { Self.walked self.now (Release access.Shared) answers.Ok token.old token.new }
-        ensures record { Self.woke self.now (Release access.Shared) token.old token.new };
+        ensures token { Self.is_token_of (Self.lot_of self.now) token.new
+            × Self.keeps_rights token.old token.new }
+        ensures path { Self.took_steps self.now (Release access.Shared) answers.Ok token.old token.new }
+        ensures record { Self.woke_waiters self.now (Release access.Shared) token.old token.new };
 
     /// Waits until nobody has the lock, and takes it.
     fn lock_exclusive<R: Wait>(&self, rt: &R, token: &mut Self::Token) -> Self::ExclusiveGuard
         requires { Self.is_token_of (Self.lot_of self.now) token.old }
-        ensures token { Self.is_token_of (Self.lot_of self.now) token.new × Self.stays token.old token.new }
+        ensures token { Self.is_token_of (Self.lot_of self.now) token.new
+            × Self.keeps_rights token.old token.new }
         ensures guard { Self.is_exclusive_of self.now result }
-        ensures path { Self.walked self.now
+        ensures path { Self.took_steps self.now
             (Enter access.Exclusive Patient) answers.Ok token.old token.new };
 
     /// Takes the lock where nobody has it, and nobody waits. It is one step.
     fn try_lock_exclusive(&self, token: &mut Self::Token) -> Option<Self::ExclusiveGuard>
         requires { Self.is_token_of (Self.lot_of self.now) token.old }
-        ensures token { Self.is_token_of (Self.lot_of self.now) token.new × Self.stays token.old token.new }
+        ensures token { Self.is_token_of (Self.lot_of self.now) token.new
+            × Self.keeps_rights token.old token.new }
         ensures guard { IfSome result (Self.is_exclusive_of self.now) }
-        ensures path { Self.walked self.now (Enter access.Exclusive Try)
+        ensures path { Self.took_steps self.now (Enter access.Exclusive Try)
             (answer_by result) token.old token.new };
 
     /// Gives the lock up, and wakes the threads that this lets in.
@@ -138,20 +145,23 @@ pub trait RawRwLock: RawRwLockHalves {
     )
         requires token { Self.is_token_of (Self.lot_of self.now) token.old }
         requires guard { Self.is_exclusive_of self.now guard }
-        ensures token { Self.is_token_of (Self.lot_of self.now) token.new × Self.stays token.old token.new }
-        ensures path { Self.walked self.now (Release access.Exclusive) answers.Ok token.old token.new }
-        ensures record { Self.woke self.now (Release access.Exclusive) token.old token.new };
+        ensures token { Self.is_token_of (Self.lot_of self.now) token.new
+            × Self.keeps_rights token.old token.new }
+        ensures path { Self.took_steps self.now (Release access.Exclusive) answers.Ok token.old token.new }
+        ensures record { Self.woke_waiters self.now (Release access.Exclusive) token.old token.new };
 
     /// Whether somebody has the lock, or a writer waits for its last readers.
     fn is_locked(&self, token: &mut Self::Token) -> bool
         requires { Self.is_token_of (Self.lot_of self.now) token.old }
-        ensures token { Self.is_token_of (Self.lot_of self.now) token.new × Self.stays token.old token.new }
+        ensures token { Self.is_token_of (Self.lot_of self.now) token.new
+            × Self.keeps_rights token.old token.new }
         ensures seen { looked self.now result token.old token.new };
 
     /// Whether somebody has the lock alone.
     fn is_locked_exclusive(&self, token: &mut Self::Token) -> bool
         requires { Self.is_token_of (Self.lot_of self.now) token.old }
-        ensures token { Self.is_token_of (Self.lot_of self.now) token.new × Self.stays token.old token.new }
+        ensures token { Self.is_token_of (Self.lot_of self.now) token.new
+            × Self.keeps_rights token.old token.new }
         ensures seen { looked_for_writer self.now result token.old token.new };
 }
 
@@ -168,11 +178,12 @@ pub trait RawRwLockDowngrade: RawRwLock {
         requires token { Self.RawRwLockHalves.is_token_of (Self.RawRwLockHalves.lot_of self.now) token.old }
         requires guard { Self.RawRwLockHalves.is_exclusive_of self.now guard }
         ensures token { Self.RawRwLockHalves.is_token_of (Self.RawRwLockHalves.lot_of self.now) token.new
-            × Self.RawRwLockHalves.stays token.old token.new }
+            × Self.RawRwLockHalves.keeps_rights token.old token.new }
         ensures guard { Self.RawRwLockHalves.is_shared_of self.now result }
-        ensures path { Self.RawRwLockHalves.walked self.now
+        ensures path { Self.RawRwLockHalves.took_steps self.now
             (Downgrade downgrades.ToShared) answers.Ok token.old token.new }
-        ensures record { Self.RawRwLockHalves.woke self.now (Downgrade downgrades.ToShared) token.old token.new };
+        ensures record { Self.RawRwLockHalves.woke_waiters self.now (Downgrade downgrades.ToShared) token.old
+            token.new };
 }
 
 /// A lock whose waiters may give up.
@@ -194,9 +205,9 @@ pub trait RawRwLockTimed: RawRwLock {
     ) -> Result<Option<Self::SharedGuard>, Fault>
         requires { Self.RawRwLockHalves.is_token_of (Self.RawRwLockHalves.lot_of self.now) token.old }
         ensures token { Self.RawRwLockHalves.is_token_of (Self.RawRwLockHalves.lot_of self.now) token.new
-            × Self.RawRwLockHalves.stays token.old token.new }
+            × Self.RawRwLockHalves.keeps_rights token.old token.new }
         ensures guard { TriesOrFull result (Self.RawRwLockHalves.is_shared_of self.now) }
-        ensures path { Self.RawRwLockHalves.walked self.now (Enter access.Shared Timed)
+        ensures path { Self.RawRwLockHalves.took_steps self.now (Enter access.Shared Timed)
             (counted_answer result) token.old token.new }
         ensures full { IfErr result
             (λ _. Self.RawRwLockHalves.saw_full self.now access.Shared token.old token.new) }
@@ -220,9 +231,9 @@ pub trait RawRwLockTimed: RawRwLock {
     ) -> Result<Option<Self::SharedGuard>, Fault>
         requires { Self.RawRwLockHalves.is_token_of (Self.RawRwLockHalves.lot_of self.now) token.old }
         ensures token { Self.RawRwLockHalves.is_token_of (Self.RawRwLockHalves.lot_of self.now) token.new
-            × Self.RawRwLockHalves.stays token.old token.new }
+            × Self.RawRwLockHalves.keeps_rights token.old token.new }
         ensures guard { TriesOrFull result (Self.RawRwLockHalves.is_shared_of self.now) }
-        ensures path { Self.RawRwLockHalves.walked self.now (Enter access.Shared Timed)
+        ensures path { Self.RawRwLockHalves.took_steps self.now (Enter access.Shared Timed)
             (counted_answer result) token.old token.new }
         ensures full { IfErr result
             (λ _. Self.RawRwLockHalves.saw_full self.now access.Shared token.old token.new) }
@@ -245,9 +256,9 @@ pub trait RawRwLockTimed: RawRwLock {
     ) -> Option<Self::ExclusiveGuard>
         requires { Self.RawRwLockHalves.is_token_of (Self.RawRwLockHalves.lot_of self.now) token.old }
         ensures token { Self.RawRwLockHalves.is_token_of (Self.RawRwLockHalves.lot_of self.now) token.new
-            × Self.RawRwLockHalves.stays token.old token.new }
+            × Self.RawRwLockHalves.keeps_rights token.old token.new }
         ensures guard { IfSome result (Self.RawRwLockHalves.is_exclusive_of self.now) }
-        ensures path { Self.RawRwLockHalves.walked self.now (Enter access.Exclusive Timed)
+        ensures path { Self.RawRwLockHalves.took_steps self.now (Enter access.Exclusive Timed)
             (answer_by result) token.old token.new }
         ensures left { IfNone result
             (Self.RawRwLock.gave_up self.now (Enter access.Exclusive Timed) token.new) }
@@ -263,9 +274,9 @@ pub trait RawRwLockTimed: RawRwLock {
     ) -> Option<Self::ExclusiveGuard>
         requires { Self.RawRwLockHalves.is_token_of (Self.RawRwLockHalves.lot_of self.now) token.old }
         ensures token { Self.RawRwLockHalves.is_token_of (Self.RawRwLockHalves.lot_of self.now) token.new
-            × Self.RawRwLockHalves.stays token.old token.new }
+            × Self.RawRwLockHalves.keeps_rights token.old token.new }
         ensures guard { IfSome result (Self.RawRwLockHalves.is_exclusive_of self.now) }
-        ensures path { Self.RawRwLockHalves.walked self.now (Enter access.Exclusive Timed)
+        ensures path { Self.RawRwLockHalves.took_steps self.now (Enter access.Exclusive Timed)
             (answer_by result) token.old token.new }
         ensures left { IfNone result
             (Self.RawRwLock.gave_up self.now (Enter access.Exclusive Timed) token.new) }

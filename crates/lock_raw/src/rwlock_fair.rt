@@ -18,10 +18,11 @@ pub trait RawRwLockFair: RawRwLock {
         requires token { Self.RawRwLockHalves.is_token_of (Self.RawRwLockHalves.lot_of self.now) token.old }
         requires guard { Self.RawRwLockHalves.is_shared_of self.now guard }
         ensures token { Self.RawRwLockHalves.is_token_of (Self.RawRwLockHalves.lot_of self.now) token.new
-            × Self.RawRwLockHalves.stays token.old token.new }
-        ensures path { Self.RawRwLockHalves.walked self.now
+            × Self.RawRwLockHalves.keeps_rights token.old token.new }
+        ensures path { Self.RawRwLockHalves.took_steps self.now
             (ReleaseFair access.Shared) answers.Ok token.old token.new }
-        ensures record { Self.RawRwLockHalves.woke self.now (ReleaseFair access.Shared) token.old token.new };
+        ensures record { Self.RawRwLockHalves.woke_waiters self.now (ReleaseFair access.Shared) token.old
+            token.new };
 
     /// Hands the lock to those that wait for it and may have it together. Where nobody waits, gives
     /// it up. The guard is spent.
@@ -34,10 +35,11 @@ pub trait RawRwLockFair: RawRwLock {
         requires token { Self.RawRwLockHalves.is_token_of (Self.RawRwLockHalves.lot_of self.now) token.old }
         requires guard { Self.RawRwLockHalves.is_exclusive_of self.now guard }
         ensures token { Self.RawRwLockHalves.is_token_of (Self.RawRwLockHalves.lot_of self.now) token.new
-            × Self.RawRwLockHalves.stays token.old token.new }
-        ensures path { Self.RawRwLockHalves.walked self.now
+            × Self.RawRwLockHalves.keeps_rights token.old token.new }
+        ensures path { Self.RawRwLockHalves.took_steps self.now
             (ReleaseFair access.Exclusive) answers.Ok token.old token.new }
-        ensures record { Self.RawRwLockHalves.woke self.now (ReleaseFair access.Exclusive) token.old token.new };
+        ensures record { Self.RawRwLockHalves.woke_waiters self.now (ReleaseFair access.Exclusive) token.old
+            token.new };
 
     /// Lets a writer in that waits for the last readers, and waits to read again. Where none does,
     /// keeps the right; on a recursive lock it is kept also beside other readers.
@@ -55,9 +57,9 @@ pub trait RawRwLockFair: RawRwLock {
         requires token { Self.RawRwLockHalves.is_token_of (Self.RawRwLockHalves.lot_of self.now) token.old }
         requires guard { Self.RawRwLockHalves.is_shared_of self.now guard }
         ensures token { Self.RawRwLockHalves.is_token_of (Self.RawRwLockHalves.lot_of self.now) token.new
-            × Self.RawRwLockHalves.stays token.old token.new }
+            × Self.RawRwLockHalves.keeps_rights token.old token.new }
         ensures guard { MatchResult result (Self.RawRwLockHalves.is_shared_of self.now) IsReadersFull }
-        ensures path { Self.RawRwLockHalves.walked self.now (Bump access.Shared)
+        ensures path { Self.RawRwLockHalves.took_steps self.now (Bump access.Shared)
             (reading_answer result) token.old token.new }
         ensures full { IfErr result
             (λ _. Self.RawRwLockHalves.saw_full self.now access.Shared token.old token.new) };
@@ -73,9 +75,9 @@ pub trait RawRwLockFair: RawRwLock {
         requires token { Self.RawRwLockHalves.is_token_of (Self.RawRwLockHalves.lot_of self.now) token.old }
         requires guard { Self.RawRwLockHalves.is_exclusive_of self.now guard }
         ensures token { Self.RawRwLockHalves.is_token_of (Self.RawRwLockHalves.lot_of self.now) token.new
-            × Self.RawRwLockHalves.stays token.old token.new }
+            × Self.RawRwLockHalves.keeps_rights token.old token.new }
         ensures guard { Self.RawRwLockHalves.is_exclusive_of self.now result }
-        ensures path { Self.RawRwLockHalves.walked self.now
+        ensures path { Self.RawRwLockHalves.took_steps self.now
             (Bump access.Exclusive) answers.Ok token.old token.new };
 }
 
@@ -93,10 +95,10 @@ pub trait RawRwLockUpgradeFair: RawRwLockUpgrade {
         requires token { Self.RawRwLockHalves.is_token_of (Self.RawRwLockHalves.lot_of self.now) token.old }
         requires guard { Self.RawRwLockUpgrade.is_upgradable_of self.now guard }
         ensures token { Self.RawRwLockHalves.is_token_of (Self.RawRwLockHalves.lot_of self.now) token.new
-            × Self.RawRwLockHalves.stays token.old token.new }
-        ensures path { Self.RawRwLockHalves.walked self.now
+            × Self.RawRwLockHalves.keeps_rights token.old token.new }
+        ensures path { Self.RawRwLockHalves.took_steps self.now
             (ReleaseFair access.Upgradable) answers.Ok token.old token.new }
-        ensures record { Self.RawRwLockHalves.woke self.now
+        ensures record { Self.RawRwLockHalves.woke_waiters self.now
             (ReleaseFair access.Upgradable) token.old token.new };
 
     /// Hands the lock to those that wait for it, and waits for the upgradable right again. Where
@@ -115,10 +117,10 @@ pub trait RawRwLockUpgradeFair: RawRwLockUpgrade {
         requires token { Self.RawRwLockHalves.is_token_of (Self.RawRwLockHalves.lot_of self.now) token.old }
         requires guard { Self.RawRwLockUpgrade.is_upgradable_of self.now guard }
         ensures token { Self.RawRwLockHalves.is_token_of (Self.RawRwLockHalves.lot_of self.now) token.new
-            × Self.RawRwLockHalves.stays token.old token.new }
+            × Self.RawRwLockHalves.keeps_rights token.old token.new }
         ensures guard { MatchResult result
             (Self.RawRwLockUpgrade.is_upgradable_of self.now) IsReadersFull }
-        ensures path { Self.RawRwLockHalves.walked self.now (Bump access.Upgradable)
+        ensures path { Self.RawRwLockHalves.took_steps self.now (Bump access.Upgradable)
             (reading_answer result) token.old token.new }
         ensures full { IfErr result
             (λ _. Self.RawRwLockHalves.saw_full self.now access.Upgradable token.old token.new) };

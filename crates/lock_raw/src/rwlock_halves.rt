@@ -35,10 +35,10 @@ pub trait RawRwLockHalves {
     // A thread belongs to a lot.
     ghost is_token_of: { Self.Lot → Self.Token → Type 0 };
     // It is the same thread, and owns what it did.
-    ghost stays: { Self.Token → Self.Token → Type 0 };
+    ghost keeps_rights: { Self.Token → Self.Token → Type 0 };
     // What stays through each of two calls stays through both.
-    ghost stays_on: { (first next last : Self.Token) → stays first next → stays next last
-        → stays first last };
+    ghost keeps_rights_on: { (first next last : Self.Token) → keeps_rights first next → keeps_rights next last
+        → keeps_rights first last };
     // A guard is of this lock. That has one proof at most, so a struct may keep it as a ghost
     // field.
     ghost is_shared_of: { Self → Self.SharedGuard → Type 0 };
@@ -58,10 +58,10 @@ pub trait RawRwLockHalves {
 
     ghost exclusive_view: { Self → View };
     // Between them it took the steps of this call of the lock, to this answer.
-    ghost walked: { Self → RwLockCall → Answer → Self.Token → Self.Token → Type 0 };
+    ghost took_steps: { Self → RwLockCall → Answer → Self.Token → Self.Token → Type 0 };
     // Between them it gave a right up by this call, and took those that this lets in where it saw
     // that somebody waits.
-    ghost woke: { Self → RwLockCall → Self.Token → Self.Token → Type 0 };
+    ghost woke_waiters: { Self → RwLockCall → Self.Token → Self.Token → Type 0 };
     // Between them it took the first steps of this call, which leave it this to do.
     ghost begun: { Self → RwLockCall → Self.Rest → Self.Token → Self.Token → Type 0 };
     // Between them its last step saw that nobody keeps this right out, and that as many share the
@@ -80,9 +80,9 @@ pub trait RawRwLockHalves {
         requires { is_token_of (lot_of self.now) token.old }
         ensures token { is_token_of (lot_of self.now) token.new }
         ensures over { IfOk result
-            (λ entered. stays token.old token.new
+            (λ entered. keeps_rights token.old token.new
             × MatchResult entered (is_shared_of self.now) IsReadersFull
-            × walked self.now (Enter access.Shared Patient) (reading_answer entered)
+            × took_steps self.now (Enter access.Shared Patient) (reading_answer entered)
             token.old token.new
             × IfErr entered (λ _. saw_full self.now access.Shared token.old token.new)) }
         ensures begun { IfErr result
@@ -106,8 +106,8 @@ pub trait RawRwLockHalves {
         ensures guard { MatchResult result (is_shared_of self.now) IsReadersFull }
         ensures over { (before : Self.Token)
             → begun self.now (Enter access.Shared Patient) rest before token.old
-            → stays before token.new
-            × walked self.now (Enter access.Shared Patient) (reading_answer result)
+            → keeps_rights before token.new
+            × took_steps self.now (Enter access.Shared Patient) (reading_answer result)
             before token.new
             × IfErr result (λ _. saw_full self.now access.Shared before token.new) };
 
@@ -123,8 +123,8 @@ pub trait RawRwLockHalves {
         requires { is_token_of (lot_of self.now) token.old }
         ensures token { is_token_of (lot_of self.now) token.new }
         ensures over { IfOk result
-            (λ guard. stays token.old token.new
-            × walked self.now (Enter access.Exclusive Patient) answers.Ok token.old token.new
+            (λ guard. keeps_rights token.old token.new
+            × took_steps self.now (Enter access.Exclusive Patient) answers.Ok token.old token.new
             × is_exclusive_of self.now guard) }
         ensures begun { IfErr result
             (λ rest. begun self.now (Enter access.Exclusive Patient) rest token.old token.new) };
@@ -143,8 +143,8 @@ pub trait RawRwLockHalves {
         ensures guard { is_exclusive_of self.now result }
         ensures over { (before : Self.Token)
             → begun self.now (Enter access.Exclusive Patient) rest before token.old
-            → stays before token.new
-            × walked self.now (Enter access.Exclusive Patient) answers.Ok before token.new };
+            → keeps_rights before token.new
+            × took_steps self.now (Enter access.Exclusive Patient) answers.Ok before token.new };
 
     /// Takes the first steps of `unlock_shared`, which are all of it where it wakes nobody up.
     /// Spends the guard, and answers what is left, for `unlock_slow`.
@@ -157,9 +157,9 @@ pub trait RawRwLockHalves {
         requires guard { is_shared_of self.now guard }
         ensures token { is_token_of (lot_of self.now) token.new }
         ensures over { IfNone result
-            (stays token.old token.new
-            × walked self.now (Release access.Shared) answers.Ok token.old token.new
-            × woke self.now (Release access.Shared) token.old token.new) }
+            (keeps_rights token.old token.new
+            × took_steps self.now (Release access.Shared) answers.Ok token.old token.new
+            × woke_waiters self.now (Release access.Shared) token.old token.new) }
         ensures begun { IfSome result
             (λ rest. begun self.now (Release access.Shared) rest token.old token.new) };
 
@@ -174,9 +174,9 @@ pub trait RawRwLockHalves {
         requires guard { is_exclusive_of self.now guard }
         ensures token { is_token_of (lot_of self.now) token.new }
         ensures over { IfNone result
-            (stays token.old token.new
-            × walked self.now (Release access.Exclusive) answers.Ok token.old token.new
-            × woke self.now (Release access.Exclusive) token.old token.new) }
+            (keeps_rights token.old token.new
+            × took_steps self.now (Release access.Exclusive) answers.Ok token.old token.new
+            × woke_waiters self.now (Release access.Exclusive) token.old token.new) }
         ensures begun { IfSome result
             (λ rest. begun self.now (Release access.Exclusive) rest token.old token.new) };
 
@@ -194,9 +194,9 @@ pub trait RawRwLockHalves {
         ensures token { is_token_of (lot_of self.now) token.new }
         ensures over { (before : Self.Token)
             → begun self.now (Release access) rest before token.old
-            → stays before token.new
-            × walked self.now (Release access) answers.Ok before token.new
-            × woke self.now (Release access) before token.new };
+            → keeps_rights before token.new
+            × took_steps self.now (Release access) answers.Ok before token.new
+            × woke_waiters self.now (Release access) before token.new };
 
     /// Opens the value to read, by the right to read, which lies in the value's place meanwhile. It
     /// does nothing at run time.

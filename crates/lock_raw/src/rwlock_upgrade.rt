@@ -42,9 +42,9 @@ pub trait RawRwLockUpgrade: RawRwLock {
     ) -> Result<Self::UpgradableGuard, Fault>
         requires { Self.RawRwLockHalves.is_token_of (Self.RawRwLockHalves.lot_of self.now) token.old }
         ensures token { Self.RawRwLockHalves.is_token_of (Self.RawRwLockHalves.lot_of self.now) token.new
-            × Self.RawRwLockHalves.stays token.old token.new }
+            × Self.RawRwLockHalves.keeps_rights token.old token.new }
         ensures guard { MatchResult result (is_upgradable_of self.now) IsReadersFull }
-        ensures path { Self.RawRwLockHalves.walked self.now (Enter access.Upgradable Patient)
+        ensures path { Self.RawRwLockHalves.took_steps self.now (Enter access.Upgradable Patient)
             (reading_answer result) token.old token.new }
         ensures full { IfErr result
             (λ _. Self.RawRwLockHalves.saw_full self.now access.Upgradable token.old token.new) };
@@ -62,9 +62,9 @@ pub trait RawRwLockUpgrade: RawRwLock {
     ) -> Result<Option<Self::UpgradableGuard>, Fault>
         requires { Self.RawRwLockHalves.is_token_of (Self.RawRwLockHalves.lot_of self.now) token.old }
         ensures token { Self.RawRwLockHalves.is_token_of (Self.RawRwLockHalves.lot_of self.now) token.new
-            × Self.RawRwLockHalves.stays token.old token.new }
+            × Self.RawRwLockHalves.keeps_rights token.old token.new }
         ensures guard { TriesOrFull result (is_upgradable_of self.now) }
-        ensures path { Self.RawRwLockHalves.walked self.now (Enter access.Upgradable Try)
+        ensures path { Self.RawRwLockHalves.took_steps self.now (Enter access.Upgradable Try)
             (counted_answer result) token.old token.new }
         ensures full { IfErr result
             (λ _. Self.RawRwLockHalves.saw_full self.now access.Upgradable token.old token.new) };
@@ -79,10 +79,11 @@ pub trait RawRwLockUpgrade: RawRwLock {
         requires token { Self.RawRwLockHalves.is_token_of (Self.RawRwLockHalves.lot_of self.now) token.old }
         requires guard { is_upgradable_of self.now guard }
         ensures token { Self.RawRwLockHalves.is_token_of (Self.RawRwLockHalves.lot_of self.now) token.new
-            × Self.RawRwLockHalves.stays token.old token.new }
-        ensures path { Self.RawRwLockHalves.walked self.now
+            × Self.RawRwLockHalves.keeps_rights token.old token.new }
+        ensures path { Self.RawRwLockHalves.took_steps self.now
             (Release access.Upgradable) answers.Ok token.old token.new }
-        ensures record { Self.RawRwLockHalves.woke self.now (Release access.Upgradable) token.old token.new };
+        ensures record { Self.RawRwLockHalves.woke_waiters self.now (Release access.Upgradable) token.old
+            token.new };
 
     /// Takes the first steps of `lock_upgradable`, which are all of it where the thread meets nobody.
     ///
@@ -96,11 +97,13 @@ pub trait RawRwLockUpgrade: RawRwLock {
         requires { Self.RawRwLockHalves.is_token_of (Self.RawRwLockHalves.lot_of self.now) token.old }
         ensures token { Self.RawRwLockHalves.is_token_of (Self.RawRwLockHalves.lot_of self.now) token.new }
         ensures over { IfOk result
-            (λ entered. Self.RawRwLockHalves.stays token.old token.new
+            (λ entered. Self.RawRwLockHalves.keeps_rights token.old token.new
             × MatchResult entered (is_upgradable_of self.now) IsReadersFull
-            × Self.RawRwLockHalves.walked self.now (Enter access.Upgradable Patient) (reading_answer entered)
+            × Self.RawRwLockHalves.took_steps self.now (Enter access.Upgradable Patient)
+            (reading_answer entered)
             token.old token.new
-            × IfErr entered (λ _. Self.RawRwLockHalves.saw_full self.now access.Upgradable token.old token.new)) }
+            × IfErr entered (λ _. Self.RawRwLockHalves.saw_full self.now access.Upgradable token.old
+            token.new)) }
         ensures begun { IfErr result
             (λ rest. Self.RawRwLockHalves.begun self.now (Enter access.Upgradable Patient) rest
             token.old token.new) };
@@ -123,8 +126,9 @@ pub trait RawRwLockUpgrade: RawRwLock {
         ensures guard { MatchResult result (is_upgradable_of self.now) IsReadersFull }
         ensures over { (before : Self.Token)
             → Self.RawRwLockHalves.begun self.now (Enter access.Upgradable Patient) rest before token.old
-            → Self.RawRwLockHalves.stays before token.new
-            × Self.RawRwLockHalves.walked self.now (Enter access.Upgradable Patient) (reading_answer result)
+            → Self.RawRwLockHalves.keeps_rights before token.new
+            × Self.RawRwLockHalves.took_steps self.now (Enter access.Upgradable Patient)
+            (reading_answer result)
             before token.new
             × IfErr result (λ _. Self.RawRwLockHalves.saw_full self.now access.Upgradable before token.new) };
 
@@ -139,11 +143,13 @@ pub trait RawRwLockUpgrade: RawRwLock {
         requires guard { is_upgradable_of self.now guard }
         ensures token { Self.RawRwLockHalves.is_token_of (Self.RawRwLockHalves.lot_of self.now) token.new }
         ensures over { IfNone result
-            (Self.RawRwLockHalves.stays token.old token.new
-            × Self.RawRwLockHalves.walked self.now (Release access.Upgradable) answers.Ok token.old token.new
-            × Self.RawRwLockHalves.woke self.now (Release access.Upgradable) token.old token.new) }
+            (Self.RawRwLockHalves.keeps_rights token.old token.new
+            × Self.RawRwLockHalves.took_steps self.now (Release access.Upgradable) answers.Ok token.old
+            token.new
+            × Self.RawRwLockHalves.woke_waiters self.now (Release access.Upgradable) token.old token.new) }
         ensures begun { IfSome result
-            (λ rest. Self.RawRwLockHalves.begun self.now (Release access.Upgradable) rest token.old token.new) };
+            (λ rest. Self.RawRwLockHalves.begun self.now (Release access.Upgradable) rest token.old
+            token.new) };
 
     /// Turns the right into that of a thread that has the lock alone: further readers are kept out,
     /// and the others are waited for.
@@ -156,9 +162,10 @@ pub trait RawRwLockUpgrade: RawRwLock {
         requires token { Self.RawRwLockHalves.is_token_of (Self.RawRwLockHalves.lot_of self.now) token.old }
         requires guard { is_upgradable_of self.now guard }
         ensures token { Self.RawRwLockHalves.is_token_of (Self.RawRwLockHalves.lot_of self.now) token.new
-            × Self.RawRwLockHalves.stays token.old token.new }
+            × Self.RawRwLockHalves.keeps_rights token.old token.new }
         ensures guard { Self.RawRwLockHalves.is_exclusive_of self.now result }
-        ensures path { Self.RawRwLockHalves.walked self.now (Upgrade Patient) answers.Ok token.old token.new };
+        ensures path { Self.RawRwLockHalves.took_steps self.now (Upgrade Patient) answers.Ok token.old
+            token.new };
 
     /// Upgrades where nobody else reads.
     ///
@@ -174,10 +181,10 @@ pub trait RawRwLockUpgrade: RawRwLock {
         requires token { Self.RawRwLockHalves.is_token_of (Self.RawRwLockHalves.lot_of self.now) token.old }
         requires guard { is_upgradable_of self.now guard }
         ensures token { Self.RawRwLockHalves.is_token_of (Self.RawRwLockHalves.lot_of self.now) token.new
-            × Self.RawRwLockHalves.stays token.old token.new }
+            × Self.RawRwLockHalves.keeps_rights token.old token.new }
         ensures guard { MatchResult result (Self.RawRwLockHalves.is_exclusive_of self.now)
             (is_upgradable_of self.now) }
-        ensures path { Self.RawRwLockHalves.walked self.now (Upgrade Try)
+        ensures path { Self.RawRwLockHalves.took_steps self.now (Upgrade Try)
             (upgrade_answer result) token.old token.new };
 
     /// Opens the value to read, by this right, which lies in the value's place meanwhile. It does
@@ -188,11 +195,13 @@ pub trait RawRwLockUpgrade: RawRwLock {
         guard: Self::UpgradableGuard,
     ) -> Seen<'a, T>
         requires { is_upgradable_of self.now guard × (place.now ≡ Self.RawRwLockHalves.place_of self.now) }
-        ensures { (result.of ≡ Self.RawRwLockHalves.place_of self.now) × (result.view ≡ upgradable_view self.now) };
+        ensures { (result.of ≡ Self.RawRwLockHalves.place_of self.now)
+            × (result.view ≡ upgradable_view self.now) };
 
     /// Shuts it, and gives the right back, as little at run time.
     fn shut_upgradable<T>(&self, seen: Seen<'_, T>) -> Self::UpgradableGuard
-        requires { (seen.of ≡ Self.RawRwLockHalves.place_of self.now) × (seen.view ≡ upgradable_view self.now) }
+        requires { (seen.of ≡ Self.RawRwLockHalves.place_of self.now)
+            × (seen.view ≡ upgradable_view self.now) }
         ensures { is_upgradable_of self.now result };
 
     /// One thread at a time has this right, so this can't be called.
@@ -214,7 +223,8 @@ pub trait RawRwLockUpgrade: RawRwLock {
         reader: Self::UpgradableGuard,
     ) -> !
         requires token { Self.RawRwLockHalves.is_token_of (Self.RawRwLockHalves.lot_of self.now) token.old }
-        requires guards { Self.RawRwLockHalves.is_exclusive_of self.now writer × is_upgradable_of self.now reader };
+        requires guards { Self.RawRwLockHalves.is_exclusive_of self.now writer
+            × is_upgradable_of self.now reader };
 }
 
 /// A lock whose upgradable right is turned into others without an upgrade.
@@ -230,11 +240,11 @@ pub trait RawRwLockUpgradeDowngrade: RawRwLockUpgrade {
         requires token { Self.RawRwLockHalves.is_token_of (Self.RawRwLockHalves.lot_of self.now) token.old }
         requires guard { Self.RawRwLockUpgrade.is_upgradable_of self.now guard }
         ensures token { Self.RawRwLockHalves.is_token_of (Self.RawRwLockHalves.lot_of self.now) token.new
-            × Self.RawRwLockHalves.stays token.old token.new }
+            × Self.RawRwLockHalves.keeps_rights token.old token.new }
         ensures guard { Self.RawRwLockHalves.is_shared_of self.now result }
-        ensures path { Self.RawRwLockHalves.walked self.now (Downgrade downgrades.UpgradableToShared)
+        ensures path { Self.RawRwLockHalves.took_steps self.now (Downgrade downgrades.UpgradableToShared)
             answers.Ok token.old token.new }
-        ensures record { Self.RawRwLockHalves.woke self.now
+        ensures record { Self.RawRwLockHalves.woke_waiters self.now
             (Downgrade downgrades.UpgradableToShared) token.old token.new };
 
     /// Turns the right of a thread that has the lock alone into the upgradable one, in one step,
@@ -248,11 +258,11 @@ pub trait RawRwLockUpgradeDowngrade: RawRwLockUpgrade {
         requires token { Self.RawRwLockHalves.is_token_of (Self.RawRwLockHalves.lot_of self.now) token.old }
         requires guard { Self.RawRwLockHalves.is_exclusive_of self.now guard }
         ensures token { Self.RawRwLockHalves.is_token_of (Self.RawRwLockHalves.lot_of self.now) token.new
-            × Self.RawRwLockHalves.stays token.old token.new }
+            × Self.RawRwLockHalves.keeps_rights token.old token.new }
         ensures guard { Self.RawRwLockUpgrade.is_upgradable_of self.now result }
-        ensures path { Self.RawRwLockHalves.walked self.now (Downgrade downgrades.ToUpgradable)
+        ensures path { Self.RawRwLockHalves.took_steps self.now (Downgrade downgrades.ToUpgradable)
             answers.Ok token.old token.new }
-        ensures record { Self.RawRwLockHalves.woke self.now
+        ensures record { Self.RawRwLockHalves.woke_waiters self.now
             (Downgrade downgrades.ToUpgradable) token.old token.new };
 }
 
@@ -275,9 +285,9 @@ pub trait RawRwLockUpgradeTimed: RawRwLockUpgrade {
     ) -> Result<Option<Self::UpgradableGuard>, Fault>
         requires { Self.RawRwLockHalves.is_token_of (Self.RawRwLockHalves.lot_of self.now) token.old }
         ensures token { Self.RawRwLockHalves.is_token_of (Self.RawRwLockHalves.lot_of self.now) token.new
-            × Self.RawRwLockHalves.stays token.old token.new }
+            × Self.RawRwLockHalves.keeps_rights token.old token.new }
         ensures guard { TriesOrFull result (Self.RawRwLockUpgrade.is_upgradable_of self.now) }
-        ensures path { Self.RawRwLockHalves.walked self.now (Enter access.Upgradable Timed)
+        ensures path { Self.RawRwLockHalves.took_steps self.now (Enter access.Upgradable Timed)
             (counted_answer result) token.old token.new }
         ensures full { IfErr result
             (λ _. Self.RawRwLockHalves.saw_full self.now access.Upgradable token.old token.new) }
@@ -301,9 +311,9 @@ pub trait RawRwLockUpgradeTimed: RawRwLockUpgrade {
     ) -> Result<Option<Self::UpgradableGuard>, Fault>
         requires { Self.RawRwLockHalves.is_token_of (Self.RawRwLockHalves.lot_of self.now) token.old }
         ensures token { Self.RawRwLockHalves.is_token_of (Self.RawRwLockHalves.lot_of self.now) token.new
-            × Self.RawRwLockHalves.stays token.old token.new }
+            × Self.RawRwLockHalves.keeps_rights token.old token.new }
         ensures guard { TriesOrFull result (Self.RawRwLockUpgrade.is_upgradable_of self.now) }
-        ensures path { Self.RawRwLockHalves.walked self.now (Enter access.Upgradable Timed)
+        ensures path { Self.RawRwLockHalves.took_steps self.now (Enter access.Upgradable Timed)
             (counted_answer result) token.old token.new }
         ensures full { IfErr result
             (λ _. Self.RawRwLockHalves.saw_full self.now access.Upgradable token.old token.new) }
@@ -330,10 +340,10 @@ pub trait RawRwLockUpgradeTimed: RawRwLockUpgrade {
         requires token { Self.RawRwLockHalves.is_token_of (Self.RawRwLockHalves.lot_of self.now) token.old }
         requires guard { Self.RawRwLockUpgrade.is_upgradable_of self.now guard }
         ensures token { Self.RawRwLockHalves.is_token_of (Self.RawRwLockHalves.lot_of self.now) token.new
-            × Self.RawRwLockHalves.stays token.old token.new }
+            × Self.RawRwLockHalves.keeps_rights token.old token.new }
         ensures guard { MatchResult result (Self.RawRwLockHalves.is_exclusive_of self.now)
             (Self.RawRwLockUpgrade.is_upgradable_of self.now) }
-        ensures path { Self.RawRwLockHalves.walked self.now (Upgrade Timed)
+        ensures path { Self.RawRwLockHalves.took_steps self.now (Upgrade Timed)
             (upgrade_answer result) token.old token.new }
         ensures left { IfErr result
             (λ _. Self.RawRwLock.gave_up self.now (Upgrade Timed) token.new) }
@@ -355,10 +365,10 @@ pub trait RawRwLockUpgradeTimed: RawRwLockUpgrade {
         requires token { Self.RawRwLockHalves.is_token_of (Self.RawRwLockHalves.lot_of self.now) token.old }
         requires guard { Self.RawRwLockUpgrade.is_upgradable_of self.now guard }
         ensures token { Self.RawRwLockHalves.is_token_of (Self.RawRwLockHalves.lot_of self.now) token.new
-            × Self.RawRwLockHalves.stays token.old token.new }
+            × Self.RawRwLockHalves.keeps_rights token.old token.new }
         ensures guard { MatchResult result (Self.RawRwLockHalves.is_exclusive_of self.now)
             (Self.RawRwLockUpgrade.is_upgradable_of self.now) }
-        ensures path { Self.RawRwLockHalves.walked self.now (Upgrade Timed)
+        ensures path { Self.RawRwLockHalves.took_steps self.now (Upgrade Timed)
             (upgrade_answer result) token.old token.new }
         ensures left { IfErr result
             (λ _. Self.RawRwLock.gave_up self.now (Upgrade Timed) token.new) }

@@ -144,7 +144,7 @@ impl<T> Place<T> {
 impl<T> Seen<'_, T> {
     /// Shuts the place, and gives the right back.
     #[inline]
-    pub fn lay_back<S, K, P: TableRule<S, View, K>>(
+    pub fn put_back_permit<S, K, P: TableRule<S, View, K>>(
         self,
         table: &Shared<S, View, K, P>,
         badge: &mut Badge<View>,
@@ -162,7 +162,7 @@ impl<T> Seen<'_, T> {
         ensures { (result.table_id ≡ self.entry.of.table) × (result.views ≡ self.entry.view ∷ []) }
     {
         let mut badge = Badge::blank();
-        self.lay_back(table, &mut badge);
+        self.put_back_permit(table, &mut badge);
         badge
     }
 }
@@ -170,7 +170,7 @@ impl<T> Seen<'_, T> {
 impl<T> Open<'_, T> {
     /// Shuts the place, and gives the right back.
     #[inline]
-    pub fn lay_back<S, K, P: TableRule<S, View, K>>(
+    pub fn put_back_permit<S, K, P: TableRule<S, View, K>>(
         self,
         table: &Shared<S, View, K, P>,
         badge: &mut Badge<View>,
@@ -188,7 +188,7 @@ impl<T> Open<'_, T> {
         ensures { (result.table_id ≡ self.entry.of.table) × (result.views ≡ self.entry.view ∷ []) }
     {
         let mut badge = Badge::blank();
-        self.lay_back(table, &mut badge);
+        self.put_back_permit(table, &mut badge);
         badge
     }
 }

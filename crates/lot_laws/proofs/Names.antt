@@ -143,7 +143,7 @@ pub use Rattle.steps_base.specs.Acts.{any_picked, holds, outcome_of, takes_effec
 pub use Rattle.steps_base.specs.Calls.{CallFollows, ComesTo, IsNotLate, MayCome, call_by, rights_where}
 pub use Rattle.steps_base.specs.Locations.{Location, location_by, want_in_line}
 pub use Rattle.steps_base.specs.Moves.{Accepts, AreLeaving, AreOfWord, GoesIn, GoesOut, HandsOver, Hears}
-pub use Rattle.steps_base.specs.Moves.{IsHeld, IsSectionFree, LeavesLine, Move, MovesByAct, Parks, Picks}
+pub use Rattle.steps_base.specs.Moves.{IsHeld, IsSectionFree, LeavesLine, StepView, MovesByAct, Parks, Picks}
 pub use Rattle.steps_base.specs.Moves.{RowWaits, Sleeps, StaysPut, TakesAside, TellsHanded, WasGiven}
 pub use Rattle.steps_base.specs.Moves.{bit_left, claim_handed, heir_of, inside_of, location_of, location_then}
 pub use Rattle.steps_base.specs.Moves.{parks_in, row_of, takes_aside}
@@ -178,7 +178,7 @@ pub use Rattle.steps_condvar.specs.CondvarCalls.{IsReachedNext, IsRelock, IsUnlo
 pub use Rattle.steps_condvar.specs.CondvarCalls.{case_there, condvar_call_by, heard, look_event, marked_event}
 pub use Rattle.steps_condvar.specs.CondvarCalls.{notify_event, wait_event}
 pub use Rattle.steps_condvar.specs.CondvarDeeds.{AllCondvarNeeded, Follows, IsAt, IsAtNext, IsAtStage}
-pub use Rattle.steps_condvar.specs.CondvarDeeds.{IsListed, MayHear, MayHearNotifying, MayHearWaiting}
+pub use Rattle.steps_condvar.specs.CondvarDeeds.{IsListed, MayReply, MayHearNotifying, MayHearWaiting}
 pub use Rattle.steps_condvar.specs.CondvarDeeds.{after_condvar_deeds, condvar_deeds, notify_deeds}
 pub use Rattle.steps_condvar.specs.CondvarDeeds.{relocked_deeds, wait_deeds, word_showing}
 pub use Rattle.steps_condvar.specs.CondvarMoves.{MovesWaiters, row_beside, row_there, there, there_then}
@@ -202,7 +202,7 @@ pub use Rattle.steps_condvar.specs.CondvarWaits.{waiter_deeds, waiter_next}
 pub use Rattle.steps_condvar.specs.declared.notify.NotifyAt.{NotifyAt}
 pub use Rattle.steps_condvar.specs.declared.places.CondvarPlace.{CondvarPlace}
 pub use Rattle.steps_condvar.specs.declared.places.CondvarPlace.TheVariants.{Look, Notify, Wait}
-pub use Rattle.steps_condvar.specs.declared.wait.Stands.{Stands}
+pub use Rattle.steps_condvar.specs.declared.wait.WaiterFate.{WaiterFate}
 pub use Rattle.steps_condvar.specs.declared.wait.WaitAt.{WaitAt}
 pub use Rattle.steps_mutex.proofs.HandOffRights.{got, neither}
 pub use Rattle.steps_mutex.proofs.MutexCalls.{decides}
@@ -339,7 +339,8 @@ pub use Rattle.steps_semaphore.specs.declared.tries.TryAt.{TryAt}
 -- Places of calls.
 pub use Rattle.lot_steps.specs.Steps.{act_of, beside_of, called_lock, calls, condvar_does, condvar_goes}
 pub use Rattle.lot_steps.specs.Steps.{first_place, has_right, in_condvar, in_mutex, in_once, in_rwlock}
-pub use Rattle.lot_steps.specs.Steps.{in_semaphore, is_idle, is_lock, key_in, late_key, line_owed, looking}
+pub use Rattle.lot_steps.specs.Steps.{in_semaphore, is_idle, is_lock, key_in, late_key, line_owed}
+pub use Rattle.lot_steps.specs.Steps.{respins_from}
 pub use Rattle.lot_steps.specs.Steps.{mutex_does, mutex_goes, next_act, next_place, once_does, once_goes}
 pub use Rattle.lot_steps.specs.Steps.{or_else, owners_after, profile, profile_at, profile_beside, retries_on}
 pub use Rattle.lot_steps.specs.Steps.{rwlock_does, rwlock_goes, semaphore_does, semaphore_goes, shares_after}

@@ -9,7 +9,7 @@ use Rattle.steps_mutex.specs.declared.places.MutexPlace.{MutexPlace}
 use Rattle.steps_base.specs.declared.acts.Act.{Act}
 use Rattle.steps_base.specs.declared.acts.Act.TheVariants.{Enter, Sleep}
 use Rattle.core_base.specs.declared.keys.Keys.{Keys}
-use Rattle.lot_steps.specs.Steps.{act_of, beside_of, looking, called_lock, calls, is_lock, profile}
+use Rattle.lot_steps.specs.Steps.{act_of, beside_of, respins_from, called_lock, calls, is_lock, profile}
 use Rattle.lot_steps.specs.Steps.{profile_beside}
 pub use Rattle.steps_mutex.specs.MutexProfiles.{mutex_profile, is_bump, entry_purpose, release_purpose}
 pub use Rattle.steps_mutex.specs.MutexProfiles.{before_entry, before_release}
@@ -63,7 +63,7 @@ stance_by a looks_from =
 
 -- by what it does next
 abbrev pub stance_of : Place → Status
-stance_of p = stance_by (act_of p) (looking p)
+stance_of p = stance_by (act_of p) (respins_from p)
 
 -- ---------------------------------------------------------------- calls
 

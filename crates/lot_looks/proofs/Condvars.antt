@@ -12,8 +12,8 @@ use Rattle.steps_mutex.specs.declared.places.MutexPlace.{MutexPlace}
 use Rattle.steps_mutex.specs.MutexSteps.{is_locked, mutex_next}
 use Rattle.steps_condvar.specs.declared.notify.NotifyAt.{NotifyAt}
 use Rattle.steps_condvar.specs.declared.notify.NotifyAt.TheVariants as notify
-use Rattle.steps_condvar.specs.declared.wait.Stands.{Stands}
-use Rattle.steps_condvar.specs.declared.wait.Stands.TheVariants as stands
+use Rattle.steps_condvar.specs.declared.wait.WaiterFate.{WaiterFate}
+use Rattle.steps_condvar.specs.declared.wait.WaiterFate.TheVariants as stands
 use Rattle.steps_condvar.specs.declared.wait.WaitAt.{WaitAt}
 use Rattle.steps_condvar.specs.declared.wait.WaitAt.TheVariants as wait
 use Rattle.steps_condvar.specs.declared.places.CondvarPlace.{CondvarPlace}
@@ -130,16 +130,17 @@ module _ (l : ℕ) where
   -- ---------------------------------------------------------------- a wait before that
 
   module _ (m : ℕ) (timed : Bool) where
-    afterwards : (s : Stands) → condvar_looked (Wait m timed (past_release s)) ≡ None
+    afterwards : (s : WaiterFate) → condvar_looked (Wait m timed (past_release s)) ≡ None
     afterwards (stands.Noted note.Normal) = refl
     afterwards (stands.Noted note.HandOff) = refl
     afterwards s = refl
 
-    released_then : (s : Stands) (n : Next MutexPlace) → condvar_looked (Wait m timed (released s n)) ≡ None
+    released_then : (s : WaiterFate) (n : Next MutexPlace) → condvar_looked (Wait m timed (released s n))
+        ≡ None
     released_then s (At at) = refl
     released_then s (End answer) = afterwards s
 
-    releases : (s : Stands) (at : MutexPlace) (r : Reply)
+    releases : (s : WaiterFate) (at : MutexPlace) (r : Reply)
         → Then (condvar_next (Wait m timed (wait.Release s at)) r) ≡ None
     releases s at r = by_reply (comes_from_another r)
       where
@@ -149,12 +150,12 @@ module _ (l : ℕ) where
         by_reply true = refl
         by_reply false = released_then s (mutex_next at r)
 
-    late_then : (s : Stands) → condvar_looked (Wait m timed (late_place s)) ≡ None
+    late_then : (s : WaiterFate) → condvar_looked (Wait m timed (late_place s)) ≡ None
     late_then stands.Listed = refl
     late_then stands.Moved = refl
     late_then s = refl
 
-    asleep : (s : Stands) (r : Reply) → Then (condvar_next (Wait m timed (wait.Asleep s)) r) ≡ None
+    asleep : (s : WaiterFate) (r : Reply) → Then (condvar_next (Wait m timed (wait.Asleep s)) r) ≡ None
     asleep s Late = late_then s
     asleep s r = afterwards (stands_after s r)
 

@@ -40,7 +40,7 @@ use Rattle.steps_rwlock.specs.declared.places.Admission.{Admission}
 use Rattle.steps_rwlock_fair.specs.FairBegins.{call_first}
 use Rattle.lot_steps.specs.declared.places.Place.{Place}
 use Rattle.lot_steps.specs.declared.places.Place.TheVariants.{Idle, Mutex, RwLock, Once, Condvar, Semaphore}
-use Rattle.lot_steps.specs.Steps.{act_of, first_place, late_key, looking, next_place, once_goes}
+use Rattle.lot_steps.specs.Steps.{act_of, first_place, late_key, respins_from, next_place, once_goes}
 use Rattle.lot_machine.specs.Machine.{State, after, after_steps, can_do, can_turn, can_close, close_outcome}
 use Rattle.lot_machine.specs.Machine.{closed_place, go_of, go_outcome, is_free_under, is_possible, kind_at}
 use Rattle.lot_machine.specs.Machine.{opening, place_at, put, runs_closure, state_after_begin}
@@ -280,7 +280,7 @@ module _ (w : State) (h : IsWorld w) (all : AllSane w.places) (t : ℕ) (there :
   spins : can_turn w t turn.Spin ≡ true → is_some (looked_from (place_at w t)) ≡ true
       → Comes w (state_after_spin w t) t (spin_outcome w t)
   spins can for_one =
-      let m = some_of (looking (place_at w t)) can in
+      let m = some_of (respins_from (place_at w t)) can in
       let q = some_of (looked_from (place_at w t)) for_one in
       let same : m.0 ≡ q.0 = looking_is (place_at w t) m.0 q.0 m.1 q.1 in
       moved w w (state_after_spin w t) (state_after_go (put w t q.0) t) t (spin_outcome w t)
@@ -315,7 +315,7 @@ module _ (w : State) (h : IsWorld w) (all : AllSane w.places) (t : ℕ) (there :
       (first_looked (kind_at w (lock_in c)) c).1
   turn_sane turn.Go can for_one = go_sane w h all t there
   turn_sane turn.Spin can for_one =
-      let m = some_of (looking (place_at w t)) can in
+      let m = some_of (respins_from (place_at w t)) can in
       let q = some_of (looked_from (place_at w t)) for_one in
       let same : m.0 ≡ q.0 = looking_is (place_at w t) m.0 q.0 m.1 q.1 in
       subst (λ v. AllSane v.places) (ap (λ x. state_after_go (put w t x) t) (sym same)

@@ -35,7 +35,7 @@ use Rattle.steps_rwlock_fair.specs.declared.places.RwLockCallPlace.TheVariants a
 use Rattle.steps_rwlock_fair.specs.FairProfiles.{call_looking, in_call}
 use Rattle.lot_steps.specs.declared.places.Place.{Place}
 use Rattle.lot_steps.specs.declared.places.Place.TheVariants.{Idle, Mutex, RwLock, Once, Condvar, Semaphore}
-use Rattle.lot_steps.specs.Steps.{in_condvar, in_mutex, in_once, in_rwlock, in_semaphore, looking}
+use Rattle.lot_steps.specs.Steps.{in_condvar, in_mutex, in_once, in_rwlock, in_semaphore, respins_from}
 use Rattle.lot_looks.specs.Looks.{call_looked, condvar_looked, looked_from, mutex_looked, once_looked}
 use Rattle.lot_looks.specs.Looks.{once_looked_by, rwlock_looked, rwlock_looked_by, semaphore_looked}
 
@@ -165,7 +165,7 @@ condvar_agrees p = nothing_there _
 
 -- ---------------------------------------------------------------- every place
 
-pub looking_is : (p m q : Place) → looking p ≡ Some m → looked_from p ≡ Some q → m ≡ q
+pub looking_is : (p m q : Place) → respins_from p ≡ Some m → looked_from p ≡ Some q → m ≡ q
 looking_is Idle m q e f = absurd cc
 looking_is (Mutex l at) m q e f = wrapped_agree (in_mutex l) (Mutex l) refl (λ p. refl) (mutex_looking at)
     (mutex_looked at) (mutex_agrees at) m q e f

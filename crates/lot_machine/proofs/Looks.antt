@@ -35,7 +35,7 @@ use Rattle.steps_condvar.specs.declared.wait.WaitAt.TheVariants as wait
 use Rattle.steps_condvar.specs.CondvarSteps.{condvar_looking, in_lock}
 use Rattle.lot_steps.specs.declared.places.Place.{Place}
 use Rattle.lot_steps.specs.declared.places.Place.TheVariants.{Idle, Mutex, RwLock, Once, Condvar, Semaphore}
-use Rattle.lot_steps.specs.Steps.{act_of, called_lock, looking, in_mutex, in_rwlock, in_once, in_condvar}
+use Rattle.lot_steps.specs.Steps.{act_of, called_lock, respins_from, in_mutex, in_rwlock, in_once, in_condvar}
 use Rattle.lot_steps.specs.Steps.{in_semaphore, profile}
 use Rattle.spec_locks.specs.declared.kinds.Kind.{Kind}
 use Rattle.lot_machine.specs.Fits.{IsOfItsKind, PlaceFits}
@@ -111,7 +111,7 @@ rwlock_look l a c q is = by_place (call_looking a c) refl is
           there = λ locks h. h;
         })
 
-pub look : (p q : Place) → looking p ≡ Some q → IsLook p q
+pub look : (p q : Place) → respins_from p ≡ Some q → IsLook p q
 look Idle q is = absurd cc
 look (RwLock l a at) q is = rwlock_look l a at q is
 look (Mutex l at) q is = mutex_look at is
@@ -217,7 +217,7 @@ look (Condvar l at) q is = condvar_look at is
     condvar_look at is = absurd cc
 
 -- a thread that looks at a mutex's word enters it
-pub mutex_looks : (l : ℕ) (at : MutexPlace) (q : Place) → looking (Mutex l at) ≡ Some q → (e : Entry)
+pub mutex_looks : (l : ℕ) (at : MutexPlace) (q : Place) → respins_from (Mutex l at) ≡ Some q → (e : Entry)
     × (again : Bool) × (q ≡ Mutex l (Lock e again lock.Load))
 mutex_looks l (Lock e again (lock.Decide seen)) q is = by_mark _ is
   where

@@ -70,7 +70,8 @@ use Rattle.spec_locks.specs.Calls.{lock_in}
 use Rattle.steps_base.specs.Profiles.{in_line}
 use Rattle.spec_locks.specs.Sites.{Main}
 use Rattle.lot_steps.specs.Steps.{is_idle, first_place, act_of, next_place, mutex_goes, rwlock_goes}
-use Rattle.lot_steps.specs.Steps.{once_goes, looking, late_key, key_in, HasKeys, condvar_goes, semaphore_goes}
+use Rattle.lot_steps.specs.Steps.{once_goes, respins_from, late_key, key_in, HasKeys, condvar_goes}
+use Rattle.lot_steps.specs.Steps.{semaphore_goes}
 use Rattle.lot_machine.specs.Machine.{first_word, state_after_hand_over_by, hand_over_told, State, unlocked}
 use Rattle.lot_machine.specs.Machine.{opening, kind_at, word_at, place_at, queue_at, put}
 use Rattle.lot_machine.specs.Machine.{state_after_operation, state_with_sections, queues_with_last}
@@ -623,14 +624,15 @@ begun_well_formed w t c s can = put_well_formed w t (first_place (kind_at w (loc
     (call_suits w t c (both (is_idle (place_at w t)) (is_open_to w t c) can).1)
 
 -- a thread stands where it looks
-pub looking_well_formed : (w : State) (t : ℕ) (q : Place) → IsWellFormed w → looking (place_at w t) ≡ Some q
+pub looking_well_formed : (w : State) (t : ℕ) (q : Place) → IsWellFormed w → respins_from (place_at w t)
+    ≡ Some q
     → IsWellFormed (put w t q)
 looking_well_formed w t q s is = let k = look (place_at w t) q is
     in put_well_formed w t q s (k.fits (length w.locks) (s.places t), k.kind (kind_at w) (s.kinds t))
 
 -- A thread that looks loads the word of a lock that is there.
 pub looks_fit : (w : State) (t : ℕ) (q : Place) → IsWellFormed w → t < length w.places
-    → looking (place_at w t) ≡ Some q → ActFits (put w t q) (act_of (place_at (put w t q) t))
+    → respins_from (place_at w t) ≡ Some q → ActFits (put w t q) (act_of (place_at (put w t q) t))
 looks_fit w t q s lt is = let k = look (place_at w t) q is in
     subst (λ p. ActFits (put w t q) (act_of p)) (sym (get_or-set_same w.places t q Idle lt))
     (subst (ActFits (put w t q)) (sym k.loads) (k.there (length w.locks) (s.places t)))
@@ -649,17 +651,17 @@ has_keys locks (Condvar l (Wait m timed at)) few h = (below locks l few h.0, bel
 has_keys locks (Condvar l (Look all)) few h = (below locks l few h.0, tt)
 has_keys locks (Condvar l (Notify all m at)) few h = (below locks l few h.0, below locks m few h.1)
 
-pub looks_keyed : (w : State) (t : ℕ) (q : Place) → IsWellFormed w → looking (place_at w t) ≡ Some q
+pub looks_keyed : (w : State) (t : ℕ) (q : Place) → IsWellFormed w → respins_from (place_at w t) ≡ Some q
     → HasKeys (place_at (put w t q) t)
 looks_keyed w t q s is = has_keys (length w.locks) (place_at (put w t q) t) s.few
     ((looking_well_formed w t q s is).places t)
 
-looks_go : (w : State) (t : ℕ) (q : Place) → t < length w.places → looking (place_at w t) ≡ Some q
+looks_go : (w : State) (t : ℕ) (q : Place) → t < length w.places → respins_from (place_at w t) ≡ Some q
     → can_go (put w t q) t ≡ true
 looks_go w t q lt is = ap (λ p. can_do (put w t q) (act_of p)) (get_or-set_same w.places t q Idle lt)
     ∙ ap (can_do (put w t q)) (look (place_at w t) q is).loads
 
-pub spun : (w v : State) (t : ℕ) (q : Place) → t < length w.places → looking (place_at w t) ≡ Some q
+pub spun : (w v : State) (t : ℕ) (q : Place) → t < length w.places → respins_from (place_at w t) ≡ Some q
     → v ≡ (if can_go (put w t q) t then state_after_go (put w t q) t else put w t q)
     → v ≡ (if can_spin w t then state_after_spin w t else w)
 spun w v t q lt is e = e ∙ ap (λ b. if b then state_after_go (put w t q) t else put w t q)
@@ -667,7 +669,7 @@ spun w v t q lt is e = e ∙ ap (λ b. if b then state_after_go (put w t q) t el
 
 -- A thread that looks once more is told so, in the state that it found.
 pub spun_told : {v w : State} → v ≡ w → (t : ℕ) (q : Place) (told : Outcome) → t < length v.places
-    → looking (place_at v t) ≡ Some q → told ≡ (if can_go (put v t q) t then go_outcome (put v t q) t
+    → respins_from (place_at v t) ≡ Some q → told ≡ (if can_go (put v t q) t then go_outcome (put v t q) t
     else outcome.TheVariants.NotNow) → told ≡ (if can_spin w t then spin_outcome w t
     else outcome.TheVariants.NotNow)
 spun_told {v} same t q told lt is e =
@@ -677,9 +679,9 @@ spun_told {v} same t q told lt is e =
 
 spun_well_formed : (w : State) (t : ℕ) → IsWellFormed w → t < length w.places
     → IsWellFormed (state_after_spin w t)
-spun_well_formed w t s lt = by_place (looking (place_at w t)) refl
+spun_well_formed w t s lt = by_place (respins_from (place_at w t)) refl
   where
-    by_place : (o : Option Place) → looking (place_at w t) ≡ o → IsWellFormed (state_after_look w t o)
+    by_place : (o : Option Place) → respins_from (place_at w t) ≡ o → IsWellFormed (state_after_look w t o)
     by_place None is = s
     by_place (Some q) is = gone_well_formed (put w t q) t (looking_well_formed w t q s is)
         (rw (length-set w.places t q) lt)
@@ -858,7 +860,7 @@ turned_size w t (turn.TheVariants.Begin c) = record { threads = length-set w.pla
 turned_size w t turn.TheVariants.Go = went_size w t (place_at w t)
 turned_size w t turn.TheVariants.Ok = put_went_size w t (closed_place w t true)
 turned_size w t turn.TheVariants.Err = put_went_size w t (closed_place w t false)
-turned_size w t turn.TheVariants.Spin = by_place (looking (place_at w t))
+turned_size w t turn.TheVariants.Spin = by_place (respins_from (place_at w t))
   where
     by_place : (o : Option Place) → SameSize w (state_after_look w t o)
     by_place None = record { threads = refl; locks = refl }

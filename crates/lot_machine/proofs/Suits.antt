@@ -46,8 +46,8 @@ use Rattle.steps_condvar.specs.declared.notify.NotifyAt.{NotifyAt}
 use Rattle.steps_condvar.specs.declared.notify.NotifyAt.TheVariants as notify
 use Rattle.steps_condvar.specs.declared.places.CondvarPlace.{CondvarPlace}
 use Rattle.steps_condvar.specs.declared.places.CondvarPlace.TheVariants.{Wait, Look, Notify}
-use Rattle.steps_condvar.specs.declared.wait.Stands.{Stands}
-use Rattle.steps_condvar.specs.declared.wait.Stands.TheVariants as stands
+use Rattle.steps_condvar.specs.declared.wait.WaiterFate.{WaiterFate}
+use Rattle.steps_condvar.specs.declared.wait.WaiterFate.TheVariants as stands
 use Rattle.steps_condvar.specs.declared.wait.WaitAt.{WaitAt}
 use Rattle.steps_condvar.specs.declared.wait.WaitAt.TheVariants as wait
 use Rattle.steps_condvar.specs.CondvarProfiles.{may_give_up}
@@ -206,12 +206,12 @@ module _ (locks : ℕ) (kinds : ℕ → Kind) (c : ℕ) where
     TimelyNext (next.TheVariants.End answer) = Unit {0}
 
     -- a thread that has released its mutex is not late
-    after_timely : (s : Stands) → GivesUpOnlyTimed (Wait m timed (past_release s))
+    after_timely : (s : WaiterFate) → GivesUpOnlyTimed (Wait m timed (past_release s))
     after_timely (stands.Noted note.TheVariants.Normal) = tt
     after_timely (stands.Noted note.TheVariants.HandOff) = tt
     after_timely s = tt
 
-    releases_timely : (s : Stands) (at : MutexPlace) (n : Next MutexPlace) (b : Bool)
+    releases_timely : (s : WaiterFate) (at : MutexPlace) (n : Next MutexPlace) (b : Bool)
         → GivesUpOnlyTimed (Wait m timed (if b then wait.Release s at else released s n))
     releases_timely s at n true = tt
     releases_timely s at (next.TheVariants.At at2) false = tt
@@ -222,7 +222,7 @@ module _ (locks : ℕ) (kinds : ℕ → Kind) (c : ℕ) where
     relocks_timely timed_out at (next.TheVariants.At at2) h = h
     relocks_timely timed_out at (next.TheVariants.End answer) h = tt
 
-    late_timely : (s : Stands) → timed ≡ true → GivesUpOnlyTimed (Wait m timed (late_place s))
+    late_timely : (s : WaiterFate) → timed ≡ true → GivesUpOnlyTimed (Wait m timed (late_place s))
     late_timely stands.Listed late = late
     late_timely stands.Moved late = late
     late_timely s late = tt
@@ -241,7 +241,7 @@ module _ (locks : ℕ) (kinds : ℕ → Kind) (c : ℕ) where
     wait_timely wait.Refuse Done h r = tt
     wait_timely (wait.Release s at) reply h r = releases s at reply
       where
-        releases : (s : Stands) (at : MutexPlace) (reply : Reply)
+        releases : (s : WaiterFate) (at : MutexPlace) (reply : Reply)
             → TimelyNext (next_wait m timed (wait.Release s at) reply)
         releases s at reply = elim (comes_from_another reply) as
             (λ b. GivesUpOnlyTimed (Wait m timed (if b then wait.Release (stands_after s reply) at

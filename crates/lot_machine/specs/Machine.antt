@@ -47,7 +47,7 @@ use Rattle.steps_base.specs.Acts.{holds, takes_effect, outcome_of}
 use Rattle.steps_base.specs.Owners.{is_thread, with_exclusive}
 use Rattle.spec_locks.specs.Calls.{lock_in, mutex_in, lock_of_right}
 use Rattle.lot_steps.specs.Steps.{first_place, has_right, is_idle, act_of, next_place, next_act, owners_after}
-use Rattle.lot_steps.specs.Steps.{shares_after, taker, wants, looking, late_key}
+use Rattle.lot_steps.specs.Steps.{shares_after, taker, wants, respins_from, late_key}
 use Rattle.spec_locks.specs.Codes.{fills}
 use Rattle.spec_locks.specs.Locks.{Taken, wants_shared}
 use Rattle.spec_locks.specs.Purposes.{rules_of}
@@ -491,7 +491,7 @@ state_after_begin w t call = put w t (first_place (kind_at w (lock_in call)) cal
 
 -- a thread may look at the word once more in place of its act
 abbrev pub can_spin : State → ℕ → Bool
-can_spin w t = is_some (looking (place_at w t))
+can_spin w t = is_some (respins_from (place_at w t))
 
 -- it goes on from where it looks
 abbrev pub state_after_look : State → ℕ → Option Place → State
@@ -503,10 +503,10 @@ look_outcome w t None = outcome.TheVariants.NotNow
 look_outcome w t (Some p) = go_outcome (put w t p) t
 
 abbrev pub state_after_spin : State → ℕ → State
-state_after_spin w t = state_after_look w t (looking (place_at w t))
+state_after_spin w t = state_after_look w t (respins_from (place_at w t))
 
 abbrev pub spin_outcome : State → ℕ → Outcome
-spin_outcome w t = look_outcome w t (looking (place_at w t))
+spin_outcome w t = look_outcome w t (respins_from (place_at w t))
 
 abbrev pub is_free_under : State → Option ℕ → Bool
 is_free_under w None = false

@@ -317,7 +317,7 @@ impl<Q: Queues + Drop> Machine<Q> {
         let first = self.take_from(key);
         let none_left = self.is_empty(key);
         if let Some(waiter) = first {
-            self.befall(waiter, Reply::TakenBy(thread));
+            self.deliver_to(waiter, Reply::TakenBy(thread));
         }
         Reply::Took {
             any: first.is_some(),
@@ -346,7 +346,7 @@ impl<Q: Queues + Drop> Machine<Q> {
     }
 
     /// Leads a thread that is asleep to where this befalls it.
-    pub(crate) fn befall(&mut self, thread: usize, reply: Reply)
+    pub(crate) fn deliver_to(&mut self, thread: usize, reply: Reply)
         requires { thread < length self.old.places }
         ensures { self.new ≡ state_after_reply self.old thread reply }
     {

@@ -155,7 +155,7 @@ impl<Q: Queues + Drop> Machine<Q> {
         ensures outcome { result
             ≡ (if can_spin self.old thread then spin_outcome self.old thread else Outcome.NotNow) }
     {
-        match self.places[thread].looking() {
+        match self.places[thread].respins_from() {
             Some(place) => {
                 self.places[thread] = place;
                 self.go(thread)
@@ -194,7 +194,7 @@ impl<Q: Queues + Drop> Machine<Q> {
             return Outcome::NotNow;
         }
         self.fill(Keys::One(key), Some(thread));
-        self.befall(thread, Reply::Late);
+        self.deliver_to(thread, Reply::Late);
         Outcome::Step
     }
 

@@ -30,8 +30,8 @@ use Rattle.steps_semaphore.specs.declared.places.SemaphorePlace.TheVariants as s
 use Rattle.steps_semaphore.specs.SemaphoreSteps.{semaphore_next}
 use Rattle.steps_condvar.specs.declared.notify.NotifyAt.{NotifyAt}
 use Rattle.steps_condvar.specs.declared.notify.NotifyAt.TheVariants as notify
-use Rattle.steps_condvar.specs.declared.wait.Stands.{Stands}
-use Rattle.steps_condvar.specs.declared.wait.Stands.TheVariants as stands
+use Rattle.steps_condvar.specs.declared.wait.WaiterFate.{WaiterFate}
+use Rattle.steps_condvar.specs.declared.wait.WaiterFate.TheVariants as stands
 use Rattle.steps_condvar.specs.declared.wait.WaitAt.{WaitAt}
 use Rattle.steps_condvar.specs.declared.wait.WaitAt.TheVariants as wait
 use Rattle.steps_condvar.specs.declared.places.CondvarPlace.{CondvarPlace}
@@ -196,7 +196,7 @@ semaphore_late l (semaphore.Release at) key h = absurd cc
 -- ---------------------------------------------------------------- a condition variable
 
 -- after its release a waiter has no more to do than one that sleeps
-pub after_works : (s : Stands) → wait_work (past_release s) ≤ 8
+pub after_works : (s : WaiterFate) → wait_work (past_release s) ≤ 8
 after_works (stands.Noted note.Normal) = omega arith
 after_works (stands.Noted note.HandOff) = omega arith
 after_works s = omega arith

@@ -18,7 +18,7 @@ use Rattle.steps_mutex.specs.declared.places.MutexPlace.TheVariants as mutex
 use Rattle.steps_mutex.specs.MutexSteps.{is_locked, mutex_act, mutex_next}
 use Rattle.steps_condvar.specs.declared.notify.NotifyAt.{NotifyAt}
 use Rattle.steps_condvar.specs.declared.notify.NotifyAt.TheVariants as notify
-use Rattle.steps_condvar.specs.declared.wait.Stands.{Stands}
+use Rattle.steps_condvar.specs.declared.wait.WaiterFate.{WaiterFate}
 use Rattle.steps_condvar.specs.declared.wait.WaitAt.{WaitAt}
 use Rattle.steps_condvar.specs.declared.wait.WaitAt.TheVariants as wait
 use Rattle.steps_condvar.specs.declared.places.CondvarPlace.{CondvarPlace}
@@ -87,7 +87,7 @@ module _ (w : State) (t c : ℕ) where
     inner at can = mutex_row w t m of.sort of.few of.there at can
 
     -- it releases its mutex
-    released_row : (timed : Bool) (s : Stands) (a : Act) (work ways : ℕ) (n : Next MutexPlace) → 1 ≤ work
+    released_row : (timed : Bool) (s : WaiterFate) (a : Act) (work ways : ℕ) (n : Next MutexPlace) → 1 ≤ work
         → Goes w a work (work_then mutex_work n) ways (ways_then (mutex_ways word) n)
         → Goes w a (8 + work) (work_then condvar_work (in_wait m timed (At (released s n)))) ways
         (ways_then (condvar_ways (word_at w)) (in_wait m timed (At (released s n))))
@@ -96,7 +96,7 @@ module _ (w : State) (t c : ℕ) where
     released_row timed s a work ways (End answer) some row =
         inl (let most : wait_work (past_release s) ≤ 8 = after_works s in omega arith)
 
-    release_row : (timed : Bool) (s : Stands) (at : MutexPlace) → can_do w (mutex_act m at) ≡ true
+    release_row : (timed : Bool) (s : WaiterFate) (at : MutexPlace) → can_do w (mutex_act m at) ≡ true
         → Leads (Wait m timed (wait.Release s at)) (mutex_act m at)
     release_row timed s at can = subst
         (λ b. Goes w (mutex_act m at) (8 + mutex_work at)

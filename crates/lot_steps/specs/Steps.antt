@@ -252,13 +252,13 @@ in_semaphore lock None = None
 in_semaphore lock (Some at) = Some (Semaphore lock at)
 
 -- from where a thread looks at the word once more, in place of an act that leads to sleep
-abbrev pub looking : Place → Option Place
-looking Idle = None
-looking (Mutex lock at) = in_mutex lock (mutex_looking at)
-looking (RwLock lock a at) = in_rwlock lock a (call_looking a at)
-looking (Once lock at) = in_once lock (once_looking at)
-looking (Condvar lock at) = in_condvar lock (condvar_looking at)
-looking (Semaphore lock at) = in_semaphore lock (semaphore_looking at)
+abbrev pub respins_from : Place → Option Place
+respins_from Idle = None
+respins_from (Mutex lock at) = in_mutex lock (mutex_looking at)
+respins_from (RwLock lock a at) = in_rwlock lock a (call_looking a at)
+respins_from (Once lock at) = in_once lock (once_looking at)
+respins_from (Condvar lock at) = in_condvar lock (condvar_looking at)
+respins_from (Semaphore lock at) = in_semaphore lock (semaphore_looking at)
 
 -- the key of a line of the lock that a thread calls
 abbrev pub key_in : Option ℕ → Option Line → Option ℕ

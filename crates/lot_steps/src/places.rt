@@ -2,7 +2,7 @@
 ghost use Rattle.std.specs.Prelude.{◌≡◌};
 ghost use Rattle.steps_base.specs.Acts.{outcome_of};
 ghost use Rattle.lot_steps.specs.Steps.{HasKeys, ShowsKeys, first_place, has_right, act_of, next_place};
-ghost use Rattle.lot_steps.specs.Steps.{next_act, owners_after, shares_after, taker, wants, looking};
+ghost use Rattle.lot_steps.specs.Steps.{next_act, owners_after, shares_after, taker, wants, respins_from};
 ghost use Rattle.lot_steps.specs.Steps.{late_key, owes_on, retries_on, is_idle};
 
 use core_base::{Key, Want};
@@ -286,13 +286,13 @@ impl Place {
     }
 
     /// From where the thread looks at the word once more, in place of an act that leads to sleep.
-    pub fn looking(self) -> Option<Place>
-        ensures { result ≡ looking self }
+    pub fn respins_from(self) -> Option<Place>
+        ensures { result ≡ respins_from self }
     {
         match self {
             Place::Idle => None,
             Place::Mutex { lock, at } => {
-                let at = at.looking()?;
+                let at = at.respins_from()?;
                 Some(Place::Mutex { lock, at })
             }
             Place::RwLock {
@@ -300,7 +300,7 @@ impl Place {
                 admission,
                 at,
             } => {
-                let at = at.looking(admission)?;
+                let at = at.respins_from(admission)?;
                 Some(Place::RwLock {
                     lock,
                     admission,
@@ -308,15 +308,15 @@ impl Place {
                 })
             }
             Place::Once { lock, at } => {
-                let at = at.looking()?;
+                let at = at.respins_from()?;
                 Some(Place::Once { lock, at })
             }
             Place::Condvar { lock, at } => {
-                let at = at.looking()?;
+                let at = at.respins_from()?;
                 Some(Place::Condvar { lock, at })
             }
             Place::Semaphore { lock, at } => {
-                let at = at.looking()?;
+                let at = at.respins_from()?;
                 Some(Place::Semaphore { lock, at })
             }
         }

@@ -13,8 +13,8 @@ use Rattle.steps_condvar.specs.declared.notify.NotifyAt.{NotifyAt}
 use Rattle.steps_condvar.specs.declared.notify.NotifyAt.TheVariants as notify
 use Rattle.steps_condvar.specs.declared.places.CondvarPlace.{CondvarPlace}
 use Rattle.steps_condvar.specs.declared.places.CondvarPlace.TheVariants.{Wait, Look, Notify}
-use Rattle.steps_condvar.specs.declared.wait.Stands.{Stands}
-use Rattle.steps_condvar.specs.declared.wait.Stands.TheVariants as stands
+use Rattle.steps_condvar.specs.declared.wait.WaiterFate.{WaiterFate}
+use Rattle.steps_condvar.specs.declared.wait.WaiterFate.TheVariants as stands
 use Rattle.steps_condvar.specs.declared.wait.WaitAt.{WaitAt}
 use Rattle.steps_condvar.specs.declared.wait.WaitAt.TheVariants as wait
 use Rattle.steps_condvar.specs.CondvarProfiles.{condvar_row, is_listed, is_moved, notify_row, wait_row}
@@ -54,7 +54,7 @@ stood_once (Some Second) Second = omega arith
 
 -- ---------------------------------------------------------------- a thread stands at one lock
 
-stand_alone : (s : Stands) → (is_listed s ≡ false) ⊎ (is_moved s ≡ false)
+stand_alone : (s : WaiterFate) → (is_listed s ≡ false) ⊎ (is_moved s ≡ false)
 stand_alone stands.Listed = inr refl
 stand_alone stands.Moved = inl refl
 stand_alone (stands.InHand by) = inl refl

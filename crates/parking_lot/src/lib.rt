@@ -25,7 +25,7 @@ pub use spec_locks::{
     Access, Answer, Call, CondvarCall, Downgrade, Kind, MutexCall, OnceCall, Patience, RwLockCall,
     SemaphoreCall,
 };
-pub use steps_condvar::{CondvarPlace, NotifyAt, Stands, WaitAt};
+pub use steps_condvar::{CondvarPlace, NotifyAt, WaitAt, WaiterFate};
 pub use steps_once::{LookAt, OncePlace, RunAt};
 pub use steps_rwlock::{Admission, RwLockAt, RwLockPlace, RwLockPurpose};
 pub use steps_rwlock_fair::{HandOverAt, HandedAt, RwLockCallPlace, Taken};

@@ -7,7 +7,7 @@ use Rattle.core_base.specs.Lines.{line, lines}
 use Rattle.core_queues.specs.Chains.{bucket_of}
 use Rattle.core_queues.proofs.Joined.{everywhere}
 use Rattle.core_queues.specs.Places.{AreTwo, IsSameBucket, KeepApart}
-use Rattle.core_queues.specs.declared.queueing.Queueing.{Queueing}
+use Rattle.core_queues.specs.declared.section_queues.SectionQueues.{SectionQueues}
 use Rattle.core_queues.proofs.Halves.{first_of_both, line_both}
 use Rattle.parking_lot_core.specs.Keys.{IsKeyOf}
 use Rattle.parking_lot_core.specs.Pairs.{AreApartAt, AreBuckets, HasOneBucket}
@@ -15,11 +15,11 @@ use Rattle.parking_lot_core.specs.Pairs.{AreApartAt, AreBuckets, HasOneBucket}
 pub for_some : {A : Type 0} (P : A → Type 0) (a : A) → P a → (x : A) → Some a ≡ Some x → P x
 for_some P a h x e = let same : a ≡ x = cc in subst P same h
 
-pub alone_still : (keys : Keys) (one one' : Queueing) → IsSameBucket one one' → HasOneBucket keys one
+pub alone_still : (keys : Keys) (one one' : SectionQueues) → IsSameBucket one one' → HasOneBucket keys one
     → HasOneBucket keys one'
 alone_still keys one one' same alone key is = rw (same.1, same.2) (alone key is)
 
-pub two_still : (keys : Keys) (one other one' other' : Queueing) → IsSameBucket one one'
+pub two_still : (keys : Keys) (one other one' other' : SectionQueues) → IsSameBucket one one'
     → IsSameBucket other other' → AreBuckets keys one other → AreBuckets keys one' other'
 two_still keys one other one' other' a b are = (
   (
@@ -34,18 +34,19 @@ two_still keys one other one' other' a b are = (
   },
 )
 
-pub apart_still : (keys : Keys) (one other one' other' : Queueing) → KeepApart one other one' other'
+pub apart_still : (keys : Keys) (one other one' other' : SectionQueues) → KeepApart one other one' other'
     → AreApartAt keys one other → AreApartAt keys one' other'
 apart_still keys one other one' other' keep apart key is =
     ((keep key).0 (apart key is).0, (keep key).1 (apart key is).1)
 
-pub apart_same : (keys : Keys) (one one' other : Queueing) → one'.queues ≡ one.queues
+pub apart_same : (keys : Keys) (one one' other : SectionQueues) → one'.queues ≡ one.queues
     → AreApartAt keys one other → AreApartAt keys one' other
 apart_same keys one one' other same apart key is = rw same (apart key is)
 
 -- ---------------------------------------------------------------- in the other order
 
-pub two_turned : (keys : Keys) (one other : Queueing) → AreBuckets keys one other → AreBuckets keys other one
+pub two_turned : (keys : Keys) (one other : SectionQueues) → AreBuckets keys one other
+    → AreBuckets keys other one
 two_turned keys one other are = (
   (sym are.0.0, sym are.0.1, λ (e : one.number ≡ other.number). are.0.2 (sym e)),
   record {
@@ -57,17 +58,17 @@ two_turned keys one other are = (
   },
 )
 
-pub apart_turned : (keys : Keys) (one other : Queueing) → AreApartAt keys one other
+pub apart_turned : (keys : Keys) (one other : SectionQueues) → AreApartAt keys one other
     → AreApartAt keys other one
 apart_turned keys one other apart key is = ((apart key is).1, (apart key is).0)
 
 -- a key of one of two buckets has nobody in the other
-none_in : (one other : Queueing) (key : ℕ) → AreTwo one other → bucket_of one.bits key ≡ one.number
+none_in : (one other : SectionQueues) (key : ℕ) → AreTwo one other → bucket_of one.bits key ≡ one.number
     → line key other.queues.waiters ≡ []
 none_in one other key two here = other.of_bucket.hashed key (λ (e : bucket_of other.bits key ≡ other.number).
     two.2 (sym e ∙ ap (λ (b : ℕ). bucket_of b key) two.1 ∙ here))
 
-pub none_turned : (one other : Queueing) (key : ℕ) → AreTwo one other → bucket_of other.bits key
+pub none_turned : (one other : SectionQueues) (key : ℕ) → AreTwo one other → bucket_of other.bits key
     ≡ other.number → line key one.queues.waiters ≡ []
 none_turned one other key two here = none_in other one key (
   sym two.0,
@@ -75,7 +76,7 @@ none_turned one other key two here = none_in other one key (
   λ (e : one.number ≡ other.number). two.2 (sym e),
 ) here
 
-pub lines_turned : (one other : Queueing) → AreTwo one other
+pub lines_turned : (one other : SectionQueues) → AreTwo one other
     → lines (other.queues.waiters ++ one.queues.waiters) ≡ lines (one.queues.waiters ++ other.queues.waiters)
 lines_turned one other two = let xs = one.queues.waiters in let ys = other.queues.waiters
     in everywhere _ _ (λ k. elim (cases_eq (bucket_of one.bits k) one.number) [
@@ -86,7 +87,8 @@ lines_turned one other two = let xs = one.queues.waiters in let ys = other.queue
     ])
 
 -- a key that the second does not have is one of the first
-pub here_else : (keys : Keys) (one other : Queueing) (key : ℕ) → AreBuckets keys one other → IsKeyOf keys key
+pub here_else : (keys : Keys) (one other : SectionQueues) (key : ℕ) → AreBuckets keys one other
+    → IsKeyOf keys key
     → bucket_of other.bits key ≢ other.number → bucket_of one.bits key ≡ one.number
 here_else keys one other key are is differ = elim (cases_eq (bucket_of one.bits key) one.number) [
   | inl here ↦ here
@@ -94,7 +96,7 @@ here_else keys one other key are is differ = elim (cases_eq (bucket_of one.bits 
 ]
 
 -- where one key of a section has the first bucket, another has the second
-pub there_then : (keys : Keys) (one other : Queueing) (from to : ℕ) → AreBuckets keys one other
+pub there_then : (keys : Keys) (one other : SectionQueues) (from to : ℕ) → AreBuckets keys one other
     → IsKeyOf keys from → IsKeyOf keys to → from ≢ to → bucket_of one.bits from ≡ one.number
     → bucket_of other.bits to ≡ other.number
 there_then keys one other from to are a b differ here = ap (λ (n : ℕ). bucket_of n to) are.0.1

@@ -21,7 +21,7 @@ use crate::sections::Section;
 use crate::tellings::Tellings;
 use crate::tokens::{Did, Token};
 use core_base::{Key, Keys};
-use core_queues::{Queueing, bucket_among};
+use core_queues::{SectionQueues, bucket_among};
 use std::sync::{Mutex, MutexGuard, Wait};
 
 // How often a thread tries to enter a section before it sleeps until it may, and for how many
@@ -34,7 +34,7 @@ const PAUSE: u32 = 12;
 
 // A lock keeps what its type tells alone, so a fact about its lot is tested, and so is whose section
 // is left. The tests never fail.
-pub(crate) fn never<R: Wait>(rt: &R) -> ! {
+pub(crate) fn hang_forever<R: Wait>(rt: &R) -> ! {
     for _ in rt.forever() {}
     unreachable!()
 }
@@ -42,10 +42,10 @@ pub(crate) fn never<R: Wait>(rt: &R) -> ! {
 // Takes the lock of a bucket, unless others have it all the while. A section is short, so that falling
 // asleep for one mostly takes longer than the wait, and costs the thread that is inside as well, which
 // has to wake the sleeper.
-fn try_queues(lock: &Mutex<Queueing>) -> Option<MutexGuard<'_, Queueing>> {
+fn try_queues(lock: &Mutex<SectionQueues>) -> Option<MutexGuard<'_, SectionQueues>> {
     for _ in 0..TRIES {
-        if let Some(queueing) = lock.try_lock() {
-            return Some(queueing);
+        if let Some(section_queues) = lock.try_lock() {
+            return Some(section_queues);
         }
         pause(PAUSE);
     }
@@ -53,7 +53,7 @@ fn try_queues(lock: &Mutex<Queueing>) -> Option<MutexGuard<'_, Queueing>> {
 }
 
 // Finds a thread that stands under one of two keys and in the other's bucket as well.
-fn doubled(low: Key, high: Key, first: &Queueing, other: &Queueing) -> Option<usize>
+fn doubled(low: Key, high: Key, first: &SectionQueues, other: &SectionQueues) -> Option<usize>
     ensures { result ≡ None
         → AreApart low first.now.queues.waiters other.now.queues.waiters
         × AreApart high other.now.queues.waiters first.now.queues.waiters }
@@ -76,7 +76,7 @@ impl ParkingLot {
     }
 
     // The queues of a bucket, with nobody taken.
-    fn queues<'a, R: Wait>(&'a self, rt: &R, bucket: usize) -> MutexGuard<'a, Queueing>
+    fn queues<'a, R: Wait>(&'a self, rt: &R, bucket: usize) -> MutexGuard<'a, SectionQueues>
         requires { bucket < length self.now.buckets.items }
         ensures place { ((mutex_guard_value result).number ≡ bucket)
             × ((mutex_guard_value result).bits ≡ self.now.bits)
@@ -84,24 +84,24 @@ impl ParkingLot {
         ensures begun { IsBegun (mutex_guard_value result) }
     {
         let lock = &self.buckets[bucket];
-        let mut queueing = match try_queues(lock) {
-            Some(queueing) => queueing,
+        let mut section_queues = match try_queues(lock) {
+            Some(section_queues) => section_queues,
             None => lock.lock(rt),
         };
-        queueing.begin();
-        if queueing.place() != (bucket, self.bits, self.records.len()) {
-            never(rt)
+        section_queues.begin();
+        if section_queues.place() != (bucket, self.bits, self.records.len()) {
+            hang_forever(rt)
         }
-        queueing
+        section_queues
     }
 
     // The queues of a bucket, for a thread that has those of a lower one.
     fn queues_above<'a, R: Wait>(
         &'a self,
         rt: &R,
-        lower: &Queueing,
+        lower: &SectionQueues,
         bucket: usize,
-    ) -> MutexGuard<'a, Queueing>
+    ) -> MutexGuard<'a, SectionQueues>
         requires within { bucket < length self.now.buckets.items }
         requires above { lower.now.number < bucket }
         ensures place { ((mutex_guard_value result).number ≡ bucket)
@@ -115,7 +115,7 @@ impl ParkingLot {
 
     // Takes a thread that stands in two buckets out of the one where it stood before: the section that
     // put it into the other hadn't this one.
-    fn leave_older(&self, thread: usize, first: &mut Queueing, other: &mut Queueing)
+    fn leave_older(&self, thread: usize, first: &mut SectionQueues, other: &mut SectionQueues)
         requires { IsBegun first.old × IsBegun other.old }
         ensures same { IsSameBucket first.old first.new × IsSameBucket other.old other.new }
         ensures begun { IsBegun first.new × IsBegun other.new }
@@ -128,7 +128,13 @@ impl ParkingLot {
     }
 
     // Sees to it that nobody under one of two keys stands in both buckets.
-    fn part<R: Wait>(&self, rt: &R, keys: (Key, Key), first: &mut Queueing, other: &mut Queueing)
+    fn part<R: Wait>(
+        &self,
+        rt: &R,
+        keys: (Key, Key),
+        first: &mut SectionQueues,
+        other: &mut SectionQueues,
+    )
         requires { IsBegun first.old × IsBegun other.old }
         ensures same { IsSameBucket first.old first.new × IsSameBucket other.old other.new }
         ensures begun { IsBegun first.new × IsBegun other.new }

@@ -14,7 +14,7 @@ pub struct Expected {
 
 impl Expected {
     #[inline]
-    pub(crate) fn meeting() -> Expected
+    pub(crate) fn armed() -> Expected
         ensures { result.unlocked ≡ 0 }
     {
         Expected {
@@ -24,7 +24,7 @@ impl Expected {
     }
 
     #[inline]
-    pub(crate) fn missing() -> Expected
+    pub(crate) fn disarmed() -> Expected
         ensures { result.unlocked ≢ 0 }
     {
         Expected {

@@ -12,7 +12,7 @@ use crate::wakes::Wakers;
 use core_base::Fault;
 use core_names::Name;
 use core_parts::KeyedLocks;
-use core_queues::{Queueing, Stands, bits_for, bucket_among};
+use core_queues::{SectionQueues, Stands, bits_for, bucket_among};
 use core_words::{LotWords, Seat};
 use crossbeam_utils::sync::{Parker, Unparker};
 use std::alloc::{AllocError, Global};
@@ -24,7 +24,7 @@ use std::sync::{Arc, Mutex};
 pub struct ParkingLot {
     pub(crate) words: LotWords,
     // The queues of each bucket of keys: 2 ^ bits of them.
-    pub(crate) buckets: Vec<Mutex<Queueing>>,
+    pub(crate) buckets: Vec<Mutex<SectionQueues>>,
     pub(crate) bits: u32,
     pub(crate) records: KeyedLocks<LotWords, WakeRecord>,
     pub(crate) wakers: Wakers,
@@ -56,7 +56,7 @@ impl Drop for ParkingLot {
 }
 
 // The queues of each bucket, with nobody in them.
-fn empty_buckets(alloc: Global, seats: usize, bits: u32) -> Result<Vec<Mutex<Queueing>>, Fault>
+fn empty_buckets(alloc: Global, seats: usize, bits: u32) -> Result<Vec<Mutex<SectionQueues>>, Fault>
     requires { bits < 64 }
     ensures ok { IfOk result (λ buckets. length buckets.items ≡ 2 ^ bits) }
     ensures err { IfErr result (λ fault. fault ≡ Fault.NoMemory) }
@@ -66,8 +66,8 @@ fn empty_buckets(alloc: Global, seats: usize, bits: u32) -> Result<Vec<Mutex<Que
         return Err(Fault::NoMemory);
     };
     for bucket in 0..number {
-        let queueing = Queueing::with_capacity(alloc, seats, bucket, bits)?;
-        buckets.push_reserved(Mutex::new(queueing));
+        let section_queues = SectionQueues::with_capacity(alloc, seats, bucket, bits)?;
+        buckets.push_reserved(Mutex::new(section_queues));
     }
     Ok(buckets)
 }
@@ -129,7 +129,7 @@ impl ParkingLot {
         alloc: Global,
         words: usize,
         seats: usize,
-        buckets: Vec<Mutex<Queueing>>,
+        buckets: Vec<Mutex<SectionQueues>>,
         bits: u32,
     ) -> Result<(Arc<ParkingLot>, Vec<Ticket>), AllocError>
         requires sizes { (0 < words) × (words ≤ most_words) × (seats ≤ 1024) }

@@ -17,14 +17,14 @@ ghost use Rattle.parking_lot_core.specs.declared.tokens.Did.TheVariants.{Nothing
 ghost use Rattle.parking_lot_core.specs.declared.tokens.Did.TheVariants.{TakePicked};
 ghost use Rattle.parking_lot_core.specs.declared.tellings.Telling.TheVariants.{Counted, Left, Stood, Took};
 
-use crate::enter::never;
+use crate::enter::hang_forever;
 use crate::expected::Expected;
 use crate::lot::ParkingLot;
 use crate::places::QueuePlace;
 use crate::tellings::{Telling, Tellings, tell_taken};
 use crate::tokens::{Did, SectionRecord, Token};
 use core_base::{Key, Keys, Note, Requeue, Want};
-use core_queues::Queueing;
+use core_queues::SectionQueues;
 use core_words::{Owner, Right, Word};
 use std::mem::swap;
 use std::sync::{MutexGuard, Wait};
@@ -36,9 +36,9 @@ use std::sync::{MutexGuard, Wait};
 pub struct Section<'a> {
     pub(crate) lot: &'a ParkingLot,
     // The bucket of a key: of the one of which it takes or moves waiters, once it did so.
-    pub(crate) first: MutexGuard<'a, Queueing>,
+    pub(crate) first: MutexGuard<'a, SectionQueues>,
     // That of the other key, where it is another.
-    pub(crate) other: Option<MutexGuard<'a, Queueing>>,
+    pub(crate) other: Option<MutexGuard<'a, SectionQueues>>,
     pub(crate) keys: Keys,
     // The thread that is inside.
     pub(crate) thread: usize,
@@ -74,7 +74,8 @@ impl<'a> Section<'a> {
     ghost use Rattle.parking_lot_core.specs.Places.{IsPlaceOf, thread_of};
     ghost use Rattle.parking_lot_core.specs.Tokens.{IsTokenOf, IsSameThread, last_of, told_of};
     ghost use Rattle.parking_lot_core.specs.Sections.{others_in, IsUntouched};
-    ghost use Rattle.parking_lot_core.specs.Sections.{waiting_in, taken_in, wants_in, rightless_in, moved_in, told_in, StaysIn, TookAs, MayNote};
+    ghost use Rattle.parking_lot_core.specs.Sections.{waiting_in, taken_in, wants_in, rightless_in, moved_in};
+    ghost use Rattle.parking_lot_core.specs.Sections.{told_in, StaysIn, TookAs, MayNote};
     ghost use Rattle.parking_lot_core.specs.Tokens.{out_of, view_of};
     ghost use Rattle.parking_lot_core.specs.Giving.{owner_given_at, HasEach, less_each};
     ghost use Rattle.core_words.specs.Lots.{IsWordOf};
@@ -489,7 +490,7 @@ impl<'a> Section<'a> {
             told,
         } = self;
         if thread != token.number {
-            never(rt)
+            hang_forever(rt)
         }
         let taken = first.taken().len();
         let woken = lot.tie(first.taken());
@@ -500,7 +501,7 @@ impl<'a> Section<'a> {
             did,
             number: taken + moved,
         };
-        token.expected = Expected::missing();
+        token.expected = Expected::disarmed();
         told.pass_on(&mut token.told);
         if let Some(woken) = woken {
             lot.wake_tied(rt, woken, taken, note);

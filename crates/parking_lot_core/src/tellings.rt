@@ -7,7 +7,7 @@ ghost use Rattle.parking_lot_core.specs.declared.tellings.Telling.TheVariants.{T
 
 use crate::tokens::Did;
 use core_base::{Key, Want};
-use core_queues::Queueing;
+use core_queues::SectionQueues;
 use std::marker::Model;
 
 /// An act of a thread on the queues, with what it found or did there.
@@ -81,13 +81,18 @@ impl Tellings {
 
 /// Tells what a section did by its first bucket.
 #[inline]
-pub(crate) fn tell_taken(queueing: &Queueing, did: Did, moved: usize, told: &mut Tellings)
+pub(crate) fn tell_taken(
+    section_queues: &SectionQueues,
+    did: Did,
+    moved: usize,
+    told: &mut Tellings,
+)
     ensures { told.new.list
-        ≡ told.old.list ++ Took did (length queueing.now.taken.items) moved ∷ [] }
+        ≡ told.old.list ++ Took did (length section_queues.now.taken.items) moved ∷ [] }
 {
     let telling = Telling::Took {
         did,
-        taken: queueing.taken().len(),
+        taken: section_queues.taken().len(),
         moved,
     };
     telling.tell(told);

@@ -125,7 +125,7 @@ impl Ticket {
             number,
             parker,
             record: NOTHING,
-            expected: Expected::meeting(),
+            expected: Expected::armed(),
             told: Tellings::new(),
             here: PhantomData,
         }
@@ -196,19 +196,19 @@ impl Token {
         ensures forgotten { last_of self.new ≡ None }
         ensures untold { told_of self.new ≡ told_of self.old }
     {
-        self.expected = Expected::meeting();
+        self.expected = Expected::armed();
     }
 
     // Out of the way, so that a step which has nothing to forget takes no jump.
     #[cold]
-    #[inline(never)]
+    #[inline(hang_forever)]
     pub(crate) fn clear_record(&mut self)
         ensures same { (self.new.seat ≡ self.old.seat) × (self.new.name ≡ self.old.name)
             × (self.new.number ≡ self.old.number) }
         ensures forgotten { last_of self.new ≡ None }
         ensures untold { told_of self.new ≡ told_of self.old }
     {
-        self.expected = Expected::meeting();
+        self.expected = Expected::armed();
     }
 
     /// Returns the record of the section that the thread left last. None once it has stepped on a

@@ -11,7 +11,7 @@ use Rattle.core_words.specs.declared.views.WordStep.{WordStep}
 use Rattle.parking_lot_core.specs.declared.tokens.Token.{Token}
 use Rattle.run_base.specs.CondvarFitting.{IsWaitOver, LateIf, move_did}
 use Rattle.run_base.specs.Paths.{condvar_at, step}
-use Rattle.run_base.specs.Stages.{Stage}
+use Rattle.run_base.specs.Stages.{ThreadState}
 use Rattle.run_base.specs.Telling.{steps_of}
 use Rattle.run_locks.specs.CondvarCalls.{AnswersWait, HasGoneOn, HasLooked, LookedElse, SawNoneToMove}
 use Rattle.run_locks.specs.CondvarCalls.{TellsMoved, timed_given_back, given_back}
@@ -74,7 +74,7 @@ late_of up true false answer told late e = absurd (let k : waited true false ≡
 late_of up false false answer told late e = absurd (let k : waited false false ≡ TimedOut = sym told ∙ e
     in cc)
 
-module _ (up : Type 0) (m : ℕ) (timed : Bool) (base : List Ownership) (answer : Answer) (st : Stage)
+module _ (up : Type 0) (m : ℕ) (timed : Bool) (base : List Ownership) (answer : Answer) (st : ThreadState)
     (over : IsWaitOver up m timed base answer st) where
   pub tells : AnswersWait timed answer
   tells = elim over [

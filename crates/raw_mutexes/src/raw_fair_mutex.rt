@@ -59,13 +59,13 @@ impl lock_raw::RawMutex for RawFairMutex {
 
     ghost is_token_of = { λ lot token. IsTokenOf lot token };
 
-    ghost stays = { λ old new. StaysAs old new };
+    ghost keeps_rights = { λ old new. StaysAs old new };
 
-    ghost stays_on = { StaysAs-on };
+    ghost keeps_rights_on = { StaysAs-on };
 
     ghost number_of = { λ token. token.number };
 
-    ghost number_stays = { λ _ _ stays. stays.0 };
+    ghost number_stays = { λ _ _ keeps_rights. keeps_rights.0 };
 
     ghost is_guard_of = { λ mutex guard. IsGuardOf (arc_value mutex.lot) mutex.word guard };
 
@@ -82,7 +82,7 @@ impl lock_raw::RawMutex for RawFairMutex {
 
     ghost found_full = { λ lot old new. FoundFull lot old new };
 
-    ghost walked = { λ mutex call answer old new. HasWalkedMutex mutex.word.number
+    ghost took_steps = { λ mutex call answer old new. HasWalkedMutex mutex.word.number
         (fairly call) answer old new };
 
     ghost released = { λ mutex call old new.

@@ -28,7 +28,8 @@ use steps_base::bits::{count_in, has_writer};
 
 impl lock_raw::RawRwLockHalves for RawRwLock<true> {
     ghost use Rattle.raw_rwlocks.specs.RwLockHalves.{HasBegunCall};
-    ghost use Rattle.raw_rwlocks.specs.RwLockUsers.{admission_of, lot_lock_in, lot_of as lot_at, word_of as word_at};
+    ghost use Rattle.raw_rwlocks.specs.RwLockUsers.{admission_of, lot_lock_in, lot_of as lot_at};
+    ghost use Rattle.raw_rwlocks.specs.RwLockUsers.{word_of as word_at};
 
     type Lot = ParkingLot;
 
@@ -44,9 +45,9 @@ impl lock_raw::RawRwLockHalves for RawRwLock<true> {
 
     ghost is_token_of = { λ lot token. IsTokenOf lot token };
 
-    ghost stays = { λ old new. StaysSettled old new };
+    ghost keeps_rights = { λ old new. StaysSettled old new };
 
-    ghost stays_on = { StaysSettled-on };
+    ghost keeps_rights_on = { StaysSettled-on };
 
     ghost is_shared_of = { λ lock guard. IsSharedOf (lot_at lock) (word_at lock) guard };
 
@@ -62,10 +63,10 @@ impl lock_raw::RawRwLockHalves for RawRwLock<true> {
 
     ghost exclusive_view = { λ lock. piece_of (word_at lock) Exclusive };
 
-    ghost walked = { λ lock call answer old new. HasWalkedCall (word_at lock).number
+    ghost took_steps = { λ lock call answer old new. HasWalkedCall (word_at lock).number
         (admission_of lock) call answer old new };
 
-    ghost woke = { λ lock call old new. WakesByCall (word_at lock).number
+    ghost woke_waiters = { λ lock call old new. WakesByCall (word_at lock).number
         (admission_of lock) call old new };
 
     ghost begun = { λ lock call rest old new. HasBegunCall (lot_lock_in lock) call rest old new };

@@ -38,7 +38,7 @@ use Rattle.run_base.specs.MutexFitting.{to_enter, IsMutexOver, Outside, TookAt, 
 use Rattle.run_base.specs.Courses.{Courses, trail_of}
 use Rattle.run_base.specs.Paths.{mutex_at, mutexes, at_mutex, step}
 use Rattle.run_base.specs.Telling.{steps_of}
-use Rattle.run_base.specs.Stages.{Stage, stage}
+use Rattle.run_base.specs.Stages.{ThreadState, stage}
 use Rattle.run_base.specs.Words.{single_word, kind_in, at_in}
 use Rattle.run_base.proofs.Courses.{arrives_at_once, courses_between, courses_from}
 use Rattle.run_base.proofs.Turning.{words_on}
@@ -160,14 +160,14 @@ module _ (n : ℕ) where
       (sym (goes_to c seen owns g)) (fits_there up c seen owns last steps g)
 
   pub over_after : (up : Type 0) (c : MutexCall) (seen : ℕ) (owns : List Ownership) (answer : Answer)
-      (new : Stage) → IsUnfinished n c seen owns
+      (new : ThreadState) → IsUnfinished n c seen owns
       → IsOver up owns (call_purpose (next_place (beginning n c) (Value seen))) answer new
       → IsMutexOver up n owns (purpose_in c) answer new
   over_after up c seen owns answer new g over = subst (λ aim. IsOver up owns aim answer new)
       (ap call_purpose (goes_to c seen owns g) ∙ same_aim c) over
 
   pub never_pauses : (up : Type 0) (c : MutexCall) (seen : ℕ) (owns : List Ownership) (place : Place)
-      (state : OnceState) (new : Stage) → IsUnfinished n c seen owns
+      (state : OnceState) (new : ThreadState) → IsUnfinished n c seen owns
       → IsStopped up owns (call_purpose (next_place (beginning n c) (Value seen))) (Paused place state) new
       → ⊥
   never_pauses up c seen owns place state new g stopped = never_paused up owns n (purpose_in c) place state
@@ -193,7 +193,7 @@ module _ (n : ℕ) where
       courses_between (at_mutex n) (beginning n c) answer old old mid new refl refl refl e told walked
 
   -- an untimed call has the mutex at its end
-  pub has_entered : (up : Type 0) (e : Entry) (base : List Ownership) (answer : Answer) (st : Stage)
+  pub has_entered : (up : Type 0) (e : Entry) (base : List Ownership) (answer : Answer) (st : ThreadState)
       → is_timed e ≡ false → IsMutexOver up n base (to_enter e) answer st → (answer ≡ entered e)
       × Outside (mutex_ownership n ∷ beside n e base) st
   has_entered up e base answer st untimed (inl h) = (h.0, (h.1.0, h.1.1))

@@ -29,8 +29,8 @@ use Rattle.core_base.specs.declared.requeues.Requeue.{Requeue}
 use Rattle.core_base.specs.declared.wants.Waiter.{Waiter}
 use Rattle.core_base.specs.Lines.{threads_of}
 use Rattle.steps_base.specs.Acts.{wakes_taken}
-use Rattle.steps_condvar.specs.declared.wait.Stands.{Stands}
-use Rattle.steps_condvar.specs.declared.wait.Stands.TheVariants as stands
+use Rattle.steps_condvar.specs.declared.wait.WaiterFate.{WaiterFate}
+use Rattle.steps_condvar.specs.declared.wait.WaiterFate.TheVariants as stands
 use Rattle.steps_condvar.specs.declared.wait.WaitAt.{WaitAt}
 use Rattle.steps_condvar.specs.declared.wait.WaitAt.TheVariants as wait
 use Rattle.steps_condvar.specs.declared.places.CondvarPlace.{CondvarPlace}
@@ -67,16 +67,17 @@ use Rattle.run_base.specs.Fitting.{answer_of, of_mutex, of_notify, of_wait, slee
 use Rattle.run_base.specs.MutexFitting.{FitsMutex, Outside, Within, to_enter, mutex_ownership, to_release}
 use Rattle.run_base.specs.Paths.{at_mutex, condvar_at, mutex_at, mutexes, step}
 use Rattle.run_base.specs.Stages.{ActNeeds, Awoke, Became, HasKey, SectionView, IsLeft, IsFresh, MayLeave}
-use Rattle.run_base.specs.Stages.{Stage, Stepped, entered_now, having_taken, listed, with_moved, note_of}
+use Rattle.run_base.specs.Stages.{ThreadState, Stepped, entered_now, having_taken, listed, with_moved}
+use Rattle.run_base.specs.Stages.{note_of}
 use Rattle.run_base.specs.Stages.{stage, took_as}
 use Rattle.run_base.specs.declared.sleepers.Sleeper.{Sleeper}
 
 -- tells what is known of a mutex's places
 abbrev pub MutexPlacesLead : Type 0 → Type 0
-MutexPlacesLead up = (n : ℕ) (base : List Ownership) (at : MutexPlace) (st : Stage)
+MutexPlacesLead up = (n : ℕ) (base : List Ownership) (at : MutexPlace) (st : ThreadState)
     → FitsMutex up n base at st →
     ActNeeds mutexes (at_mutex n) st (mutex_act n at) × LooksLeadOn up base (Mutex n at) st
-    × ((reply : Reply) (new : Stage) → Became up mutexes (at_mutex n) (sleeper_at (Mutex n at)) st
+    × ((reply : Reply) (new : ThreadState) → Became up mutexes (at_mutex n) (sleeper_at (Mutex n at)) st
     (mutex_act n at) reply new → Reached up base (Mutex n at) reply new)
 
 -- acts that step on the word of one lock alone
@@ -148,12 +149,12 @@ module _ (up : Type 0) (c m : ℕ) (kinds : ℕ → WordKind) (at : ℕ → ℕ)
   may_there op owns may = subst (λ (k : WordKind). MayStep k (at m) op owns) (sym words.3)
       (subst (λ (n : ℕ). MayStep kind.Mutex n op owns) (sym words.4) may)
 
-  stepped_there : (op : Op) (seen : ℕ) (st new : Stage) → Stepped (kinds m) (at m) op seen st new
+  stepped_there : (op : Op) (seen : ℕ) (st new : ThreadState) → Stepped (kinds m) (at m) op seen st new
       → Stepped kind.Mutex (mutex_at m) op seen st new
   stepped_there op seen st new b = subst (λ (n : ℕ). Stepped kind.Mutex n op seen st new) words.4
       (subst (λ (k : WordKind). Stepped k (at m) op seen st new) words.3 b)
 
-  needs_there : (st : Stage) (a : Act) → OnlyOn m a → ActNeeds mutexes (at_mutex m) st a
+  needs_there : (st : ThreadState) (a : Act) → OnlyOn m a → ActNeeds mutexes (at_mutex m) st a
       → ActNeeds kinds at st a
   needs_there st (act.TheVariants.Word l op) o n = subst (λ (l : ℕ). MayStep (kinds l) (at l) op st.owns)
       (sym o) (may_there op st.owns n)
@@ -171,14 +172,14 @@ module _ (up : Type 0) (c m : ℕ) (kinds : ℕ → WordKind) (at : ℕ → ℕ)
   needs_there st (act.TheVariants.Closure state) o n = n
   needs_there st a o n = absurd n
 
-  awoke_there : (sleeper : Sleeper) → sleeper.lock ≡ m → (st new : Stage) (reply : Reply)
+  awoke_there : (sleeper : Sleeper) → sleeper.lock ≡ m → (st new : ThreadState) (reply : Reply)
       → Awoke up (kinds sleeper.lock) (at sleeper.lock) sleeper st reply new
       → Awoke up kind.Mutex (mutex_at m) sleeper st reply new
   awoke_there s is st new reply b = subst (λ (n : ℕ). Awoke up kind.Mutex n s st reply new) words.4
       (subst (λ (k : WordKind). Awoke up k (at m) s st reply new) words.3
       (subst (λ (l : ℕ). Awoke up (kinds l) (at l) s st reply new) is b))
 
-  became_there : (sleeper : Sleeper) → sleeper.lock ≡ m → (st new : Stage) (a : Act) → OnlyOn m a
+  became_there : (sleeper : Sleeper) → sleeper.lock ≡ m → (st new : ThreadState) (a : Act) → OnlyOn m a
       → (reply : Reply) → Became up kinds at sleeper st a reply new → Became up mutexes (at_mutex m) sleeper
       st a reply new
   became_there s is st new (act.TheVariants.Word l op) o (Value seen) b = stepped_there op seen st new
@@ -208,17 +209,18 @@ module _ (up : Type 0) (c m : ℕ) (kinds : ℕ → WordKind) (at : ℕ → ℕ)
   became_there s is st new act.TheVariants.Accept o reply b = absurd b
   became_there s is st new a o reply b = absurd b
 
-  module _ (base : List Ownership) (st new : Stage) where
-    owns_of : (s : Stage) → new ≡ s → new.owns ≡ s.owns
-    owns_of s e = ap (λ (x : Stage). x.owns) e
+  module _ (base : List Ownership) (st new : ThreadState) where
+    owns_of : (s : ThreadState) → new ≡ s → new.owns ≡ s.owns
+    owns_of s e = ap (λ (x : ThreadState). x.owns) e
 
-    inside_of : (s : Stage) → new ≡ s → new.inside ≡ s.inside
-    inside_of s e = ap (λ (x : Stage). x.inside) e
+    inside_of : (s : ThreadState) → new ≡ s → new.inside ≡ s.inside
+    inside_of s e = ap (λ (x : ThreadState). x.inside) e
 
-    abbrev Has : List Ownership → Option SectionView → Stage → Type 0
+    abbrev Has : List Ownership → Option SectionView → ThreadState → Type 0
     Has owns inside s = (s.owns ≡ owns) × (s.inside ≡ inside)
 
-    stays : (owns : List Ownership) (inside : Option SectionView) (s : Stage) → new ≡ s → s.owns ≡ st.owns
+    stays : (owns : List Ownership) (inside : Option SectionView) (s : ThreadState) → new ≡ s → s.owns
+        ≡ st.owns
         → s.inside ≡ st.inside → Has owns inside st → Has owns inside new
     stays owns inside s e o i f = (owns_of s e ∙ o ∙ f.0, inside_of s e ∙ i ∙ f.1)
 
@@ -235,7 +237,7 @@ module _ (up : Type 0) (c m : ℕ) (kinds : ℕ → WordKind) (at : ℕ → ℕ)
       st.steps,
       seen,
       other,
-      ap (λ (s : Stage). s.steps) e.1 ∙ ap (λ (n : ℕ). st.steps ++ step n Load seen)
+      ap (λ (s : ThreadState). s.steps) e.1 ∙ ap (λ (n : ℕ). st.steps ++ step n Load seen)
           words.2,
     )
 
@@ -360,7 +362,7 @@ module _ (up : Type 0) (c m : ℕ) (kinds : ℕ → WordKind) (at : ℕ → ℕ)
       subtracts f reply b = absurd b
 
       -- a thread that sleeps is told of its mutex, or of its time
-      asleep_on : (s : Stands) → Outside (apart m base) st → (retries : Bool) → (new.owns ≡ st.owns)
+      asleep_on : (s : WaiterFate) → Outside (apart m base) st → (retries : Bool) → (new.owns ≡ st.owns)
           × (new.inside ≡ None) → FitsWait up c m timed base (wait.Lock false (first_lock retries)) new
       asleep_on s f retries b = (tt, (b.0 ∙ f.0, b.1))
 
@@ -722,10 +724,11 @@ module _ (up : Type 0) (c m : ℕ) (kinds : ℕ → WordKind) (at : ℕ → ℕ)
 
 -- each place of a condition variable's call leads on
 pub condvar_place_leads : (up : Type 0) → MutexPlacesLead up → (l : ℕ) (kinds : ℕ → WordKind) (at : ℕ → ℕ)
-    (base : List Ownership) (p : CondvarPlace) (st : Stage) → AreWordsBeside l (mutex_beside p) kinds at
+    (base : List Ownership) (p : CondvarPlace) (st : ThreadState) → AreWordsBeside l (mutex_beside p) kinds at
     → FitsCondvarCall up l base p st →
     ActNeeds kinds at st (condvar_act l p) × LooksLeadOn up base (Condvar l p) st
-    × ((reply : Reply) (new : Stage) → Became up kinds at (sleeper_at (Condvar l p)) st (condvar_act l p)
+    × ((reply : Reply) (new : ThreadState)
+    → Became up kinds at (sleeper_at (Condvar l p)) st (condvar_act l p)
     reply new → Reached up base (Condvar l p) reply new)
 condvar_place_leads up law l kinds at base (Wait m timed w) st words f = (
   wait_needs up l m kinds at words base st st timed law w f,

@@ -43,7 +43,7 @@ use Rattle.run_base.specs.Paths.{closure_of}
 use Rattle.run_base.specs.SemaphoreFitting as semaphore
 use Rattle.run_base.proofs.SemaphoreLeading.{semaphore_no_closure}
 use Rattle.run_base.specs.Words.{single_word, at_in, kind_in}
-use Rattle.run_base.specs.Stages.{SectionView, Stage, ActNeeds, stage}
+use Rattle.run_base.specs.Stages.{SectionView, ThreadState, ActNeeds, stage}
 use Rattle.run_base.specs.declared.driver.Stop.TheVariants.{Paused}
 
 pub end_of : (a : Act) (answer : Answer) → answer_of a ≡ Some answer → a ≡ act.TheVariants.End answer
@@ -56,7 +56,7 @@ closure_act (act.TheVariants.Closure s) state e = cc
 closure_act a state e = absurd cc
 
 -- a thread that comes to a closure is outside all sections, and stops there
-pub closes_outside : (kinds : ℕ → WordKind) (at : ℕ → ℕ) (st : Stage) (a : Act) (state : OnceState)
+pub closes_outside : (kinds : ℕ → WordKind) (at : ℕ → ℕ) (st : ThreadState) (a : Act) (state : OnceState)
     → closure_of a ≡ Some state → ActNeeds kinds at st a → st.inside ≡ None
 closes_outside kinds at st a state e needs = subst (ActNeeds kinds at st) (closure_act a state e) needs
 
@@ -166,7 +166,7 @@ module _ (up : Type 0) (base owns : List Ownership) where
 
 -- no call of a mutex runs a closure
 pub no_closure : (n : ℕ) (state : OnceState) (up : Type 0) (base : List Ownership) (at : MutexPlace)
-    (st : Stage) → FitsMutex up n base at st → mutex_act n at ≡ act.TheVariants.Closure state → ⊥
+    (st : ThreadState) → FitsMutex up n base at st → mutex_act n at ≡ act.TheVariants.Closure state → ⊥
 no_closure n state up base (at_mutex_place.Lock e retries (lock.TheVariants.Decide seen)) st f is =
     each_code (λ s. decided n s ≡ act.TheVariants.Closure state → ⊥) (λ is. cc) (λ is. cc) (λ is. cc)
     (λ is. cc) seen f.0 is
@@ -203,7 +203,7 @@ condvar_pauses l n purpose (waiting.Notify all m at) e = let aim : of_notify l m
     in cc
 
 pub never_paused : (up : Type 0) (base : List Ownership) (n : ℕ) (purpose : MutexPurpose) (p : Place)
-    (state : OnceState) (st : Stage) → IsStopped up base (of_mutex n purpose) (Paused p state) st → ⊥
+    (state : OnceState) (st : ThreadState) → IsStopped up base (of_mutex n purpose) (Paused p state) st → ⊥
 never_paused up base n purpose Idle state st s = s.0
 never_paused up base n purpose (Condvar l at) state st s = condvar_pauses l n purpose at s.1
 never_paused up base n purpose (RwLock l a at) state st s = rwlock_no_closure up l a base at st state s.0 s.2
@@ -214,7 +214,8 @@ never_paused up base n purpose (Semaphore l at) state st s = semaphore_no_closur
 -- no call comes to a closure that steps on a word of another kind than a `Once`'s or a condition
 -- variable's
 pub never_closes : (up : Type 0) (base : List Ownership) (aim : CallPurpose) (p : Place) (state : OnceState)
-    (st : Stage) (word : Word) → word.kind ≢ kinds.TheVariants.Once → word.kind ≢ kinds.TheVariants.Condvar
+    (st : ThreadState) (word : Word) → word.kind ≢ kinds.TheVariants.Once
+    → word.kind ≢ kinds.TheVariants.Condvar
     → AreWordsFor p (kind_in (single_word word)) (at_in (single_word word))
     → IsStopped up base aim (Paused p state) st → ⊥
 never_closes up base aim Idle state st word no_once no_condvar words s = s.0

@@ -26,7 +26,8 @@ use Rattle.parking_lot_core.specs.declared.tokens.Did.TheVariants.{TakeFirst}
 use Rattle.run_base.specs.Fitting.{Reached, sleeper_at}
 use Rattle.run_base.specs.MutexFitting.{FitsHandOff, mutex_ownership}
 use Rattle.run_base.specs.Paths.{mutex_at, mutexes, at_mutex}
-use Rattle.run_base.specs.Stages.{Stage, SectionView, ActNeeds, Became, HasKey, HandsEach, IsFresh, IsUngiven}
+use Rattle.run_base.specs.Stages.{ThreadState, SectionView, ActNeeds, Became, HasKey, HandsEach, IsFresh}
+use Rattle.run_base.specs.Stages.{IsUngiven}
 use Rattle.run_base.specs.Stages.{MayLeave, is_there, listed, having_taken, took_as, all_given, wanted_in}
 use Rattle.run_base.proofs.Leaving.{has_done}
 
@@ -59,7 +60,7 @@ freed n = each_code (λ s. s % 2 ≡ 1 → (owns : List Ownership) → owns_afte
     (mutex_at n) (Store 0) s owns ≡ without (mutex_ownership n) owns) (λ odd. absurd (omega arith))
     (λ odd owns. refl) (λ odd. absurd (omega arith)) (λ odd owns. refl)
 
-module _ (n : ℕ) (base : List Ownership) (st : Stage) where
+module _ (n : ℕ) (base : List Ownership) (st : ThreadState) where
   -- the store leaves its thread with the mutex
   abbrev Gives : ℕ → Type 0
   Gives word = (seen : ℕ) → CodesWith kinds.TheVariants.Mutex (mutex_at n) seen st.owns
@@ -105,12 +106,12 @@ module _ (n : ℕ) (base : List Ownership) (st : Stage) where
       by_none (Some to) e i = absurd cc
   hand_off_needs (at.Leave true) f = subst (MayLeave note.TheVariants.HandOff) (sym f.2.1) refl
 
-  module _ (up : Type 0) (new : Stage) (bumps : Bool) where
-    owns_of : (s : Stage) → new ≡ s → new.owns ≡ s.owns
-    owns_of s e = ap (λ (x : Stage). x.owns) e
+  module _ (up : Type 0) (new : ThreadState) (bumps : Bool) where
+    owns_of : (s : ThreadState) → new ≡ s → new.owns ≡ s.owns
+    owns_of s e = ap (λ (x : ThreadState). x.owns) e
 
-    inside_of : (s : Stage) → new ≡ s → new.inside ≡ s.inside
-    inside_of s e = ap (λ (x : Stage). x.inside) e
+    inside_of : (s : ThreadState) → new ≡ s → new.inside ≡ s.inside
+    inside_of s e = ap (λ (x : ThreadState). x.inside) e
 
     pub hand_off_leads : (at : HandOffAt) → FitsHandOff n base at st → (reply : Reply)
         → Became up mutexes (at_mutex n) (sleeper_at (Mutex n (HandOff bumps at))) st (hand_off_act n at)

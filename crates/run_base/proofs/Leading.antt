@@ -46,7 +46,8 @@ use Rattle.run_base.specs.MutexFitting.{mutex_ownership}
 use Rattle.run_base.specs.Paths.{GoesFrom, mutex_at, mutexes, at_mutex, rwlocks, at_rwlock, onces, at_once}
 use Rattle.run_base.specs.Paths.{semaphores, at_semaphore}
 use Rattle.run_base.specs.declared.sleepers.Sleeper.{Sleeper}
-use Rattle.run_base.specs.Stages.{Stage, SectionView, ActNeeds, Became, HasKey, IsFresh, MayLeave, IsLeft}
+use Rattle.run_base.specs.Stages.{ThreadState, SectionView, ActNeeds, Became, HasKey, IsFresh, MayLeave}
+use Rattle.run_base.specs.Stages.{IsLeft}
 use Rattle.run_base.specs.Stages.{took_as, listed, entered_now, stage, stepped}
 use Rattle.run_base.proofs.HandingOver.{hand_off_needs, hand_off_leads}
 use Rattle.run_base.proofs.CondvarLeading.{condvar_place_leads}
@@ -58,14 +59,14 @@ use Rattle.steps_semaphore.specs.SemaphoreSteps.{semaphore_act, semaphore_lookin
 use Rattle.steps_semaphore.specs.declared.places.SemaphorePlace.{SemaphorePlace}
 
 -- a reply to an operation on the word, which saw one of the four codes
-pub word_reply : (up : Type 0) (n : ℕ) (st new : Stage) (P : Reply → Type 0) (sleeper : Sleeper) (l : ℕ)
+pub word_reply : (up : Type 0) (n : ℕ) (st new : ThreadState) (P : Reply → Type 0) (sleeper : Sleeper) (l : ℕ)
     (op : Op) → ((seen : ℕ) → seen < 4 → new ≡ stepped kinds.TheVariants.Mutex (mutex_at n) op seen st
     → P (Value seen)) → (reply : Reply) → Became up mutexes (at_mutex n) sleeper st
     (act.TheVariants.Word l op) reply new → P reply
 word_reply up n st new P sleeper l op h (Value seen) b = h seen b.0.1.0 b.1
 word_reply up n st new P sleeper l op h reply b = absurd b
 
-module _ (up : Type 0) (n : ℕ) (base : List Ownership) (st : Stage) where
+module _ (up : Type 0) (n : ℕ) (base : List Ownership) (st : ThreadState) where
   abbrev Can : Act → Type 0
   Can = ActNeeds mutexes (at_mutex n) st
 
@@ -124,15 +125,16 @@ module _ (up : Type 0) (n : ℕ) (base : List Ownership) (st : Stage) where
   needs (at_mutex_place.HandOff bumps at) f = hand_off_needs n base st at f
   needs at f = absurd f
 
-  module _ (new : Stage) where
-    owns_of : (s : Stage) → new ≡ s → new.owns ≡ s.owns
-    owns_of s e = ap (λ (x : Stage). x.owns) e
+  module _ (new : ThreadState) where
+    owns_of : (s : ThreadState) → new ≡ s → new.owns ≡ s.owns
+    owns_of s e = ap (λ (x : ThreadState). x.owns) e
 
-    inside_of : (s : Stage) → new ≡ s → new.inside ≡ s.inside
-    inside_of s e = ap (λ (x : Stage). x.inside) e
+    inside_of : (s : ThreadState) → new ≡ s → new.inside ≡ s.inside
+    inside_of s e = ap (λ (x : ThreadState). x.inside) e
 
     -- it is where it was, after a step on the word that changes no owner
-    stays : (owns : List Ownership) (inside : Option SectionView) (s : Stage) → new ≡ s → s.owns ≡ st.owns
+    stays : (owns : List Ownership) (inside : Option SectionView) (s : ThreadState) → new ≡ s → s.owns
+        ≡ st.owns
         → s.inside ≡ st.inside → (st.owns ≡ owns) × (st.inside ≡ inside) → (new.owns ≡ owns)
         × (new.inside ≡ inside)
     stays owns inside s e o i f = (owns_of s e ∙ o ∙ f.0, inside_of s e ∙ i ∙ f.1)
@@ -149,11 +151,11 @@ module _ (up : Type 0) (n : ℕ) (base : List Ownership) (st : Stage) where
       Saw at op seen = new ≡ stepped kinds.TheVariants.Mutex (mutex_at n) op seen st
           → Reached up base (place at) (Value seen) new
 
-      outside_still : Outside rest st → (s : Stage) → new ≡ s → s.owns ≡ st.owns → s.inside ≡ st.inside
+      outside_still : Outside rest st → (s : ThreadState) → new ≡ s → s.owns ≡ st.owns → s.inside ≡ st.inside
           → Outside rest new
       outside_still f s x o i = stays rest None s x o i f
 
-      has_it : Outside rest st → (s : Stage) → new ≡ s → s.owns ≡ mutex_ownership n ∷ st.owns
+      has_it : Outside rest st → (s : ThreadState) → new ≡ s → s.owns ≡ mutex_ownership n ∷ st.owns
           → s.inside ≡ st.inside → Outside (mutex_ownership n ∷ rest) new
       has_it f s x o i = (
         owns_of s x ∙ o ∙ ap (λ (o : List Ownership). mutex_ownership n ∷ o) f.0,
@@ -310,10 +312,10 @@ module _ (up : Type 0) (n : ℕ) (base : List Ownership) (st : Stage) where
   looks at f q is = absurd cc
 
 -- the words of a call of a mutex are that one alone
-mutex_place_leads : (up : Type 0) (n : ℕ) (base : List Ownership) (at : MutexPlace) (st : Stage)
+mutex_place_leads : (up : Type 0) (n : ℕ) (base : List Ownership) (at : MutexPlace) (st : ThreadState)
     → FitsMutex up n base at st →
     ActNeeds mutexes (at_mutex n) st (mutex_act n at) × LooksLeadOn up base (Mutex n at) st
-    × ((reply : Reply) (new : Stage) → Became up mutexes (at_mutex n) (sleeper_at (Mutex n at)) st
+    × ((reply : Reply) (new : ThreadState) → Became up mutexes (at_mutex n) (sleeper_at (Mutex n at)) st
     (mutex_act n at) reply new → Reached up base (Mutex n at) reply new)
 mutex_place_leads up n base at st f = (
   needs up n base st at f,
@@ -331,25 +333,29 @@ places_lead up kinds at base Idle st words f = absurd f
 places_lead up kinds at base (RwLock n a c) st words f =
     subst (λ (k : (ℕ → WordKind) × (ℕ → ℕ)). ActNeeds k.0 k.1 st (call_act n a c)
     × LooksLeadOn up base (RwLock n a c) st
-    × ((reply : Reply) (new : Stage) → Became up k.0 k.1 (sleeper_at (RwLock n a c)) st (call_act n a c) reply
+    × ((reply : Reply) (new : ThreadState)
+    → Became up k.0 k.1 (sleeper_at (RwLock n a c)) st (call_act n a c) reply
     new → Reached up base (RwLock n a c) reply new))
     (sym (both_words kinds at rwlocks (at_rwlock n) words.1 words.2)) (rwlock_place_leads up n a base c st f)
 places_lead up kinds at base (Once n p) st words f =
     subst (λ (k : (ℕ → WordKind) × (ℕ → ℕ)). ActNeeds k.0 k.1 st (once_act n p)
     × LooksLeadOn up base (Once n p) st
-    × ((reply : Reply) (new : Stage) → Became up k.0 k.1 (sleeper_at (Once n p)) st (once_act n p) reply new
+    × ((reply : Reply) (new : ThreadState)
+    → Became up k.0 k.1 (sleeper_at (Once n p)) st (once_act n p) reply new
     → Reached up base (Once n p) reply new))
     (sym (both_words kinds at onces (at_once n) words.1 words.2)) (once_place_leads up n base p st f)
 places_lead up kinds at base (Mutex n p) st words f =
     subst (λ (k : (ℕ → WordKind) × (ℕ → ℕ)). ActNeeds k.0 k.1 st (mutex_act n p)
     × LooksLeadOn up base (Mutex n p) st
-    × ((reply : Reply) (new : Stage) → Became up k.0 k.1 (sleeper_at (Mutex n p)) st (mutex_act n p) reply new
+    × ((reply : Reply) (new : ThreadState)
+    → Became up k.0 k.1 (sleeper_at (Mutex n p)) st (mutex_act n p) reply new
     → Reached up base (Mutex n p) reply new))
     (sym (both_words kinds at mutexes (at_mutex n) words.1 words.2)) (mutex_place_leads up n base p st f)
 places_lead up kinds at base (Semaphore n p) st words f =
     subst (λ (k : (ℕ → WordKind) × (ℕ → ℕ)). ActNeeds k.0 k.1 st (semaphore_act n p)
     × LooksLeadOn up base (Semaphore n p) st
-    × ((reply : Reply) (new : Stage) → Became up k.0 k.1 (sleeper_at (Semaphore n p)) st (semaphore_act n p)
+    × ((reply : Reply) (new : ThreadState)
+    → Became up k.0 k.1 (sleeper_at (Semaphore n p)) st (semaphore_act n p)
     reply new → Reached up base (Semaphore n p) reply new))
     (sym (both_words kinds at (semaphores words.1.0) (at_semaphore n) words.1.1 words.2))
     (semaphore_place_leads up words.1.0 n base p st f)
@@ -358,7 +364,7 @@ places_lead up kinds at base (Condvar n p) st words f = condvar_place_leads up (
 
 -- where a call goes on from, it has what it had
 pub fits_from : (up : Type 0) (kinds : ℕ → WordKind) (at : ℕ → ℕ) (base : List Ownership) (p q : Place)
-    (st : Stage) → GoesFrom p q → AreWordsFor p kinds at → Fits up base p st → Fits up base q st
+    (st : ThreadState) → GoesFrom p q → AreWordsFor p kinds at → Fits up base p st → Fits up base q st
     × (call_purpose q ≡ call_purpose p)
 fits_from up kinds at base p q st (inl same) words fits =
     subst (λ r. Fits up base r st × (call_purpose r ≡ call_purpose p)) (sym same) (fits, refl)

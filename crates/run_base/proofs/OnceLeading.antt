@@ -42,11 +42,12 @@ use Rattle.run_base.specs.OnceFitting.{FitsLook, FitsOnce, FitsRun, OwnsAfter, S
 use Rattle.run_base.specs.OnceFitting.{goes_on, knowing}
 use Rattle.run_base.specs.Paths.{once_at, onces, at_once, step}
 use Rattle.core_words.specs.declared.views.WordStep.{WordStep}
-use Rattle.run_base.specs.Stages.{Stage, SectionView, ActNeeds, Became, HasKey, IsFresh, IsLeft, MayLeave}
+use Rattle.run_base.specs.Stages.{ThreadState, SectionView, ActNeeds, Became, HasKey, IsFresh, IsLeft}
+use Rattle.run_base.specs.Stages.{MayLeave}
 use Rattle.run_base.specs.Stages.{entered_now, stage, stepped, took_as}
 use Rattle.run_base.proofs.Leaving.{has_done}
 
-module _ (l : ℕ) (base : List Ownership) (st : Stage) where
+module _ (l : ℕ) (base : List Ownership) (st : ThreadState) where
   abbrev Can : Act → Type 0
   Can = ActNeeds onces (at_once l) st
 
@@ -102,15 +103,16 @@ module _ (l : ℕ) (base : List Ownership) (st : Stage) where
   needs up (Run forced at) f = run_needs at f
   needs up (GiveUp retries at) f = give_up_needs up at f
 
-  module _ (up : Type 0) (new : Stage) where
-    owns_of : (s : Stage) → new ≡ s → new.owns ≡ s.owns
-    owns_of s e = ap (λ (x : Stage). x.owns) e
+  module _ (up : Type 0) (new : ThreadState) where
+    owns_of : (s : ThreadState) → new ≡ s → new.owns ≡ s.owns
+    owns_of s e = ap (λ (x : ThreadState). x.owns) e
 
-    inside_of : (s : Stage) → new ≡ s → new.inside ≡ s.inside
-    inside_of s e = ap (λ (x : Stage). x.inside) e
+    inside_of : (s : ThreadState) → new ≡ s → new.inside ≡ s.inside
+    inside_of s e = ap (λ (x : ThreadState). x.inside) e
 
     -- a look that found it done, and one that did not
-    knows : StandsOutside l base st → (s : Stage) → new ≡ s → s.owns ≡ owning (once_at l) Witness ∷ st.owns
+    knows : StandsOutside l base st → (s : ThreadState) → new ≡ s → s.owns ≡ owning (once_at l) Witness
+        ∷ st.owns
         → (times : ℕ) × (new.owns ≡ owning (once_at l) Witness ∷ knowing l times base)
     knows f s x o = (
       f.0.0,
@@ -118,7 +120,7 @@ module _ (l : ℕ) (base : List Ownership) (st : Stage) where
           ∷ rest) f.0.1,
     )
 
-    still : StandsOutside l base st → (s : Stage) → new ≡ s → s.owns ≡ st.owns → s.inside ≡ st.inside
+    still : StandsOutside l base st → (s : ThreadState) → new ≡ s → s.owns ≡ st.owns → s.inside ≡ st.inside
         → StandsOutside l base new
     still f s x o i = ((f.0.0, owns_of s x ∙ o ∙ f.0.1), inside_of s x ∙ i ∙ f.1)
 
@@ -209,7 +211,8 @@ module _ (l : ℕ) (base : List Ownership) (st : Stage) where
       by_entry c r from Done b = (((f.0.0, owns_of _ b ∙ f.0.1), inside_of _ b), refl)
       by_entry c r from reply b = absurd b
 
-      begins : (s : Stage) → new ≡ s → s.owns ≡ owning (once_at l) Runner ∷ st.owns → s.inside ≡ st.inside
+      begins : (s : ThreadState) → new ≡ s → s.owns ≡ owning (once_at l) Runner ∷ st.owns → s.inside
+          ≡ st.inside
           → FitsRun l base (run.Closure false) new
       begins s x o i = ((st.owns, f.0, owns_of s x ∙ o), inside_of s x ∙ i ∙ f.1)
 
@@ -255,11 +258,11 @@ module _ (l : ℕ) (base : List Ownership) (st : Stage) where
           (λ g. by_entry WaitTimed r 8) (λ g. absurd (false≢true g)) (λ g. by_entry WaitTimed r 12)
 
     -- inside the section, where it finds it done or not
-    within : StandsWithin l base st → (s : Stage) → new ≡ s → s.owns ≡ st.owns → s.inside ≡ st.inside
+    within : StandsWithin l base st → (s : ThreadState) → new ≡ s → s.owns ≡ st.owns → s.inside ≡ st.inside
         → StandsWithin l base new
     within f s x o i = ((f.0.0, owns_of s x ∙ o ∙ f.0.1), inside_of s x ∙ i ∙ f.1)
 
-    within_done : StandsWithin l base st → (s : Stage) → new ≡ s → s.owns ≡ owning (once_at l) Witness
+    within_done : StandsWithin l base st → (s : ThreadState) → new ≡ s → s.owns ≡ owning (once_at l) Witness
         ∷ st.owns → s.inside ≡ st.inside → StandsWithin l base new
     within_done f s x o i = (
       (
@@ -386,10 +389,11 @@ module _ (l : ℕ) (base : List Ownership) (st : Stage) where
   looks up at f q is = absurd cc
 
 -- the words of a call of a `Once` are that one alone
-pub once_place_leads : (up : Type 0) (l : ℕ) (base : List Ownership) (at : OncePlace) (st : Stage)
+pub once_place_leads : (up : Type 0) (l : ℕ) (base : List Ownership) (at : OncePlace) (st : ThreadState)
     → FitsOnce up l base at st →
     ActNeeds onces (at_once l) st (once_act l at) × LooksLeadOn up base (Once l at) st
-    × ((reply : Reply) (new : Stage) → Became up onces (at_once l) (sleeper_at (Once l at)) st (once_act l at)
+    × ((reply : Reply) (new : ThreadState)
+    → Became up onces (at_once l) (sleeper_at (Once l at)) st (once_act l at)
     reply new → Reached up base (Once l at) reply new)
 once_place_leads up l base at st f = (
   needs l base st up at f,

@@ -64,10 +64,11 @@ use Rattle.steps_condvar.specs.CondvarSteps as condvar
 use Rattle.steps_condvar.specs.declared.notify.NotifyAt.TheVariants as notify
 use Rattle.steps_condvar.specs.declared.places.CondvarPlace.{CondvarPlace}
 use Rattle.steps_condvar.specs.declared.places.CondvarPlace.TheVariants as condvars
-use Rattle.steps_condvar.specs.declared.wait.Stands.TheVariants as stands
+use Rattle.steps_condvar.specs.declared.wait.WaiterFate.TheVariants as stands
 use Rattle.steps_condvar.specs.declared.wait.WaitAt.{WaitAt}
 use Rattle.steps_condvar.specs.declared.wait.WaitAt.TheVariants as wait
-use Rattle.lot_steps.specs.Steps.{act_of, in_condvar, in_mutex, in_once, in_rwlock, in_semaphore, looking}
+use Rattle.lot_steps.specs.Steps.{act_of, in_condvar, in_mutex, in_once, in_rwlock, in_semaphore}
+use Rattle.lot_steps.specs.Steps.{respins_from}
 use Rattle.lot_steps.specs.Steps.{next_place, mutex_goes, rwlock_goes, once_goes, condvar_goes}
 use Rattle.lot_steps.specs.Steps.{semaphore_goes}
 use Rattle.lot_steps.specs.declared.places.Place.{Place}
@@ -85,7 +86,7 @@ use Rattle.run_base.specs.SemaphoreFitting.{FitsSemaphore}
 use Rattle.run_base.specs.Paths.{GoesFrom}
 use Rattle.run_base.specs.Queued.{GoesOn, HasPlace, KeepsPlace, StaysQueued, gets_place, is_queued}
 use Rattle.run_base.specs.Queued.{needs_place, spends_place}
-use Rattle.run_base.specs.Stages.{Became, Stage}
+use Rattle.run_base.specs.Stages.{Became, ThreadState}
 use Rattle.run_base.specs.declared.sleepers.Sleeper.{Sleeper}
 use Rattle.run_base.proofs.Queueing.{CallMayGo, CondvarMayGo, InNoHand, MayBeHanded, MutexInNoHand}
 use Rattle.run_base.proofs.Queueing.{OnceInNoHand, SemaphoreInNoHand, WaitMayGo, after, beside_same, call_on}
@@ -94,13 +95,13 @@ use Rattle.run_base.proofs.Queueing.{once_queued, same, semaphore_on, semaphore_
 
 -- ---------------------------------------------------------------- what fits at a place
 
-lock_free : (up : Type 0) (n : ℕ) (e : Entry) (owns : List Ownership) (at : LockAt) (st : Stage)
+lock_free : (up : Type 0) (n : ℕ) (e : Entry) (owns : List Ownership) (at : LockAt) (st : ThreadState)
     → FitsLock up n e owns at st → InNoHand at
 lock_free up n e owns (lock.Taken by) st fits = absurd fits
 lock_free up n e owns (lock.Handed by) st fits = absurd fits
 lock_free up n e owns at st fits = tt
 
-mutex_free : (up : Type 0) (n : ℕ) (base : List Ownership) (at : MutexPlace) (st : Stage)
+mutex_free : (up : Type 0) (n : ℕ) (base : List Ownership) (at : MutexPlace) (st : ThreadState)
     → FitsMutex up n base at st → MutexInNoHand at
 mutex_free up n base (Lock entry.Lock retries at) st fits = lock_free up n entry.Lock base at st fits
 mutex_free up n base (Lock entry.LockTimed retries at) st fits = lock_free up n entry.LockTimed base at st
@@ -108,17 +109,17 @@ mutex_free up n base (Lock entry.LockTimed retries at) st fits = lock_free up n 
 mutex_free up n base (Lock entry.Bump retries at) st fits = lock_free up n entry.Bump _ at st fits
 mutex_free up n base at st fits = tt
 
-once_free : (up : Type 0) (l : ℕ) (base : List Ownership) (at : OncePlace) (st : Stage)
+once_free : (up : Type 0) (l : ℕ) (base : List Ownership) (at : OncePlace) (st : ThreadState)
     → FitsOnce up l base at st → OnceInNoHand at
 once_free up l base (onces.Look c retries (look.Taken by)) st fits = absurd fits
 once_free up l base at st fits = tt
 
-semaphore_free : (up : Type 0) (l : ℕ) (base : List Ownership) (at : SemaphorePlace) (st : Stage)
+semaphore_free : (up : Type 0) (l : ℕ) (base : List Ownership) (at : SemaphorePlace) (st : ThreadState)
     → FitsSemaphore up l base at st → SemaphoreInNoHand at
 semaphore_free up l base (semaphore.Acquire timed retries (acquire.Taken by)) st fits = absurd fits
 semaphore_free up l base at st fits = tt
 
-module _ (up : Type 0) (kinds : ℕ → WordKind) (at' : ℕ → ℕ) (sleeper : Sleeper) (st new : Stage) where
+module _ (up : Type 0) (kinds : ℕ → WordKind) (at' : ℕ → ℕ) (sleeper : Sleeper) (st new : ThreadState) where
   -- only a thread that goes on where it is handed the lock is woken so
   handed_over : (a : Act) (reply : Reply) → Became up kinds at' sleeper st a reply new → reply ≡ Woken HandOff
       → sleeper.takes_over ≡ true
@@ -180,14 +181,15 @@ gives_way_may (purpose.Upgrade how) (Woken HandOff) calm = absurd (calm refl)
 gives_way_may q reply calm = tt
 
 bump_stands : (up : Type 0) (l : ℕ) (base : List Ownership) (a : Admission) (p : RwLockPlace) (to : RwLockAt)
-    (st : Stage) (reply : Reply) → FitsBump up l base a p to st → p.at ≡ to
+    (st : ThreadState) (reply : Reply) → FitsBump up l base a p to st → p.at ≡ to
     → (reply ≡ Woken HandOff → awaits_right to ≡ true) → MayBeHanded p.purpose to reply
 bump_stands up l base a p at.GiveWay st reply fits e waits =
     gives_way_may p.purpose reply (λ is. false≢true (waits is))
 bump_stands up l base a p to st reply fits e waits = may_be_handed_at p.purpose p.retries to reply
     (subst (StandsAt p.purpose p.retries) e fits.stands.place) waits
 
-call_may : (up : Type 0) (l : ℕ) (base : List Ownership) (a : Admission) (c : RwLockCallPlace) (st : Stage)
+call_may : (up : Type 0) (l : ℕ) (base : List Ownership) (a : Admission) (c : RwLockCallPlace)
+    (st : ThreadState)
     (reply : Reply) → FitsCall up l base a c st
     → (reply ≡ Woken HandOff → (sleeper_at (RwLock l a c)).takes_over ≡ true) → CallMayGo c reply
 call_may up l base a (places.Plain p) st reply fits waits = may_be_handed_at p.purpose p.retries p.at reply
@@ -203,7 +205,8 @@ call_may up l base a (places.Handed access.Exclusive how b (handed.Asleep by alo
 call_may up l base a c st reply fits waits = tt
 
 wait_may : (up : Type 0) (kinds : ℕ → WordKind) (at' : ℕ → ℕ) (sleeper : Sleeper) (c m : ℕ) (timed : Bool)
-    (base : List Ownership) (at : WaitAt) (st new : Stage) (reply : Reply) → FitsWait up c m timed base at st
+    (base : List Ownership) (at : WaitAt) (st new : ThreadState) (reply : Reply)
+    → FitsWait up c m timed base at st
     → Became up kinds at' sleeper st (condvar.wait_act c m at) reply new → WaitMayGo at reply
 wait_may up kinds at' sleeper c m timed base (wait.Release stands.Listed (Unlock at)) st new reply fits b =
     of_itself up kinds at' sleeper st new m at reply b
@@ -217,7 +220,7 @@ wait_may up kinds at' sleeper c m timed base (wait.Lock late at) st new reply fi
 wait_may up kinds at' sleeper c m timed base at st new reply fits b = tt
 
 condvar_may : (up : Type 0) (kinds : ℕ → WordKind) (at' : ℕ → ℕ) (base : List Ownership) (l : ℕ)
-    (at : CondvarPlace) (st new : Stage) (reply : Reply) → Fits up base (Condvar l at) st
+    (at : CondvarPlace) (st new : ThreadState) (reply : Reply) → Fits up base (Condvar l at) st
     → Became up kinds at' (sleeper_at (Condvar l at)) st (condvar.condvar_act l at) reply new
     → CondvarMayGo at reply
 condvar_may up kinds at' base l (condvars.Wait m timed at) st new reply fits b =
@@ -254,7 +257,7 @@ never_handed : {reply : Reply} {b : Bool} → b ≡ false → (reply ≡ Woken H
     ≢ Woken HandOff
 never_handed calm given e = false≢true (sym calm ∙ given e)
 
-module _ (up : Type 0) (kinds : ℕ → WordKind) (at' : ℕ → ℕ) (base : List Ownership) (st new : Stage)
+module _ (up : Type 0) (kinds : ℕ → WordKind) (at' : ℕ → ℕ) (base : List Ownership) (st new : ThreadState)
     (reply : Reply) where
   pub queued_on : (p : Place) → Fits up base p st → Became up kinds at' (sleeper_at p) st (act_of p) reply new
       → GoesOn (is_queued p) (is_queued (next_place p reply)) (act_of p) reply
@@ -395,7 +398,7 @@ moves_need true locked c m = refl
 moves_need false true c m = refl
 moves_need false false c m = refl
 
-wait_needs : (up : Type 0) (c m : ℕ) (timed : Bool) (base : List Ownership) (at : WaitAt) (st : Stage)
+wait_needs : (up : Type 0) (c m : ℕ) (timed : Bool) (base : List Ownership) (at : WaitAt) (st : ThreadState)
     → FitsWait up c m timed base at st → needs_place (condvar.wait_act c m at) ≡ true
     → condvar_queued (condvars.Wait m timed at) ≡ true
 wait_needs up c m timed base (wait.Asleep stands.Listed) st fits needs = refl
@@ -409,7 +412,7 @@ wait_needs up c m timed base (wait.Lock late at) st fits needs = beside_same m t
     ∙ mutex_needs m at needs
 wait_needs up c m timed base at st fits needs = none_needed refl needs
 
-condvar_needs : (up : Type 0) (base : List Ownership) (l : ℕ) (at : CondvarPlace) (st : Stage)
+condvar_needs : (up : Type 0) (base : List Ownership) (l : ℕ) (at : CondvarPlace) (st : ThreadState)
     → Fits up base (Condvar l at) st → needs_place (condvar.condvar_act l at) ≡ true → condvar_queued at
     ≡ true
 condvar_needs up base l (condvars.Wait m timed at) st fits needs = wait_needs up l m timed base at st fits
@@ -420,7 +423,7 @@ condvar_needs up base l (condvars.Notify all m (notify.Move locked)) st fits nee
 condvar_needs up base l (condvars.Notify all m at) st fits needs = none_needed refl needs
 
 -- a thread that sleeps, or leaves its queue, is queued there
-pub needs_queue : (up : Type 0) (base : List Ownership) (p : Place) (st : Stage) → Fits up base p st
+pub needs_queue : (up : Type 0) (base : List Ownership) (p : Place) (st : ThreadState) → Fits up base p st
     → needs_place (act_of p) ≡ true → is_queued p ≡ true
 needs_queue up base Idle st fits needs = absurd fits
 needs_queue up base (Mutex l at) st fits needs = mutex_needs l at needs
@@ -513,7 +516,7 @@ semaphore_there : (l : ℕ) (o : Option SemaphorePlace) → if_there is_queued (
 semaphore_there l None = refl
 semaphore_there l (Some at) = refl
 
-looks_off : (p : Place) → if_there is_queued (looking p) ≡ false
+looks_off : (p : Place) → if_there is_queued (respins_from p) ≡ false
 looks_off Idle = refl
 looks_off (Mutex l at) = mutex_there l (mutex_looking at) ∙ mutex_looks at
 looks_off (RwLock l a c) = call_there l a (call_looking a c) ∙ call_looks a c
@@ -560,7 +563,7 @@ keeps_on lot n a reply old new was is goes keeps had queued = by_goes (goes queu
 
 -- a turn at what fits there
 pub stays_queued : (up : Type 0) (kinds : ℕ → WordKind) (at' : ℕ → ℕ) (base : List Ownership) (p : Place)
-    (st new : Stage) (reply : Reply)
+    (st new : ThreadState) (reply : Reply)
     → Fits up base p st → Became up kinds at' (sleeper_at p) st (act_of p) reply new → StaysQueued p reply
 stays_queued up kinds at' base p st new reply fits became =
     (needs_queue up base p st fits, queued_on up kinds at' base st new reply p fits became)

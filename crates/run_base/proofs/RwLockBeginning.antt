@@ -50,7 +50,7 @@ use Rattle.run_base.specs.Paths.{rwlock_at}
 use Rattle.run_base.specs.RwLockCalls.{AnswersCall, BeginsWith, first_op, rwlock_begin}
 use Rattle.run_base.specs.RwLockFitting.{Answers, FitsRwLock, HasGivenWay, SeenInRange, HasStood, IsWithin}
 use Rattle.run_base.specs.RwLockFitting.{IsBeside, OwnsBeside, OwnsRight}
-use Rattle.run_base.specs.Stages.{Stage, Stepped}
+use Rattle.run_base.specs.Stages.{ThreadState, Stepped}
 use Rattle.run_base.proofs.RwLockLeads.{Comes, Kept, leads_at}
 use Rattle.run_base.proofs.RwLockNeeds.{has_right}
 
@@ -90,12 +90,13 @@ may_begin l (purpose.Upgrade Timed) base owns b = (rwlock_steps (rwlock_at l) ow
     (has_right l owners.Upgradable base owns b)
 
 -- tells what the first step came to
-abbrev pub ComesBegun : Type 0 → ℕ → List Ownership → Admission → RwLockPurpose → Next RwLockPlace → Stage
+abbrev pub ComesBegun : Type 0 → ℕ → List Ownership → Admission → RwLockPurpose → Next RwLockPlace
+    → ThreadState
     → Type 0
 ComesBegun up l base a q (At p) st = Kept up l base a p st × (p.purpose ≡ q)
 ComesBegun up l base a q (End answer) st = (st.inside ≡ None) × AnswersCall up l base a q answer st
 
-module _ (up : Type 0) (l : ℕ) (a : Admission) (base : List Ownership) (st new : Stage) (seen : ℕ)
+module _ (up : Type 0) (l : ℕ) (a : Admission) (base : List Ownership) (st new : ThreadState) (seen : ℕ)
     (outside : st.inside ≡ None) where
   abbrev Step : Op → Type 0
   Step op = Stepped kinds.RwLock (rwlock_at l) op seen st new
@@ -103,10 +104,10 @@ module _ (up : Type 0) (l : ℕ) (a : Admission) (base : List Ownership) (st new
   owns_now : (op : Op) (c : Option Claim) → Step op
       → OwnsBeside l c base (owns_after_step kinds.RwLock (rwlock_at l) op seen st.owns)
       → OwnsBeside l c base new.owns
-  owns_now op c b = subst (OwnsBeside l c base) (sym (ap (λ (s : Stage). s.owns) b.1))
+  owns_now op c b = subst (OwnsBeside l c base) (sym (ap (λ (s : ThreadState). s.owns) b.1))
 
   none_now : (op : Op) → Step op → new.inside ≡ None
-  none_now op b = ap (λ (s : Stage). s.inside) b.1 ∙ outside
+  none_now op b = ap (λ (s : ThreadState). s.inside) b.1 ∙ outside
 
   of_owner : (o w : Owner) (rest : List Ownership) → w ≡ o → st.owns ≡ owning (rwlock_at l) w ∷ rest
       → st.owns ≡ owning (rwlock_at l) o ∷ rest

@@ -41,13 +41,14 @@ use Rattle.run_base.specs.Fitting.{Fits, LooksLeadOn, Reached, ReachedBy, call_p
 use Rattle.run_base.specs.Fitting.{sleeper_at}
 use Rattle.run_base.specs.Paths.{rwlock_at, rwlocks, at_rwlock}
 use Rattle.run_base.specs.RwLockFitting.{IsBeside, FitsCall, FitsRwLock, HasGivenWay}
-use Rattle.run_base.specs.Stages.{Stage, ActNeeds, Became}
+use Rattle.run_base.specs.Stages.{ThreadState, ActNeeds, Became}
 use Rattle.run_base.proofs.RwLockLeads.{Comes, leads_at}
 use Rattle.run_base.proofs.RwLockNeeds.{rwlock_needs}
 
 module _ (up : Type 0) (l : ℕ) (a : Admission) (base : List Ownership) where
   -- where a plain call fits, a bump does
-  pub bump_fits : (p : RwLockPlace) (st : Stage) → IsOfBump p.purpose p.retries → FitsRwLock up l base a p st
+  pub bump_fits : (p : RwLockPlace) (st : ThreadState) → IsOfBump p.purpose p.retries
+      → FitsRwLock up l base a p st
       → FitsCall up l base a (Bump p) st
   bump_fits p st of f = (of, by_place p.at f.begun)
     where
@@ -55,17 +56,17 @@ module _ (up : Type 0) (l : ℕ) (a : Admission) (base : List Ownership) where
       by_place at.GiveWay begun = absurd begun
       by_place to begun = f
 
-  abbrev Leads : RwLockCallPlace → Stage → Type 0
+  abbrev Leads : RwLockCallPlace → ThreadState → Type 0
   Leads c st = ActNeeds rwlocks (at_rwlock l) st (call_act l a c) × LooksLeadOn up base (RwLock l a c) st
-      × ((reply : Reply) (new : Stage) → Became up rwlocks (at_rwlock l) (sleeper_at (RwLock l a c)) st
+      × ((reply : Reply) (new : ThreadState) → Became up rwlocks (at_rwlock l) (sleeper_at (RwLock l a c)) st
       (call_act l a c) reply new → Reached up base (RwLock l a c) reply new)
 
-  abbrev Goes : Stage → RwLockPurpose → Next RwLockPlace → Type 0
+  abbrev Goes : ThreadState → RwLockPurpose → Next RwLockPlace → Type 0
   Goes new q n = ReachedBy up base (of_rwlock l a (purpose.Enter (access_of q) Patient))
       (rwlock_goes l a (bump_next q n)) (answer_of (rwlock_does l a (bump_next q n))) new
 
   -- at its next place
-  goes_at : (new : Stage) (q : RwLockPurpose) (p : RwLockPlace) → CallStandsNext a (bump_next q (At p))
+  goes_at : (new : ThreadState) (q : RwLockPurpose) (p : RwLockPlace) → CallStandsNext a (bump_next q (At p))
       → FitsRwLock up l base a p new → p.purpose ≡ q → Goes new q (At p)
   goes_at new q p stands f same =
       subst (λ (o : Option Answer). ReachedBy up base (of_rwlock l a (purpose.Enter (access_of q) Patient))
@@ -76,11 +77,11 @@ module _ (up : Type 0) (l : ℕ) (a : Admission) (base : List Ownership) where
       )
 
   -- it has released its right, and enters again
-  enters_on : (new : Stage) → a.limit < 2 ^ 60 - 1 → new.inside ≡ None → IsBeside l base new.owns
+  enters_on : (new : ThreadState) → a.limit < 2 ^ 60 - 1 → new.inside ≡ None → IsBeside l base new.owns
       → Fits up base (RwLock l a (Bump (rwlock_first (purpose.Enter access.Shared Patient)))) new
   enters_on new room none beside = (tt, enters_fit up l a base room true new new access.Shared beside none)
 
-  module _ (p : RwLockPlace) (st : Stage) (of : IsOfBump p.purpose p.retries)
+  module _ (p : RwLockPlace) (st : ThreadState) (of : IsOfBump p.purpose p.retries)
       (f : FitsRwLock up l base a p st) where
     looks_on : LooksLeadOn up base (RwLock l a (Bump p)) st
     looks_on r is = by_place (rwlock_looking a p) refl is
@@ -102,7 +103,7 @@ module _ (up : Type 0) (l : ℕ) (a : Admission) (base : List Ownership) where
             × (call_purpose x ≡ call_purpose (RwLock l a (Bump p)))) same (there p2 e)
 
     -- by what the plain call came to
-    comes : (new : Stage) (q : RwLockPurpose) → IsOfBump q p.retries → (n : Next RwLockPlace)
+    comes : (new : ThreadState) (q : RwLockPurpose) → IsOfBump q p.retries → (n : Next RwLockPlace)
         → CallStandsNext a (bump_next q n) → Comes up l base a q n new → Goes new q n
     comes new q of (At p2) stands c = goes_at new q p2 stands (record {
       stands = stands.0;
@@ -126,7 +127,7 @@ module _ (up : Type 0) (l : ℕ) (a : Admission) (base : List Ownership) where
     comes new (purpose.Downgrade d) of (End answer) stands c = absurd of
     comes new (purpose.Upgrade how) of (End answer) stands c = absurd of
 
-    leads_on : (reply : Reply) (new : Stage) → Became up rwlocks (at_rwlock l)
+    leads_on : (reply : Reply) (new : ThreadState) → Became up rwlocks (at_rwlock l)
         (sleeper_at (RwLock l a (Bump p))) st (rwlock_act l a p) reply new
         → Reached up base (RwLock l a (Bump p)) reply new
     leads_on reply new b = elim (told_plainly up rwlocks (at_rwlock l) (sleeper_at (RwLock l a (Bump p))) st
@@ -153,9 +154,10 @@ module _ (up : Type 0) (l : ℕ) (a : Admission) (base : List Ownership) where
   abbrev giving : RwLockPlace
   giving = rwlock_first (purpose.Release access.Shared)
 
-  module _ (st : Stage) (room : a.limit < 2 ^ 60 - 1) (outside : st.inside ≡ None)
+  module _ (st : ThreadState) (room : a.limit < 2 ^ 60 - 1) (outside : st.inside ≡ None)
       (right : OwnsRight l wants.Shared base st.owns) where
-    gives : (new : Stage) (seen : ℕ) → Became up rwlocks (at_rwlock l) (sleeper_at (RwLock l a (Bump giving)))
+    gives : (new : ThreadState) (seen : ℕ)
+        → Became up rwlocks (at_rwlock l) (sleeper_at (RwLock l a (Bump giving)))
         st (rwlock_act l a giving) (Value seen) new → Reached up base (RwLock l a (Bump giving)) (Value seen)
         new
     gives new seen b = by_next (rwlock_next a giving (Value seen)) (begun up l a base st new seen outside room
@@ -169,7 +171,7 @@ module _ (up : Type 0) (l : ℕ) (a : Admission) (base : List Ownership) where
         by_next (At p) k stands = goes_at new (purpose.Release access.Shared) p stands k.0 k.1
         by_next (End answer) k stands = (enters_on new room k.0 k.1.1, refl)
 
-    giving_leads : (reply : Reply) (new : Stage) → Became up rwlocks (at_rwlock l)
+    giving_leads : (reply : Reply) (new : ThreadState) → Became up rwlocks (at_rwlock l)
         (sleeper_at (RwLock l a (Bump giving))) st (rwlock_act l a giving) reply new
         → Reached up base (RwLock l a (Bump giving)) reply new
     giving_leads (Value seen) new b = gives new seen b
@@ -183,9 +185,10 @@ module _ (up : Type 0) (l : ℕ) (a : Admission) (base : List Ownership) where
     )
 
   -- each place of it
-  pub bump_leads : (p : RwLockPlace) (st : Stage) → FitsCall up l base a (Bump p) st
+  pub bump_leads : (p : RwLockPlace) (st : ThreadState) → FitsCall up l base a (Bump p) st
       → ActNeeds rwlocks (at_rwlock l) st (rwlock_act l a p) × LooksLeadOn up base (RwLock l a (Bump p)) st
-      × ((reply : Reply) (new : Stage) → Became up rwlocks (at_rwlock l) (sleeper_at (RwLock l a (Bump p))) st
+      × ((reply : Reply) (new : ThreadState)
+      → Became up rwlocks (at_rwlock l) (sleeper_at (RwLock l a (Bump p))) st
       (rwlock_act l a p) reply new → Reached up base (RwLock l a (Bump p)) reply new)
   bump_leads p st f = by_place p.at refl f.1
     where

@@ -31,7 +31,7 @@ use Rattle.run_base.specs.Fitting.{answer_of}
 use Rattle.run_base.specs.Paths.{closure_of}
 use Rattle.core_words.specs.declared.views.WordStep.{WordStep}
 use Rattle.run_base.specs.RwLockFitting.{FitsRwLock, HasGivenWay, SeenInRange, HasStood, IsWithin, OwnsBeside}
-use Rattle.run_base.specs.Stages.{Stage}
+use Rattle.run_base.specs.Stages.{ThreadState}
 
 -- an act that neither ends its call nor runs a closure
 abbrev GoesOn : Act → Type 0
@@ -111,7 +111,7 @@ module _ (l : ℕ) (a : Admission) where
       )
   looks_from q again to p e = absurd cc
 
-module _ (up : Type 0) (l : ℕ) (a : Admission) (base : List Ownership) (p : RwLockPlace) (st : Stage)
+module _ (up : Type 0) (l : ℕ) (a : Admission) (base : List Ownership) (p : RwLockPlace) (st : ThreadState)
     (f : FitsRwLock up l base a p st) where
   -- it has there what it had
   pub looks_fit : (p2 : RwLockPlace) → rwlock_looking a p ≡ Some p2 → FitsRwLock up l base a p2 st

@@ -47,11 +47,11 @@ use Rattle.run_base.specs.declared.sleepers.Sleeper.{Sleeper}
 use Rattle.run_base.specs.Fitting.{ReachedBy, answer_of, sleeper_at}
 use Rattle.run_base.specs.Paths.{rwlocks, at_rwlock}
 use Rattle.run_base.specs.RwLockFitting.{FitsRwLock}
-use Rattle.run_base.specs.Stages.{Stage, Became}
+use Rattle.run_base.specs.Stages.{ThreadState, Became}
 
 -- ---------------------------------------------------------------- the note that it was told
 
-module _ (up : Type 0) (kinds : ℕ → WordKind) (at : ℕ → ℕ) (sleeper : Sleeper) (st new : Stage) where
+module _ (up : Type 0) (kinds : ℕ → WordKind) (at : ℕ → ℕ) (sleeper : Sleeper) (st new : ThreadState) where
   -- where it is told of no right, it may as well be one that takes none
   quietly : (reply : Reply) (x : Act) → (reply ≡ Woken note.HandOff → ⊥) → Became up kinds at sleeper st x
       reply new → Became up kinds at (record sleeper { takes_over = false }) st x reply new
@@ -95,7 +95,7 @@ module _ (up : Type 0) (kinds : ℕ → WordKind) (at : ℕ → ℕ) (sleeper : 
 
 -- ---------------------------------------------------------------- where it goes on
 
-module _ (up : Type 0) (l : ℕ) (a : Admission) (base : List Ownership) (st new : Stage) where
+module _ (up : Type 0) (l : ℕ) (a : Admission) (base : List Ownership) (st new : ThreadState) where
   abbrev asleep : RwLockPurpose → Bool → RwLockPlace
   asleep q again = record { purpose = q; retries = again; at = at.Park parking.Asleep }
 
@@ -118,8 +118,8 @@ module _ (up : Type 0) (l : ℕ) (a : Admission) (base : List Ownership) (st new
     begun = tt;
     seen = tt;
     stood = tt;
-    owns = (h.0, st.owns, h.1, f.owns, ap (λ (s : Stage). s.owns) h.2);
-    within = ap (λ (s : Stage). s.inside) h.2 ∙ f.within;
+    owns = (h.0, st.owns, h.1, f.owns, ap (λ (s : ThreadState). s.owns) h.2);
+    within = ap (λ (s : ThreadState). s.inside) h.2 ∙ f.within;
     late = λ e. absurd cc;
   }
     where
@@ -134,8 +134,8 @@ module _ (up : Type 0) (l : ℕ) (a : Admission) (base : List Ownership) (st new
       → IsBeside l base st.owns → st.inside ≡ None → OwnsRight l (wanted x) base new.owns
       × (new.inside ≡ None)
   reads_now o x how again f is h beside outside = (
-    (h.0, st.owns, h.1 ∙ sym is, beside, ap (λ (s : Stage). s.owns) h.2),
-    ap (λ (s : Stage). s.inside) h.2
+    (h.0, st.owns, h.1 ∙ sym is, beside, ap (λ (s : ThreadState). s.owns) h.2),
+    ap (λ (s : ThreadState). s.inside) h.2
         ∙ outside,
   )
 

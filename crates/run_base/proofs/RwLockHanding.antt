@@ -54,7 +54,8 @@ use Rattle.run_base.specs.RwLockFitting.{HasPickedThese, HasPicked, IsBeside, Is
 use Rattle.run_base.specs.RwLockFitting.{still_rightless}
 use Rattle.run_base.specs.Takes.{more_in, sharers_in, successor_in}
 use Rattle.run_base.specs.Stages.{ActNeeds, Became, HandsEach, HasDone, HasKey, SectionView, IsFresh, IsLeft}
-use Rattle.run_base.specs.Stages.{IsUngiven, MayLeave, Stage, Stepped, all_given, entered_now, stage_handed}
+use Rattle.run_base.specs.Stages.{IsUngiven, MayLeave, ThreadState, Stepped, all_given, entered_now}
+use Rattle.run_base.specs.Stages.{stage_handed}
 use Rattle.run_base.specs.Stages.{owns_when_handed, stage, stepped, took_as, wanted_in}
 use Rattle.run_base.proofs.Leaving.{has_done}
 use Rattle.run_base.proofs.RwLockHands.{exchange_hands, exchange_leaves, exchange_needs, free_word}
@@ -93,75 +94,77 @@ none_waits (x ∷ xs) e = absurd cc
 
 -- ---------------------------------------------------------------- the conditions of its acts
 
-module _ (l : ℕ) (a : Admission) (base : List Ownership) (st : Stage) (room : a.limit < 2 ^ 60 - 1) where
-  abbrev Can : Act → Type 0
-  Can = ActNeeds rwlocks (at_rwlock l) st
+module _ (l : ℕ) (a : Admission) (base : List Ownership) (st : ThreadState) (room : a.limit < 2 ^ 60 - 1)
+  where
+    abbrev Can : Act → Type 0
+    Can = ActNeeds rwlocks (at_rwlock l) st
 
-  takes_needs : (key : ℕ) → st.inside ≡ entered_now (One key) → HasKey key st.inside × IsFresh st.inside
-  takes_needs key e = (subst (HasKey key) (sym e) refl, subst IsFresh (sym e) refl)
+    takes_needs : (key : ℕ) → st.inside ≡ entered_now (One key) → HasKey key st.inside × IsFresh st.inside
+    takes_needs key e = (subst (HasKey key) (sym e) refl, subst IsFresh (sym e) refl)
 
-  leaves_needs : (any given : Bool) (waiters : List Waiter) → (any ≡ false → waiters ≡ [])
-      → HasPicked l a waiters (still_rightless given waiters) st.inside
-      → Can (act.Leave (One (2 * l)) (wakes_taken any (note_by given)))
-  leaves_needs true true waiters none picked = subst (MayLeave note.HandOff) (sym picked) refl
-  leaves_needs true false waiters none picked = subst (MayLeave note.Normal) (sym picked) refl
-  leaves_needs false true waiters none picked = subst (MayLeave note.Normal) (sym picked)
-      (sym (ap threads_of (none refl)))
-  leaves_needs false false waiters none picked = subst (MayLeave note.Normal) (sym picked) refl
+    leaves_needs : (any given : Bool) (waiters : List Waiter) → (any ≡ false → waiters ≡ [])
+        → HasPicked l a waiters (still_rightless given waiters) st.inside
+        → Can (act.Leave (One (2 * l)) (wakes_taken any (note_by given)))
+    leaves_needs true true waiters none picked = subst (MayLeave note.HandOff) (sym picked) refl
+    leaves_needs true false waiters none picked = subst (MayLeave note.Normal) (sym picked) refl
+    leaves_needs false true waiters none picked = subst (MayLeave note.Normal) (sym picked)
+        (sym (ap threads_of (none refl)))
+    leaves_needs false false waiters none picked = subst (MayLeave note.Normal) (sym picked) refl
 
-  -- the step that hands over what it took
-  hands_each : (op : Op) (waiters : List Waiter) → HasPicked l a waiters (threads_of waiters) st.inside
-      → HandsEach kinds.RwLock (rwlock_at l) op st.owns (wants_of waiters) → IsUngiven st.inside
-      × HandsEach kinds.RwLock (rwlock_at l) op st.owns (wanted_in st.inside)
-  hands_each op waiters picked h = (
-    subst IsUngiven (sym picked) refl,
-    subst (λ (i : Option SectionView). HandsEach kinds.RwLock (rwlock_at l) op st.owns (wanted_in i))
-        (sym picked) h,
-  )
+    -- the step that hands over what it took
+    hands_each : (op : Op) (waiters : List Waiter) → HasPicked l a waiters (threads_of waiters) st.inside
+        → HandsEach kinds.RwLock (rwlock_at l) op st.owns (wants_of waiters) → IsUngiven st.inside
+        × HandsEach kinds.RwLock (rwlock_at l) op st.owns (wanted_in st.inside)
+    hands_each op waiters picked h = (
+      subst IsUngiven (sym picked) refl,
+      subst (λ (i : Option SectionView). HandsEach kinds.RwLock (rwlock_at l) op st.owns (wanted_in i))
+          (sym picked) h,
+    )
 
-  exchanges_needs : (k : Taken) (seen : ℕ) → OwnsRight l wants.Upgradable base st.owns
-      → HasPickedThese l a k st.inside → IsUpgradableWord seen → (b : Bool) → has_room a.limit k seen ≡ b
-      → Can (if b then act.HandOver l (Exchange seen (with_taken access.Upgradable k seen)) else act.Word l
-      (Exchange seen (parked_as k.none_left (without_right access.Upgradable seen))))
-  exchanges_needs k seen right hand own true fits = let mine = has_right l owners.Upgradable base st.owns
-      right in
-      let each = hands_each (Exchange seen (with_taken access.Upgradable k seen)) hand.0 hand.2
-      (exchange_needs (rwlock_at l) st.owns mine seen own a.limit room (wants_of hand.0) k hand.1 fits) in (
-        (exchange_hands (rwlock_at l) st.owns mine seen own a.limit room (wants_of hand.0) k hand.1 fits).may,
-        each.0,
-        each.1,
-      )
-  exchanges_needs k seen right hand own false full = may_give_up (rwlock_at l) st.owns
-      (has_right l owners.Upgradable base st.owns right) seen own
-      (parked_as k.none_left (without_right access.Upgradable seen)) (given_word seen own k.none_left)
+    exchanges_needs : (k : Taken) (seen : ℕ) → OwnsRight l wants.Upgradable base st.owns
+        → HasPickedThese l a k st.inside → IsUpgradableWord seen → (b : Bool) → has_room a.limit k seen ≡ b
+        → Can (if b then act.HandOver l (Exchange seen (with_taken access.Upgradable k seen)) else act.Word l
+        (Exchange seen (parked_as k.none_left (without_right access.Upgradable seen))))
+    exchanges_needs k seen right hand own true fits = let mine = has_right l owners.Upgradable base st.owns
+        right in
+        let each = hands_each (Exchange seen (with_taken access.Upgradable k seen)) hand.0 hand.2
+        (exchange_needs (rwlock_at l) st.owns mine seen own a.limit room (wants_of hand.0) k hand.1 fits) in (
+          (exchange_hands (rwlock_at l) st.owns mine seen own a.limit room (wants_of hand.0) k hand.1
+              fits).may,
+          each.0,
+          each.1,
+        )
+    exchanges_needs k seen right hand own false full = may_give_up (rwlock_at l) st.owns
+        (has_right l owners.Upgradable base st.owns right) seen own
+        (parked_as k.none_left (without_right access.Upgradable seen)) (given_word seen own k.none_left)
 
-  pub hand_over_needs : (x : Access) (to : HandOverAt) → IsHandingPlace x to → FitsHandOver l base a x to st
-      → Can (hand_over_act l a x to)
-  hand_over_needs access.Upgradable handing.Load h f = (rwlock_steps (rwlock_at l) st.owns).load
-  hand_over_needs access.Upgradable (handing.Free seen) h f = may_give_up (rwlock_at l) st.owns
-      (has_right l owners.Upgradable base st.owns f.0) seen f.2 (without_right access.Upgradable seen)
-      (free_word seen f.2)
-  hand_over_needs access.Upgradable handing.Enter h f = (tt, f.1)
-  hand_over_needs access.Upgradable handing.Take h f = takes_needs (2 * l) f.1
-  hand_over_needs access.Upgradable (handing.Look k) h f = (rwlock_steps (rwlock_at l) st.owns).load
-  hand_over_needs access.Upgradable (handing.Exchange k seen) h f = exchanges_needs k seen f.0 f.1 f.2
-      (has_room a.limit k seen) refl
-  hand_over_needs access.Upgradable (handing.Leave any given) h f = leaves_needs any given f.1.0 f.1.1 f.1.2
-  hand_over_needs access.Exclusive handing.Enter h f = (tt, f.1)
-  hand_over_needs access.Exclusive handing.Take h f = takes_needs (2 * l) f.1
-  hand_over_needs access.Exclusive (handing.Store k) h f = let mine = has_right l owners.Exclusive base
-      st.owns f.0 in
-      let each = hands_each (Store (parked_as k.none_left (tokens k))) f.1.0 f.1.2
-      (store_needs (rwlock_at l) st.owns mine (wants_of f.1.0) k f.1.1) in
-      ((store_hands (rwlock_at l) st.owns mine (wants_of f.1.0) k f.1.1).may, each.0, each.1)
-  hand_over_needs access.Exclusive (handing.Leave any given) h f = leaves_needs any given f.1.0 f.1.1 f.1.2
-  hand_over_needs access.Shared to h f = absurd h
-  hand_over_needs x to h f = absurd h
+    pub hand_over_needs : (x : Access) (to : HandOverAt) → IsHandingPlace x to → FitsHandOver l base a x to st
+        → Can (hand_over_act l a x to)
+    hand_over_needs access.Upgradable handing.Load h f = (rwlock_steps (rwlock_at l) st.owns).load
+    hand_over_needs access.Upgradable (handing.Free seen) h f = may_give_up (rwlock_at l) st.owns
+        (has_right l owners.Upgradable base st.owns f.0) seen f.2 (without_right access.Upgradable seen)
+        (free_word seen f.2)
+    hand_over_needs access.Upgradable handing.Enter h f = (tt, f.1)
+    hand_over_needs access.Upgradable handing.Take h f = takes_needs (2 * l) f.1
+    hand_over_needs access.Upgradable (handing.Look k) h f = (rwlock_steps (rwlock_at l) st.owns).load
+    hand_over_needs access.Upgradable (handing.Exchange k seen) h f = exchanges_needs k seen f.0 f.1 f.2
+        (has_room a.limit k seen) refl
+    hand_over_needs access.Upgradable (handing.Leave any given) h f = leaves_needs any given f.1.0 f.1.1 f.1.2
+    hand_over_needs access.Exclusive handing.Enter h f = (tt, f.1)
+    hand_over_needs access.Exclusive handing.Take h f = takes_needs (2 * l) f.1
+    hand_over_needs access.Exclusive (handing.Store k) h f = let mine = has_right l owners.Exclusive base
+        st.owns f.0 in
+        let each = hands_each (Store (parked_as k.none_left (tokens k))) f.1.0 f.1.2
+        (store_needs (rwlock_at l) st.owns mine (wants_of f.1.0) k f.1.1) in
+        ((store_hands (rwlock_at l) st.owns mine (wants_of f.1.0) k f.1.1).may, each.0, each.1)
+    hand_over_needs access.Exclusive (handing.Leave any given) h f = leaves_needs any given f.1.0 f.1.1 f.1.2
+    hand_over_needs access.Shared to h f = absurd h
+    hand_over_needs x to h f = absurd h
 
 -- ---------------------------------------------------------------- where its replies lead
 
 module _ (up : Type 0) (l : ℕ) (a : Admission) (base : List Ownership) (room : a.limit < 2 ^ 60 - 1)
-    (bumps : Bool) (st new : Stage) where
+    (bumps : Bool) (st new : ThreadState) where
   -- a thread that bumps enters again
   pub enters_fit : (x : Access) → IsBeside l base new.owns → new.inside ≡ None
       → FitsRwLock up l base a (rwlock_first (purpose.Enter x Patient)) new
@@ -218,14 +221,14 @@ module _ (up : Type 0) (l : ℕ) (a : Admission) (base : List Ownership) (room :
       by_call true access.Upgradable gave = ((tt, enters_fit access.Upgradable beside none), refl)
       by_call true access.Exclusive gave = ((tt, enters_fit access.Exclusive beside none), refl)
 
-  owns_of : (s : Stage) → new ≡ s → new.owns ≡ s.owns
-  owns_of s e = ap (λ (x : Stage). x.owns) e
+  owns_of : (s : ThreadState) → new ≡ s → new.owns ≡ s.owns
+  owns_of s e = ap (λ (x : ThreadState). x.owns) e
 
-  inside_of : (s : Stage) → new ≡ s → new.inside ≡ s.inside
-  inside_of s e = ap (λ (x : Stage). x.inside) e
+  inside_of : (s : ThreadState) → new ≡ s → new.inside ≡ s.inside
+  inside_of s e = ap (λ (x : ThreadState). x.inside) e
 
-  last_of : (s : Stage) → new ≡ s → new.last ≡ s.last
-  last_of s e = ap (λ (x : Stage). x.last) e
+  last_of : (s : ThreadState) → new ≡ s → new.last ≡ s.last
+  last_of s e = ap (λ (x : ThreadState). x.last) e
 
   keeps_right : (w : Want) → new.owns ≡ st.owns → OwnsRight l w base st.owns → OwnsRight l w base new.owns
   keeps_right w e = subst (OwnsRight l w base) (sym e)
@@ -358,7 +361,7 @@ module _ (up : Type 0) (l : ℕ) (a : Admission) (base : List Ownership) (room :
           Exchange expected (without_right access.Upgradable expected),
           expected,
           f.3,
-          ap (λ (s : Stage). s.steps) b.1,
+          ap (λ (s : ThreadState). s.steps) b.1,
         ),
       ))
 
@@ -408,7 +411,7 @@ module _ (up : Type 0) (l : ℕ) (a : Admission) (base : List Ownership) (room :
     abbrev op : Op
     op = Exchange expected (with_taken access.Upgradable k expected)
 
-    abbrev after_hand : Stage
+    abbrev after_hand : ThreadState
     after_hand = stage (owns_when_handed kinds.RwLock (rwlock_at l) op expected (wanted_in st.inside) st.owns)
         (all_given st.inside) None (st.steps ++ step (rwlock_at l) op expected)
 

@@ -43,13 +43,13 @@ use Rattle.run_base.specs.Fitting.{Fits, LooksLeadOn, Reached, ReachedBy, call_p
 use Rattle.run_base.specs.Fitting.{sleeper_at}
 use Rattle.run_base.specs.Paths.{rwlocks, at_rwlock, closure_of}
 use Rattle.run_base.specs.RwLockFitting.{FitsCall, FitsRwLock}
-use Rattle.run_base.specs.Stages.{Stage, ActNeeds, Became}
+use Rattle.run_base.specs.Stages.{ThreadState, ActNeeds, Became}
 use Rattle.run_base.proofs.RwLockLeads.{Comes, leads_at}
 use Rattle.run_base.proofs.RwLockNeeds.{rwlock_needs}
 
 -- ---------------------------------------------------------------- plain calls
 
-module _ (up : Type 0) (l : ℕ) (a : Admission) (base : List Ownership) (p : RwLockPlace) (st : Stage)
+module _ (up : Type 0) (l : ℕ) (a : Admission) (base : List Ownership) (p : RwLockPlace) (st : ThreadState)
     (f : FitsRwLock up l base a p st) where
   pub rwlock_looks : LooksLeadOn up base (RwLock l a (Plain p)) st
   rwlock_looks r is = by_place (rwlock_looking a p) refl is
@@ -64,7 +64,7 @@ module _ (up : Type 0) (l : ℕ) (a : Admission) (base : List Ownership) (p : Rw
           )
 
   -- where a reply led, by what was kept
-  reached_by : (new : Stage) (next : Next RwLockPlace) → MayStandNext a next
+  reached_by : (new : ThreadState) (next : Next RwLockPlace) → MayStandNext a next
       → Comes up l base a p.purpose next new → ReachedBy up base (of_rwlock l a p.purpose)
       (rwlock_goes l a (plain_next next)) (answer_of (rwlock_does l a (plain_next next))) new
   reached_by new (At p2) stands c = subst (λ (o : Option Answer). ReachedBy up base (of_rwlock l a p.purpose)
@@ -83,7 +83,7 @@ module _ (up : Type 0) (l : ℕ) (a : Admission) (base : List Ownership) (p : Rw
       )
   reached_by new (End answer) stands c = c
 
-  pub rwlock_leads : (reply : Reply) (new : Stage) → Became up rwlocks (at_rwlock l)
+  pub rwlock_leads : (reply : Reply) (new : ThreadState) → Became up rwlocks (at_rwlock l)
       (sleeper_at (RwLock l a (Plain p))) st (rwlock_act l a p) reply new
       → Reached up base (RwLock l a (Plain p)) reply new
   rwlock_leads reply new b = elim (told_plainly up rwlocks (at_rwlock l) (sleeper_at (RwLock l a (Plain p)))
@@ -103,7 +103,7 @@ module _ (up : Type 0) (l : ℕ) (a : Admission) (base : List Ownership) (p : Rw
 -- ---------------------------------------------------------------- a thread that was handed the lock
 
 module _ (up : Type 0) (l : ℕ) (a : Admission) (base : List Ownership) (how : Patience) (b : Bool)
-    (st : Stage) where
+    (st : ThreadState) where
   handed_needs : (x : Access) (to : HandedAt) → FitsHanded l base x to st → ActNeeds rwlocks (at_rwlock l) st
       (handed_act l x to)
   handed_needs access.Shared handed.Accept f = tt
@@ -112,14 +112,16 @@ module _ (up : Type 0) (l : ℕ) (a : Admission) (base : List Ownership) (how : 
   handed_needs x to f = absurd f
 
   -- it has its right already
-  accepts : (x : Access) → OwnsRight l (wanted x) base st.owns × (st.inside ≡ None) → (new : Stage) → new ≡ st
+  accepts : (x : Access) → OwnsRight l (wanted x) base st.owns × (st.inside ≡ None) → (new : ThreadState)
+      → new ≡ st
       → IsRwLockOver up l base a (purpose.Enter x how) (entered how) new
   accepts x f new e = (
-    ap (λ (s : Stage). s.inside) e ∙ f.1,
-    inl (refl, subst (OwnsRight l (wanted x) base) (sym (ap (λ (s : Stage). s.owns) e)) f.0),
+    ap (λ (s : ThreadState). s.inside) e ∙ f.1,
+    inl (refl, subst (OwnsRight l (wanted x) base) (sym (ap (λ (s : ThreadState). s.owns) e)) f.0),
   )
 
-  handed_leads : (x : Access) (to : HandedAt) → FitsHanded l base x to st → (reply : Reply) (new : Stage)
+  handed_leads : (x : Access) (to : HandedAt) → FitsHanded l base x to st
+      → (reply : Reply) (new : ThreadState)
       → Became up rwlocks (at_rwlock l) (sleeper_at (RwLock l a (Handed x how b to))) st (handed_act l x to)
       reply new → Reached up base (RwLock l a (Handed x how b to)) reply new
   handed_leads access.Shared handed.Accept f Done new e = accepts access.Shared f new e
@@ -133,9 +135,9 @@ module _ (up : Type 0) (l : ℕ) (a : Admission) (base : List Ownership) (how : 
 
 -- each place of a reader-writer call leads on
 pub rwlock_place_leads : (up : Type 0) (l : ℕ) (a : Admission) (base : List Ownership) (c : RwLockCallPlace)
-    (st : Stage) → FitsCall up l base a c st →
+    (st : ThreadState) → FitsCall up l base a c st →
     ActNeeds rwlocks (at_rwlock l) st (call_act l a c) × LooksLeadOn up base (RwLock l a c) st
-    × ((reply : Reply) (new : Stage) → Became up rwlocks (at_rwlock l) (sleeper_at (RwLock l a c)) st
+    × ((reply : Reply) (new : ThreadState) → Became up rwlocks (at_rwlock l) (sleeper_at (RwLock l a c)) st
     (call_act l a c) reply new → Reached up base (RwLock l a c) reply new)
 rwlock_place_leads up l a base (Plain p) st f = (
   rwlock_needs up l a base p.purpose p.retries st p.at f,
@@ -157,7 +159,7 @@ rwlock_place_leads up l a base (PeekQueue x) st f = absurd f
 
 -- none runs a closure
 no_closure_at : (up : Type 0) (l : ℕ) (a : Admission) (base : List Ownership) (c : RwLockCallPlace)
-    (st : Stage) → FitsCall up l base a c st → closure_of (call_act l a c) ≡ None
+    (st : ThreadState) → FitsCall up l base a c st → closure_of (call_act l a c) ≡ None
 no_closure_at up l a base (Plain p) st f = (goes_on l a p f.stands).1
 no_closure_at up l a base (Bump p) st f = by_place p.at refl f.1
   where
@@ -173,7 +175,8 @@ no_closure_at up l a base (Handed x how b to) st f = absurd f
 no_closure_at up l a base (PeekQueue x) st f = absurd f
 
 pub rwlock_no_closure : (up : Type 0) (l : ℕ) (a : Admission) (base : List Ownership) (c : RwLockCallPlace)
-    (st : Stage) (state : OnceState) → FitsCall up l base a c st → act_of (RwLock l a c) ≡ act.Closure state
+    (st : ThreadState) (state : OnceState) → FitsCall up l base a c st → act_of (RwLock l a c)
+    ≡ act.Closure state
     → ⊥
 rwlock_no_closure up l a base c st state f is = some_closure (sym (ap closure_of is)
     ∙ no_closure_at up l a base c st f)

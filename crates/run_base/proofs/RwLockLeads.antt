@@ -65,7 +65,7 @@ use Rattle.run_base.specs.RwLockFitting.{Answers, FellBack, FitsRwLock, HasGiven
 use Rattle.run_base.specs.RwLockFitting.{IsBeside, IsCounted, IsRwLockOver, IsWithin, MayGiveUp, OwnsBeside}
 use Rattle.run_base.specs.RwLockFitting.{OwnsRight, LookedInLine, LookedLast, TookWoken, did_wake, woken_line}
 use Rattle.run_base.specs.declared.sleepers.Sleeper.{Sleeper}
-use Rattle.run_base.specs.Stages.{Stage, SectionView, Became, HasDone, IsLeft, Stepped, TookNobodyAt}
+use Rattle.run_base.specs.Stages.{ThreadState, SectionView, Became, HasDone, IsLeft, Stepped, TookNobodyAt}
 use Rattle.run_base.specs.Stages.{entered_now, listed, stage, took_as}
 use Rattle.run_base.proofs.RwLockDeciding.{marks, marks_aside, marks_clear, refuses, takes_shared}
 use Rattle.run_base.proofs.RwLockDeciding.{takes_upgradable, takes_exclusive, upgrades}
@@ -101,7 +101,7 @@ unhanded l a p = record (sleeper_at (place.RwLock l a (calls.Plain p))) { takes_
 
 -- tells what a place keeps, beside that its call may stand there
 pub record Kept (up : Type 0) (l : ℕ) (base : List Ownership) (a : Admission) (p : RwLockPlace)
-    (st : Stage) : Type 0 where
+    (st : ThreadState) : Type 0 where
   pub begun : HasGivenWay p.at
   pub seen : SeenInRange p.at
   pub owns : OwnsBeside l (rwlock_role p).claims base st.owns
@@ -110,7 +110,8 @@ pub record Kept (up : Type 0) (l : ℕ) (base : List Ownership) (a : Admission) 
   pub late : (rwlock_profile a p).late ≡ true → up
 
 -- tells what a call came to
-abbrev pub Comes : Type 0 → ℕ → List Ownership → Admission → RwLockPurpose → Next RwLockPlace → Stage → Type 0
+abbrev pub Comes : Type 0 → ℕ → List Ownership → Admission → RwLockPurpose → Next RwLockPlace → ThreadState
+    → Type 0
 Comes up l base a q (At p) st = Kept up l base a p st × (p.purpose ≡ q)
 Comes up l base a q (End answer) st = IsRwLockOver up l base a q answer st
 
@@ -136,7 +137,7 @@ module _ (up : Type 0) (l : ℕ) (a : Admission) (base : List Ownership) (q : Rw
       by_purpose (purpose.Release x) f h = never h
       by_purpose (purpose.Downgrade d) f h = never h
 
-  module _ (again : Bool) (st new : Stage) where
+  module _ (again : Bool) (st new : ThreadState) where
     abbrev of : RwLockAt → RwLockPlace
     of to = record { purpose = q; retries = again; at = to }
 
@@ -151,16 +152,16 @@ module _ (up : Type 0) (l : ℕ) (a : Admission) (base : List Ownership) (q : Rw
 
     owns_now : (op : Op) (seen : ℕ) → Step op seen → new.owns ≡ owns_after_step kinds.RwLock (rwlock_at l) op
         seen st.owns
-    owns_now op seen b = ap (λ (x : Stage). x.owns) b.1
+    owns_now op seen b = ap (λ (x : ThreadState). x.owns) b.1
 
     inside_now : (op : Op) (seen : ℕ) → Step op seen → new.inside ≡ st.inside
-    inside_now op seen b = ap (λ (x : Stage). x.inside) b.1
+    inside_now op seen b = ap (λ (x : ThreadState). x.inside) b.1
 
     last_now : (op : Op) (seen : ℕ) → Step op seen → new.last ≡ None
-    last_now op seen b = ap (λ (x : Stage). x.last) b.1
+    last_now op seen b = ap (λ (x : ThreadState). x.last) b.1
 
     steps_now : (op : Op) (seen : ℕ) → Step op seen → new.steps ≡ st.steps ++ step (rwlock_at l) op seen
-    steps_now op seen b = ap (λ (x : Stage). x.steps) b.1
+    steps_now op seen b = ap (λ (x : ThreadState). x.steps) b.1
 
     small : (op : Op) (seen : ℕ) → Step op seen → seen < 2 ^ 64
     small op seen b = fits (rwlock_at l) seen st.owns b.0
@@ -472,9 +473,10 @@ module _ (up : Type 0) (l : ℕ) (a : Admission) (base : List Ownership) (q : Rw
             begun = tt;
             seen = tt;
             stood = tt;
-            owns = subst (λ (x : List Ownership). IsBeside l base x) (sym (ap (λ (s : Stage). s.owns) b))
+            owns = subst (λ (x : List Ownership). IsBeside l base x)
+                (sym (ap (λ (s : ThreadState). s.owns) b))
                 (by_purpose q f.stands.place e owns);
-            within = ap (λ (s : Stage). s.inside) b;
+            within = ap (λ (s : ThreadState). s.inside) b;
             late = not_late (at.Park parking.Check) refl;
           },
           refl,
@@ -599,8 +601,8 @@ module _ (up : Type 0) (l : ℕ) (a : Admission) (base : List Ownership) (q : Rw
         seen = tt;
         stood = tt;
         owns = subst (λ (x : List Ownership). OwnsBeside l (pends q) base x)
-            (sym (ap (λ (s : Stage). s.owns) b)) owns;
-        within = ap (λ (s : Stage). s.inside) b;
+            (sym (ap (λ (s : ThreadState). s.owns) b)) owns;
+        within = ap (λ (s : ThreadState). s.inside) b;
         late = not_late (at.Aside parking.Check) refl;
       },
       refl,
@@ -719,7 +721,7 @@ module _ (up : Type 0) (l : ℕ) (a : Admission) (base : List Ownership) (q : Rw
 
     becomes_late : (m : Line) (to : ParkAt) (key : ℕ) → key ≡ key_of l m → new ≡ stage st.owns
         (entered_now (One key)) st.last st.steps → new.inside ≡ entered_now (One (key_of l m))
-    becomes_late m to key k e = ap (λ (s : Stage). s.inside) e ∙ ap (λ (n : ℕ). entered_now (One n)) k
+    becomes_late m to key k e = ap (λ (s : ThreadState). s.inside) e ∙ ap (λ (n : ℕ). entered_now (One n)) k
 
     -- a thread that gives up in the main queue
     gives_up_main : Fits (at.Park parking.GiveUp) → new.owns ≡ st.owns → new.inside ≡ None
@@ -791,8 +793,9 @@ module _ (up : Type 0) (l : ℕ) (a : Admission) (base : List Ownership) (q : Rw
     main_leads parking.Asleep f (Woken note.HandOff) b = never b.3
     main_leads parking.Asleep f Late b = let k = late_at_key Main (patience_of q) b.0 b.1.0 in (
       inside_of (at.Park parking.Remove) again Main None tt tt
-          (still_looked (ap (λ (s : Stage). s.steps) b.1.1) f.stood) refl refl refl (λ h. b.2)
-          (kept_owns None (ap (λ (s : Stage). s.owns) b.1.1) f.owns) (becomes_late Main parking.Asleep b.0
+          (still_looked (ap (λ (s : ThreadState). s.steps) b.1.1) f.stood) refl refl refl (λ h. b.2)
+          (kept_owns None (ap (λ (s : ThreadState). s.owns) b.1.1) f.owns)
+          (becomes_late Main parking.Asleep b.0
           k.0 b.1.1),
       k.1,
     )
@@ -803,16 +806,19 @@ module _ (up : Type 0) (l : ℕ) (a : Admission) (base : List Ownership) (q : Rw
     main_leads (parking.Taken by) f Late b = none_some b.1.0
     main_leads (parking.Taken by) f (MovedTo key) b = none_some b.0.1
     main_leads parking.Remove f (Removed true) b = (
-      inside_of (at.Park parking.Clear) again Main None tt tt (still_looked (ap (λ (s : Stage). s.steps) b)
+      inside_of (at.Park parking.Clear) again Main None tt tt
+          (still_looked (ap (λ (s : ThreadState). s.steps) b)
           f.stood) refl refl refl (still_late (at.Park parking.Remove) (at.Park parking.Clear) refl f.late)
-          (kept_owns None (ap (λ (s : Stage). s.owns) b) f.owns) (ap (λ (s : Stage). s.inside) b ∙ f.within),
+          (kept_owns None (ap (λ (s : ThreadState). s.owns) b) f.owns)
+          (ap (λ (s : ThreadState). s.inside) b ∙ f.within),
       tt,
     )
     main_leads parking.Remove f (Removed false) b = (
       inside_of (at.Park parking.GiveUp) again Main None tt tt
-          (inl (still_looked (ap (λ (s : Stage). s.steps) b) f.stood)) refl refl refl
+          (inl (still_looked (ap (λ (s : ThreadState). s.steps) b) f.stood)) refl refl refl
           (still_late (at.Park parking.Remove) (at.Park parking.GiveUp) refl f.late)
-          (kept_owns None (ap (λ (s : Stage). s.owns) b) f.owns) (ap (λ (s : Stage). s.inside) b ∙ f.within),
+          (kept_owns None (ap (λ (s : ThreadState). s.owns) b) f.owns)
+          (ap (λ (s : ThreadState). s.inside) b ∙ f.within),
       tt,
     )
     main_leads parking.Clear f (Value seen) b = (
@@ -858,7 +864,7 @@ module _ (up : Type 0) (l : ℕ) (a : Admission) (base : List Ownership) (q : Rw
     aside_leads parking.Asleep f (Woken note.HandOff) b = never b.3
     aside_leads parking.Asleep f Late b = let k = late_at_key Second (patience_of q) b.0 b.1.0 in (
       inside_of (at.Aside parking.Remove) again Second (pends q) tt tt tt refl refl refl (λ h. b.2)
-          (kept_owns (pends q) (ap (λ (s : Stage). s.owns) b.1.1) f.owns)
+          (kept_owns (pends q) (ap (λ (s : ThreadState). s.owns) b.1.1) f.owns)
           (becomes_late Second parking.Asleep b.0 k.0 b.1.1),
       k.1,
     )
@@ -870,7 +876,8 @@ module _ (up : Type 0) (l : ℕ) (a : Admission) (base : List Ownership) (q : Rw
     aside_leads parking.Remove f (Removed none_left) b = (
       inside_of (at.Aside parking.Clear) again Second (pends q) tt tt tt refl refl refl
           (still_late (at.Aside parking.Remove) (at.Aside parking.Clear) refl f.late)
-          (kept_owns (pends q) (ap (λ (s : Stage). s.owns) b) f.owns) (ap (λ (s : Stage). s.inside) b
+          (kept_owns (pends q) (ap (λ (s : ThreadState). s.owns) b) f.owns)
+          (ap (λ (s : ThreadState). s.inside) b
           ∙ f.within),
       tt,
     )
@@ -1095,8 +1102,8 @@ module _ (up : Type 0) (l : ℕ) (a : Admission) (base : List Ownership) (q : Rw
     wakes_leads m waking.Enter f Done b = (
       inside_of (at.Wake m waking.Take) again m (kept_claim (start_of q)) tt tt tt refl refl refl
           (still_late (at.Wake m waking.Enter) (at.Wake m waking.Take) refl f.late)
-          (kept_owns (kept_claim (start_of q)) (ap (λ (s : Stage). s.owns) b) f.owns)
-          (ap (λ (s : Stage). s.inside) b),
+          (kept_owns (kept_claim (start_of q)) (ap (λ (s : ThreadState). s.owns) b) f.owns)
+          (ap (λ (s : ThreadState). s.inside) b),
       tt,
     )
     wakes_leads Main waking.Take f (Picked sharers successor none_left) b = (

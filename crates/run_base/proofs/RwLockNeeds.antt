@@ -43,7 +43,7 @@ use Rattle.core_words.proofs.RwLockKinds.{rwlock_steps}
 use Rattle.core_words.proofs.RwLockOwning.{first_goes, has_first}
 use Rattle.run_base.specs.Paths.{rwlock_at, rwlocks, at_rwlock}
 use Rattle.run_base.specs.RwLockFitting.{OwnsBeside, FitsRwLock, IsBeside}
-use Rattle.run_base.specs.Stages.{Stage, ActNeeds, HasKey, IsFresh, MayLeave, entered_now}
+use Rattle.run_base.specs.Stages.{ThreadState, ActNeeds, HasKey, IsFresh, MayLeave, entered_now}
 use Rattle.run_base.proofs.RwLockDeciding.{marks, marks_aside, marks_clear, takes_shared, takes_upgradable}
 use Rattle.run_base.proofs.RwLockDeciding.{takes_exclusive, upgrades}
 
@@ -67,7 +67,7 @@ left_beside l o base owns c = λ settled. ap (without (owning (rwlock_at l) o)) 
     ∙ ap (λ (w : Owner). owning (rwlock_at l) w ∷ c.1) c.2) ∙ first_goes (rwlock_at l) o c.1 ∙ c.3 settled
 
 module _ (up : Type 0) (l : ℕ) (a : Admission) (base : List Ownership) (q : RwLockPurpose) (again : Bool)
-    (st : Stage) where
+    (st : ThreadState) where
   abbrev of : RwLockAt → RwLockPlace
   of to = record { purpose = q; retries = again; at = to }
 

@@ -48,7 +48,8 @@ use Rattle.run_base.specs.MutexFitting.{Outside, Within}
 use Rattle.run_base.specs.SemaphoreFitting.{AcquireAnswer, to_acquire, to_try, FitsAcquire, FitsRelease}
 use Rattle.run_base.specs.SemaphoreFitting.{FitsSemaphore, FitsTry, permit}
 use Rattle.run_base.specs.Paths.{at_semaphore, semaphore_at, semaphores, step}
-use Rattle.run_base.specs.Stages.{Stage, SectionView, ActNeeds, Became, HasKey, IsFresh, IsLeft, MayLeave}
+use Rattle.run_base.specs.Stages.{ThreadState, SectionView, ActNeeds, Became, HasKey, IsFresh, IsLeft}
+use Rattle.run_base.specs.Stages.{MayLeave}
 use Rattle.run_base.specs.Stages.{entered_now, listed, stage, stepped, took_as}
 use Rattle.run_base.proofs.Leaving.{has_done}
 
@@ -58,7 +59,7 @@ some_free seen free = dite (ℕ_discrete (seen / 2) 0)
     (λ e. absurd (false≢true (sym (ap not (eq-eqb (seen / 2) 0 e)) ∙ free)))
     (λ ne. omega arith)
 
-module _ (permits l : ℕ) (base : List Ownership) (st : Stage) where
+module _ (permits l : ℕ) (base : List Ownership) (st : ThreadState) where
   abbrev Can : Act → Type 0
   Can = ActNeeds (semaphores permits) (at_semaphore l) st
 
@@ -172,18 +173,19 @@ module _ (permits l : ℕ) (base : List Ownership) (st : Stage) where
       by_look true = refl
       by_look false = refl
 
-  module _ (up : Type 0) (new : Stage) where
-    owns_of : (s : Stage) → new ≡ s → new.owns ≡ s.owns
-    owns_of s e = ap (λ (x : Stage). x.owns) e
+  module _ (up : Type 0) (new : ThreadState) where
+    owns_of : (s : ThreadState) → new ≡ s → new.owns ≡ s.owns
+    owns_of s e = ap (λ (x : ThreadState). x.owns) e
 
-    inside_of : (s : Stage) → new ≡ s → new.inside ≡ s.inside
-    inside_of s e = ap (λ (x : Stage). x.inside) e
+    inside_of : (s : ThreadState) → new ≡ s → new.inside ≡ s.inside
+    inside_of s e = ap (λ (x : ThreadState). x.inside) e
 
-    steps_of : (s : Stage) → new ≡ s → new.steps ≡ s.steps
-    steps_of s e = ap (λ (x : Stage). x.steps) e
+    steps_of : (s : ThreadState) → new ≡ s → new.steps ≡ s.steps
+    steps_of s e = ap (λ (x : ThreadState). x.steps) e
 
     -- it is where it was, after a step on the word that changes no owner
-    stays : (inside : Option SectionView) (s : Stage) → new ≡ s → s.owns ≡ st.owns → s.inside ≡ st.inside
+    stays : (inside : Option SectionView) (s : ThreadState) → new ≡ s → s.owns ≡ st.owns → s.inside
+        ≡ st.inside
         → (st.owns ≡ base) × (st.inside ≡ inside) → (new.owns ≡ base) × (new.inside ≡ inside)
     stays inside s e o i f = (owns_of s e ∙ o ∙ f.0, inside_of s e ∙ i ∙ f.1)
 
@@ -407,10 +409,10 @@ module _ (permits l : ℕ) (base : List Ownership) (st : Stage) where
 
 -- the words of a call of a semaphore are that one alone
 pub semaphore_place_leads : (up : Type 0) (permits l : ℕ) (base : List Ownership) (at : SemaphorePlace)
-    (st : Stage) → FitsSemaphore up l base at st →
+    (st : ThreadState) → FitsSemaphore up l base at st →
     ActNeeds (semaphores permits) (at_semaphore l) st (semaphore_act l at)
     × LooksLeadOn up base (Semaphore l at) st
-    × ((reply : Reply) (new : Stage) → Became up (semaphores permits) (at_semaphore l)
+    × ((reply : Reply) (new : ThreadState) → Became up (semaphores permits) (at_semaphore l)
     (sleeper_at (Semaphore l at)) st (semaphore_act l at) reply new → Reached up base (Semaphore l at)
     reply new)
 semaphore_place_leads up permits l base at st f = (

@@ -22,7 +22,8 @@ use Rattle.parking_lot_core.specs.declared.tokens.Did as did
 use Rattle.parking_lot_core.specs.declared.tokens.Token.{Token}
 use Rattle.run_base.specs.Courses.{HasTold, Tells, TellsFound, TellsIn, TellsLate, leaving, moving, taking}
 use Rattle.run_base.specs.Courses.{told_by, told_within}
-use Rattle.run_base.specs.Stages.{ActNeeds, Became, HasKey, SectionView, Stage, TookBy, is_there, listed}
+use Rattle.run_base.specs.Stages.{ActNeeds, Became, HasKey, SectionView, ThreadState, TookBy, is_there}
+use Rattle.run_base.specs.Stages.{listed}
 use Rattle.run_base.specs.Stages.{section_view, stage_of, threads_taken, took_as}
 use Rattle.run_base.specs.Telling.{TellsQueues, TellsTake, line_in}
 use Rattle.run_base.specs.declared.sleepers.Sleeper.{Sleeper}

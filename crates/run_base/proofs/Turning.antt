@@ -43,7 +43,7 @@ use Rattle.parking_lot_core.specs.declared.tokens.Token.{Token}
 use Rattle.run_base.specs.Fitting.{AreWordsFor, answer_of, sleeper_at}
 use Rattle.run_base.specs.Paths.{Brings, MayReply, Told, closure_of, step, word, hands, parks, other}
 use Rattle.run_base.specs.Paths.{is_wordless, is_valueless}
-use Rattle.run_base.specs.Stages.{Stage, Became, Stepped, Adds, stage, stage_of, section_view}
+use Rattle.run_base.specs.Stages.{ThreadState, Became, Stepped, Adds, stage, stage_of, section_view}
 use Rattle.run_base.specs.Sleepers.{late_key_at}
 
 wordless : (at : ℕ → ℕ) (p : Place) (a : Act) (reply : Reply) (before afterwards : List WordStep)
@@ -72,7 +72,7 @@ some_closure : {state : OnceState} → Some state ≡ None → ⊥
 some_closure e = cc
 
 pub told : (up : Type 0) (at : ℕ → ℕ) (kinds : ℕ → WordKind) (p : Place) (a : Act) → act_of p ≡ a
-    → closure_of a ≡ None → (st new : Stage) (reply : Reply) (before afterwards : List WordStep)
+    → closure_of a ≡ None → (st new : ThreadState) (reply : Reply) (before afterwards : List WordStep)
     → Became up kinds at (sleeper_at p) st a reply new → Adds at a reply before afterwards
     → Told at p reply before afterwards
 told up at kinds p (act.TheVariants.Word l op) is runs st new (Value seen) before afterwards b e =

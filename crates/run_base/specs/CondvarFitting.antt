@@ -13,8 +13,8 @@ use Rattle.steps_condvar.specs.declared.notify.NotifyAt.{NotifyAt}
 use Rattle.steps_condvar.specs.declared.notify.NotifyAt.TheVariants as notify
 use Rattle.steps_condvar.specs.declared.places.CondvarPlace.{CondvarPlace}
 use Rattle.steps_condvar.specs.declared.places.CondvarPlace.TheVariants.{Wait, Look, Notify}
-use Rattle.steps_condvar.specs.declared.wait.Stands.{Stands}
-use Rattle.steps_condvar.specs.declared.wait.Stands.TheVariants as stands
+use Rattle.steps_condvar.specs.declared.wait.WaiterFate.{WaiterFate}
+use Rattle.steps_condvar.specs.declared.wait.WaiterFate.TheVariants as stands
 use Rattle.steps_condvar.specs.declared.wait.WaitAt.{WaitAt}
 use Rattle.steps_condvar.specs.declared.wait.WaitAt.TheVariants as wait
 use Rattle.steps_mutex.specs.declared.lock.Entry.TheVariants as entry
@@ -29,7 +29,7 @@ use Rattle.parking_lot_core.specs.declared.tokens.Did.TheVariants as did
 use Rattle.parking_lot_core.specs.declared.tokens.SectionRecord.{SectionRecord}
 use Rattle.run_base.specs.MutexFitting.{FitsLock, FitsUnlock, Outside, Within, mutex_ownership}
 use Rattle.run_base.specs.Paths.{condvar_at, step}
-use Rattle.run_base.specs.Stages.{HasLeft, Stage, TookNobodyAt, entered_now, having_taken}
+use Rattle.run_base.specs.Stages.{HasLeft, ThreadState, TookNobodyAt, entered_now, having_taken}
 
 -- a waiting thread owned its mutex as the call began
 abbrev pub OwnsIt : ℕ → List Ownership → Type 0
@@ -40,7 +40,7 @@ abbrev pub apart : ℕ → List Ownership → List Ownership
 apart m base = without (mutex_ownership m) base
 
 -- in the sections of the condition variable and of the mutex shown, where it has done nothing
-abbrev pub InBothSections : ℕ → ℕ → List Ownership → Stage → Type 0
+abbrev pub InBothSections : ℕ → ℕ → List Ownership → ThreadState → Type 0
 InBothSections c m owns st = (st.owns ≡ owns) × (st.inside ≡ entered_now (Two (2 * c) (2 * m)))
 
 -- the last of these steps looked at the condition variable, and saw another mutex than this shown,
@@ -62,7 +62,7 @@ TellsNumber true number counted = number ≡ counted
 TellsNumber false number counted = number ≡ 1
 
 -- it has moved waiters there, and took one of them or none
-abbrev pub HasMovedInSection : ℕ → ℕ → Bool → ℕ → List Ownership → Stage → Type 0
+abbrev pub HasMovedInSection : ℕ → ℕ → Bool → ℕ → List Ownership → ThreadState → Type 0
 HasMovedInSection c m all number owns st =
     (st.owns ≡ owns) × (locked : Bool) × (waiters : List Waiter) × (moved : ℕ)
     × (st.inside ≡ Some (record
@@ -71,7 +71,7 @@ HasMovedInSection c m all number owns st =
     }))
     × TellsNumber all number (length (threads_of waiters) + moved)
 
-abbrev pub FitsNotify : ℕ → ℕ → Bool → List Ownership → NotifyAt → Stage → Type 0
+abbrev pub FitsNotify : ℕ → ℕ → Bool → List Ownership → NotifyAt → ThreadState → Type 0
 FitsNotify c m all base notify.Enter st = Outside base st
 FitsNotify c m all base notify.Again st = InBothSections c m base st
 FitsNotify c m all base notify.Hide st = InBothSections c m base st
@@ -93,7 +93,7 @@ AnswersBy c m all answer last steps =
     × (answer ≡ (if all then answers.Number number else answers.Yes))
     × HasLeft (2 * c) (move_did all locked c m) number last)
 
-abbrev pub IsNotifyOver : ℕ → ℕ → Bool → List Ownership → Answer → Stage → Type 0
+abbrev pub IsNotifyOver : ℕ → ℕ → Bool → List Ownership → Answer → ThreadState → Type 0
 IsNotifyOver c m all base answer st = Outside base st × AnswersBy c m all answer st.last st.steps
 
 -- `up` says that the time of the call is up
@@ -105,7 +105,7 @@ module _ (up : Type 0) where
   LateIf timed false = Unit {0}
 
   -- a thread that releases its mutex, from its subtraction on
-  abbrev pub FitsMutexRelease : ℕ → List Ownership → Stands → MutexPlace → Stage → Type 0
+  abbrev pub FitsMutexRelease : ℕ → List Ownership → WaiterFate → MutexPlace → ThreadState → Type 0
   FitsMutexRelease m base stands.Listed (Unlock unlock.Subtract) st = OwnsIt m base × Outside base st
   FitsMutexRelease m base stands.Listed (Unlock unlock.Enter) st =
       FitsUnlock m (apart m base) unlock.Enter st
@@ -118,18 +118,18 @@ module _ (up : Type 0) where
   FitsMutexRelease m base s at st = ⊥
 
   -- A stage fits a wait that locks its mutex again.
-  abbrev pub FitsRelock : ℕ → List Ownership → MutexPlace → Stage → Type 0
+  abbrev pub FitsRelock : ℕ → List Ownership → MutexPlace → ThreadState → Type 0
   FitsRelock m base (Lock entry.Lock retries at) st = FitsLock up m entry.Lock (apart m base) at st
   FitsRelock m base at st = ⊥
 
   -- one that sleeps stands in the queue of the condition variable, or was moved to that of its
   -- mutex
-  abbrev pub FitsAsleep : ℕ → List Ownership → Stands → Stage → Type 0
+  abbrev pub FitsAsleep : ℕ → List Ownership → WaiterFate → ThreadState → Type 0
   FitsAsleep m base stands.Listed st = Outside (apart m base) st
   FitsAsleep m base stands.Moved st = Outside (apart m base) st
   FitsAsleep m base s st = ⊥
 
-  abbrev pub FitsWait : ℕ → ℕ → Bool → List Ownership → WaitAt → Stage → Type 0
+  abbrev pub FitsWait : ℕ → ℕ → Bool → List Ownership → WaitAt → ThreadState → Type 0
   FitsWait c m timed base wait.Enter st = OwnsIt m base × Outside base st
   FitsWait c m timed base wait.Show st = OwnsIt m base × Within c base st
   FitsWait c m timed base wait.Stand st = OwnsIt m base × Within c base st
@@ -147,14 +147,14 @@ module _ (up : Type 0) where
 
   -- the ownership of a thread in a call of a condition variable, which owned so much as it began. The first
   -- step of a notification is taken before
-  abbrev pub FitsCondvarCall : ℕ → List Ownership → CondvarPlace → Stage → Type 0
+  abbrev pub FitsCondvarCall : ℕ → List Ownership → CondvarPlace → ThreadState → Type 0
   FitsCondvarCall c base (Wait m timed at) st = FitsWait c m timed base at st
   FitsCondvarCall c base (Look all) st = ⊥
   FitsCondvarCall c base (Notify all m at) st = FitsNotify c m all base at st
 
   -- the answer at the end of a wait is true: another mutex was shown, and it never released its own, or it
   -- has it again
-  abbrev pub IsWaitOver : ℕ → Bool → List Ownership → Answer → Stage → Type 0
+  abbrev pub IsWaitOver : ℕ → Bool → List Ownership → Answer → ThreadState → Type 0
   IsWaitOver m timed base answer st =
       ((answer ≡ answers.TwoMutexes) × OwnsIt m base × Outside base st)
       ⊎ ((timed_out : Bool) × (answer ≡ waited timed timed_out) × LateIf timed timed_out

@@ -12,7 +12,7 @@ use Rattle.steps_base.specs.declared.acts.Reply.TheVariants.{Requeued, Took, Wok
 use Rattle.steps_base.specs.declared.acts.Whom.{Whom}
 use Rattle.steps_base.specs.declared.acts.Whom as whom
 use Rattle.spec_locks.specs.declared.outcomes.Answer.{Answer}
-use Rattle.lot_steps.specs.Steps.{act_of, looking, next_act, next_place}
+use Rattle.lot_steps.specs.Steps.{act_of, respins_from, next_act, next_place}
 use Rattle.lot_steps.specs.declared.places.Place.{Place}
 use Rattle.parking_lot_core.specs.Sections.{told_in}
 use Rattle.parking_lot_core.specs.Tokens.{told_of}
@@ -128,7 +128,7 @@ pub data Course (at : ℕ → ℕ) (me : ℕ) : Place → Trail → Place → Ty
   goes : (p q : Place) (x y : Trail) (reply : Reply) → Course at me p x q
       → BringsTold at me q y reply → Course at me p (joined x y) (next_place q reply)
   -- it looks at the word once more in place of an act that leads to sleep
-  sees : (p q r : Place) (x : Trail) → Course at me p x q → looking q ≡ Some r → Course at me p x r
+  sees : (p q r : Place) (x : Trail) → Course at me p x q → respins_from q ≡ Some r → Course at me p x r
 
 -- the last reply of a call, which ends it by an answer
 pub record Arrival (at : ℕ → ℕ) (me : ℕ) (p : Place) (all : Trail) (answer : Answer) : Type 0 where

@@ -4,7 +4,7 @@ use Rattle.std.specs.Prelude.{ℕ, ◌≡◌, ◌≢◌, List, Option, Some, Non
 use Rattle.steps_rwlock_fair.specs.FairProfiles.{call_wants}
 use Rattle.core_base.specs.declared.wants.Want.TheVariants.{Exclusive}
 use Rattle.spec_locks.specs.declared.outcomes.Answer.{Answer}
-use Rattle.lot_steps.specs.Steps.{act_of, next_place, next_act, looking, HasKeys}
+use Rattle.lot_steps.specs.Steps.{act_of, next_place, next_act, respins_from, HasKeys}
 use Rattle.steps_base.specs.declared.acts.Act.{Act}
 use Rattle.steps_base.specs.declared.acts.Act as act
 use Rattle.steps_base.specs.declared.acts.Reply.{Reply}
@@ -41,7 +41,7 @@ use Rattle.run_base.specs.SemaphoreFitting.{FitsSemaphore, IsSemaphoreOver}
 use Rattle.run_base.specs.SemaphoreFitting as semaphore
 use Rattle.run_base.specs.Paths.{mutexes, at_mutex, rwlocks, at_rwlock, onces, at_once, semaphores}
 use Rattle.run_base.specs.Paths.{at_semaphore, condvar_at, mutex_at}
-use Rattle.run_base.specs.Stages.{Stage, ActNeeds, Became}
+use Rattle.run_base.specs.Stages.{ThreadState, ActNeeds, Became}
 use Rattle.run_base.specs.declared.sleepers.Sleeper.{Sleeper}
 use Rattle.run_base.specs.declared.driver.Stop.{Stop}
 use Rattle.run_base.specs.declared.driver.Stop.TheVariants.{Ended, Paused}
@@ -167,7 +167,7 @@ AreWordsAfter (Paused place state) kinds at = AreWordsFor place kinds at
 module _ (up : Type 0) where
   -- the stage of a thread at a place, which owned so much as it began to run, or beside what a reader-writer
   -- place claims
-  abbrev pub Fits : List Ownership → Place → Stage → Type 0
+  abbrev pub Fits : List Ownership → Place → ThreadState → Type 0
   Fits base Idle st = ⊥
   Fits base (Mutex l at) st = FitsMutex up l base at st
   Fits base (RwLock l a c) st = FitsCall up l base a c st
@@ -176,7 +176,7 @@ module _ (up : Type 0) where
   Fits base (Semaphore l at) st = FitsSemaphore up l base at st
 
   -- the answer at the end of a call is true
-  abbrev pub IsOver : List Ownership → CallPurpose → Answer → Stage → Type 0
+  abbrev pub IsOver : List Ownership → CallPurpose → Answer → ThreadState → Type 0
   IsOver base without_purpose answer st = ⊥
   IsOver base (of_mutex l purpose) answer st = IsMutexOver up l base purpose answer st
   IsOver base (of_rwlock l a purpose) answer st = IsRwLockOver up l base a purpose answer st
@@ -188,30 +188,30 @@ module _ (up : Type 0) where
   IsOver base (of_semaphore l purpose) answer st = IsSemaphoreOver up l base purpose answer st
 
   -- the end of a run: the end of its call, or a closure, which is outside all sections
-  abbrev pub IsStopped : List Ownership → CallPurpose → Stop → Stage → Type 0
+  abbrev pub IsStopped : List Ownership → CallPurpose → Stop → ThreadState → Type 0
   IsStopped base aim (Ended answer) st = IsOver base aim answer st
   IsStopped base aim (Paused place state) st = Fits base place st
       × (call_purpose place ≡ aim) × (act_of place ≡ act.TheVariants.Closure state)
 
-  abbrev pub ReachedBy : List Ownership → CallPurpose → Place → Option Answer → Stage → Type 0
+  abbrev pub ReachedBy : List Ownership → CallPurpose → Place → Option Answer → ThreadState → Type 0
   ReachedBy base aim p None st = Fits base p st × (call_purpose p ≡ aim)
   ReachedBy base aim p (Some answer) st = IsOver base aim answer st
 
   -- where a reply leads
-  abbrev pub Reached : List Ownership → Place → Reply → Stage → Type 0
+  abbrev pub Reached : List Ownership → Place → Reply → ThreadState → Type 0
   Reached base p reply st =
       ReachedBy base (call_purpose p) (next_place p reply) (answer_of (next_act p reply)) st
 
   -- from where it looks at the word once more, it goes on too
-  abbrev pub LooksLeadOn : List Ownership → Place → Stage → Type 0
+  abbrev pub LooksLeadOn : List Ownership → Place → ThreadState → Type 0
   LooksLeadOn base p st =
-      (q : Place) → looking p ≡ Some q → Fits base q st × (call_purpose q ≡ call_purpose p)
+      (q : Place) → respins_from p ≡ Some q → Fits base q st × (call_purpose q ≡ call_purpose p)
 
   -- each place's act is one that the thread may take, and each reply leads to a place that fits
   abbrev pub PlacesLead : Type 0
-  PlacesLead = (kinds : ℕ → WordKind) (at : ℕ → ℕ) (base : List Ownership) (p : Place) (st : Stage)
+  PlacesLead = (kinds : ℕ → WordKind) (at : ℕ → ℕ) (base : List Ownership) (p : Place) (st : ThreadState)
       → AreWordsFor p kinds at → Fits base p st →
       ActNeeds kinds at st (act_of p)
       × LooksLeadOn base p st
-      × ((reply : Reply) (new : Stage) → Became up kinds at (sleeper_at p) st (act_of p) reply new
+      × ((reply : Reply) (new : ThreadState) → Became up kinds at (sleeper_at p) st (act_of p) reply new
       → Reached base p reply new)

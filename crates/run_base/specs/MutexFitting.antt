@@ -23,7 +23,8 @@ use Rattle.core_words.specs.declared.owners.Ownership.{Ownership}
 use Rattle.parking_lot_core.specs.declared.tokens.Did.TheVariants.{TakeFirst}
 use Rattle.parking_lot_core.specs.declared.tokens.SectionRecord.{SectionRecord}
 use Rattle.run_base.specs.Paths.{mutex_at}
-use Rattle.run_base.specs.Stages.{HasDone, Stage, TookNobodyAt, entered_now, having_taken, is_there, listed}
+use Rattle.run_base.specs.Stages.{HasDone, ThreadState, TookNobodyAt, entered_now, having_taken, is_there}
+use Rattle.run_base.specs.Stages.{listed}
 
 -- the goal of a call of a mutex: to enter, to end a release that has given the lock up, or to hand it over
 pub data MutexPurpose : Type 0 where
@@ -53,20 +54,20 @@ beside n entry.TheVariants.Bump base = without (mutex_ownership n) base
 beside n _ base = base
 
 -- a thread that owns this, outside all sections
-abbrev pub Outside : List Ownership → Stage → Type 0
+abbrev pub Outside : List Ownership → ThreadState → Type 0
 Outside owns st = (st.owns ≡ owns) × (st.inside ≡ None)
 
 -- one that is in the section of the mutex's main key, where it has done nothing
-abbrev pub Within : ℕ → List Ownership → Stage → Type 0
+abbrev pub Within : ℕ → List Ownership → ThreadState → Type 0
 Within n owns st = (st.owns ≡ owns) × (st.inside ≡ entered_now (One (2 * n)))
 
 -- A stage that has taken the first of the queue, if any. A taken waiter has no right yet.
-abbrev pub Took : ℕ → Option Waiter → List ℕ → List Ownership → Stage → Type 0
+abbrev pub Took : ℕ → Option Waiter → List ℕ → List Ownership → ThreadState → Type 0
 Took n first rightless owns st = (st.owns ≡ owns)
     × (st.inside ≡ Some (having_taken (One (2 * n)) (TakeFirst (2 * n)) (listed first) rightless))
 
 -- A stage that has taken some thread, or none. A taken waiter has no right yet.
-abbrev pub HasTook : ℕ → Bool → List Ownership → Stage → Type 0
+abbrev pub HasTook : ℕ → Bool → List Ownership → ThreadState → Type 0
 HasTook n any owns st = (first : Option Waiter) × (any ≡ is_there first)
     × Took n first (threads_of (listed first)) owns st
 
@@ -75,7 +76,7 @@ abbrev pub TookAt : ℕ → Option SectionRecord → Type 0
 TookAt n last = HasDone (2 * n) (TakeFirst (2 * n)) last
 
 -- a release, after its subtraction
-abbrev pub FitsUnlock : ℕ → List Ownership → UnlockAt → Stage → Type 0
+abbrev pub FitsUnlock : ℕ → List Ownership → UnlockAt → ThreadState → Type 0
 FitsUnlock n base unlock.TheVariants.Subtract st = ⊥
 FitsUnlock n base unlock.TheVariants.Enter st = Outside base st
 FitsUnlock n base unlock.TheVariants.Take st = Within n base st
@@ -83,7 +84,7 @@ FitsUnlock n base (unlock.TheVariants.Clear any) st = HasTook n any base st
 FitsUnlock n base (unlock.TheVariants.Leave any) st = HasTook n any base st
 
 -- an owner that saw a waiter, until its store, and after that
-abbrev pub FitsHandOff : ℕ → List Ownership → HandOffAt → Stage → Type 0
+abbrev pub FitsHandOff : ℕ → List Ownership → HandOffAt → ThreadState → Type 0
 FitsHandOff n base hand_off.TheVariants.Enter st = (has (mutex_ownership n) base ≡ true) × Outside base st
 FitsHandOff n base hand_off.TheVariants.Take st = (has (mutex_ownership n) base ≡ true) × Within n base st
 FitsHandOff n base (hand_off.TheVariants.Store any none_left) st =
@@ -99,7 +100,7 @@ module _ (up : Type 0) where
   GaveUp e = (is_timed e ≡ true) × up
 
   -- a thread that enters, beside what it owns
-  abbrev pub FitsLock : ℕ → Entry → List Ownership → LockAt → Stage → Type 0
+  abbrev pub FitsLock : ℕ → Entry → List Ownership → LockAt → ThreadState → Type 0
   FitsLock n e owns lock.TheVariants.First st = Outside owns st
   FitsLock n e owns lock.TheVariants.Load st = Outside owns st
   FitsLock n e owns (lock.TheVariants.Decide seen) st = (seen < 4) × Outside owns st
@@ -114,14 +115,14 @@ module _ (up : Type 0) where
 
   -- the ownership of a thread in a call of a mutex, which owned so much as it began to run. The first step of
   -- a release or a bump is taken before
-  abbrev pub FitsMutex : ℕ → List Ownership → MutexPlace → Stage → Type 0
+  abbrev pub FitsMutex : ℕ → List Ownership → MutexPlace → ThreadState → Type 0
   FitsMutex n base (Lock e retries at) st = FitsLock n e (beside n e base) at st
   FitsMutex n base (Unlock at) st = FitsUnlock n base at st
   FitsMutex n base (HandOff bumps at) st = FitsHandOff n base at st
   FitsMutex n base _ st = ⊥
 
   -- the answer at its end is true
-  abbrev pub IsMutexOver : ℕ → List Ownership → MutexPurpose → Answer → Stage → Type 0
+  abbrev pub IsMutexOver : ℕ → List Ownership → MutexPurpose → Answer → ThreadState → Type 0
   IsMutexOver n base (to_enter e) answer st =
       ((answer ≡ entered e) × Outside (mutex_ownership n ∷ beside n e base) st)
       ⊎ ((answer ≡ answers.TheVariants.No) × GaveUp e × Outside (beside n e base) st

@@ -23,7 +23,7 @@ use Rattle.core_words.specs.declared.owners.Ownership.{Ownership}
 use Rattle.parking_lot_core.specs.declared.tokens.Did.TheVariants.{TakeAll}
 use Rattle.parking_lot_core.specs.declared.tokens.SectionRecord.{SectionRecord}
 use Rattle.run_base.specs.Paths.{once_at}
-use Rattle.run_base.specs.Stages.{HasDone, SectionView, Stage, TookNobodyAt, entered_now, having_taken}
+use Rattle.run_base.specs.Stages.{HasDone, SectionView, ThreadState, TookNobodyAt, entered_now, having_taken}
 
 -- the ownership of a thread that has found a `Once` done so often, beside the rest
 abbrev pub knowing : ℕ → ℕ → List Ownership → List Ownership
@@ -42,18 +42,18 @@ abbrev pub OwnsAfter : ℕ → Bool → List Ownership → List Ownership → Ty
 OwnsAfter l true base owns = KnowsIt l base owns
 OwnsAfter l false base owns = OwnsKnowing l base owns
 
-abbrev pub StandsOutside : ℕ → List Ownership → Stage → Type 0
+abbrev pub StandsOutside : ℕ → List Ownership → ThreadState → Type 0
 StandsOutside l base st = OwnsKnowing l base st.owns × (st.inside ≡ None)
 
 -- in the section of the main key, where it has done nothing
-abbrev pub StandsWithin : ℕ → List Ownership → Stage → Type 0
+abbrev pub StandsWithin : ℕ → List Ownership → ThreadState → Type 0
 StandsWithin l base st = OwnsKnowing l base st.owns × (st.inside ≡ entered_now (One (2 * l)))
 
 abbrev pub goes_on : Course → Bool
 goes_on (Ends answer) = false
 goes_on course = true
 
-abbrev pub FitsLook : ℕ → OnceCall → List Ownership → LookAt → Stage → Type 0
+abbrev pub FitsLook : ℕ → OnceCall → List Ownership → LookAt → ThreadState → Type 0
 FitsLook l c base look.Load st = StandsOutside l base st
 FitsLook l c base (look.Decide seen) st =
     IsOnceWord seen × (goes_on (course_of c seen) ≡ true) × StandsOutside l base st
@@ -73,7 +73,7 @@ TookEach l waiters inside =
     inside ≡ Some (having_taken (One (2 * l)) (TakeAll (2 * l)) waiters (threads_of waiters))
 
 -- the step that ends a run is taken before
-abbrev pub FitsRun : ℕ → List Ownership → RunAt → Stage → Type 0
+abbrev pub FitsRun : ℕ → List Ownership → RunAt → ThreadState → Type 0
 FitsRun l base (run.Closure poisoned) st = OwnsRun l base st.owns × (st.inside ≡ None)
 FitsRun l base (run.Close succeeded) st = ⊥
 FitsRun l base (run.Enter succeeded) st = OwnsAfter l succeeded base st.owns × (st.inside ≡ None)
@@ -84,7 +84,7 @@ FitsRun l base (run.Leave succeeded any) st = OwnsAfter l succeeded base st.owns
 
 -- the ownership of a thread in a call of a `Once`, beside what it owned as it began; `up` says that the time
 -- of the call is up, as it is of a thread that gives up
-abbrev pub FitsOnce : Type 0 → ℕ → List Ownership → OncePlace → Stage → Type 0
+abbrev pub FitsOnce : Type 0 → ℕ → List Ownership → OncePlace → ThreadState → Type 0
 FitsOnce up l base (Look c retries at) st = FitsLook l c base at st
 FitsOnce up l base (Run forced at) st = FitsRun l base at st
 FitsOnce up l base (GiveUp retries at) st = up × StandsWithin l base st
@@ -104,11 +104,11 @@ LooksAnswer up l c base answers.Poisoned owns last =
     (is_forced c ≡ false) × OwnsKnowing l base owns
 LooksAnswer up l c base answer owns last = ⊥
 
-abbrev pub IsLookOver : Type 0 → ℕ → OnceCall → List Ownership → Answer → Stage → Type 0
+abbrev pub IsLookOver : Type 0 → ℕ → OnceCall → List Ownership → Answer → ThreadState → Type 0
 IsLookOver up l c base answer st =
     (st.inside ≡ None) × LooksAnswer up l c base answer st.owns st.last
 
 -- A run is over that saw waiters.
-abbrev pub IsRunOver : ℕ → Bool → List Ownership → Answer → Stage → Type 0
+abbrev pub IsRunOver : ℕ → Bool → List Ownership → Answer → ThreadState → Type 0
 IsRunOver l succeeded base answer st = (st.inside ≡ None) × (answer ≡ ended succeeded)
     × OwnsAfter l succeeded base st.owns × WokeAll l st.last

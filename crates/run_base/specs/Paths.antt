@@ -7,7 +7,7 @@ use Rattle.core_words.specs.Indices.{word_index}
 use Rattle.core_words.specs.declared.views.WordStep.{WordStep}
 use Rattle.core_words.specs.declared.words.WordKind as kinds
 use Rattle.steps_base.specs.Acts.{holds}
-use Rattle.lot_steps.specs.Steps.{act_of, looking}
+use Rattle.lot_steps.specs.Steps.{act_of, respins_from}
 use Rattle.steps_base.specs.declared.acts.Act.{Act}
 use Rattle.steps_base.specs.declared.acts.Act as act
 use Rattle.steps_base.specs.declared.acts.Check.{Check}
@@ -128,4 +128,4 @@ Told at p reply before afterwards =
 
 -- where a thread goes on from: where it stands, or from where it looks
 abbrev pub GoesFrom : Place → Place → Type 0
-GoesFrom p q = (q ≡ p) ⊎ (looking p ≡ Some q)
+GoesFrom p q = (q ≡ p) ⊎ (respins_from p ≡ Some q)

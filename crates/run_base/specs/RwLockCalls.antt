@@ -47,7 +47,7 @@ use Rattle.run_base.specs.Courses.{Courses, trail_of}
 use Rattle.run_base.specs.Paths.{at_rwlock, rwlock_at, step}
 use Rattle.run_base.specs.RwLockFitting.{Answers, GaveFairly, IsBeside, AwaitsNoReaders, OwnsBeside}
 use Rattle.run_base.specs.RwLockFitting.{OwnsRight, TookWoken}
-use Rattle.run_base.specs.Stages.{Stage}
+use Rattle.run_base.specs.Stages.{ThreadState}
 
 -- where a call begins
 abbrev pub rwlock_begin : ℕ → Admission → RwLockPurpose → Place
@@ -72,7 +72,7 @@ abbrev pub BeginsWith : ℕ → RwLockPurpose → List Ownership → List Owners
 BeginsWith l c base owns = OwnsBeside l (rwlock_role (rwlock_first c)).claims base owns
 
 -- the answer tells of the rights at the end of a call, whether its first step ended it or not
-abbrev pub AnswersCall : Type 0 → ℕ → List Ownership → Admission → RwLockPurpose → Answer → Stage
+abbrev pub AnswersCall : Type 0 → ℕ → List Ownership → Admission → RwLockPurpose → Answer → ThreadState
     → Type 0
 AnswersCall up l base a (purpose.Release x) answer st =
     (answer ≡ answers.Ok) × IsBeside l base st.owns

@@ -56,7 +56,7 @@ use Rattle.parking_lot_core.specs.declared.tokens.Did.TheVariants as did
 use Rattle.parking_lot_core.specs.declared.tokens.SectionRecord.{SectionRecord}
 use Rattle.run_base.specs.Paths.{rwlock_at, step}
 use Rattle.run_base.specs.Takes.{more_in, sharers_in, successor_in}
-use Rattle.run_base.specs.Stages.{HasDone, SectionView, Stage, TookNobodyAt, entered_now, having_taken}
+use Rattle.run_base.specs.Stages.{HasDone, SectionView, ThreadState, TookNobodyAt, entered_now, having_taken}
 
 -- ---------------------------------------------------------------- ownership
 
@@ -238,7 +238,7 @@ IsHandingPlace access.Exclusive (handing.Exchange k seen) = ⊥
 IsHandingPlace x to = Unit {0}
 
 -- it owns its right until the step that gives that up
-abbrev pub FitsHandOver : ℕ → List Ownership → Admission → Access → HandOverAt → Stage → Type 0
+abbrev pub FitsHandOver : ℕ → List Ownership → Admission → Access → HandOverAt → ThreadState → Type 0
 FitsHandOver l base a x handing.Load st = OwnsRight l (wanted x) base st.owns × (st.inside ≡ None)
 FitsHandOver l base a x (handing.Free seen) st =
     OwnsRight l (wanted x) base st.owns × (st.inside ≡ None) × IsUpgradableWord seen
@@ -268,7 +268,7 @@ GaveFairly l a access.Upgradable last steps =
 GaveFairly l a access.Exclusive last steps = TookWoken l a (purpose.Release access.Exclusive) last
 GaveFairly l a access.Shared last steps = TookWoken l a (purpose.Release access.Shared) last
 
-abbrev pub IsFairlyOver : ℕ → List Ownership → Admission → Access → Answer → Stage → Type 0
+abbrev pub IsFairlyOver : ℕ → List Ownership → Admission → Access → Answer → ThreadState → Type 0
 IsFairlyOver l base a x answer st =
     (st.inside ≡ None) × (answer ≡ answers.Ok) × IsBeside l base st.owns
     × GaveFairly l a x st.last st.steps
@@ -276,7 +276,7 @@ IsFairlyOver l base a x answer st =
 -- ---------------------------------------------------------------- a thread that was handed it, and bumps
 
 -- a thread that was handed the lock has its right; a writer looks for readers first
-abbrev pub FitsHanded : ℕ → List Ownership → Access → HandedAt → Stage → Type 0
+abbrev pub FitsHanded : ℕ → List Ownership → Access → HandedAt → ThreadState → Type 0
 FitsHanded l base access.Exclusive to st = ⊥
 FitsHanded l base x handed.Accept st = OwnsRight l (wanted x) base st.owns × (st.inside ≡ None)
 FitsHanded l base x to st = ⊥
@@ -302,7 +302,7 @@ may_be_handed c = false
 -- `up` says that the time of the call is up
 module _ (up : Type 0) where
   pub record FitsRwLock (l : ℕ) (base : List Ownership) (a : Admission) (p : RwLockPlace)
-      (st : Stage) : Type 0 where
+      (st : ThreadState) : Type 0 where
     pub stands : MayStand a p
     -- the count has room for an upgrade that gives up
     pub room : a.limit < 2 ^ 60 - 1
@@ -314,14 +314,14 @@ module _ (up : Type 0) where
     pub late : (rwlock_profile a p).late ≡ true → up
 
   -- a bump that gives its shared right up still has it, and else stands as a plain call does
-  abbrev pub FitsBump : ℕ → List Ownership → Admission → RwLockPlace → RwLockAt → Stage → Type 0
+  abbrev pub FitsBump : ℕ → List Ownership → Admission → RwLockPlace → RwLockAt → ThreadState → Type 0
   FitsBump l base a p at.GiveWay st =
       (p.purpose ≡ purpose.Release access.Shared) × (a.limit < 2 ^ 60 - 1)
       × (st.inside ≡ None) × OwnsRight l wants.Shared base st.owns
   FitsBump l base a p to st = FitsRwLock l base a p st
 
   -- the first look of a bump was taken before
-  abbrev pub FitsCall : ℕ → List Ownership → Admission → RwLockCallPlace → Stage → Type 0
+  abbrev pub FitsCall : ℕ → List Ownership → Admission → RwLockCallPlace → ThreadState → Type 0
   FitsCall l base a (places.Plain p) st = FitsRwLock l base a p st
   FitsCall l base a (places.Bump p) st = IsOfBump p.purpose p.retries × FitsBump l base a p p.at st
   FitsCall l base a (places.PeekQueue x) st = ⊥
@@ -336,7 +336,7 @@ module _ (up : Type 0) where
   MayGiveUp Try = Unit {0}
 
   -- the answer at the end of a call is true
-  abbrev pub Answers : ℕ → List Ownership → Admission → RwLockPurpose → Answer → Stage → Type 0
+  abbrev pub Answers : ℕ → List Ownership → Admission → RwLockPurpose → Answer → ThreadState → Type 0
   Answers l base a (purpose.Enter x how) answer st =
       ((answer ≡ entered how) × OwnsRight l (wanted x) base st.owns)
       ⊎ (((answer ≡ answers.No) × MayGiveUp how × IsBeside l base st.owns
@@ -352,5 +352,5 @@ module _ (up : Type 0) where
       ⊎ ((answer ≡ answers.No) × MayGiveUp how × OwnsRight l wants.Upgradable base st.owns
       × LeftBy l a (purpose.Upgrade how) st.last st.steps)
 
-  abbrev pub IsRwLockOver : ℕ → List Ownership → Admission → RwLockPurpose → Answer → Stage → Type 0
+  abbrev pub IsRwLockOver : ℕ → List Ownership → Admission → RwLockPurpose → Answer → ThreadState → Type 0
   IsRwLockOver l base a q answer st = (st.inside ≡ None) × Answers l base a q answer st

@@ -18,7 +18,7 @@ use Rattle.core_words.specs.declared.owners.Ownership.{Ownership}
 use Rattle.core_words.specs.declared.views.WordStep.{WordStep}
 use Rattle.run_base.specs.MutexFitting.{HasTook, Outside, TookAt, Within}
 use Rattle.run_base.specs.Paths.{semaphore_at, step}
-use Rattle.run_base.specs.Stages.{Stage, TookNobodyAt}
+use Rattle.run_base.specs.Stages.{ThreadState, TookNobodyAt}
 
 -- the goal of a call of a semaphore: to acquire a permit, up to a deadline or without one, to try to, or to
 -- end a release that has given its permit back
@@ -41,12 +41,12 @@ abbrev pub SawNoneFree : ℕ → List WordStep → Type 0
 SawNoneFree l steps = (before : List WordStep) × (op : Op) × (seen : ℕ) × (is_free seen ≡ false)
     × (steps ≡ before ++ step (semaphore_at l) op seen)
 
-abbrev pub FitsTry : List Ownership → TryAt → Stage → Type 0
+abbrev pub FitsTry : List Ownership → TryAt → ThreadState → Type 0
 FitsTry base tries.Load st = Outside base st
 FitsTry base (tries.Decide seen) st = (is_free seen ≡ true) × Outside base st
 
 -- a release, after its addition
-abbrev pub FitsRelease : ℕ → List Ownership → ReleaseAt → Stage → Type 0
+abbrev pub FitsRelease : ℕ → List Ownership → ReleaseAt → ThreadState → Type 0
 FitsRelease l base release.Add st = ⊥
 FitsRelease l base release.Enter st = Outside base st
 FitsRelease l base release.Take st = Within l base st
@@ -54,7 +54,7 @@ FitsRelease l base (release.Clear any) st = HasTook l any base st
 FitsRelease l base (release.Leave any) st = HasTook l any base st
 
 -- the answer of a try is true
-abbrev pub TryAnswer : ℕ → List Ownership → Answer → Stage → Type 0
+abbrev pub TryAnswer : ℕ → List Ownership → Answer → ThreadState → Type 0
 TryAnswer l base answers.Yes st = Outside (permit l ∷ base) st
 TryAnswer l base answers.No st = Outside base st × SawNoneFree l st.steps
 TryAnswer l base answer st = ⊥
@@ -65,7 +65,7 @@ module _ (up : Type 0) where
   GaveUp timed = (timed ≡ true) × up
 
   -- a thread that waits for a permit
-  abbrev pub FitsAcquire : ℕ → Bool → List Ownership → AcquireAt → Stage → Type 0
+  abbrev pub FitsAcquire : ℕ → Bool → List Ownership → AcquireAt → ThreadState → Type 0
   FitsAcquire l timed base acquire.Load st = Outside base st
   FitsAcquire l timed base (acquire.Decide seen) st = Outside base st
   FitsAcquire l timed base acquire.Check st = Within l base st
@@ -77,13 +77,13 @@ module _ (up : Type 0) where
   FitsAcquire l timed base acquire.GiveUp st = GaveUp timed × Within l base st
 
   -- the ownership of a thread in a call of a semaphore, which owned so much as it began to run
-  abbrev pub FitsSemaphore : ℕ → List Ownership → SemaphorePlace → Stage → Type 0
+  abbrev pub FitsSemaphore : ℕ → List Ownership → SemaphorePlace → ThreadState → Type 0
   FitsSemaphore l base (Acquire timed retries at) st = FitsAcquire l timed base at st
   FitsSemaphore l base (Try at) st = FitsTry base at st
   FitsSemaphore l base (Release at) st = FitsRelease l base at st
 
   -- the answer of a call that acquires is true
-  abbrev pub AcquireAnswer : ℕ → Bool → List Ownership → Answer → Stage → Type 0
+  abbrev pub AcquireAnswer : ℕ → Bool → List Ownership → Answer → ThreadState → Type 0
   AcquireAnswer l timed base answers.Ok st =
       (timed ≡ false) × Outside (permit l ∷ base) st
   AcquireAnswer l timed base answers.Yes st = (timed ≡ true) × Outside (permit l ∷ base) st
@@ -91,7 +91,7 @@ module _ (up : Type 0) where
       GaveUp timed × Outside base st × TookNobodyAt l st.last
   AcquireAnswer l timed base answer st = ⊥
 
-  abbrev pub IsSemaphoreOver : ℕ → List Ownership → SemaphorePurpose → Answer → Stage → Type 0
+  abbrev pub IsSemaphoreOver : ℕ → List Ownership → SemaphorePurpose → Answer → ThreadState → Type 0
   IsSemaphoreOver l base (to_acquire timed) answer st = AcquireAnswer l timed base answer st
   IsSemaphoreOver l base to_try answer st = TryAnswer l base answer st
   IsSemaphoreOver l base to_release answer st =

@@ -58,13 +58,13 @@ pub record SectionView : Type 0 where
   pub rightless : List ℕ
   pub moved : ℕ
 
-pub record Stage : Type 0 where
+pub record ThreadState : Type 0 where
   pub owns : List Ownership
   pub inside : Option SectionView
   pub last : Option SectionRecord
   pub steps : List WordStep
 
-abbrev pub stage : List Ownership → Option SectionView → Option SectionRecord → List WordStep → Stage
+abbrev pub stage : List Ownership → Option SectionView → Option SectionRecord → List WordStep → ThreadState
 stage owns inside last steps =
     record { owns = owns; inside = inside; last = last; steps = steps }
 
@@ -94,7 +94,7 @@ abbrev pub threads_taken : Option Section → List ℕ
 threads_taken None = []
 threads_taken (Some section) = taken_in section
 
-abbrev pub stage_of : Token → Option Section → Stage
+abbrev pub stage_of : Token → Option Section → ThreadState
 stage_of token section =
     stage (view_of token).owns (section_view section) (last_of token) (view_of token).steps
 
@@ -189,7 +189,7 @@ HandsEach kind at op owns wants = (seen : ℕ) → CodesWith kind at seen owns
     → HasAll at (owners_given kind (apply op seen) wants) (owns_after_step kind at op seen owns)
 
 -- the needs of an act, of the stage, by the kind of each lock's word and where it stands
-abbrev pub ActNeeds : (ℕ → WordKind) → (ℕ → ℕ) → Stage → Act → Type 0
+abbrev pub ActNeeds : (ℕ → WordKind) → (ℕ → ℕ) → ThreadState → Act → Type 0
 ActNeeds kinds at st (act.TheVariants.Word lock op) = MayStep (kinds lock) (at lock) op st.owns
 ActNeeds kinds at st (act.TheVariants.HandOver lock op) =
     MayStep (kinds lock) (at lock) op st.owns × IsUngiven st.inside
@@ -209,7 +209,7 @@ ActNeeds kinds at st (act.TheVariants.Closure state) = st.inside ≡ None
 ActNeeds kinds at st _ = ⊥
 
 -- after a step on a word
-abbrev pub stepped : WordKind → ℕ → Op → ℕ → Stage → Stage
+abbrev pub stepped : WordKind → ℕ → Op → ℕ → ThreadState → ThreadState
 stepped kind at op seen st =
     stage (owns_after_step kind at op seen st.owns) st.inside None (st.steps ++ step at op seen)
 
@@ -219,7 +219,7 @@ owns_when_handed kind at op seen wants owns =
     without_all at (owners_given kind (apply op seen) wants) (owns_after_step kind at op seen owns)
 
 -- an exchange that finds another value hands nothing over
-abbrev pub stage_handed : WordKind → ℕ → Op → ℕ → Stage → Stage
+abbrev pub stage_handed : WordKind → ℕ → Op → ℕ → ThreadState → ThreadState
 stage_handed kind at op seen st = if takes_effect op seen
     then stage (owns_when_handed kind at op seen (wanted_in st.inside) st.owns)
     (all_given st.inside) None (st.steps ++ step at op seen)
@@ -263,7 +263,7 @@ TookBy key _ _ old new = ⊥
 -- the stage after the time of a sleeper ended that stands under a key: it is inside the section of the key
 -- under which it may be late, it is told of the key to which it may be moved, and under any other key it has
 -- left the queue
-abbrev pub AwokeLate : ℕ → Sleeper → Stage → Reply → Stage → Type 0
+abbrev pub AwokeLate : ℕ → Sleeper → ThreadState → Reply → ThreadState → Type 0
 AwokeLate key sleeper st Late new =
     (sleeper.late ≡ Some key) × (new ≡ stage st.owns (entered_now (One key)) st.last st.steps)
 AwokeLate key sleeper st (MovedTo to) new =
@@ -274,7 +274,7 @@ AwokeLate key sleeper st (Woken Normal) new =
 AwokeLate key sleeper st _ new = ⊥
 
 -- the stage after a sleep, by its end
-abbrev pub Awoke : Type 0 → WordKind → ℕ → Sleeper → Stage → Reply → Stage → Type 0
+abbrev pub Awoke : Type 0 → WordKind → ℕ → Sleeper → ThreadState → Reply → ThreadState → Type 0
 Awoke up kind at sleeper st (Woken Normal) new = (new.owns ≡ st.owns) × (new.inside ≡ None)
 Awoke up kind at sleeper st (Woken HandOff) new =
     (owner : Owner) × MayHand kind sleeper.want owner
@@ -286,11 +286,11 @@ Awoke up kind at sleeper st (MovedTo to) new = AwokeLate to sleeper st (MovedTo 
 Awoke up kind at sleeper st _ new = ⊥
 
 -- after a step on a word, which found the code of owners among which these are
-abbrev pub Stepped : WordKind → ℕ → Op → ℕ → Stage → Stage → Type 0
+abbrev pub Stepped : WordKind → ℕ → Op → ℕ → ThreadState → ThreadState → Type 0
 Stepped kind at op seen st new = CodesWith kind at seen st.owns × (new ≡ stepped kind at op seen st)
 
 -- the stage after an act, by its reply
-abbrev pub Became : Type 0 → (ℕ → WordKind) → (ℕ → ℕ) → Sleeper → Stage → Act → Reply → Stage
+abbrev pub Became : Type 0 → (ℕ → WordKind) → (ℕ → ℕ) → Sleeper → ThreadState → Act → Reply → ThreadState
     → Type 0
 Became up kinds at sleeper st (act.TheVariants.Word lock op) (Value seen) new =
     Stepped (kinds lock) (at lock) op seen st new

@@ -116,12 +116,12 @@ fn go_from(words: Words, place: &mut Place, act: Act, loads: &mut u32) -> Act
     if *loads >= MOST_LOADS {
         return act;
     }
-    match place.looking() {
-        Some(looking) => {
+    match place.respins_from() {
+        Some(respins_from) => {
             pause_before(*loads);
             *loads += 1;
-            *place = looking;
-            looking.act()
+            *place = respins_from;
+            respins_from.act()
         }
         None => act,
     }

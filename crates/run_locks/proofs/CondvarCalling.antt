@@ -7,7 +7,7 @@ use Rattle.steps_base.specs.declared.acts.Act as act
 use Rattle.steps_condvar.specs.declared.places.CondvarPlace.TheVariants.{Wait, Look, Notify}
 use Rattle.steps_condvar.specs.declared.notify.NotifyAt.{NotifyAt}
 use Rattle.steps_condvar.specs.declared.notify.NotifyAt.TheVariants as notify
-use Rattle.steps_condvar.specs.declared.wait.Stands.TheVariants as stands
+use Rattle.steps_condvar.specs.declared.wait.WaiterFate.TheVariants as stands
 use Rattle.steps_condvar.specs.declared.wait.WaitAt.{WaitAt}
 use Rattle.steps_condvar.specs.declared.wait.WaitAt.TheVariants as wait
 use Rattle.steps_condvar.specs.CondvarSteps.{notify_act, wait_act}
@@ -27,7 +27,7 @@ use Rattle.core_words.specs.declared.words.WordKind.TheVariants as kind
 use Rattle.run_base.specs.CondvarFitting.{FitsWait, apart}
 use Rattle.run_base.specs.Fitting.{AreWordsBeside, IsStopped, of_notify, of_once, of_run, of_wait}
 use Rattle.run_base.specs.Paths.{condvar_at, mutex_at}
-use Rattle.run_base.specs.Stages.{Stage}
+use Rattle.run_base.specs.Stages.{ThreadState}
 use Rattle.run_base.specs.Words.{at_in, word_pair, kind_in, word_among}
 use Rattle.run_base.specs.declared.driver.Stop.TheVariants.{Paused}
 use Rattle.run_base.proofs.SemaphoreLeading.{semaphore_no_closure}
@@ -37,7 +37,8 @@ use Rattle.run_locks.specs.CondvarCalls.{at_condvar}
 
 -- no wait runs a closure
 wait_no_closure : (c m : ℕ) (timed : Bool) (state : OnceState) (up : Type 0) (base : List Ownership)
-    (w : WaitAt) (st : Stage) → FitsWait up c m timed base w st → wait_act c m w ≡ act.TheVariants.Closure
+    (w : WaitAt) (st : ThreadState) → FitsWait up c m timed base w st → wait_act c m w
+    ≡ act.TheVariants.Closure
     state → ⊥
 wait_no_closure c m timed state up base (wait.Release stands.Listed (Unlock unlock.Subtract)) st f is = cc
 wait_no_closure c m timed state up base (wait.Release stands.Listed (Unlock unlock.Enter)) st f is = cc
@@ -51,7 +52,7 @@ wait_no_closure c m timed state up base (wait.Lock timed_out p) st f is = absurd
 wait_no_closure c m timed state up base w st f is = cc
 
 pub wait_never_pauses : (up : Type 0) (base : List Ownership) (c m : ℕ) (timed : Bool) (p : Place)
-    (state : OnceState) (st : Stage) → IsStopped up base (of_wait c m timed) (Paused p state) st → ⊥
+    (state : OnceState) (st : ThreadState) → IsStopped up base (of_wait c m timed) (Paused p state) st → ⊥
 wait_never_pauses up base c m timed Idle state st s = s.0
 wait_never_pauses up base c m timed (Mutex l at) state st s = no_closure l state up base at st s.0 s.2
 wait_never_pauses up base c m timed (Semaphore l at) state st s = semaphore_no_closure l state at s.2
@@ -85,7 +86,7 @@ notify_no_closure c m state false (notify.Move false) is = cc
 notify_no_closure c m state all n is = cc
 
 pub notify_never_pauses : (up : Type 0) (base : List Ownership) (c m : ℕ) (all : Bool) (p : Place)
-    (state : OnceState) (st : Stage) → IsStopped up base (of_notify c m all) (Paused p state) st → ⊥
+    (state : OnceState) (st : ThreadState) → IsStopped up base (of_notify c m all) (Paused p state) st → ⊥
 notify_never_pauses up base c m all Idle state st s = s.0
 notify_never_pauses up base c m all (Mutex l at) state st s = no_closure l state up base at st s.0 s.2
 notify_never_pauses up base c m all (Semaphore l at) state st s = semaphore_no_closure l state at s.2

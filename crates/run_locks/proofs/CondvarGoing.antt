@@ -11,7 +11,7 @@ use Rattle.spec_locks.specs.declared.outcomes.OnceState.{OnceState}
 use Rattle.steps_condvar.specs.CondvarSteps.{is_shown, waited}
 use Rattle.steps_condvar.specs.declared.notify.NotifyAt.TheVariants as notify
 use Rattle.steps_condvar.specs.declared.places.CondvarPlace.TheVariants.{Wait, Look, Notify}
-use Rattle.steps_condvar.specs.declared.wait.Stands.TheVariants.{Listed}
+use Rattle.steps_condvar.specs.declared.wait.WaiterFate.TheVariants.{Listed}
 use Rattle.steps_condvar.specs.declared.wait.WaitAt.TheVariants as wait
 use Rattle.steps_mutex.specs.MutexSteps.{is_locked, is_parked}
 use Rattle.steps_mutex.specs.declared.lock.LockAt.TheVariants as lock
@@ -21,14 +21,14 @@ use Rattle.lot_steps.specs.declared.places.Place.{Place}
 use Rattle.lot_steps.specs.declared.places.Place.TheVariants.{Idle, Mutex, RwLock, Once, Condvar, Semaphore}
 use Rattle.core_words.specs.declared.owners.Ownership.{Ownership}
 use Rattle.run_base.specs.Fitting.{IsStopped, call_purpose, answer_of}
-use Rattle.run_base.specs.Stages.{Stage}
+use Rattle.run_base.specs.Stages.{ThreadState}
 use Rattle.run_base.specs.declared.driver.Stop.TheVariants.{Paused}
 use Rattle.run_locks.specs.CondvarCourses.{IsOfCondvar, locks_at, notify_at, releases_at, wait_at}
 use Rattle.run_base.specs.MutexCourses.{taken_on}
 use Rattle.run_locks.proofs.CondvarCalling.{notify_never_pauses, wait_never_pauses}
 
 -- no call of a condition variable runs a closure
-pub never_pauses : (up : Type 0) (base : List Ownership) (p q : Place) (state : OnceState) (st : Stage)
+pub never_pauses : (up : Type 0) (base : List Ownership) (p q : Place) (state : OnceState) (st : ThreadState)
     → IsOfCondvar p → IsStopped up base (call_purpose p) (Paused q state) st → ⊥
 never_pauses up base Idle q state st of s = of
 never_pauses up base (Mutex l at) q state st of s = of

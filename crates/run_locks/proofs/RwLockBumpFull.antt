@@ -39,7 +39,7 @@ use Rattle.steps_rwlock_fair.specs.declared.places.RwLockCallPlace.{RwLockCallPl
 use Rattle.steps_rwlock_fair.specs.declared.places.RwLockCallPlace.TheVariants.{Plain, PeekQueue, HandOver}
 use Rattle.steps_rwlock_fair.specs.declared.places.RwLockCallPlace.TheVariants.{Bump}
 use Rattle.steps_rwlock_fair.specs.declared.places.RwLockCallPlace.TheVariants.{Handed}
-use Rattle.lot_steps.specs.Steps.{in_rwlock, looking}
+use Rattle.lot_steps.specs.Steps.{in_rwlock, respins_from}
 use Rattle.lot_steps.specs.declared.places.Place.{Place}
 use Rattle.lot_steps.specs.declared.places.Place.TheVariants.{RwLock}
 use Rattle.parking_lot_core.specs.declared.tokens.Token.{Token}
@@ -259,7 +259,7 @@ module _ (a : Admission) (x : Access) where
   gone_on p n e (inl w) = inl (gone_at a leaves p p.at w n e)
   gone_on p n e (inr w) = inr (gone_at a enters p p.at w n e)
 
-  looks_on : (l : ℕ) (c : RwLockCallPlace) (r : Place) → looking (RwLock l a c) ≡ Some r → IsOfBump c
+  looks_on : (l : ℕ) (c : RwLockCallPlace) (r : Place) → respins_from (RwLock l a c) ≡ Some r → IsOfBump c
       → IsIn a x Patient IsOfBump r
   looks_on l (Plain p) r e w = absurd w
   looks_on l (PeekQueue y) r e w = absurd cc

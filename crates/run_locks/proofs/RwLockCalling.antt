@@ -38,7 +38,7 @@ use Rattle.run_base.specs.RwLockCalls.{AnswersCall, BeginsWith, HasWalkedRwLock,
 use Rattle.run_base.specs.RwLockCalls.{WakesBy, first_op, rwlock_begin}
 use Rattle.run_base.specs.RwLockFitting.{Answers, IsBeside, IsCounted, IsRwLockOver, LeftBy, MayGiveUp}
 use Rattle.run_base.specs.RwLockFitting.{OwnsRight, TookWoken}
-use Rattle.run_base.specs.Stages.{Stage, Stepped, stage_of}
+use Rattle.run_base.specs.Stages.{ThreadState, Stepped, stage_of}
 use Rattle.run_base.specs.Telling.{steps_of}
 use Rattle.run_base.specs.Words.{single_word, at_in, kind_in}
 use Rattle.run_base.proofs.Ending.{end_of}
@@ -89,7 +89,8 @@ module _ (word : Word) (is : word.kind ≡ kinds.RwLock) where
 some_none : {A B : Type 0} {x : A} → Some x ≡ None → B
 some_none e = absurd cc
 
-module _ (up : Type 0) (l : ℕ) (a : Admission) (base : List Ownership) (c : RwLockPurpose) (st new : Stage)
+module _ (up : Type 0) (l : ℕ) (a : Admission) (base : List Ownership) (c : RwLockPurpose)
+    (st new : ThreadState)
     (seen : ℕ) (outside : st.inside ≡ None) (room : a.limit < 2 ^ 60 - 1) where
   abbrev after : Next RwLockPlace
   after = rwlock_next a (rwlock_first c) (Value seen)
@@ -142,7 +143,8 @@ module _ (up : Type 0) (l : ℕ) (a : Admission) (base : List Ownership) (c : Rw
 
 -- an answer at the end of a call tells of the rights
 pub over_call : (up : Type 0) (l : ℕ) (base : List Ownership) (a : Admission) (q : RwLockPurpose)
-    (answer : Answer) (st : Stage) → IsRwLockOver up l base a q answer st → AnswersCall up l base a q answer
+    (answer : Answer) (st : ThreadState) → IsRwLockOver up l base a q answer st
+    → AnswersCall up l base a q answer
     st
 over_call up l base a (purpose.Release x) answer st h = (h.1.0, h.1.1)
 over_call up l base a (purpose.Downgrade d) answer st h = (h.1.0, h.1.1)
@@ -243,7 +245,7 @@ full_entry Timed answer e o y = y e
 full_entry Try answer e o y = y e
 
 module _ (up : Type 0) (l : ℕ) (base : List Ownership) (a : Admission) (x : Access) (how : Patience)
-    (answer : Answer) (st : Stage) (h : Answers up l base a (purpose.Enter x how) answer st) where
+    (answer : Answer) (st : ThreadState) (h : Answers up l base a (purpose.Enter x how) answer st) where
   pub entered_right : (answer ≡ answers.Ok) ⊎ (answer ≡ answers.Yes) → (answer ≡ entered how)
       × OwnsRight l (wanted x) base st.owns
   entered_right which = elim h [

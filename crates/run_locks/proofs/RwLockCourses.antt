@@ -40,7 +40,7 @@ use Rattle.run_locks.specs.declared.rwlock_courses.Course.TheVariants.{Ends, Tak
 use Rattle.run_base.specs.Fitting.{Fits, Reached, answer_of, sleeper_at}
 use Rattle.run_base.specs.Paths.{at_rwlock, rwlock_at, rwlocks}
 use Rattle.run_base.specs.RwLockCalls.{rwlock_begin, rwlock_deciding}
-use Rattle.run_base.specs.Stages.{ActNeeds, Became, Stage, Stepped}
+use Rattle.run_base.specs.Stages.{ActNeeds, Became, ThreadState, Stepped}
 use Rattle.run_base.proofs.RwLockLeading.{rwlock_place_leads}
 
 -- the place where a call decides by what its first step saw
@@ -165,13 +165,13 @@ module _ (l : ℕ) (a : Admission) (c : RwLockPurpose) (seen : ℕ) where
         (eq-eqb found seen e)
         ∙ (led_by Takes takes).2)
 
-    module _ (up : Type 0) (base : List Ownership) (st : Stage)
+    module _ (up : Type 0) (base : List Ownership) (st : ThreadState)
         (fits : Fits up base (rwlock_deciding l a c seen) st) where
       pub may_take : MayStep kinds.RwLock (rwlock_at l) (Exchange seen (word_taken c seen)) st.owns
       may_take = subst (ActNeeds rwlocks (at_rwlock l) st) takes_by (rwlock_place_leads up l a base
           (Plain (decides c seen)) st fits).0
 
-      pub takes_on : (found : ℕ) (new : Stage) → Stepped kinds.RwLock (rwlock_at l)
+      pub takes_on : (found : ℕ) (new : ThreadState) → Stepped kinds.RwLock (rwlock_at l)
           (Exchange seen (word_taken c seen)) found st new → Reached up base (rwlock_deciding l a c seen)
           (Value found) new
       takes_on found new s = (rwlock_place_leads up l a base (Plain (decides c seen)) st fits).2 (Value found)

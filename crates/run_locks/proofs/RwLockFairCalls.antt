@@ -50,7 +50,7 @@ use Rattle.run_base.specs.Paths.{at_rwlock, rwlock_at, step}
 use Rattle.run_base.specs.Queued.{is_queued}
 use Rattle.run_base.specs.RwLockCalls.{LeftFairly, TookUnlessFree}
 use Rattle.run_base.specs.RwLockFitting.{Answers, IsBeside, IsCounted, OwnsRight, TookWoken}
-use Rattle.run_base.specs.Stages.{Stage, Stepped, stage_of}
+use Rattle.run_base.specs.Stages.{ThreadState, Stepped, stage_of}
 use Rattle.run_base.specs.Telling.{steps_of}
 use Rattle.run_base.proofs.Courses.{courses_after, one, one_more, over_at_once}
 use Rattle.run_base.proofs.RwLockKeeping.{alone_pends, kept, look_alone, look_upgradable, missed_looks}
@@ -89,15 +89,15 @@ load_keeps l access.Exclusive base owns seen code right = stays_alone l base own
 
 -- ---------------------------------------------------------------- bumps
 
-module _ (l : ℕ) (a : Admission) (x : Access) (base : List Ownership) (st new : Stage) (seen : ℕ)
+module _ (l : ℕ) (a : Admission) (x : Access) (base : List Ownership) (st new : ThreadState) (seen : ℕ)
     (outside : st.inside ≡ None) (room : a.limit < 2 ^ 60 - 1) (s : Stepped kinds.RwLock (rwlock_at l) Load
     seen st new) (right : OwnsRight l (wanted x) base st.owns) where
   right_now : OwnsRight l (wanted x) base new.owns
-  right_now = subst (OwnsRight l (wanted x) base) (sym (ap (λ (s : Stage). s.owns) s.1))
+  right_now = subst (OwnsRight l (wanted x) base) (sym (ap (λ (s : ThreadState). s.owns) s.1))
       (load_keeps l x base st.owns seen s.0 right)
 
   none_now : new.inside ≡ None
-  none_now = ap (λ (s : Stage). s.inside) s.1 ∙ outside
+  none_now = ap (λ (s : ThreadState). s.inside) s.1 ∙ outside
 
   -- where it gives its right up, or is over
   abbrev pub Glanced : Next RwLockCallPlace → Type 0
@@ -120,7 +120,8 @@ module _ (l : ℕ) (a : Admission) (x : Access) (base : List Ownership) (st new 
 
 -- ---------------------------------------------------------------- an exclusive owner's first step
 
-module _ (l : ℕ) (a : Admission) (base : List Ownership) (st new : Stage) (seen : ℕ) (outside : st.inside
+module _ (l : ℕ) (a : Admission) (base : List Ownership) (st new : ThreadState) (seen : ℕ)
+    (outside : st.inside
     ≡ None) (room : a.limit < 2 ^ 60 - 1) (s : Stepped kinds.RwLock (rwlock_at l) (Exchange 8 0) seen st new)
     (right : OwnsRight l wants.Exclusive base st.owns) where
   -- the word told of nobody else
@@ -134,7 +135,8 @@ module _ (l : ℕ) (a : Admission) (base : List Ownership) (st new : Stage) (see
           (λ z. omega arith))
 
       owns : new.owns ≡ without (owning (rwlock_at l) owners.Exclusive) st.owns
-      owns = ap (λ (s : Stage). s.owns) s.1 ∙ subst (λ (n : ℕ). CodesWith kinds.RwLock (rwlock_at l) n st.owns
+      owns = ap (λ (s : ThreadState). s.owns) s.1
+          ∙ subst (λ (n : ℕ). CodesWith kinds.RwLock (rwlock_at l) n st.owns
           → owns_after_step kinds.RwLock (rwlock_at l) (Exchange 8 0) n st.owns
           ≡ without (owning (rwlock_at l) owners.Exclusive) st.owns) (sym same) at_8 s.0
 
@@ -144,10 +146,10 @@ module _ (l : ℕ) (a : Admission) (base : List Ownership) (st new : Stage) (see
     tt,
     room,
     (
-      subst (OwnsRight l wants.Exclusive base) (sym (ap (λ (s : Stage). s.owns) s.1))
+      subst (OwnsRight l wants.Exclusive base) (sym (ap (λ (s : ThreadState). s.owns) s.1))
           (stays_alone l base st.owns seen s.0 (Exchange 8 0) (missed_same 8 0 seen other)
           (missed_looks 8 0 seen other) right),
-      ap (λ (s : Stage). s.inside) s.1 ∙ outside,
+      ap (λ (s : ThreadState). s.inside) s.1 ∙ outside,
     ),
   )
 
@@ -258,7 +260,8 @@ may_leave_alone l base owns right = (rwlock_steps (rwlock_at l) owns).leave_alon
     (has_right l owners.Exclusive base owns right)
 
 -- a bump that has not its right again found the lock full of readers
-pub bump_full : (l : ℕ) (base : List Ownership) (a : Admission) (x : Access) (answer : Answer) (st : Stage)
+pub bump_full : (l : ℕ) (base : List Ownership) (a : Admission) (x : Access) (answer : Answer)
+    (st : ThreadState)
     → Answers ⊥ l base a (purpose.Enter x Patient) answer st → (answer ≡ Ok → ⊥) → (answer ≡ ReadersFull)
     × IsCounted x × IsBeside l base st.owns
 bump_full l base a x answer st h other = elim h [

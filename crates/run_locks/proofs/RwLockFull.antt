@@ -51,7 +51,7 @@ use Rattle.steps_rwlock_fair.specs.declared.places.RwLockCallPlace.{RwLockCallPl
 use Rattle.steps_rwlock_fair.specs.declared.places.RwLockCallPlace.TheVariants.{Plain, PeekQueue, HandOver}
 use Rattle.steps_rwlock_fair.specs.declared.places.RwLockCallPlace.TheVariants.{Bump}
 use Rattle.steps_rwlock_fair.specs.declared.places.RwLockCallPlace.TheVariants.{Handed}
-use Rattle.lot_steps.specs.Steps.{in_rwlock, looking, next_act, next_place, rwlock_does, rwlock_goes}
+use Rattle.lot_steps.specs.Steps.{in_rwlock, respins_from, next_act, next_place, rwlock_does, rwlock_goes}
 use Rattle.lot_steps.specs.declared.places.Place.{Place}
 use Rattle.lot_steps.specs.declared.places.Place.TheVariants.{Idle, Mutex, Once, RwLock, Condvar, Semaphore}
 use Rattle.core_words.specs.declared.views.WordStep.{WordStep}
@@ -557,7 +557,7 @@ module _ (a : Admission) (x : Access) (how : Patience) (Is : RwLockCallPlace →
   abbrev pub Leads : Type 0
   Leads = ((c : RwLockCallPlace) (told : Reply) → Is c → Keeping told (call_next a c told))
       × ((l : ℕ) (c : RwLockCallPlace) → Is c → IsGoing (call_act l a c))
-      × ((l : ℕ) (c : RwLockCallPlace) (r : Place) → looking (RwLock l a c) ≡ Some r → Is c → IsIn r)
+      × ((l : ℕ) (c : RwLockCallPlace) (r : Place) → respins_from (RwLock l a c) ≡ Some r → Is c → IsIn r)
 
   module _ (leads : Leads) where
     place_keeps : (p : Place) (told : Reply) → IsIn p → IsIn (next_place p told)
@@ -576,14 +576,14 @@ module _ (a : Admission) (x : Access) (how : Patience) (Is : RwLockCallPlace →
         by_next (At d) k = ((refl, k), going_ends told (call_act l a d) (leads.1 l d k))
         by_next (End answer) k = (tt, k)
 
-    looks_keep : (p r : Place) → looking p ≡ Some r → IsIn p → IsIn r
+    looks_keep : (p r : Place) → respins_from p ≡ Some r → IsIn p → IsIn r
     looks_keep Idle r e w = absurd cc
     looks_keep (Mutex l to) r e w = absurd w
     looks_keep (Once l to) r e w = absurd w
     looks_keep (Condvar l to) r e w = absurd w
     looks_keep (Semaphore l to) r e w = absurd w
     looks_keep (RwLock l b c) r e w =
-        leads.2 l c r (subst (λ (y : Admission). looking (RwLock l y c) ≡ Some r) w.0 e) w.1
+        leads.2 l c r (subst (λ (y : Admission). respins_from (RwLock l y c) ≡ Some r) w.0 e) w.1
 
     course_keeps : (at : ℕ → ℕ) (me : ℕ) (p r : Place) (x : Trail) → Course at me p x r → IsIn p → IsIn r
     course_keeps at me p _ _ (courses.rests _) w = w
@@ -621,7 +621,7 @@ module _ (a : Admission) (x : Access) (how : Patience) (Is : RwLockCallPlace →
 -- ---------------------------------------------------------------- a call that enters
 
 module _ (x : Access) (how : Patience) (a : Admission) where
-  looks_on : (l : ℕ) (c : RwLockCallPlace) (r : Place) → looking (RwLock l a c) ≡ Some r
+  looks_on : (l : ℕ) (c : RwLockCallPlace) (r : Place) → respins_from (RwLock l a c) ≡ Some r
       → IsCall a (purpose.Enter x how) c → IsIn a x how (IsCall a (purpose.Enter x how)) r
   looks_on l (Handed y z d to) r e w = absurd cc
   looks_on l (Bump p) r e w = absurd w

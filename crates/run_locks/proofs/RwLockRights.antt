@@ -28,7 +28,7 @@ use Rattle.run_base.specs.Fitting.{answer_of}
 use Rattle.run_base.specs.Paths.{rwlock_at}
 use Rattle.run_base.specs.RwLockCalls.{BeginsWith, HasWalkedRwLock, rwlock_begin}
 use Rattle.run_base.specs.RwLockFitting.{Answers, LeftBy, MayGiveUp, OwnsRight}
-use Rattle.run_base.specs.Stages.{Stage, stage_of}
+use Rattle.run_base.specs.Stages.{ThreadState, stage_of}
 use Rattle.run_locks.proofs.RwLockCalling.{begins_entering, ended_on, entered_right, path_ended, saw, started}
 
 -- a right that is joined is owned beside what was owned before
@@ -57,7 +57,7 @@ no_entry Timed e = cc
 no_entry Try e = cc
 
 module _ (up : Type 0) (l : ℕ) (base : List Ownership) (a : Admission) (how : Patience) (answer : Answer)
-    (st : Stage) (h : Answers up l base a (purpose.Upgrade how) answer st) where
+    (st : ThreadState) (h : Answers up l base a (purpose.Upgrade how) answer st) where
   pub upgraded : (answer ≡ answers.No → ⊥) → (answer ≡ entered how) × OwnsRight l wants.Exclusive base st.owns
   upgraded some = elim h [
     | inl got ↦ got

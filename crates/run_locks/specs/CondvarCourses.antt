@@ -2,7 +2,7 @@
 use Rattle.std.specs.Prelude.{ℕ, Bool, true, false}
 use Rattle.steps_condvar.specs.declared.notify.NotifyAt.{NotifyAt}
 use Rattle.steps_condvar.specs.declared.places.CondvarPlace.TheVariants.{Wait, Notify}
-use Rattle.steps_condvar.specs.declared.wait.Stands.TheVariants.{Listed}
+use Rattle.steps_condvar.specs.declared.wait.WaiterFate.TheVariants.{Listed}
 use Rattle.steps_condvar.specs.declared.wait.WaitAt.{WaitAt}
 use Rattle.steps_condvar.specs.declared.wait.WaitAt.TheVariants as wait
 use Rattle.steps_mutex.specs.declared.lock.Entry.TheVariants as entry

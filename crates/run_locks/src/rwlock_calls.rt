@@ -168,7 +168,7 @@ fn entering(access: Access, patience: Patience) -> &'static RwLockPurpose
 
 // The purpose of a call, where it lasts.
 #[inline(always)]
-fn lasting(purpose: RwLockPurpose) -> &'static RwLockPurpose
+fn static_purpose(purpose: RwLockPurpose) -> &'static RwLockPurpose
     ensures { result.now ≡ purpose }
 {
     use RwLockPurpose::{Downgrade as Lessen, Enter, Release, Upgrade};
@@ -245,7 +245,7 @@ pub fn call_slow<R: Wait, C: Clock>(
         word,
         admission,
         limit,
-        lasting(purpose),
+        static_purpose(purpose),
         seen,
     )
 }
@@ -320,7 +320,7 @@ pub fn missed<R: Wait, C: Clock>(
         word,
         admission,
         limit,
-        lasting(purpose),
+        static_purpose(purpose),
         seen,
         found,
     )

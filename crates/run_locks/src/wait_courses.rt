@@ -2,7 +2,7 @@
 ghost use Rattle.std.specs.Prelude.{◌≡◌, ◌==◌, ◌||◌, None, false};
 ghost use Rattle.core_base.specs.Clocks.{IsUp};
 ghost use Rattle.steps_condvar.specs.CondvarSteps.{is_shown, waited};
-ghost use Rattle.steps_condvar.specs.declared.wait.Stands.TheVariants.{Listed};
+ghost use Rattle.steps_condvar.specs.declared.wait.WaiterFate.TheVariants.{Listed};
 ghost use Rattle.steps_condvar.specs.declared.wait.WaitAt.TheVariants as wait;
 ghost use Rattle.parking_lot_core.specs.Places.{IsPlaceOf};
 ghost use Rattle.run_base.specs.Turns.{HasEnded, IsAtPlace};
@@ -21,7 +21,7 @@ use run_base::turns::{
 };
 use spec_locks::Answer;
 use std::sync::Wait;
-use steps_condvar::{Stands, WaitAt, shown, shows};
+use steps_condvar::{WaitAt, WaiterFate, shown, shows};
 use steps_mutex::{Entry, LOCKED, LockAt, MutexPlace, PARKED, is_locked, is_parked};
 
 // Returns the answer of a wait that was notified.
@@ -152,7 +152,7 @@ fn fall_asleep<'a, R: Wait, C: Clock>(
         (wait_at pair.condvar pair.mutex timed (wait.Asleep Listed)) result token.old section.entry token.new }
 {
     let mut section = section;
-    let place = pair.waits(timed, WaitAt::Asleep(Stands::Listed));
+    let place = pair.waits(timed, WaitAt::Asleep(WaiterFate::Listed));
     let mut queue = Some(queue);
     let reply = turn_sleep(
         rt,

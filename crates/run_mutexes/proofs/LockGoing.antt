@@ -21,13 +21,13 @@ use Rattle.lot_steps.specs.declared.places.Place.{Place}
 use Rattle.lot_steps.specs.declared.places.Place.TheVariants.{Idle, Mutex, RwLock, Once, Condvar, Semaphore}
 use Rattle.run_base.specs.Fitting.{IsStopped, answer_of, call_purpose}
 use Rattle.run_base.specs.MutexFitting.{mutex_purpose_at}
-use Rattle.run_base.specs.Stages.{Stage}
+use Rattle.run_base.specs.Stages.{ThreadState}
 use Rattle.run_base.specs.declared.driver.Stop.TheVariants.{Paused}
 use Rattle.run_base.proofs.Ending.{never_paused}
 use Rattle.run_mutexes.specs.LockCourses.{IsOfMutex, hands_at, locks_at}
 
 -- no call of a mutex runs a closure
-pub never_pauses : (up : Type 0) (base : List Ownership) (p q : Place) (state : OnceState) (st : Stage)
+pub never_pauses : (up : Type 0) (base : List Ownership) (p q : Place) (state : OnceState) (st : ThreadState)
     → IsOfMutex p → IsStopped up base (call_purpose p) (Paused q state) st → ⊥
 never_pauses up base Idle q state st of s = of
 never_pauses up base (Mutex m at) q state st of s =

@@ -42,7 +42,7 @@ use Rattle.run_base.specs.OnceFitting.{LooksAnswer, OwnsAfter, OwnsRun}
 use Rattle.run_base.specs.Courses.{Course as Way, Courses, Trail, joined, trail_of}
 use Rattle.run_base.specs.Paths.{at_once, once_at, onces, step}
 use Rattle.run_base.specs.Telling.{steps_of}
-use Rattle.run_base.specs.Stages.{Stage, stage}
+use Rattle.run_base.specs.Stages.{ThreadState, stage}
 use Rattle.run_base.specs.Words.{single_word, at_in, kind_in}
 use Rattle.run_base.specs.declared.driver.Stop.TheVariants.{Paused}
 use Rattle.core_words.proofs.OnceSteps.{each_once_code}
@@ -81,7 +81,7 @@ no_give_up n give_up.Leave state e = cc
 
 -- where a call of a `Once` has come to its closure
 pub record InClosure (n : ℕ) (c : OnceCall) (base : List Ownership) (p : Place) (state : OnceState)
-    (st : Stage) : Type 0 where
+    (st : ThreadState) : Type 0 where
   pub forced : Bool
   pub poisoned : Bool
   pub call : c ≡ CallOnce forced
@@ -90,7 +90,7 @@ pub record InClosure (n : ℕ) (c : OnceCall) (base : List Ownership) (p : Place
   pub owns : OwnsRun n base st.owns
 
 pub paused : (up : Type 0) (n : ℕ) (c : OnceCall) (base : List Ownership) (p : Place) (state : OnceState)
-    (st : Stage) → IsStopped up base (of_once n c) (Paused p state) st → InClosure n c base p state st
+    (st : ThreadState) → IsStopped up base (of_once n c) (Paused p state) st → InClosure n c base p state st
 paused up n c base Idle state st s = absurd s.0
 paused up n c base (Condvar l (waiting.Wait m timed at)) state st s = let e = s.1 in absurd cc
 paused up n c base (Condvar l (waiting.Look all)) state st s = absurd s.0
@@ -118,7 +118,8 @@ paused up n c base (Once l (Run forced (run.Leave succeeded any))) state st s = 
 paused up n c base (Once l (GiveUp r at)) state st s = absurd (no_give_up l at state s.2)
 
 -- a run that has ended comes to no closure
-pub runs_out : (n : ℕ) (succeeded : Bool) (base : List Ownership) (p : Place) (state : OnceState) (st : Stage)
+pub runs_out : (n : ℕ) (succeeded : Bool) (base : List Ownership) (p : Place) (state : OnceState)
+    (st : ThreadState)
     → IsStopped ⊥ base (of_run n succeeded) (Paused p state) st → ⊥
 runs_out n succeeded base Idle state st s = s.0
 runs_out n succeeded base (Condvar l (waiting.Wait m timed at)) state st s = let e = s.1 in cc
@@ -180,7 +181,7 @@ module _ (n : ℕ) where
   done_ends WaitTimed seen e = rw e refl
 
   -- A call goes on by what its aim says of the word.
-  pub on_aim : (up : Type 0) (c : OnceCall) (seen : ℕ) (base : List Ownership) (st : Stage)
+  pub on_aim : (up : Type 0) (c : OnceCall) (seen : ℕ) (base : List Ownership) (st : ThreadState)
       → answer_of (next_act (once_begin n c) (Value seen)) ≡ None → Reached ⊥ base (once_begin n c)
       (Value seen) st
       → ReachedBy up base (of_once n c) (next_place (once_begin n c) (Value seen)) None st
@@ -197,7 +198,8 @@ module _ (n : ℕ) where
       by_course Parks h = h
 
   -- A call ends owning what its answer says.
-  pub ends_by : (up : Type 0) (c : OnceCall) (seen : ℕ) (base : List Ownership) (st : Stage) (answer : Answer)
+  pub ends_by : (up : Type 0) (c : OnceCall) (seen : ℕ) (base : List Ownership) (st : ThreadState)
+      (answer : Answer)
       → answer_of (next_act (once_begin n c) (Value seen)) ≡ Some answer → Reached ⊥ base (once_begin n c)
       (Value seen) st
       → LooksAnswer up n c base answer st.owns st.last
@@ -263,7 +265,8 @@ module _ (n : ℕ) where
       )
 
   -- the first look of a call
-  pub begins_by : (c : OnceCall) (base : List Ownership) (steps : List WordStep) (seen : ℕ) (new : Stage)
+  pub begins_by : (c : OnceCall) (base : List Ownership) (steps : List WordStep) (seen : ℕ)
+      (new : ThreadState)
       → IsOnceWord seen → new ≡ stage (owns_after_step kinds.TheVariants.Once (once_at n) Load seen base) None
       None steps → Reached ⊥ base (once_begin n c) (Value seen) new
   begins_by c base steps seen new code x = lands n base (stage base None None steps) ⊥ new ((0, refl), refl) c

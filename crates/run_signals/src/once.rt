@@ -88,7 +88,8 @@ fn came_by(answer: Answer) -> Came
 }
 
 impl Once {
-    ghost use Rattle.run_signals.specs.Ran.{CalledOnce, DrewUsed, RanNothing, Loaded, MissedStart, SawDone, StaysKnowing, Waited, state_of, deadline_answer};
+    ghost use Rattle.run_signals.specs.Ran.{CalledOnce, DrewUsed, RanNothing, Loaded, MissedStart, SawDone};
+    ghost use Rattle.run_signals.specs.Ran.{StaysKnowing, Waited, state_of, deadline_answer};
     ghost use Rattle.run_signals.specs.OnceUsers.{lot_of, number_of};
 
     /// A `Once` that has run nothing.
@@ -237,7 +238,7 @@ impl Once {
     // The rest of a call whose first step saw this, up to its end or its closure. The limit comes by
     // reference, so that a call which is done has no room to clear for it.
     #[cold]
-    #[inline(never)]
+    #[inline(hang_forever)]
     pub(crate) fn go_on<R: Wait, C: Clock>(
         &self,
         rt: &R,

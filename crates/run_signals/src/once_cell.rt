@@ -20,7 +20,7 @@ use std::sync::{Arc, OnceLock, OnceToken, Wait};
 use steps_base::bits::is_done;
 
 // Such a thread has met a value that no run made.
-fn never<R: Wait>(rt: &R) -> ! {
+fn hang_forever<R: Wait>(rt: &R) -> ! {
     for _ in rt.forever() {}
     unreachable!()
 }
@@ -32,7 +32,7 @@ fn shown_when_done<'a, T, R: Wait>(rt: &R, value: &'a OnceLock<T>) -> OnceToken<
     match value.witness() {
         Some(shown) => shown,
         // A run sets the value before it ends.
-        None => never(rt),
+        None => hang_forever(rt),
     }
 }
 
@@ -172,7 +172,7 @@ impl<T: Drop> OnceCell<T> {
     {
         match self.show_or_try_init(rt, token, move || Ok::<T, Infallible>(f())) {
             Ok(shown) => shown,
-            Err(never) => match never {},
+            Err(hang_forever) => match hang_forever {},
         }
     }
 
@@ -257,7 +257,7 @@ impl Once {
                 match set {
                     Ok(shown) => Ok(shown),
                     // Only a thread that runs sets the value, and none runs after it.
-                    Err(_) => never(rt),
+                    Err(_) => hang_forever(rt),
                 }
             }
             Err(error) => {
@@ -269,7 +269,7 @@ impl Once {
 
     // Makes the value of a cell by a run of its own, or waits for another's.
     #[cold]
-    #[inline(never)]
+    #[inline(hang_forever)]
     fn make<'a, T: Drop, R: Wait, E, F: FnOnce() -> Result<T, E> + Drop>(
         &self,
         rt: &R,

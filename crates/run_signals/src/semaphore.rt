@@ -64,7 +64,8 @@ pub struct Permit<'a> {
 }
 
 impl Semaphore {
-    ghost use Rattle.run_signals.specs.SemaphoreUsers.{HasMade, SawFree, lot_of, number_of, permits_of, semaphore_of, word_of};
+    ghost use Rattle.run_signals.specs.SemaphoreUsers.{HasMade, SawFree, lot_of, number_of, permits_of};
+    ghost use Rattle.run_signals.specs.SemaphoreUsers.{semaphore_of, word_of};
 
     /// A semaphore with so many permits, 1 to 2^62, all of them free.
     ///
@@ -91,7 +92,7 @@ impl Semaphore {
 
     // The end of a call that tried again, after an exchange that found this.
     #[cold]
-    #[inline(never)]
+    #[inline(hang_forever)]
     fn retry<'a, R: Wait>(&'a self, rt: &R, token: &mut Token, found: u64) -> Option<Permit<'a>>
         requires token { IsTokenOf (lot_of self.now) token.old }
         requires free { is_free found ≡ true }
@@ -173,7 +174,7 @@ impl Semaphore {
 
     // The slow half of a call that waits, after a step that saw this.
     #[cold]
-    #[inline(never)]
+    #[inline(hang_forever)]
     fn wait_after<'a, R: Wait, C: Clock>(
         &'a self,
         rt: &R,

@@ -6,13 +6,13 @@ use Rattle.core_base.specs.declared.notes.Note.TheVariants.{Normal}
 use Rattle.steps_base.specs.declared.acts.Reply.{Reply}
 use Rattle.steps_base.specs.declared.acts.Reply.TheVariants.{Done, Value}
 use Rattle.steps_base.specs.Acts.{wakes_taken}
-use Rattle.steps_base.specs.Moves.{AreLeaving, AreOfWord, GoesIn, GoesOut, Hears, IsSectionFree, Move}
+use Rattle.steps_base.specs.Moves.{AreLeaving, AreOfWord, GoesIn, GoesOut, Hears, IsSectionFree, StepView}
 use Rattle.steps_base.specs.Moves.{RowWaits, StaysPut, location_of, location_then}
 use Rattle.steps_base.specs.Profiles.{Hand, hand, in_hand}
 use Rattle.spec_locks.specs.Locks.{Rules}
 use Rattle.spec_locks.specs.Sites.{In, Site}
 
-module _ {x : Move} where
+module _ {x : StepView} where
   pub stays_put : ◌≡◌ {A = Option Line × Option Hand} ((location_of x).stands, (location_of x).hand)
       (None, None)
       → ((seen : ℕ) → AreOfWord (x.deeds None (Value seen)))

@@ -35,15 +35,15 @@ row_of (Ends answer) = blank_row
 
 -- a thread at a place: its row, where each reply leads it, and what it does then, where each thread that it
 -- takes is no part of the place
-pub record Move : Type 0 where
+pub record StepView : Type 0 where
   pub row : Profile
   pub next : Reply → Profile
   pub deeds : (whom : Option ℕ) → Reply → List Deed
 
-abbrev pub location_of : Move → Location
+abbrev pub location_of : StepView → Location
 location_of x = location_by x.row
 
-abbrev pub location_then : Move → Reply → Location
+abbrev pub location_then : StepView → Reply → Location
 location_then x told = location_by (x.next told)
 
 -- inside the section of a line, and nowhere else
@@ -106,14 +106,14 @@ takes_aside (Some u) = Case (TakeAside u)
 -- ---------------------------------------------------------------- acts
 
 -- it stays where it is, in no line and in nobody's hand
-pub record StaysPut (x : Move) : Type 0 where
+pub record StaysPut (x : StepView) : Type 0 where
   pub out : (location_of x).stands ≡ None
   pub free : (location_of x).hand ≡ None
   pub deeds : (seen : ℕ) → AreOfWord (x.deeds None (Value seen))
   pub goes : (seen : ℕ) → location_then x (Value seen) ≡ location_of x
 
 -- it goes into the section of a line
-pub record GoesIn (x : Move) (hears : Hears) (m : Line) (told : Reply) : Type 0 where
+pub record GoesIn (x : StepView) (hears : Hears) (m : Line) (told : Reply) : Type 0 where
   pub out : (location_of x).inside ≡ None
   pub free : (location_of x).hand ≡ None
   pub deeds : x.deeds None told ≡ In m ∷ []
@@ -121,7 +121,7 @@ pub record GoesIn (x : Move) (hears : Hears) (m : Line) (told : Reply) : Type 0 
   pub may : (r : Rules) (s : Site) (t : ℕ) → IsSectionFree s m → hears r s t None told
 
 -- where the test holds, it stands after the last
-pub record Parks (x : Move) (hears : Hears) (m : Line) (check : Check) (want : Want) : Type 0 where
+pub record Parks (x : StepView) (hears : Hears) (m : Line) (check : Check) (want : Want) : Type 0 where
   pub was : location_of x ≡ inside_of m
   pub parks : x.deeds None (Parked true) ≡ parks_in m want ∷ []
   pub parked : location_then x (Parked true)
@@ -132,7 +132,7 @@ pub record Parks (x : Move) (hears : Hears) (m : Line) (check : Check) (want : W
       → standing t s.lock ≡ 0 → hears r s t None (Parked b)
 
 -- it takes the waiters of the main line that the lock lets in beside what it keeps
-pub record Picks (x : Move) (hears : Hears) (start : Option Want) : Type 0 where
+pub record Picks (x : StepView) (hears : Hears) (start : Option Want) : Type 0 where
   pub was : location_of x ≡ inside_of Main
   pub deeds : (n : ℕ) (y : Option Want) (none_left : Bool)
       → x.deeds None (Picked n y none_left) ≡ Case (TakePicked start) ∷ []
@@ -143,7 +143,7 @@ pub record Picks (x : Move) (hears : Hears) (start : Option Want) : Type 0 where
       → MayTake r s start Main None none_left → hears r s t None (Picked n y none_left)
 
 -- it takes the writer aside
-pub record TakesAside (x : Move) (hears : Hears) : Type 0 where
+pub record TakesAside (x : StepView) (hears : Hears) : Type 0 where
   pub was : location_of x ≡ inside_of Second
   pub deeds : (u : Option ℕ) (any none_left : Bool)
       → x.deeds u (Took any none_left) ≡ takes_aside u ∷ []
@@ -154,7 +154,7 @@ pub record TakesAside (x : Move) (hears : Hears) : Type 0 where
       → hears r s t s.lock.aside (Took any none_left)
 
 -- its time is up, and it leaves the line in which it stands
-pub record LeavesLine (x : Move) (hears : Hears) (m : Line) : Type 0 where
+pub record LeavesLine (x : StepView) (hears : Hears) (m : Line) : Type 0 where
   pub want : Want
   pub was : location_of x ≡ record (inside_of m) { stands = Some m; waits = Some want }
   pub deeds : (none_left : Bool) → x.deeds None (Removed none_left) ≡ Case GivesUp ∷ []
@@ -163,7 +163,7 @@ pub record LeavesLine (x : Move) (hears : Hears) (m : Line) : Type 0 where
       → hears r s t None (Removed none_left)
 
 -- it goes out of the section of a line, and wakes the threads that it has in hand, if anybody
-pub record GoesOut (x : Move) (hears : Hears) (m : Line) (wakes : Wakes) : Type 0 where
+pub record GoesOut (x : StepView) (hears : Hears) (m : Line) (wakes : Wakes) : Type 0 where
   pub any : Bool
   pub notes : wakes ≡ wakes_taken any Normal
   pub inside : (location_of x).inside ≡ Some m
@@ -191,7 +191,7 @@ abbrev pub bit_left : Bool → Deed
 bit_left none_left = if none_left then Clear Main else Mark Main
 
 -- it hands a right of its own over to all that it has in hand, where its operation takes effect
-pub record HandsOver (x : Move) (op : Op) : Type 0 where
+pub record HandsOver (x : StepView) (op : Op) : Type 0 where
   pub right : Want
   -- the want of the one among them that wants more than to share
   pub successor : Option Want
@@ -208,7 +208,7 @@ pub record HandsOver (x : Move) (op : Op) : Type 0 where
   pub stays : (seen : ℕ) → takes_effect op seen ≡ false → location_then x (Value seen) ≡ location_of x
 
 -- then it goes out of the section, and tells them
-pub record TellsHanded (x : Move) (hears : Hears) (wakes : Wakes) : Type 0 where
+pub record TellsHanded (x : StepView) (hears : Hears) (wakes : Wakes) : Type 0 where
   pub any : Bool
   pub notes : wakes ≡ wakes_taken any HandOffNote
   pub was : location_of x ≡ record (inside_of Main) { carries = in_hand any true }
@@ -217,20 +217,20 @@ pub record TellsHanded (x : Move) (hears : Hears) (wakes : Wakes) : Type 0 where
   pub may : (r : Rules) (s : Site) (t : ℕ) → s.lock.taken t ≡ None → hears r s t None Done
 
 -- A thread that was told so ends its call.
-pub record Accepts (x : Move) (hears : Hears) : Type 0 where
+pub record Accepts (x : StepView) (hears : Hears) : Type 0 where
   pub was : location_of x ≡ nowhere
   pub deeds : x.deeds None Done ≡ End ∷ []
   pub goes : location_then x Done ≡ nowhere
   pub may : (r : Rules) (s : Site) (t : ℕ) → hears r s t None Done
 
 -- in the hand of a thread, it may be handed what it wants, which it claims then
-pub record IsGiven (x : Move) (u : ℕ) (want : Want) (alone : Bool) : Type 0 where
+pub record IsGiven (x : StepView) (u : ℕ) (want : Want) (alone : Bool) : Type 0 where
   pub goes : location_then x (HandedBy u alone) ≡ record nowhere { hand = hand u true }
   pub claims : (x.next (HandedBy u alone)).role
       ≡ record x.row.role { claims = Some (claim_handed alone want) }
 
 -- A thread was given the lock, and is told so when the giver leaves the section.
-pub record WasGiven (x : Move) (u : ℕ) : Type 0 where
+pub record WasGiven (x : StepView) (u : ℕ) : Type 0 where
   pub was : location_of x ≡ record nowhere { hand = hand u true }
   pub goes : location_then x (Woken HandOffNote) ≡ nowhere
   pub role : (x.next (Woken HandOffNote)).role ≡ x.row.role
@@ -238,7 +238,7 @@ pub record WasGiven (x : Move) (u : ℕ) : Type 0 where
 -- ---------------------------------------------------------------- all acts
 
 -- at a lock, which is recursive or not, by the act
-abbrev pub MovesByAct : ℕ → Bool → Move → Hears → Act → Type 0
+abbrev pub MovesByAct : ℕ → Bool → StepView → Hears → Act → Type 0
 MovesByAct l recursive x hears (act.Word k op) = (k ≡ l) × StaysPut x
 MovesByAct l recursive x hears (act.Enter keys) =
     (m : Line) × (keys ≡ One (key_of l m)) × GoesIn x hears m Done
@@ -258,7 +258,7 @@ MovesByAct l recursive x hears act = ⊥
 -- ---------------------------------------------------------------- effects on a thread asleep
 
 -- asleep in a line, it may be taken
-pub record Sleeps (x : Move) (m : Line) : Type 0 where
+pub record Sleeps (x : StepView) (m : Line) : Type 0 where
   pub want : Want
   pub was : location_of x ≡ record nowhere { stands = Some m; waits = Some want }
   pub taken : (u : ℕ) → location_then x (TakenBy u) ≡ record nowhere { hand = hand u false }
@@ -266,7 +266,7 @@ pub record Sleeps (x : Move) (m : Line) : Type 0 where
   pub role : (u : ℕ) → (x.next (TakenBy u)).role ≡ x.row.role
 
 -- in the hand of a thread, it may be woken, and tries again
-pub record IsHeld (x : Move) (u : ℕ) : Type 0 where
+pub record IsHeld (x : StepView) (u : ℕ) : Type 0 where
   pub want : Want
   pub wants : x.row.wants ≡ Some want
   pub was : location_of x ≡ record nowhere { hand = hand u false }
@@ -275,7 +275,7 @@ pub record IsHeld (x : Move) (u : ℕ) : Type 0 where
 
 -- a thread that stands in a line sleeps there or is inside its section, only a pending writer stands aside,
 -- and one in a hand is so to be woken
-pub record RowWaits (x : Move) : Type 0 where
+pub record RowWaits (x : StepView) : Type 0 where
   pub aside : x.row.stands ≡ Some Second
       → (x.row.wants ≡ Some Exclusive)
       × ((falls_back : Bool) × (x.row.role.claims ≡ Some (Pends falls_back)))

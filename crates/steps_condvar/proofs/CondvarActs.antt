@@ -37,8 +37,8 @@ use Rattle.steps_condvar.specs.declared.notify.NotifyAt.{NotifyAt}
 use Rattle.steps_condvar.specs.declared.notify.NotifyAt.TheVariants as notify
 use Rattle.steps_condvar.specs.declared.places.CondvarPlace.{CondvarPlace}
 use Rattle.steps_condvar.specs.declared.places.CondvarPlace.TheVariants.{Wait, Notify}
-use Rattle.steps_condvar.specs.declared.wait.Stands.{Stands}
-use Rattle.steps_condvar.specs.declared.wait.Stands.TheVariants as stands
+use Rattle.steps_condvar.specs.declared.wait.WaiterFate.{WaiterFate}
+use Rattle.steps_condvar.specs.declared.wait.WaiterFate.TheVariants as stands
 use Rattle.steps_condvar.specs.declared.wait.WaitAt.{WaitAt}
 use Rattle.steps_condvar.specs.declared.wait.WaitAt.TheVariants as wait
 use Rattle.steps_condvar.specs.CondvarSteps.{in_lock as in_lock_once, past_release, condvar_act, in_notify}
@@ -66,11 +66,11 @@ module _ (c m : ℕ) (timed : Bool) where
   abbrev place : WaitAt → CondvarPlace
   place at = Wait m timed at
 
-  abbrev releasing : Stands → UnlockAt → CondvarPlace
+  abbrev releasing : WaiterFate → UnlockAt → CondvarPlace
   releasing st at = place (wait.Release st (mutex.Unlock at))
 
   -- after it, it is where what befell it says
-  after_there : (st : Stands) → there (place (past_release st)) ≡ there (releasing st unlock.Subtract)
+  after_there : (st : WaiterFate) → there (place (past_release st)) ≡ there (releasing st unlock.Subtract)
   after_there stands.Listed = refl
   after_there stands.Moved = refl
   after_there (stands.InHand by) = refl
@@ -78,7 +78,7 @@ module _ (c m : ℕ) (timed : Bool) where
   after_there (stands.Noted note.Normal) = refl
   after_there (stands.Noted note.HandOff) = refl
 
-  after_beside : (st : Stands) → location_by (mutex_side (place (past_release st))) ≡ location_by
+  after_beside : (st : WaiterFate) → location_by (mutex_side (place (past_release st))) ≡ location_by
       (mutex_side (releasing st unlock.Subtract))
   after_beside stands.Listed = refl
   after_beside stands.Moved = refl
@@ -87,7 +87,7 @@ module _ (c m : ℕ) (timed : Bool) where
   after_beside (stands.Noted note.Normal) = refl
   after_beside (stands.Noted note.HandOff) = refl
 
-  subtracts : (st : Stands) (seen : ℕ) → StaysThere (releasing st unlock.Subtract) (Value seen)
+  subtracts : (st : WaiterFate) (seen : ℕ) → StaysThere (releasing st unlock.Subtract) (Value seen)
       × StaysPutBeside (move_beside [] (releasing st unlock.Subtract)) (Value seen)
   subtracts st seen = (
     record { deeds = tt; goes = by_there (is_parked seen) },
@@ -111,7 +111,7 @@ module _ (c m : ℕ) (timed : Bool) where
       by_deeds true = tt
       by_deeds false = tt
 
-  releases : (st : Stands) (at : UnlockAt) → CondvarMoves c m [] (releasing st at)
+  releases : (st : WaiterFate) (at : UnlockAt) → CondvarMoves c m [] (releasing st at)
       (condvar_act c (releasing st at))
   releases st unlock.Subtract = (inr refl, subtracts st)
   releases st unlock.Enter = inr (inl (

@@ -35,8 +35,8 @@ use Rattle.steps_condvar.specs.declared.notify.NotifyAt.{NotifyAt}
 use Rattle.steps_condvar.specs.declared.notify.NotifyAt.TheVariants as notify
 use Rattle.steps_condvar.specs.declared.places.CondvarPlace.{CondvarPlace}
 use Rattle.steps_condvar.specs.declared.places.CondvarPlace.TheVariants.{Wait, Look, Notify}
-use Rattle.steps_condvar.specs.declared.wait.Stands.{Stands}
-use Rattle.steps_condvar.specs.declared.wait.Stands.TheVariants as stands
+use Rattle.steps_condvar.specs.declared.wait.WaiterFate.{WaiterFate}
+use Rattle.steps_condvar.specs.declared.wait.WaiterFate.TheVariants as stands
 use Rattle.steps_condvar.specs.declared.wait.WaitAt.{WaitAt}
 use Rattle.steps_condvar.specs.declared.wait.WaitAt.TheVariants as wait
 use Rattle.steps_condvar.specs.CondvarSteps.{stands_after, comes_from_another, past_release, condvar_act}
@@ -46,7 +46,7 @@ use Rattle.steps_condvar.specs.CondvarSteps.{shown_as}
 use Rattle.steps_condvar.specs.CondvarProfiles.{is_listed, told_stage}
 use Rattle.steps_condvar.specs.CondvarDeeds.{AllCondvarNeeded, CondvarMovesFit, CondvarOwnersFollow}
 use Rattle.steps_condvar.specs.CondvarDeeds.{CondvarStepsCode, CondvarStepsFollow, Follows, IsAt, IsAtNext}
-use Rattle.steps_condvar.specs.CondvarDeeds.{IsListed, MayHear, after_condvar_deeds, condvar_deeds}
+use Rattle.steps_condvar.specs.CondvarDeeds.{IsListed, MayReply, after_condvar_deeds, condvar_deeds}
 use Rattle.steps_condvar.specs.CondvarDeeds.{relocked_deeds, word_showing}
 use Rattle.steps_base.proofs.Deeds.{put_same}
 
@@ -134,7 +134,7 @@ module _ (c : CondvarSite) (t : ℕ) (site : IsCondvar c) where
       next = record { stage = refl; listed = a.listed; names = a.names };
     }
 
-    goes_afterwards : (s : Stands) → IsInsideNot c.inside t → IsListed c t (is_listed s) → c.waits_with t
+    goes_afterwards : (s : WaiterFate) → IsInsideNot c.inside t → IsListed c t (is_listed s) → c.waits_with t
         ≡ Some m
         → IsAt c t (Wait m timed (past_release s))
     goes_afterwards stands.Listed out listed names = record { stage = out; listed = listed; names = names }
@@ -160,7 +160,7 @@ module _ (c : CondvarSite) (t : ℕ) (site : IsCondvar c) where
       names = names;
     }
 
-    releases : (s s2 : Stands) (at : MutexPlace) → IsAt c t (Wait m timed (wait.Release s at))
+    releases : (s s2 : WaiterFate) (at : MutexPlace) → IsAt c t (Wait m timed (wait.Release s at))
         → (b : Bool) (n : Next MutexPlace) → b ≡ false
         → IsAt c t (Wait m timed (if b then wait.Release s2 at else released s n))
     releases s s2 at a true n e = absurd cc
@@ -195,7 +195,7 @@ module _ (c : CondvarSite) (t : ℕ) (site : IsCondvar c) where
       next = record { outside = a.stage; unlisted = a.listed; names = put_same c.waits_with t None };
     }
 
-    waits : (p : WaitAt) (told : Reply) → IsAt c t (Wait m timed p) → MayHear c t (Wait m timed p) told
+    waits : (p : WaitAt) (told : Reply) → IsAt c t (Wait m timed p) → MayReply c t (Wait m timed p) told
         → Follows c t (Wait m timed p) told
     waits wait.Enter reply.Done a h = record {
       needed = (h, tt);
@@ -328,7 +328,7 @@ module _ (c : CondvarSite) (t : ℕ) (site : IsCondvar c) where
     may_tell false = tt
 
     notifies : (all : Bool) (p : NotifyAt) (told : Reply) → IsAt c t (Notify all m p)
-        → MayHear c t (Notify all m p) told → Follows c t (Notify all m p) told
+        → MayReply c t (Notify all m p) told → Follows c t (Notify all m p) told
     notifies all notify.Enter reply.Done a h = record {
       needed = (h, tt);
       next = record { stage = refl; listed = a.listed; names = a.names };
@@ -399,7 +399,7 @@ module _ (c : CondvarSite) (t : ℕ) (site : IsCondvar c) where
         }
     notifies all p told a h = absurd h
 
-  follows : (p : CondvarPlace) (told : Reply) → IsAt c t p → MayHear c t p told → Follows c t p told
+  follows : (p : CondvarPlace) (told : Reply) → IsAt c t p → MayReply c t p told → Follows c t p told
   follows (Wait m timed at) told a h = waits m timed at told a h
   follows (Look all) (reply.Value seen) a h = record { needed = tt; next = looks all seen a (seen == 0) }
   follows (Notify all m at) told a h = notifies m all at told a h

@@ -34,15 +34,15 @@ use Rattle.steps_condvar.specs.declared.notify.NotifyAt.{NotifyAt}
 use Rattle.steps_condvar.specs.declared.notify.NotifyAt.TheVariants as notify
 use Rattle.steps_condvar.specs.declared.places.CondvarPlace.{CondvarPlace}
 use Rattle.steps_condvar.specs.declared.places.CondvarPlace.TheVariants.{Wait, Look, Notify}
-use Rattle.steps_condvar.specs.declared.wait.Stands.{Stands}
-use Rattle.steps_condvar.specs.declared.wait.Stands.TheVariants as stands
+use Rattle.steps_condvar.specs.declared.wait.WaiterFate.{WaiterFate}
+use Rattle.steps_condvar.specs.declared.wait.WaiterFate.TheVariants as stands
 use Rattle.steps_condvar.specs.declared.wait.WaitAt.TheVariants as wait
 use Rattle.core_base.specs.declared.notes.Note.TheVariants as note
 use Rattle.steps_condvar.specs.CondvarSteps.{past_release, stands_after, comes_from_another, condvar_next}
 use Rattle.steps_condvar.specs.CondvarSteps.{in_notify, in_wait, is_shown, marks, moved_one, mutex_shown}
 use Rattle.steps_condvar.specs.CondvarSteps.{notified, released, relocked}
 use Rattle.steps_condvar.specs.CondvarProfiles.{has_mutex, may_give_up}
-use Rattle.steps_condvar.specs.CondvarDeeds.{IsAt, MayHear, condvar_deeds, word_showing}
+use Rattle.steps_condvar.specs.CondvarDeeds.{IsAt, MayReply, condvar_deeds, word_showing}
 use Rattle.steps_condvar.specs.CondvarDeeds as deeds
 use Rattle.steps_condvar.specs.CondvarMutex.{MayHearBeside, beside_deeds}
 use Rattle.steps_condvar.specs.CondvarCalls.{CallOfTwoFollows, CondvarPlacesReached, IsLockOf, IsReached}
@@ -182,7 +182,8 @@ module _ (v : CondvarSite) (r : Rules) (s : Site) (t c m : ℕ) (site : IsCondva
   -- ---------------------------------------------------------------- each place
 
   tells : (all : Bool) (at : NotifyAt) (told : Reply) → IsAt v t (Notify all m at)
-      → MayHear v t (Notify all m at) told → MayHearBeside r s v t m all at told → IsReached (Notify all m at)
+      → MayReply v t (Notify all m at) told → MayHearBeside r s v t m all at told
+      → IsReached (Notify all m at)
       → Follows all at told
   tells all notify.Enter Done a h f reached = keeps c m t _ _ Done Nothing v.shown s.lock _ tt refl
       (λ rights. refl)
@@ -247,7 +248,7 @@ looks_tell v s t c all = looks v s t c all (word_showing v.shown) (word_showing 
 
 -- ---------------------------------------------------------------- the places that calls come to
 
-goes_afterwards : (m : ℕ) (timed : Bool) (st : Stands) → IsReached (Wait m timed (past_release st))
+goes_afterwards : (m : ℕ) (timed : Bool) (st : WaiterFate) → IsReached (Wait m timed (past_release st))
 goes_afterwards m timed stands.Listed = tt
 goes_afterwards m timed stands.Moved = tt
 goes_afterwards m timed (stands.InHand by) = tt
@@ -256,11 +257,11 @@ goes_afterwards m timed (stands.Noted note.Normal) = ((λ e. cc), tt)
 goes_afterwards m timed (stands.Noted note.HandOff) = ((λ e. cc), tt)
 
 -- after its first step it owns the mutex no more
-abbrev OwnsNot : Stands → Next UnlockAt → Type 0
+abbrev OwnsNot : WaiterFate → Next UnlockAt → Type 0
 OwnsNot st (At q) = has_mutex st ≡ true → (mutex_profile (mutex.Unlock q)).role.claims ≡ None
 OwnsNot st (Over answer) = Unit {0}
 
-owns_not : (st : Stands) (at : UnlockAt) (told : Reply) → OwnsNot st (At at)
+owns_not : (st : WaiterFate) (at : UnlockAt) (told : Reply) → OwnsNot st (At at)
     → OwnsNot st (next_unlock at told)
 owns_not st unlock.Subtract (Value seen) h = by (is_parked seen)
   where
@@ -277,7 +278,8 @@ owns_not st (unlock.Clear any) (Value seen) h = λ e. refl
 owns_not st (unlock.Leave any) Done h = tt
 owns_not st at told h = h
 
-releases : (m : ℕ) (timed : Bool) (st st2 : Stands) (at : UnlockAt) (b : Bool) (n : Next UnlockAt) → b ≡ false
+releases : (m : ℕ) (timed : Bool) (st st2 : WaiterFate) (at : UnlockAt) (b : Bool) (n : Next UnlockAt) → b
+    ≡ false
     → OwnsNot st n → IsReached (Wait m timed (if b then wait.Release st2 (mutex.Unlock at) else released st
     (in_unlock n)))
 releases m timed st st2 at true n e h = absurd cc
@@ -348,7 +350,7 @@ module _ (c : CondvarSite) (t : ℕ) (site : IsCondvar c) where
   again_reached false true m = tt
   again_reached all false m = ((λ e. cc), λ e. omega arith)
 
-  reaches : (p : CondvarPlace) (told : Reply) → IsReached p → MayHear c t p told → IsAt c t p
+  reaches : (p : CondvarPlace) (told : Reply) → IsReached p → MayReply c t p told → IsAt c t p
       → (told ≡ Late → may_give_up p ≡ true) → IsReachedNext (condvar_next p told)
   reaches (Wait m timed wait.Enter) Done reached h a late = tt
   reaches (Wait m timed wait.Show) (Value seen) reached h a late = shows _

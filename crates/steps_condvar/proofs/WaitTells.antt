@@ -35,8 +35,8 @@ use Rattle.steps_mutex.specs.MutexProfiles.{before_release, mutex_profile}
 use Rattle.steps_mutex.specs.MutexSteps.{entered, in_lock, in_unlock, is_locked, is_parked}
 use Rattle.steps_condvar.specs.declared.places.CondvarPlace.{CondvarPlace}
 use Rattle.steps_condvar.specs.declared.places.CondvarPlace.TheVariants.{Wait}
-use Rattle.steps_condvar.specs.declared.wait.Stands.{Stands}
-use Rattle.steps_condvar.specs.declared.wait.Stands.TheVariants as stands
+use Rattle.steps_condvar.specs.declared.wait.WaiterFate.{WaiterFate}
+use Rattle.steps_condvar.specs.declared.wait.WaiterFate.TheVariants as stands
 use Rattle.steps_condvar.specs.declared.wait.WaitAt.{WaitAt}
 use Rattle.steps_condvar.specs.declared.wait.WaitAt.TheVariants as wait
 use Rattle.steps_condvar.specs.CondvarSteps.{past_release, condvar_next, in_wait, is_shown, released}
@@ -96,7 +96,7 @@ module _ (v : CondvarSite) (limit : ℕ) (s : Site) (t c m : ℕ) (timed : Bool)
 
   -- ---------------------------------------------------------------- its release
 
-  module _ (st : Stands) where
+  module _ (st : WaiterFate) where
     abbrev releasing : UnlockAt → CondvarPlace
     releasing at = place (wait.Release st (mutex.Unlock at))
 
@@ -120,7 +120,8 @@ module _ (v : CondvarSite) (limit : ℕ) (s : Site) (t c m : ℕ) (timed : Bool)
           (left s.lock t Exclusive own) ∙ sym (former rights));
     }
 
-  subtracts : (st : Stands) (seen : ℕ) (shown : Option ℕ) → s.lock.exclusive ≡ Some t → has_mutex st ≡ false
+  subtracts : (st : WaiterFate) (seen : ℕ) (shown : Option ℕ) → s.lock.exclusive ≡ Some t → has_mutex st
+      ≡ false
       → (b : Bool)
       → CallOfTwoFollows c m (releasing st unlock.Subtract) (Value seen) (AtLock m (Leave Exclusive)) shown
       s.lock (without_owner t Exclusive s.lock) t
@@ -145,7 +146,8 @@ module _ (v : CondvarSite) (limit : ℕ) (s : Site) (t c m : ℕ) (timed : Bool)
   subtracts (stands.Noted note.HandOff) seen shown own without b = absurd cc
 
   -- it leaves its section, and wakes the threads that it has taken, if anybody
-  wakes : (st : Stands) (any : Bool) (shown : Option ℕ) (s2 : LockState) → rights_of s2 t ≡ rights_of s.lock t
+  wakes : (st : WaiterFate) (any : Bool) (shown : Option ℕ) (s2 : LockState) → rights_of s2 t
+      ≡ rights_of s.lock t
       → CallOfTwoFollows c m (releasing st (unlock.Leave any)) Done
       (or_else (event_of m (in_hand any false) (Out ∷ [])) Nothing) shown s.lock s2 t
       (At (place (past_release st)))
@@ -174,7 +176,7 @@ module _ (v : CondvarSite) (limit : ℕ) (s : Site) (t c m : ℕ) (timed : Bool)
   wakes (stands.Noted note.HandOff) false shown s2 stay = keeps c m t _ _ Done Nothing shown s.lock s2 tt stay
       (λ rights. refl)
 
-  took : (st : Stands) (whom : Option ℕ) (any none_left : Bool) (shown : Option ℕ)
+  took : (st : WaiterFate) (whom : Option ℕ) (any none_left : Bool) (shown : Option ℕ)
       → CallOfTwoFollows c m (releasing st unlock.Take) (Took any none_left)
       (or_else (event_of m None (waits.unended (take_deeds whom))) Nothing) shown s.lock
       (after_all r (waits.unended (take_deeds whom)) s t).lock t
@@ -195,7 +197,7 @@ module _ (v : CondvarSite) (limit : ℕ) (s : Site) (t c m : ℕ) (timed : Bool)
       (condvar_deeds (place at) told) v t).shown s.lock (after_all r (waiter_deeds at whom told) s t).lock
       t (condvar_next (place at) told)
 
-  releases : (st : Stands) (at : UnlockAt) (whom : Option ℕ) (told : Reply)
+  releases : (st : WaiterFate) (at : UnlockAt) (whom : Option ℕ) (told : Reply)
       → s.role t ≡ (wait_row m (wait.Release st (mutex.Unlock at))).role → MayHearReleasing r s t st at whom
       told → Follows (wait.Release st (mutex.Unlock at)) whom told
   releases st unlock.Subtract whom (Value seen) is f = by_bit (is_parked seen)

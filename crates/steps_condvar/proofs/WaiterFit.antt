@@ -36,8 +36,8 @@ use Rattle.steps_mutex.specs.declared.unlock.UnlockAt.TheVariants as unlock
 use Rattle.steps_mutex.specs.MutexDeeds.{enter_deeds, take_deeds}
 use Rattle.steps_mutex.specs.MutexProfiles.{with_retry, carrying, inside, owner}
 use Rattle.steps_mutex.specs.MutexSteps.{entered, in_lock, in_unlock, is_locked, is_parked}
-use Rattle.steps_condvar.specs.declared.wait.Stands.{Stands}
-use Rattle.steps_condvar.specs.declared.wait.Stands.TheVariants as stands
+use Rattle.steps_condvar.specs.declared.wait.WaiterFate.{WaiterFate}
+use Rattle.steps_condvar.specs.declared.wait.WaiterFate.TheVariants as stands
 use Rattle.steps_condvar.specs.declared.wait.WaitAt.{WaitAt}
 use Rattle.steps_condvar.specs.declared.wait.WaitAt.TheVariants as wait
 use Rattle.steps_condvar.specs.CondvarSteps.{past_release, is_shown, released, relocked, wait_act}
@@ -49,7 +49,7 @@ use Rattle.steps_base.proofs.Deeds.{clears, ends, gives_up, goes_in, nobody_firs
 use Rattle.steps_mutex.proofs.MutexWords.{cleared, entered_free, entered_zero, first_is, less_one, owned_word}
 use Rattle.steps_mutex.proofs.MutexWords.{parked_is, three, unlocked_free, word_of, zero_free}
 
-after_row : (m : ℕ) (st : Stands) → (wait_row m (past_release st)).role ≡ befell st idle
+after_row : (m : ℕ) (st : WaiterFate) → (wait_row m (past_release st)).role ≡ befell st idle
 after_row m stands.Listed = refl
 after_row m stands.Moved = refl
 after_row m (stands.InHand by) = refl
@@ -67,7 +67,7 @@ module _ (limit : ℕ) (s : Site) (t m : ℕ) (h : IsSite (record { sort = Mutex
 
   -- ---------------------------------------------------------------- the release
 
-  module _ (st : Stands) where
+  module _ (st : WaiterFate) where
     abbrev Releases : List Deed → Next UnlockAt → Type 0
     Releases ds n = Does (unended ds) (waiter_next m (At (released st (in_unlock n))))
 

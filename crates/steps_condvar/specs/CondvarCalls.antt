@@ -33,15 +33,15 @@ use Rattle.steps_condvar.specs.declared.notify.NotifyAt.{NotifyAt}
 use Rattle.steps_condvar.specs.declared.notify.NotifyAt.TheVariants as notify
 use Rattle.steps_condvar.specs.declared.places.CondvarPlace.{CondvarPlace}
 use Rattle.steps_condvar.specs.declared.places.CondvarPlace.TheVariants.{Wait, Look, Notify}
-use Rattle.steps_condvar.specs.declared.wait.Stands.{Stands}
-use Rattle.steps_condvar.specs.declared.wait.Stands.TheVariants as stands
+use Rattle.steps_condvar.specs.declared.wait.WaiterFate.{WaiterFate}
+use Rattle.steps_condvar.specs.declared.wait.WaiterFate.TheVariants as stands
 use Rattle.steps_condvar.specs.declared.wait.WaitAt.{WaitAt}
 use Rattle.steps_condvar.specs.declared.wait.WaitAt.TheVariants as wait
 use Rattle.steps_condvar.specs.CondvarSteps.{condvar_next, mutex_shown, next_wait}
 use Rattle.steps_condvar.specs.CondvarProfiles.{condvar_profile, has_mutex, may_give_up, mutex_side}
 use Rattle.steps_condvar.specs.CondvarProfiles.{notify_row, wait_carries, wait_row}
 use Rattle.steps_condvar.specs.CondvarDeeds as deeds
-use Rattle.steps_condvar.specs.CondvarDeeds.{IsAt, MayHear, condvar_deeds, wait_deeds}
+use Rattle.steps_condvar.specs.CondvarDeeds.{IsAt, MayReply, condvar_deeds, wait_deeds}
 use Rattle.steps_condvar.specs.CondvarMutex.{MayHearBeside, beside_deeds}
 use Rattle.steps_condvar.specs.CondvarWaits.{MayBefall, MayHearWaiter, waiter_deeds}
 
@@ -141,7 +141,7 @@ IsRelock (mutex.Lock entry.Lock retries at) = IsLockOf at
 IsRelock at = ⊥
 
 -- a thread that has its note is awake
-abbrev pub IsUnnoted : Stands → Type 0
+abbrev pub IsUnnoted : WaiterFate → Type 0
 IsUnnoted (stands.Noted by) = ⊥
 IsUnnoted s = Unit {0}
 
@@ -170,7 +170,7 @@ IsReachedNext (Over answer) = Unit {0}
 
 abbrev pub CondvarPlacesReached : Type 0
 CondvarPlacesReached =
-    (c : CondvarSite) (t : ℕ) (p : CondvarPlace) (told : Reply) → IsReached p → MayHear c t p told
+    (c : CondvarSite) (t : ℕ) (p : CondvarPlace) (told : Reply) → IsReached p → MayReply c t p told
     → IsCondvar c
     → IsAt c t p → (told ≡ Late → may_give_up p ≡ true) → IsReachedNext (condvar_next p told)
 
@@ -183,7 +183,7 @@ WaitsTell =
     (whom : Option ℕ) (told : Reply)
     → r.sort ≡ Mutex → IsCondvar v → IsAt v t (Wait m timed at) → IsSite r s
     → s.role t ≡ (wait_row m at).role
-    → MayHear v t (Wait m timed at) told → MayHearWaiter r s t at whom told
+    → MayReply v t (Wait m timed at) told → MayHearWaiter r s t at whom told
     → IsReached (Wait m timed at)
     → CallOfTwoFollows c m (Wait m timed at) told (wait_event c m at whom told)
     (deeds.after_condvar_deeds (condvar_deeds (Wait m timed at) told) v t).shown
@@ -196,7 +196,7 @@ NotifiesTell =
     (v : CondvarSite) (r : Rules) (s : Site) (t c m : ℕ) (all : Bool) (at : NotifyAt) (told : Reply)
     → r.sort ≡ Mutex → IsCondvar v → IsAt v t (Notify all m at)
     → s.role t ≡ (notify_row all m at).role
-    → MayHear v t (Notify all m at) told → MayHearBeside r s v t m all at told
+    → MayReply v t (Notify all m at) told → MayHearBeside r s v t m all at told
     → IsReached (Notify all m at)
     → CallOfTwoFollows c m (Notify all m at) told (notify_event c all m at told)
     (deeds.after_condvar_deeds (condvar_deeds (Notify all m at) told) v t).shown

@@ -22,7 +22,7 @@ use Rattle.steps_condvar.specs.declared.notify.NotifyAt.{NotifyAt}
 use Rattle.steps_condvar.specs.declared.notify.NotifyAt.TheVariants as notify
 use Rattle.steps_condvar.specs.declared.places.CondvarPlace.{CondvarPlace}
 use Rattle.steps_condvar.specs.declared.places.CondvarPlace.TheVariants.{Wait, Look, Notify}
-use Rattle.steps_condvar.specs.declared.wait.Stands.TheVariants as stands
+use Rattle.steps_condvar.specs.declared.wait.WaiterFate.TheVariants as stands
 use Rattle.steps_condvar.specs.declared.wait.WaitAt.{WaitAt}
 use Rattle.steps_condvar.specs.declared.wait.WaitAt.TheVariants as wait
 use Rattle.steps_condvar.specs.CondvarSteps.{comes_from_another, condvar_act, condvar_next, condvar_owners}
@@ -143,11 +143,11 @@ MayHearNotifying c all (notify.Leave any number) Done = Unit {0}
 MayHearNotifying c all at told = ⊥
 
 -- the outcomes that a thread may be told of its own steps
-abbrev pub MayHear : CondvarSite → ℕ → CondvarPlace → Reply → Type 0
-MayHear c t (Wait m timed at) told = MayHearWaiting c t at told
-MayHear c t (Look all) (Value seen) = Unit {0}
-MayHear c t (Look all) told = ⊥
-MayHear c t (Notify all m at) told = MayHearNotifying c all at told
+abbrev pub MayReply : CondvarSite → ℕ → CondvarPlace → Reply → Type 0
+MayReply c t (Wait m timed at) told = MayHearWaiting c t at told
+MayReply c t (Look all) (Value seen) = Unit {0}
+MayReply c t (Look all) told = ⊥
+MayReply c t (Notify all m at) told = MayHearNotifying c all at told
 
 -- the deeds may be done, and after them the thread is where its next place says
 pub record Follows (c : CondvarSite) (t : ℕ) (p : CondvarPlace) (told : Reply) : Type 0 where
@@ -157,7 +157,7 @@ pub record Follows (c : CondvarSite) (t : ℕ) (p : CondvarPlace) (told : Reply)
 abbrev pub CondvarStepsFollow : Type 0
 CondvarStepsFollow =
     (c : CondvarSite) (t : ℕ) (p : CondvarPlace) (told : Reply) → IsCondvar c → IsAt c t p
-    → MayHear c t p told
+    → MayReply c t p told
     → Follows c t p told
 
 -- each step on its word, which is no word of the mutex beside it, leaves that word after the deeds

@@ -19,7 +19,7 @@ use Rattle.steps_base.specs.declared.acts.Reply.TheVariants.{TakenBy, MovedTo, H
 use Rattle.steps_base.specs.declared.acts.Wakes.{Wakes}
 use Rattle.steps_base.specs.declared.acts.Whom.TheVariants.{First}
 use Rattle.steps_base.specs.Acts.{wakes_taken}
-use Rattle.steps_base.specs.Moves.{Accepts, AreLeaving, AreOfWord, Hears, IsSectionFree, LeavesLine, Move}
+use Rattle.steps_base.specs.Moves.{Accepts, AreLeaving, AreOfWord, Hears, IsSectionFree, LeavesLine, StepView}
 use Rattle.steps_base.specs.Moves.{Parks, inside_of, location_of, location_then}
 use Rattle.steps_base.specs.Profiles.{Profile, blank_row, hand, in_hand}
 use Rattle.steps_base.specs.Locations.{Location, location_by, nowhere}
@@ -68,7 +68,7 @@ deeds_beside q (Wait m timed at) whom told = waiter_deeds at whom told
 deeds_beside q (Look all) whom told = []
 deeds_beside q (Notify all m at) whom told = beside_deeds all q at told
 
-abbrev pub move_beside : List Queued → CondvarPlace → Move
+abbrev pub move_beside : List Queued → CondvarPlace → StepView
 move_beside q p = record {
   row = mutex_side p;
   next = λ told. row_beside (condvar_next p told);
@@ -138,18 +138,18 @@ StayBeside (MarkBrought ∷ []) = Unit {0}
 StayBeside ds = AreOfWord ds
 
 -- it stays where it is; while it releases the mutex it may stand in its queue, or be in a hand
-pub record StaysPutBeside (x : Move) (told : Reply) : Type 0 where
+pub record StaysPutBeside (x : StepView) (told : Reply) : Type 0 where
   pub deeds : StayBeside (x.deeds None told)
   pub goes : location_then x told ≡ location_of x
 
-pub record GoesInBeside (x : Move) (hears : Hears) (told : Reply) : Type 0 where
+pub record GoesInBeside (x : StepView) (hears : Hears) (told : Reply) : Type 0 where
   pub out : (location_of x).inside ≡ None
   pub deeds : x.deeds None told ≡ In Main ∷ []
   pub goes : location_then x told ≡ record (location_of x) { inside = Some Main }
   pub may : (r : Rules) (s : Site) (t : ℕ) → IsSectionFree s Main → hears r s t None told
 
 -- a release takes the first, if anybody waits: it may be its own thread
-pub record TakesBeside (x : Move) (hears : Hears) : Type 0 where
+pub record TakesBeside (x : StepView) (hears : Hears) : Type 0 where
   pub inside : (location_of x).inside ≡ Some Main
   pub empty_handed : (location_of x).carries ≡ None
   pub deeds : (whom : Option ℕ) (any none_left : Bool)
@@ -161,7 +161,7 @@ pub record TakesBeside (x : Move) (hears : Hears) : Type 0 where
       → HasTakenNobody s.lock t → hears r s t whom (Took any none_left)
 
 -- it goes out of the section, and wakes the threads that it has in hand, if anybody
-pub record GoesOutBeside (x : Move) (wakes : Wakes) : Type 0 where
+pub record GoesOutBeside (x : StepView) (wakes : Wakes) : Type 0 where
   pub any : Bool
   pub notes : wakes ≡ wakes_taken any Normal
   pub inside : (location_of x).inside ≡ Some Main

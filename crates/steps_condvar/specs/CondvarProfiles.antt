@@ -18,8 +18,8 @@ use Rattle.steps_condvar.specs.declared.notify.NotifyAt.{NotifyAt}
 use Rattle.steps_condvar.specs.declared.notify.NotifyAt.TheVariants as notify
 use Rattle.steps_condvar.specs.declared.places.CondvarPlace.{CondvarPlace}
 use Rattle.steps_condvar.specs.declared.places.CondvarPlace.TheVariants.{Wait, Look, Notify}
-use Rattle.steps_condvar.specs.declared.wait.Stands.{Stands}
-use Rattle.steps_condvar.specs.declared.wait.Stands.TheVariants as stands
+use Rattle.steps_condvar.specs.declared.wait.WaiterFate.{WaiterFate}
+use Rattle.steps_condvar.specs.declared.wait.WaiterFate.TheVariants as stands
 use Rattle.steps_condvar.specs.declared.wait.WaitAt.{WaitAt}
 use Rattle.steps_condvar.specs.declared.wait.WaitAt.TheVariants as wait
 
@@ -60,45 +60,45 @@ is_main_line line = false
 
 -- ---------------------------------------------------------------- waiters
 
-abbrev pub is_listed : Stands → Bool
+abbrev pub is_listed : WaiterFate → Bool
 is_listed stands.Listed = true
 is_listed s = false
 
-abbrev pub is_moved : Stands → Bool
+abbrev pub is_moved : WaiterFate → Bool
 is_moved stands.Moved = true
 is_moved s = false
 
 -- it was handed the mutex
-abbrev pub has_mutex : Stands → Bool
+abbrev pub has_mutex : WaiterFate → Bool
 has_mutex (stands.Handed by) = true
 has_mutex (stands.Noted note.HandOff) = true
 has_mutex s = false
 
 -- it was woken, and has the mutex to lock again
-abbrev pub is_woken : Stands → Bool
+abbrev pub is_woken : WaiterFate → Bool
 is_woken (stands.Noted note.Normal) = true
 is_woken s = false
 
-abbrev pub hand_of : Stands → Option Hand
+abbrev pub hand_of : WaiterFate → Option Hand
 hand_of (stands.InHand by) = hand by false
 hand_of (stands.Handed by) = hand by true
 hand_of s = None
 
-abbrev pub taker_of : Stands → Option ℕ
+abbrev pub taker_of : WaiterFate → Option ℕ
 taker_of s = hand_owner (hand_of s)
 
-abbrev pub want_of : Stands → Want
+abbrev pub want_of : WaiterFate → Want
 want_of s = if is_listed s then wants.Wait else wants.Exclusive
 
 -- the news that befell it adds to its deeds at the mutex
-abbrev pub befell : Stands → Role → Role
+abbrev pub befell : WaiterFate → Role → Role
 befell s d = record d {
   retries = if is_woken s then Some wants.Exclusive else d.retries;
   claims = if has_mutex s then Some (Has wants.Exclusive) else d.claims;
 }
 
 -- it stands somewhere since it stood after the last
-abbrev pub standing_row : Stands → CondvarRow → CondvarRow
+abbrev pub standing_row : WaiterFate → CondvarRow → CondvarRow
 standing_row s row = record row {
   listed = is_listed s;
   moved = is_moved s;
@@ -280,7 +280,7 @@ condvar_released (Wait m timed at) = has_released at
 condvar_released p = false
 
 -- the memory of its call
-abbrev pub stands_recalls : Stands → CondvarMemory
+abbrev pub stands_recalls : WaiterFate → CondvarMemory
 stands_recalls stands.Listed = Blank
 stands_recalls stands.Moved = WasMoved
 stands_recalls (stands.InHand by) = WasMoved

@@ -33,8 +33,8 @@ use Rattle.spec_locks.specs.declared.calls.CondvarCall.{CondvarCall}
 use Rattle.spec_locks.specs.declared.calls.CondvarCall.TheVariants as call
 use Rattle.steps_condvar.specs.declared.places.CondvarPlace.{CondvarPlace}
 use Rattle.steps_condvar.specs.declared.places.CondvarPlace.TheVariants.{Wait, Look, Notify}
-use Rattle.steps_condvar.specs.declared.wait.Stands.{Stands}
-use Rattle.steps_condvar.specs.declared.wait.Stands.TheVariants as stands
+use Rattle.steps_condvar.specs.declared.wait.WaiterFate.{WaiterFate}
+use Rattle.steps_condvar.specs.declared.wait.WaiterFate.TheVariants as stands
 use Rattle.steps_condvar.specs.declared.wait.WaitAt.{WaitAt}
 use Rattle.steps_condvar.specs.declared.wait.WaitAt.TheVariants as wait
 
@@ -123,7 +123,7 @@ comes_from_another (HandedBy by alone) = true
 comes_from_another (Woken by) = true
 comes_from_another reply = false
 
-abbrev pub stands_after : Stands → Reply → Stands
+abbrev pub stands_after : WaiterFate → Reply → WaiterFate
 stands_after s (TakenBy by) = stands.InHand by
 stands_after s (MovedTo key) = stands.Moved
 stands_after s (HandedBy by alone) = stands.Handed by
@@ -135,13 +135,13 @@ abbrev pub first_lock : Bool → MutexPlace
 first_lock retries = mutex.Lock entry.Lock retries lock.First
 
 -- after its release: with a normal note it locks the mutex again, with that of a hand-off it has it
-abbrev pub past_release : Stands → WaitAt
+abbrev pub past_release : WaiterFate → WaitAt
 past_release (stands.Noted note.Normal) = wait.Lock false (first_lock true)
 past_release (stands.Noted note.HandOff) = wait.Lock false (mutex.Lock entry.Lock false lock.Accept)
 past_release s = wait.Asleep s
 
 -- its time is up: it leaves the queue in which it stands
-abbrev pub late_place : Stands → WaitAt
+abbrev pub late_place : WaiterFate → WaitAt
 late_place stands.Listed = wait.Remove
 late_place stands.Moved = wait.RemoveMoved
 late_place s = wait.Asleep s
@@ -153,7 +153,7 @@ abbrev pub waited : Bool → Bool → Answer
 waited timed timed_out =
     if not timed then answer.Ok else if timed_out then answer.TimedOut else answer.Notified
 
-abbrev pub released : Stands → Next MutexPlace → WaitAt
+abbrev pub released : WaiterFate → Next MutexPlace → WaitAt
 released s (At at) = wait.Release s at
 released s (End answer) = past_release s
 
@@ -161,11 +161,11 @@ abbrev pub relocked : Bool → Bool → Next MutexPlace → Next WaitAt
 relocked timed timed_out (At at) = At (wait.Lock timed_out at)
 relocked timed timed_out (End answer) = End (waited timed timed_out)
 
-abbrev pub asleep_next : Stands → Reply → WaitAt
+abbrev pub asleep_next : WaiterFate → Reply → WaitAt
 asleep_next s Late = late_place s
 asleep_next s reply = past_release (stands_after s reply)
 
-abbrev pub release_next : Stands → MutexPlace → Reply → WaitAt
+abbrev pub release_next : WaiterFate → MutexPlace → Reply → WaitAt
 release_next s at reply =
     if comes_from_another reply then wait.Release (stands_after s reply) at
     else released s (mutex_next at reply)

@@ -26,8 +26,8 @@ use Rattle.steps_mutex.specs.declared.unlock.UnlockAt.{UnlockAt}
 use Rattle.steps_mutex.specs.declared.unlock.UnlockAt.TheVariants as unlock
 use Rattle.steps_mutex.specs.MutexDeeds.{mutex_deeds}
 use Rattle.steps_condvar.specs.declared.places.CondvarPlace.TheVariants.{Wait}
-use Rattle.steps_condvar.specs.declared.wait.Stands.{Stands}
-use Rattle.steps_condvar.specs.declared.wait.Stands.TheVariants as stands
+use Rattle.steps_condvar.specs.declared.wait.WaiterFate.{WaiterFate}
+use Rattle.steps_condvar.specs.declared.wait.WaiterFate.TheVariants as stands
 use Rattle.steps_condvar.specs.declared.wait.WaitAt.{WaitAt}
 use Rattle.steps_condvar.specs.declared.wait.WaitAt.TheVariants as wait
 use Rattle.steps_condvar.specs.CondvarSteps.{condvar_owners, next_wait, wait_act}
@@ -61,7 +61,7 @@ pub record TakesFirst (s : Site) (whom : Option ℕ) (any none_left : Bool) : Ty
   pub left : none_left ≡ is_empty (drop 1 s.lock.queue)
 
 -- a thread that releases it owns it, and nobody has handed it over meanwhile
-abbrev pub MayHearReleasing : Rules → Site → ℕ → Stands → UnlockAt → Option ℕ → Reply → Type 0
+abbrev pub MayHearReleasing : Rules → Site → ℕ → WaiterFate → UnlockAt → Option ℕ → Reply → Type 0
 MayHearReleasing r s t st unlock.Subtract whom (Value seen) =
     (seen ≡ code r s) × (has_mutex st ≡ false)
 MayHearReleasing r s t st unlock.Enter whom Done = IsSectionFree s Main

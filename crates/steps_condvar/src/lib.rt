@@ -9,4 +9,4 @@ pub mod wait;
 pub use notify::NotifyAt;
 pub use places::{CondvarPlace, condvar_right, shown, shows};
 pub use spec_locks::CondvarCall;
-pub use wait::{Stands, WaitAt};
+pub use wait::{WaitAt, WaiterFate};

@@ -15,7 +15,7 @@ ghost use Rattle.steps_condvar.specs.CondvarSteps.{condvar_next, condvar_owners,
 ghost use Rattle.steps_condvar.specs.CondvarSteps.{look_next, mutex_beside, mutex_shown, shown_as};
 
 use crate::notify::{NotifyAt, next_notify, notified, notify_act};
-use crate::wait::{Stands, WaitAt, next_wait, wait_act};
+use crate::wait::{WaitAt, WaiterFate, next_wait, wait_act};
 use core_base::{Key, Op, Want, main_key};
 use spec_locks::{CondvarCall, Outcome};
 use steps_base::{Act, Next, Owners, Reply};
@@ -215,7 +215,7 @@ impl CondvarPlace {
     }
 
     /// From where the thread looks at its mutex once more, in place of an act that leads to sleep.
-    pub fn looking(self) -> Option<CondvarPlace>
+    pub fn respins_from(self) -> Option<CondvarPlace>
         ensures { result ≡ condvar_looking self }
     {
         match self {
@@ -226,7 +226,7 @@ impl CondvarPlace {
             } => {
                 let at = WaitAt::Lock {
                     timed_out,
-                    at: at.looking()?,
+                    at: at.respins_from()?,
                 };
                 Some(CondvarPlace::Wait { mutex, timed, at })
             }
@@ -245,8 +245,8 @@ impl CondvarPlace {
                 mutex,
                 at: WaitAt::Asleep(stands),
             } => match stands {
-                Stands::Listed => Some(main_key(condvar)),
-                Stands::Moved => Some(main_key(mutex)),
+                WaiterFate::Listed => Some(main_key(condvar)),
+                WaiterFate::Moved => Some(main_key(mutex)),
                 _ => None,
             },
             _ => None,

@@ -29,7 +29,7 @@ use steps_mutex::{Entry, LockAt, MutexPlace, UnlockAt};
 
 /// The state of a waiter, by what has befallen it since it joined the queue.
 #[derive(Clone, Copy, PartialEq, Eq)]
-pub enum Stands {
+pub enum WaiterFate {
     /// Nothing: it stands in the queue of the condition variable.
     Listed,
     /// It was moved to the queue of its mutex.
@@ -53,8 +53,8 @@ pub enum WaitAt {
     /// Another mutex is shown.
     Refuse,
     /// It may be moved, taken, handed the mutex and woken meanwhile.
-    Release { stands: Stands, at: MutexPlace },
-    Asleep(Stands),
+    Release { stands: WaiterFate, at: MutexPlace },
+    Asleep(WaiterFate),
     /// Late, inside the section and still in the queue.
     Remove,
     /// Late, and none is left in the queue.
@@ -69,13 +69,13 @@ pub enum WaitAt {
     Lock { timed_out: bool, at: MutexPlace },
 }
 
-impl Stands {
+impl WaiterFate {
     /// The thread in whose hand it is.
     pub(super) fn taker(self) -> Option<usize>
         ensures { result ≡ taker_of self }
     {
         match self {
-            Stands::InHand { by } | Stands::Handed { by } => Some(by),
+            WaiterFate::InHand { by } | WaiterFate::Handed { by } => Some(by),
             _ => None,
         }
     }
@@ -85,7 +85,7 @@ impl Stands {
         ensures { result ≡ want_of self }
     {
         match self {
-            Stands::Listed => Want::Wait,
+            WaiterFate::Listed => Want::Wait,
             _ => Want::Exclusive,
         }
     }
@@ -94,7 +94,7 @@ impl Stands {
     pub(super) fn is_woken(self) -> bool
         ensures { result ≡ is_woken self }
     {
-        matches!(self, Stands::Noted(Note::Normal))
+        matches!(self, WaiterFate::Noted(Note::Normal))
     }
 }
 
@@ -138,14 +138,14 @@ pub(super) fn comes_from_another(reply: Reply) -> bool
 }
 
 /// How a thread stands after what befell it.
-pub(super) fn stands_after(stands: Stands, reply: Reply) -> Stands
+pub(super) fn stands_after(stands: WaiterFate, reply: Reply) -> WaiterFate
     ensures { result ≡ stands_after stands reply }
 {
     match reply {
-        Reply::TakenBy(by) => Stands::InHand { by },
-        Reply::MovedTo(_) => Stands::Moved,
-        Reply::HandedBy { by, .. } => Stands::Handed { by },
-        Reply::Woken(note) => Stands::Noted(note),
+        Reply::TakenBy(by) => WaiterFate::InHand { by },
+        Reply::MovedTo(_) => WaiterFate::Moved,
+        Reply::HandedBy { by, .. } => WaiterFate::Handed { by },
+        Reply::Woken(note) => WaiterFate::Noted(note),
         _ => stands,
     }
 }
@@ -162,15 +162,15 @@ pub(super) fn first_lock(retries: bool) -> MutexPlace
 }
 
 /// Where a thread goes that has released its mutex.
-fn afterwards(stands: Stands) -> WaitAt
+fn afterwards(stands: WaiterFate) -> WaitAt
     ensures { result ≡ past_release stands }
 {
     match stands {
-        Stands::Noted(Note::Normal) => WaitAt::Lock {
+        WaiterFate::Noted(Note::Normal) => WaitAt::Lock {
             timed_out: false,
             at: first_lock(true),
         },
-        Stands::Noted(Note::HandOff) => WaitAt::Lock {
+        WaiterFate::Noted(Note::HandOff) => WaitAt::Lock {
             timed_out: false,
             at: MutexPlace::Lock {
                 entry: Entry::Lock,
@@ -183,12 +183,12 @@ fn afterwards(stands: Stands) -> WaitAt
 }
 
 /// Where a thread goes whose time is up, by the queue in which it stands.
-fn late_place(stands: Stands) -> WaitAt
+fn late_place(stands: WaiterFate) -> WaitAt
     ensures { result ≡ late_place stands }
 {
     match stands {
-        Stands::Listed => WaitAt::Remove,
-        Stands::Moved => WaitAt::RemoveMoved,
+        WaiterFate::Listed => WaitAt::Remove,
+        WaiterFate::Moved => WaitAt::RemoveMoved,
         stands => WaitAt::Asleep(stands),
     }
 }
@@ -207,7 +207,7 @@ fn waited(timed: bool, timed_out: bool) -> Answer
 }
 
 /// Where a thread goes that releases its mutex.
-fn released(stands: Stands, next: Next<MutexPlace>) -> WaitAt
+fn released(stands: WaiterFate, next: Next<MutexPlace>) -> WaitAt
     ensures { result ≡ released stands next }
 {
     match next {
@@ -227,7 +227,7 @@ fn relocked(timed: bool, timed_out: bool, next: Next<MutexPlace>) -> Next<WaitAt
 }
 
 /// Where a thread goes that sleeps.
-fn asleep_next(stands: Stands, reply: Reply) -> WaitAt
+fn asleep_next(stands: WaiterFate, reply: Reply) -> WaitAt
     ensures { result ≡ asleep_next stands reply }
 {
     match reply {
@@ -249,7 +249,7 @@ pub(super) fn next_wait(mutex: usize, timed: bool, at: WaitAt, reply: Reply) -> 
         },
         (WaitAt::Stand, Reply::Done) => Next::At(WaitAt::Leave),
         (WaitAt::Leave, Reply::Done) => Next::At(WaitAt::Release {
-            stands: Stands::Listed,
+            stands: WaiterFate::Listed,
             at: MutexPlace::Unlock(UnlockAt::Subtract),
         }),
         (WaitAt::Refuse, Reply::Done) => Next::End(Answer::TwoMutexes),

@@ -28,7 +28,7 @@ use Rattle.steps_mutex.specs.declared.places.TheConstants.{NOT_PARKED}
 use Rattle.steps_mutex.specs.declared.unlock.UnlockAt.TheVariants as unlock
 use Rattle.steps_mutex.specs.declared.hand_off.HandOffAt.TheVariants as hand_off
 use Rattle.steps_mutex.specs.MutexDeeds.{enter_deeds, handing_deeds, mutex_deeds, queued}
-use Rattle.steps_mutex.specs.MutexLaws.{HandsOverToHeir, LeavesMutex, MayHear, MutexHandOversCode}
+use Rattle.steps_mutex.specs.MutexLaws.{HandsOverToHeir, LeavesMutex, MayReply, MutexHandOversCode}
 use Rattle.steps_mutex.specs.MutexLaws.{MutexStepsCode, mutex_role}
 use Rattle.steps_mutex.specs.MutexSteps.{decided, hand_off_word, is_locked, is_parked, mutex_act}
 use Rattle.steps_mutex.specs.MutexSteps.{mutex_owners}
@@ -140,7 +140,7 @@ module _ (limit : ℕ) (s : Site) (t l : ℕ) (h : IsSite (record { sort = Mutex
     }
 
     each_code : (p : MutexPlace) (whom : Option ℕ) (f : Op) → s.role t ≡ mutex_role p
-        → MayHear r s t p whom (Value v) → mutex_act l p ≡ act.Word l f → LeavesMutex r s t p whom f o
+        → MayReply r s t p whom (Value v) → mutex_act l p ≡ act.Word l f → LeavesMutex r s t p whom f o
     each_code (Lock e retries lock.First) whom f is hears does = let g : op.Exchange 0 1 ≡ f = cc
         in rw (← g) (leaves _ whom _ _ _ refl refl (tried (v == 0) refl))
     each_code (Lock e retries lock.Load) whom f is hears does = let g : op.Load ≡ f = cc
@@ -188,7 +188,7 @@ module _ (limit : ℕ) (s : Site) (t l : ℕ) (h : IsSite (record { sort = Mutex
   stores u true = (ap (λ e. word_of false e) (sym (heir_owns u)), heir_owns u)
   stores u false = (ap (λ e. word_of true e) (sym (heir_owns u)), heir_owns u)
 
-  each_hand_over : (p : MutexPlace) (whom : Option ℕ) (f : Op) → MayHear r s t p whom (Value v)
+  each_hand_over : (p : MutexPlace) (whom : Option ℕ) (f : Op) → MayReply r s t p whom (Value v)
       → mutex_act l p ≡ act.HandOver l f → HandsOverToHeir r s t p whom f
   each_hand_over (HandOff bumping (hand_off.Store true none_left)) (Some u) f hears does =
       let g : op.Store (hand_off_word true none_left) ≡ f = cc in rw (← g) (let d = stores u none_left
@@ -229,7 +229,7 @@ module _ (limit : ℕ) (s : Site) (t l : ℕ) (h : IsSite (record { sort = Mutex
 
 pub mutex_steps_code : MutexStepsCode
 mutex_steps_code r s t l p whom f o a hears does owned =
-    subst (λ x. IsSite x s → MayHear x s t p whom (Value (code x s)) → LeavesMutex x s t p whom f o)
+    subst (λ x. IsSite x s → MayReply x s t p whom (Value (code x s)) → LeavesMutex x s t p whom f o)
     (λ i. record {
       sort = sym a.sort i;
       limit = r.limit;
@@ -237,7 +237,7 @@ mutex_steps_code r s t l p whom f o a hears does owned =
 
 pub mutex_hand_overs_code : MutexHandOversCode
 mutex_hand_overs_code r s t l p whom f a hears does =
-    subst (λ x. IsSite x s → MayHear x s t p whom (Value (code x s)) → HandsOverToHeir x s t p whom f)
+    subst (λ x. IsSite x s → MayReply x s t p whom (Value (code x s)) → HandsOverToHeir x s t p whom f)
     (λ i. record {
       sort = sym a.sort i;
       limit = r.limit;

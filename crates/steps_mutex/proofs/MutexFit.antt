@@ -25,7 +25,8 @@ use Rattle.steps_mutex.specs.declared.unlock.UnlockAt.TheVariants as unlock
 use Rattle.steps_mutex.specs.declared.hand_off.HandOffAt.{HandOffAt}
 use Rattle.steps_mutex.specs.declared.hand_off.HandOffAt.TheVariants as hand_off
 use Rattle.steps_mutex.specs.MutexDeeds.{enter_deeds, handing_deeds, mutex_deeds, queued, take_deeds}
-use Rattle.steps_mutex.specs.MutexLaws.{Follows, MayHear, MayHearHandingOff, MayHearLocking, MayHearUnlocking}
+use Rattle.steps_mutex.specs.MutexLaws.{Follows, MayReply, MayHearHandingOff, MayHearLocking}
+use Rattle.steps_mutex.specs.MutexLaws.{MayHearUnlocking}
 use Rattle.steps_mutex.specs.MutexLaws.{MutexStepsFollow, TakesFirst, role_next, heir, mutex_role}
 use Rattle.steps_mutex.specs.MutexProfiles.{with_retry, carrying, inside, owner, seen_empty}
 use Rattle.steps_mutex.specs.MutexSteps.{entered, in_hand_off, in_lock, in_unlock, is_locked, is_parked}
@@ -401,7 +402,7 @@ module _ (limit : ℕ) (s : Site) (t : ℕ) (h : IsSite (record { sort = Mutex; 
   tries_once is false free = comes_in false answer.Yes is (free refl)
 
   each_follows : (p : MutexPlace) (whom : Option ℕ) (told : Reply) → s.role t ≡ mutex_role p
-      → MayHear r s t p whom told → Follows r s t p whom told
+      → MayReply r s t p whom told → Follows r s t p whom told
   each_follows (Lock e retries at) whom told is f = locks e retries at whom told is f
   each_follows TryLock whom (Value seen) is f = follows _ whom (Value seen)
       (tries_once is (is_locked seen) (λ z. unlocked_free s.parked s.lock.exclusive (ap is_locked (sym f)
@@ -415,7 +416,7 @@ module _ (limit : ℕ) (s : Site) (t : ℕ) (h : IsSite (record { sort = Mutex; 
 
 pub mutex_steps_follow : MutexStepsFollow
 mutex_steps_follow r s t p whom told a f =
-    subst (λ x. IsSite x s → MayHear x s t p whom told → Follows x s t p whom told)
+    subst (λ x. IsSite x s → MayReply x s t p whom told → Follows x s t p whom told)
     (λ i. record {
       sort = sym a.sort i;
       limit = r.limit;

@@ -17,7 +17,7 @@ use Rattle.steps_mutex.specs.declared.lock.LockAt.TheVariants.{Accept, Remove, C
 use Rattle.steps_mutex.specs.declared.unlock.UnlockAt.TheVariants as unlock
 use Rattle.steps_mutex.specs.declared.hand_off.HandOffAt.TheVariants as hand_off
 use Rattle.steps_mutex.specs.MutexDeeds.{mutex_deeds, enter_deeds, handing_deeds}
-use Rattle.steps_mutex.specs.MutexLaws.{MayHear, MutexStepsTell, heir, mutex_role, mutex_row, next_row}
+use Rattle.steps_mutex.specs.MutexLaws.{MayReply, MutexStepsTell, heir, mutex_role, mutex_row, next_row}
 use Rattle.steps_mutex.specs.MutexSteps.{is_locked, is_parked, is_timed, mutex_next}
 use Rattle.steps_mutex.proofs.HandOffRights.{gives_right}
 use Rattle.steps_mutex.proofs.MutexCalls.{Tells, first, loads, exchanges, checks, leaves_line, removes}
@@ -140,7 +140,7 @@ module _ (limit : ℕ) (s : Site) (t l : ℕ) where
   abbrev rules : Rules
   rules = record { sort = Mutex; limit = limit }
 
-  hears_so : (p : MutexPlace) (whom : Option ℕ) (told : Reply) → MayHear rules s t p whom told → told ≢ Late
+  hears_so : (p : MutexPlace) (whom : Option ℕ) (told : Reply) → MayReply rules s t p whom told → told ≢ Late
       → Hears s t p told
   hears_so (Lock e again First) whom (Value v) f on_time = tt
   hears_so (Lock e again Load) whom (Value v) f on_time = tt
@@ -170,7 +170,7 @@ module _ (limit : ℕ) (s : Site) (t l : ℕ) where
 
 pub mutex_steps_tell : MutexStepsTell
 mutex_steps_tell r s t l p whom told a f on_time =
-    subst (λ x. IsSite x s → MayHear x s t p whom told → AllNeeded x (mutex_deeds p whom told) s t
+    subst (λ x. IsSite x s → MayReply x s t p whom told → AllNeeded x (mutex_deeds p whom told) s t
     → CallFollows x s.lock t l (mutex_row p) (mutex_deeds p whom told) (next_row (mutex_next p told)))
     (λ i. record { sort = sym a.sort i; limit = r.limit })
     (λ h f needed. (mutex_tells r.limit s t l h p whom told a.role needed (hears_so r.limit s t l p whom told

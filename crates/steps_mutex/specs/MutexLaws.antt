@@ -99,14 +99,14 @@ MayHearHandingOff r s t (hand_off.Store any none_left) whom (Value seen) =
 MayHearHandingOff r s t (hand_off.Leave any) whom Done = s.lock.taken t ≡ None
 MayHearHandingOff r s t at whom told = ⊥
 
-abbrev pub MayHear : Rules → Site → ℕ → MutexPlace → Option ℕ → Reply → Type 0
-MayHear r s t (Lock e retries at) whom told = MayHearLocking r s t e at told
-MayHear r s t TryLock whom (Value seen) = seen ≡ code r s
-MayHear r s t (Unlock at) whom told = MayHearUnlocking r s t at whom told
-MayHear r s t UnlockFair whom (Value seen) = seen ≡ code r s
-MayHear r s t Bump whom (Value seen) = seen ≡ code r s
-MayHear r s t (HandOff bumps at) whom told = MayHearHandingOff r s t at whom told
-MayHear r s t p whom told = ⊥
+abbrev pub MayReply : Rules → Site → ℕ → MutexPlace → Option ℕ → Reply → Type 0
+MayReply r s t (Lock e retries at) whom told = MayHearLocking r s t e at told
+MayReply r s t TryLock whom (Value seen) = seen ≡ code r s
+MayReply r s t (Unlock at) whom told = MayHearUnlocking r s t at whom told
+MayReply r s t UnlockFair whom (Value seen) = seen ≡ code r s
+MayReply r s t Bump whom (Value seen) = seen ≡ code r s
+MayReply r s t (HandOff bumps at) whom told = MayHearHandingOff r s t at whom told
+MayReply r s t p whom told = ⊥
 
 -- ---------------------------------------------------------------- the laws
 
@@ -119,7 +119,7 @@ pub record Follows (r : Rules) (s : Site) (t : ℕ) (p : MutexPlace) (whom : Opt
 abbrev pub MutexStepsFollow : Type 0
 MutexStepsFollow =
     (r : Rules) (s : Site) (t : ℕ) (p : MutexPlace) (whom : Option ℕ) (told : Reply) → IsAt r s t p
-    → MayHear r s t p whom told
+    → MayReply r s t p whom told
     → Follows r s t p whom told
 
 -- the word that an operation leaves is the mutex's after the deeds
@@ -137,7 +137,7 @@ pub record LeavesMutex (r : Rules) (s : Site) (t : ℕ) (p : MutexPlace) (whom :
 abbrev pub MutexStepsCode : Type 0
 MutexStepsCode =
     (r : Rules) (s : Site) (t l : ℕ) (p : MutexPlace) (whom : Option ℕ) (op : Op) (o : Owners)
-    → IsAt r s t p → MayHear r s t p whom (Value (code r s)) → mutex_act l p ≡ act.Word l op
+    → IsAt r s t p → MayReply r s t p whom (Value (code r s)) → mutex_act l p ≡ act.Word l op
     → o.exclusive ≡ s.lock.exclusive
     → LeavesMutex r s t p whom op o
 
@@ -151,7 +151,7 @@ pub record HandsOverToHeir (r : Rules) (s : Site) (t : ℕ) (p : MutexPlace) (wh
 abbrev pub MutexHandOversCode : Type 0
 MutexHandOversCode =
     (r : Rules) (s : Site) (t l : ℕ) (p : MutexPlace) (whom : Option ℕ) (op : Op)
-    → IsAt r s t p → MayHear r s t p whom (Value (code r s)) → mutex_act l p ≡ act.HandOver l op
+    → IsAt r s t p → MayReply r s t p whom (Value (code r s)) → mutex_act l p ≡ act.HandOver l op
     → HandsOverToHeir r s t p whom op
 
 -- ---------------------------------------------------------------- a step's effect on its call
@@ -165,7 +165,7 @@ next_row (next.End answer) = next.End answer
 abbrev pub MutexStepsTell : Type 0
 MutexStepsTell =
     (r : Rules) (s : Site) (t l : ℕ) (p : MutexPlace) (whom : Option ℕ) (told : Reply)
-    → IsAt r s t p → MayHear r s t p whom told → told ≢ Late
+    → IsAt r s t p → MayReply r s t p whom told → told ≢ Late
     → CallFollows r s.lock t l (mutex_row p) (mutex_deeds p whom told)
     (next_row (mutex_next p told))
 

@@ -222,7 +222,7 @@ impl MutexPlace {
     }
 
     /// From where the thread looks at the word once more, in place of an act that leads to sleep.
-    pub fn looking(self) -> Option<MutexPlace>
+    pub fn respins_from(self) -> Option<MutexPlace>
         ensures { result ≡ mutex_looking self }
     {
         match self {

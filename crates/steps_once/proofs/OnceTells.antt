@@ -29,7 +29,7 @@ use Rattle.steps_once.specs.declared.places.OncePlace.TheVariants.{Look, Run, Gi
 use Rattle.steps_once.specs.OnceSteps.{is_forced, is_timed, runs, course_of, is_run, is_mark, marked}
 use Rattle.steps_once.specs.OnceSteps.{closure_begun, looked_by, in_look, in_run, ended, once_act, once_next}
 use Rattle.steps_once.specs.OnceProfiles.{once_profile}
-use Rattle.steps_once.specs.OnceDeeds.{IsAt, MayHear, once_deeds, looked_deeds, exchanged_deeds, closes}
+use Rattle.steps_once.specs.OnceDeeds.{IsAt, MayReply, once_deeds, looked_deeds, exchanged_deeds, closes}
 use Rattle.steps_once.specs.OnceCalls.{next_row, CallFollowsBy, OnceStepsTell, OnceSectionsTell}
 use Rattle.steps_once.proofs.OnceWords.{word_of, coded, MayGo, may_go}
 
@@ -289,7 +289,7 @@ module _ (r : Rules) (s : Site) (t l : ℕ) where
     comes = λ rights is. recalls _ _ (same (after_case r Late s.lock t) refl rights is);
   }
 
-  sections : (p : OncePlace) (told : Reply) → IsAt r s t p → MayHear r s t p told → IsNotLate told
+  sections : (p : OncePlace) (told : Reply) → IsAt r s t p → MayReply r s t p told → IsNotLate told
       → CallFollowsBy r s t l p told
   sections (Look c retries (look.Decide seen)) reply.Done a h now = record {
     one = tt;

@@ -17,7 +17,7 @@ use Rattle.spec_locks.specs.Sites.{Site}
 use Rattle.steps_once.specs.declared.places.OncePlace.{OncePlace}
 use Rattle.steps_once.specs.OnceSteps.{once_act, once_next}
 use Rattle.steps_once.specs.OnceProfiles.{once_profile}
-use Rattle.steps_once.specs.OnceDeeds.{IsAt, MayHear, once_deeds}
+use Rattle.steps_once.specs.OnceDeeds.{IsAt, MayReply, once_deeds}
 
 abbrev pub next_row : Next OncePlace → Next Profile
 next_row (next.At p) = next.At (once_profile p)
@@ -38,7 +38,7 @@ OnceStepsTell =
 abbrev pub OnceSectionsTell : Type 0
 OnceSectionsTell =
     (r : Rules) (s : Site) (t l : ℕ) (p : OncePlace) (told : Reply) → IsAt r s t p
-    → MayHear r s t p told → IsNotLate told
+    → MayReply r s t p told → IsNotLate told
     → CallFollowsBy r s t l p told
 
 -- the call of a thread asleep, after what befalls it

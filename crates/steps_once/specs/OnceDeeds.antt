@@ -130,22 +130,22 @@ abbrev pub IsMainSectionFree : Site → Type 0
 IsMainSectionFree s = (u : ℕ) → (s.role u).inside ≢ Some Main
 
 -- the outcomes that a thread may be told of its steps in and out of the section, and as its time is up
-abbrev pub MayHear : Rules → Site → ℕ → OncePlace → Reply → Type 0
-MayHear r s t (Look c retries (look.Decide seen)) reply.Done = IsMainSectionFree s
-MayHear r s t (Look c retries look.Check) (reply.Parked b) =
+abbrev pub MayReply : Rules → Site → ℕ → OncePlace → Reply → Type 0
+MayReply r s t (Look c retries (look.Decide seen)) reply.Done = IsMainSectionFree s
+MayReply r s t (Look c retries look.Check) (reply.Parked b) =
     (b ≡ holds (check_of c) (code r s)) × (standing t s.lock ≡ 0)
-MayHear r s t (Look c retries (look.Leave parked)) reply.Done = s.lock.taken t ≡ None
-MayHear r s t (Look c retries look.Asleep) reply.Late = (is_timed c ≡ true) × IsMainSectionFree s
-MayHear r s t (Run forced (run.Enter succeeded)) reply.Done = IsMainSectionFree s
-MayHear r s t (Run forced (run.Take succeeded)) (reply.Took any none_left) = HasTakenNobody s.lock t
-MayHear r s t (Run forced (run.Leave succeeded any)) reply.Done = s.lock.taken t ≡ None
-MayHear r s t (GiveUp retries give_up.Remove) (reply.Removed none_left) = StandsAlone s t Main none_left
-MayHear r s t (GiveUp retries give_up.Leave) reply.Done = s.lock.taken t ≡ None
-MayHear r s t p told = ⊥
+MayReply r s t (Look c retries (look.Leave parked)) reply.Done = s.lock.taken t ≡ None
+MayReply r s t (Look c retries look.Asleep) reply.Late = (is_timed c ≡ true) × IsMainSectionFree s
+MayReply r s t (Run forced (run.Enter succeeded)) reply.Done = IsMainSectionFree s
+MayReply r s t (Run forced (run.Take succeeded)) (reply.Took any none_left) = HasTakenNobody s.lock t
+MayReply r s t (Run forced (run.Leave succeeded any)) reply.Done = s.lock.taken t ≡ None
+MayReply r s t (GiveUp retries give_up.Remove) (reply.Removed none_left) = StandsAlone s t Main none_left
+MayReply r s t (GiveUp retries give_up.Leave) reply.Done = s.lock.taken t ≡ None
+MayReply r s t p told = ⊥
 
 -- each such step follows too
 abbrev pub OnceSectionsFollow : Type 0
 OnceSectionsFollow =
     (r : Rules) (s : Site) (t : ℕ) (p : OncePlace) (told : Reply) → IsAt r s t p
-    → MayHear r s t p told
+    → MayReply r s t p told
     → Follows r s t p told

@@ -8,7 +8,7 @@ use Rattle.steps_base.specs.declared.acts.Check.{Check}
 use Rattle.steps_base.specs.declared.acts.Reply.TheVariants.{Parked, Took, Late, Closed}
 use Rattle.steps_base.specs.declared.acts.Whom.TheVariants.{All}
 use Rattle.steps_base.specs.Acts.{holds}
-use Rattle.steps_base.specs.Moves.{Move, Hears, GoesIn, MovesByAct, RowWaits, row_of, location_of}
+use Rattle.steps_base.specs.Moves.{StepView, Hears, GoesIn, MovesByAct, RowWaits, row_of, location_of}
 use Rattle.steps_base.specs.Moves.{location_then, inside_of}
 use Rattle.steps_base.specs.Profiles.{in_hand}
 use Rattle.steps_base.specs.Locations.{nowhere}
@@ -19,11 +19,11 @@ use Rattle.spec_locks.specs.Codes.{code}
 use Rattle.steps_once.specs.declared.places.OncePlace.{OncePlace}
 use Rattle.steps_once.specs.OnceSteps.{once_act, once_next}
 use Rattle.steps_once.specs.OnceProfiles.{once_late_line, once_profile}
-use Rattle.steps_once.specs.OnceDeeds.{MayHear, once_deeds}
+use Rattle.steps_once.specs.OnceDeeds.{MayReply, once_deeds}
 use Rattle.steps_once.specs.OnceCalls.{next_row}
 
 -- a thread at a place; each thread that it takes is no part of the place
-abbrev pub once_move : OncePlace → Move
+abbrev pub once_move : OncePlace → StepView
 once_move p = record {
   row = once_profile p;
   next = λ told. row_of (next_row (once_next p told));
@@ -32,10 +32,10 @@ once_move p = record {
 
 -- the news that it may be told
 abbrev pub once_hears : OncePlace → Hears
-once_hears p r s t whom told = MayHear r s t p told
+once_hears p r s t whom told = MayReply r s t p told
 
 -- where it still has to wait it stands after the last
-pub record RestsAfter (x : Move) (hears : Hears) (check : Check) (want : Want) : Type 0 where
+pub record RestsAfter (x : StepView) (hears : Hears) (check : Check) (want : Want) : Type 0 where
   pub forced : Bool
   pub was : location_of x ≡ inside_of Main
   pub rests : x.deeds None (Parked true) ≡ Case (OfOnce (Rest want forced)) ∷ []
@@ -47,7 +47,7 @@ pub record RestsAfter (x : Move) (hears : Hears) (check : Check) (want : Want) :
       → standing t s.lock ≡ 0 → hears r s t None (Parked b)
 
 -- it takes all that wait
-pub record TakesAll (x : Move) (hears : Hears) : Type 0 where
+pub record TakesAll (x : StepView) (hears : Hears) : Type 0 where
   pub was : location_of x ≡ inside_of Main
   pub deeds : (any none_left : Bool)
       → x.deeds None (Took any none_left) ≡ Case (OfOnce TakeAll) ∷ []
@@ -58,14 +58,14 @@ pub record TakesAll (x : Move) (hears : Hears) : Type 0 where
       → hears r s t None (Took any none_left)
 
 -- its closure answers, and it stands nowhere before and after
-pub record ClosureAnswers (x : Move) : Type 0 where
+pub record ClosureAnswers (x : StepView) : Type 0 where
   pub was : location_of x ≡ nowhere
   pub deeds : (succeeded : Bool) → x.deeds None (Closed succeeded) ≡ []
   pub goes : (succeeded : Bool) → location_then x (Closed succeeded) ≡ nowhere
   pub role : (succeeded : Bool) → (x.next (Closed succeeded)).role ≡ x.row.role
 
 -- by its act, as in any call; or it stands after the last, takes all, or runs its closure
-abbrev pub OnceMoves : ℕ → Move → Hears → Act → Type 0
+abbrev pub OnceMoves : ℕ → StepView → Hears → Act → Type 0
 OnceMoves l x hears (act.Park k key check want) =
     (k ≡ l) × (key ≡ key_of l Main) × RestsAfter x hears check want
 OnceMoves l x hears (act.Take key All) = (key ≡ key_of l Main) × TakesAll x hears

@@ -196,7 +196,7 @@ impl OncePlace {
     }
 
     /// From where the thread looks at the word once more, in place of an act that leads to sleep.
-    pub fn looking(self) -> Option<OncePlace>
+    pub fn respins_from(self) -> Option<OncePlace>
         ensures { result ≡ once_looking self }
     {
         match self {

@@ -27,7 +27,7 @@ use Rattle.steps_rwlock.specs.declared.release.WakeAt.{WakeAt}
 use Rattle.steps_rwlock.specs.declared.release.WakeAt.TheVariants as waking
 use Rattle.steps_rwlock.specs.RwLockSteps.{wanted, from_of, to_of, start_of, patience_of, park_next}
 use Rattle.steps_rwlock.specs.RwLockSteps.{wake_next, rwlock_next}
-use Rattle.steps_rwlock.specs.RwLockDeeds.{Admits, IsFreshTry, MayHear, MayHearParking, MayHearWaking}
+use Rattle.steps_rwlock.specs.RwLockDeeds.{Admits, IsFreshTry, MayReply, MayHearParking, MayHearWaking}
 use Rattle.steps_rwlock.specs.RwLockDeeds.{rwlock_deeds, park_deeds, wake_deeds, rwlock_role}
 use Rattle.steps_rwlock.specs.RwLockProfiles.{rwlock_profile}
 use Rattle.steps_rwlock.specs.RwLockCalls.{WaitsIfBlocked, HasDeadline, ParksBy, EntersAt, SharesAt, WritesAt}
@@ -588,7 +588,7 @@ module _ (r : Rules) (a : Admission) (s : Site) (t l : ℕ) (admits : Admits r a
 
   writes_tell : (how : Patience) (again : Bool) (to : RwLockAt) (whom : Option ℕ) (told : Reply)
       → WritesAt how to → IsFreshTry how again → s.role t ≡ rwlock_role (writer how again to) → IsNotLate told
-      → MayHear r a s t (writer how again to) to whom told → TellsBy (writer how again to) whom told
+      → MayReply r a s t (writer how again to) to whom told → TellsBy (writer how again to) whom told
   writes_tell how again (at.Decide seen) whom reply.Done fits fresh role now hears = record {
     one = tt;
     may = tt;
@@ -618,22 +618,22 @@ module _ (r : Rules) (a : Admission) (s : Site) (t l : ℕ) (admits : Admits r a
 
   shares_tell : (x : Access) (how : Patience) (again : Bool) (to : RwLockAt) (whom : Option ℕ) (told : Reply)
       → SharesAt how to → EntersAt x how at.Load → IsFreshTry how again → IsNotLate told
-      → MayHear r a s t (enterer x how again to) to whom told → TellsBy (enterer x how again to) whom told
-  shares_tell x how again (at.Decide seen) whom reply.Done fits looking fresh now hears = record {
+      → MayReply r a s t (enterer x how again to) to whom told → TellsBy (enterer x how again to) whom told
+  shares_tell x how again (at.Decide seen) whom reply.Done fits respins_from fresh now hears = record {
     one = tt;
     may = tt;
     comes = λ rights e. recalls _ _ (goes l t s.lock s.lock (purpose.Enter x how) (at.Decide seen)
         (at.Park parking.Check) rights e refl);
   }
-  shares_tell x how again (at.Decide seen) whom told fits looking fresh now hears = absurd hears
-  shares_tell x how again (at.Park to) whom told fits looking fresh now hears =
+  shares_tell x how again (at.Decide seen) whom told fits respins_from fresh now hears = absurd hears
+  shares_tell x how again (at.Park to) whom told fits respins_from fresh now hears =
       parks_tell x how again to told _ fits now hears
-  shares_tell x how again at.Load whom told fits looking fresh now hears = absurd hears
-  shares_tell x how again to whom told fits looking fresh now hears = absurd fits
+  shares_tell x how again at.Load whom told fits respins_from fresh now hears = absurd hears
+  shares_tell x how again to whom told fits respins_from fresh now hears = absurd fits
 
   enters_tell : (x : Access) (how : Patience) (again : Bool) (to : RwLockAt) (whom : Option ℕ) (told : Reply)
       → EntersAt x how to → IsFreshTry how again → s.role t ≡ rwlock_role (enterer x how again to)
-      → IsNotLate told → MayHear r a s t (enterer x how again to) to whom told
+      → IsNotLate told → MayReply r a s t (enterer x how again to) to whom told
       → TellsBy (enterer x how again to) whom told
   enters_tell access.Exclusive how again to whom told fits fresh role now hears =
       writes_tell how again to whom told fits fresh role now hears
@@ -643,7 +643,7 @@ module _ (r : Rules) (a : Admission) (s : Site) (t l : ℕ) (admits : Admits r a
       shares_tell access.Upgradable how again to whom told fits tt fresh now hears
 
   releases_tell : (x : Access) (again : Bool) (to : RwLockAt) (whom : Option ℕ) (told : Reply)
-      → ReleasesAt x to → MayHear r a s t (leaver x again to) to whom told
+      → ReleasesAt x to → MayReply r a s t (leaver x again to) to whom told
       → TellsBy (leaver x again to) whom told
   releases_tell access.Shared again (at.Wake Second to) whom told fits hears =
       wakes_aside access.Shared again to whom told refl hears
@@ -657,7 +657,7 @@ module _ (r : Rules) (a : Admission) (s : Site) (t l : ℕ) (admits : Admits r a
   releases_tell access.Exclusive again to whom told fits hears = absurd fits
 
   downgrades_tell : (d : Downgrade) (again : Bool) (to : RwLockAt) (whom : Option ℕ) (told : Reply)
-      → DowngradesAt to → KeepsRight s.lock t (purpose.Downgrade d) to → MayHear r a s t (lowerer d again to)
+      → DowngradesAt to → KeepsRight s.lock t (purpose.Downgrade d) to → MayReply r a s t (lowerer d again to)
       to whom told → TellsBy (lowerer d again to) whom told
   downgrades_tell d again (at.Wake Main to) whom told fits own hears = wakes_lower d again to whom told own
       hears
@@ -666,7 +666,7 @@ module _ (r : Rules) (a : Admission) (s : Site) (t l : ℕ) (admits : Admits r a
 
   upgrades_tell : (how : Patience) (again : Bool) (to : RwLockAt) (whom : Option ℕ) (told : Reply) → how ≢ Try
       → UpgradesAt how again to → s.role t ≡ rwlock_role (raiser how again to) → IsNotLate told
-      → MayHear r a s t (raiser how again to) to whom told → TellsBy (raiser how again to) whom told
+      → MayReply r a s t (raiser how again to) to whom told → TellsBy (raiser how again to) whom told
   upgrades_tell how again (at.Count seen) whom reply.Done more fits role now hears = record {
     one = tt;
     may = tt;
@@ -704,7 +704,7 @@ module _ (r : Rules) (a : Admission) (s : Site) (t l : ℕ) (admits : Admits r a
 
   -- a try to upgrade enters no section
   tries_tell : (again : Bool) (to : RwLockAt) (whom : Option ℕ) (told : Reply) → UpgradesAt Try again to
-      → MayHear r a s t (raiser Try again to) to whom told → TellsBy (raiser Try again to) whom told
+      → MayReply r a s t (raiser Try again to) to whom told → TellsBy (raiser Try again to) whom told
   tries_tell again (at.Decide seen) whom reply.Done fits hears = record {
     one = tt;
     may = tt;
@@ -746,7 +746,7 @@ rwlock_sections_tell r a s t l p whom told calling hears now = by_purpose p.purp
           retries = again;
           at = to;
         })
-        → MayHear r a s t (record {
+        → MayReply r a s t (record {
           purpose = purpose.Upgrade how;
           retries = again;
           at = to;
@@ -768,7 +768,7 @@ rwlock_sections_tell r a s t l p whom told calling hears now = by_purpose p.purp
           retries = again;
           at = to;
         })
-        → MayHear r a s t (record {
+        → MayReply r a s t (record {
           purpose = q;
           retries = again;
           at = to;

@@ -465,17 +465,19 @@ module _ (r : Rules) (a : Admission) (s : Site) (t l : ℕ) (op : Op) (admits : 
       → rwlock_act l a (of (purpose.Enter x how) again to) ≡ act.Word l op
       → Tells (of (purpose.Enter x how) again to) (rwlock_deeds a (of (purpose.Enter x how) again to) None
       (reply.Value v)) (rwlock_next a (of (purpose.Enter x how) again to) (reply.Value v))
-  shares_tell x more how again at.Load fits looking fresh e = looks x how again fresh at.Load tt looking
-  shares_tell x more how again (at.Decide was) fits looking fresh e = decides x how again fresh was looking
+  shares_tell x more how again at.Load fits respins_from fresh e = looks x how again fresh at.Load tt
+      respins_from
+  shares_tell x more how again (at.Decide was) fits respins_from fresh e = decides x how again fresh was
+      respins_from
       (decision a (wanted x) how was) refl
-  shares_tell x more how again (at.Park parking.Clear) fits looking fresh e = record {
+  shares_tell x more how again (at.Park parking.Clear) fits respins_from fresh e = record {
     one = tt;
     may = tt;
     comes = λ rights e. recalls _ _ (goes l t s.lock s.lock (purpose.Enter x how) (at.Park parking.Clear)
         (at.Park parking.GiveUp) rights e refl);
   }
-  shares_tell x more how again (at.Park to) fits looking fresh e = absurd cc
-  shares_tell x more how again to fits looking fresh e = absurd fits
+  shares_tell x more how again (at.Park to) fits respins_from fresh e = absurd cc
+  shares_tell x more how again to fits respins_from fresh e = absurd fits
 
   enters_tell : (x : Access) (how : Patience) (again : Bool) (to : RwLockAt) → EntersAt x how to
       → IsFreshTry how again → s.role t ≡ rwlock_role (of (purpose.Enter x how) again to)

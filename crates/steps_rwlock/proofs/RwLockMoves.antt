@@ -16,7 +16,8 @@ use Rattle.steps_base.specs.declared.acts.Act.TheVariants as act
 use Rattle.steps_base.specs.declared.acts.Next.{Next}
 use Rattle.steps_base.specs.declared.acts.Next.TheVariants as next
 use Rattle.steps_base.specs.declared.acts.Reply.TheVariants as reply
-use Rattle.steps_base.specs.Moves.{Move, StaysPut, GoesIn, MovesByAct, Sleeps, IsHeld, RowWaits, AreOfWord}
+use Rattle.steps_base.specs.Moves.{StepView, StaysPut, GoesIn, MovesByAct, Sleeps, IsHeld, RowWaits}
+use Rattle.steps_base.specs.Moves.{AreOfWord}
 use Rattle.steps_base.specs.Moves.{location_of, AreLeaving, takes_aside, inside_of, row_of}
 use Rattle.steps_base.specs.Acts.{any_picked}
 use Rattle.steps_base.specs.Profiles.{hand, in_hand}
@@ -417,7 +418,7 @@ module _ (a : Admission) where
   abbrev place : RwLockPurpose → Bool → RwLockAt → RwLockPlace
   place q again to = record { purpose = q; retries = again; at = to }
 
-  abbrev move : RwLockPurpose → Bool → RwLockAt → Move
+  abbrev move : RwLockPurpose → Bool → RwLockAt → StepView
   move q again to = rwlock_move a (place q again to)
 
   -- a thread that stands in a line

@@ -38,7 +38,7 @@ use Rattle.steps_rwlock.specs.RwLockSteps.{wanted, to_of, access_of, start_of, p
 use Rattle.steps_rwlock.specs.RwLockSteps.{wake_next, took}
 use Rattle.steps_rwlock.specs.RwLockDeeds.{MayKeep, kept_claim, retried_want, leaves_with, AtTry, AtPending}
 use Rattle.steps_rwlock.specs.RwLockDeeds.{AtUpgrade, within, finding, pends, parking_role, waking_role}
-use Rattle.steps_rwlock.specs.RwLockDeeds.{rwlock_role, role_next, IsFreshTry, AtFits, Admits, MayHear}
+use Rattle.steps_rwlock.specs.RwLockDeeds.{rwlock_role, role_next, IsFreshTry, AtFits, Admits, MayReply}
 use Rattle.steps_rwlock.specs.RwLockDeeds.{MayHearParking, MayHearWaking, take_deed, park_deeds, wake_deeds}
 use Rattle.steps_rwlock.specs.RwLockDeeds.{Follows, FollowsBy, RwLockSectionsFollow}
 use Rattle.steps_rwlock.proofs.RwLockFit.{knows_all, retrying}
@@ -264,7 +264,7 @@ module _ (r : Rules) (a : Admission) (s : Site) (t : ℕ) (admits : Admits r a) 
     parks_fit parking.GiveUp reply.Done may is = goes_out r s t admits.0 h tells _ may is (λ e. cc) refl refl
     parks_fit to told may is = absurd may
 
-    enters_fit : (to : RwLockAt) (whom : Option ℕ) (told : Reply) → MayHear r a s t (place to) to whom told
+    enters_fit : (to : RwLockAt) (whom : Option ℕ) (told : Reply) → MayReply r a s t (place to) to whom told
         → s.role t ≡ rwlock_role (place to) → FollowsBy r a s t (place to) whom told
     enters_fit (at.Decide seen) whom reply.Done may is = goes_in r s t admits.0 h tells Main _ may.1 is refl
         refl
@@ -282,7 +282,7 @@ module _ (r : Rules) (a : Admission) (s : Site) (t : ℕ) (admits : Admits r a) 
   of q again to = record { purpose = q; retries = again; at = to }
 
   releases_fit : (x : Access) (again : Bool) (to : RwLockAt) (whom : Option ℕ) (told : Reply)
-      → AtFits (purpose.Release x) to → MayHear r a s t (of (purpose.Release x) again to) to whom told
+      → AtFits (purpose.Release x) to → MayReply r a s t (of (purpose.Release x) again to) to whom told
       → s.role t ≡ rwlock_role (of (purpose.Release x) again to)
       → FollowsBy r a s t (of (purpose.Release x) again to) whom told
   releases_fit x again (at.Wake m to) whom told fits may is =
@@ -296,7 +296,7 @@ module _ (r : Rules) (a : Admission) (s : Site) (t : ℕ) (admits : Admits r a) 
   may_keep downgrade.UpgradableToShared = tt
 
   downgrades_fit : (d : Downgrade) (again : Bool) (to : RwLockAt) (whom : Option ℕ) (told : Reply)
-      → AtFits (purpose.Downgrade d) to → MayHear r a s t (of (purpose.Downgrade d) again to) to whom told
+      → AtFits (purpose.Downgrade d) to → MayReply r a s t (of (purpose.Downgrade d) again to) to whom told
       → s.role t ≡ rwlock_role (of (purpose.Downgrade d) again to)
       → FollowsBy r a s t (of (purpose.Downgrade d) again to) whom told
   downgrades_fit d again (at.Wake Main to) whom told fits may is =
@@ -306,7 +306,7 @@ module _ (r : Rules) (a : Admission) (s : Site) (t : ℕ) (admits : Admits r a) 
   downgrades_fit d again to whom told fits may is = absurd fits
 
   pending_fit : (how : Patience) (again : Bool) → IsFreshTry how again → (to : RwLockAt) (whom : Option ℕ)
-      (told : Reply) → AtPending to → MayHear r a s t (of (purpose.Upgrade how) again to) to whom told
+      (told : Reply) → AtPending to → MayReply r a s t (of (purpose.Upgrade how) again to) to whom told
       → s.role t ≡ rwlock_role (of (purpose.Upgrade how) again to)
       → FollowsBy r a s t (of (purpose.Upgrade how) again to) whom told
   pending_fit how again fresh (at.Count seen) whom reply.Done fits may is =
@@ -331,7 +331,7 @@ module _ (r : Rules) (a : Admission) (s : Site) (t : ℕ) (admits : Admits r a) 
   takes_or_refuses false e = cc
 
   try_fit : (again : Bool) (to : RwLockAt) (whom : Option ℕ) (told : Reply) → AtTry to
-      → MayHear r a s t (of (purpose.Upgrade Try) again to) to whom told
+      → MayReply r a s t (of (purpose.Upgrade Try) again to) to whom told
       → FollowsBy r a s t (of (purpose.Upgrade Try) again to) whom told
   try_fit again (at.Decide seen) whom reply.Done fits may =
       absurd (takes_or_refuses (count_in seen == 1) may.0)
@@ -349,7 +349,7 @@ rwlock_sections_follow r a s t p whom told at may = by_purpose p.purpose p.retri
           retries = again;
           at = to;
         })
-        → MayHear r a s t (record {
+        → MayReply r a s t (record {
           purpose = purpose.Upgrade how;
           retries = again;
           at = to;
@@ -370,7 +370,7 @@ rwlock_sections_follow r a s t p whom told at may = by_purpose p.purpose p.retri
           retries = again;
           at = to;
         })
-        → MayHear r a s t (record {
+        → MayReply r a s t (record {
           purpose = q;
           retries = again;
           at = to;

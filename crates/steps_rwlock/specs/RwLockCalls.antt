@@ -26,7 +26,7 @@ use Rattle.steps_rwlock.specs.declared.enter.Decision.TheVariants as decisions
 use Rattle.steps_rwlock.specs.declared.park.ParkAt.{ParkAt}
 use Rattle.steps_rwlock.specs.declared.park.ParkAt.TheVariants as parking
 use Rattle.steps_rwlock.specs.RwLockSteps.{patience_of, decided, rwlock_act, rwlock_next, decided_for}
-use Rattle.steps_rwlock.specs.RwLockDeeds.{IsAt, MayHear, rwlock_deeds, IsFreshTry}
+use Rattle.steps_rwlock.specs.RwLockDeeds.{IsAt, MayReply, rwlock_deeds, IsFreshTry}
 use Rattle.steps_rwlock.specs.RwLockProfiles.{rwlock_profile, rwlock_looking, parked_hand, late_line_at}
 use Rattle.spec_locks.specs.Locks.{Rules, Rights, standing}
 use Rattle.spec_locks.specs.Codes.{code}
@@ -172,7 +172,7 @@ abbrev pub RwLockSectionsTell : Type 0
 RwLockSectionsTell =
     (r : Rules) (a : Admission) (s : Site) (t l : ℕ) (p : RwLockPlace) (whom : Option ℕ)
     (told : Reply)
-    → IsCalling r a s t p → MayHear r a s t p p.at whom told → IsNotLate told
+    → IsCalling r a s t p → MayReply r a s t p p.at whom told → IsNotLate told
     → CallFollowsBy r a s t l p whom told
 
 -- the call of a thread asleep, after what befalls it

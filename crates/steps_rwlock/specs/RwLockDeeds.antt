@@ -345,25 +345,25 @@ MayHearWaking r s t start m (waking.Leave any) whom reply.Done = s.lock.taken t 
 MayHearWaking r s t start m to whom told = ⊥
 
 -- the outcomes that a thread may be told of its steps in and out of sections, and as it is late
-abbrev pub MayHear : Rules → Admission → Site → ℕ → RwLockPlace → RwLockAt → Option ℕ → Reply
+abbrev pub MayReply : Rules → Admission → Site → ℕ → RwLockPlace → RwLockAt → Option ℕ → Reply
     → Type 0
-MayHear r a s t p (at.Decide seen) whom reply.Done =
+MayReply r a s t p (at.Decide seen) whom reply.Done =
     (decided a p seen ≡ decisions.Park) × IsSectionFree s Main
-MayHear r a s t p (at.Count seen) whom reply.Done = IsSectionFree s Second
-MayHear r a s t p at.Marked whom reply.Done = IsSectionFree s Second
-MayHear r a s t p (at.Park to) whom told =
+MayReply r a s t p (at.Count seen) whom reply.Done = IsSectionFree s Second
+MayReply r a s t p at.Marked whom reply.Done = IsSectionFree s Second
+MayReply r a s t p (at.Park to) whom told =
     MayHearParking r s t Main (holds (park_check a (want_at p) Main) (code r s)) to told
-MayHear r a s t p (at.Aside to) whom told =
+MayReply r a s t p (at.Aside to) whom told =
     MayHearParking r s t Second (holds (park_check a (want_at p) Second) (code r s)) to told
-MayHear r a s t p (at.Wake m to) whom told = MayHearWaking r s t (start_of p.purpose) m to whom told
-MayHear r a s t p to whom told = ⊥
+MayReply r a s t p (at.Wake m to) whom told = MayHearWaking r s t (start_of p.purpose) m to whom told
+MayReply r a s t p to whom told = ⊥
 
 -- each such step follows too
 abbrev pub RwLockSectionsFollow : Type 0
 RwLockSectionsFollow =
     (r : Rules) (a : Admission) (s : Site) (t : ℕ) (p : RwLockPlace) (whom : Option ℕ)
     (told : Reply)
-    → IsAt r a s t p → MayHear r a s t p p.at whom told → FollowsBy r a s t p whom told
+    → IsAt r a s t p → MayReply r a s t p p.at whom told → FollowsBy r a s t p whom told
 
 -- ---------------------------------------------------------------- owners
 

@@ -196,7 +196,7 @@ impl RwLockPlace {
     }
 
     /// From where the thread looks at the word once more, in place of an act that leads to sleep.
-    pub fn looking(self, admission: Admission) -> Option<RwLockPlace>
+    pub fn respins_from(self, admission: Admission) -> Option<RwLockPlace>
         ensures { result ≡ rwlock_looking admission self }
     {
         let at = match self.at {

@@ -24,7 +24,7 @@ use Rattle.steps_base.specs.declared.acts.Reply.TheVariants.{Done, Value, Parked
 use Rattle.steps_base.specs.declared.acts.Reply.TheVariants.{TakenBy, HandedBy, Woken, Late}
 use Rattle.steps_base.specs.declared.acts.Whom as whom
 use Rattle.steps_base.specs.Acts.{any_picked}
-use Rattle.steps_base.specs.Moves.{Move, Hears, StaysPut, GoesIn, Parks, Picks, TakesAside, LeavesLine}
+use Rattle.steps_base.specs.Moves.{StepView, Hears, StaysPut, GoesIn, Parks, Picks, TakesAside, LeavesLine}
 use Rattle.steps_base.specs.Moves.{GoesOut, MovesByAct, Sleeps, IsHeld, RowWaits, AreOfWord, AreLeaving}
 use Rattle.steps_base.specs.Moves.{location_of, location_then, inside_of, row_of}
 use Rattle.steps_base.specs.Profiles.{Profile, in_hand}
@@ -72,12 +72,12 @@ IsPlain (Woken note.HandOff) = ⊥
 IsPlain told = Unit {0}
 
 -- at the same stations, by the same deeds
-record IsAs (x y : Move) : Type 0 where
+record IsAs (x y : StepView) : Type 0 where
   pub here : location_of x ≡ location_of y
   pub deeds : x.deeds ≡ y.deeds
   pub goes : (told : Reply) → IsPlain told → location_then x told ≡ location_then y told
 
-module _ (x y : Move) (hears : Hears) (alike : IsAs x y) where
+module _ (x y : StepView) (hears : Hears) (alike : IsAs x y) where
   stays_as : StaysPut y → StaysPut x
   stays_as g = record {
     out = ap (λ (s : Location). s.stands) alike.here ∙ g.out;

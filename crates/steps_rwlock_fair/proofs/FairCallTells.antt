@@ -39,7 +39,7 @@ use Rattle.steps_rwlock.specs.declared.purposes.RwLockPurpose.TheVariants as pur
 use Rattle.steps_rwlock.specs.declared.release.WakeAt.{WakeAt}
 use Rattle.steps_rwlock.specs.declared.release.WakeAt.TheVariants as waking
 use Rattle.steps_rwlock.specs.RwLockSteps.{wanted, entered, rwlock_act, rwlock_next, wake_next, wakes_or_ends}
-use Rattle.steps_rwlock.specs.RwLockDeeds.{Admits, MayHear, MayHearWaking, rwlock_role, rwlock_deeds}
+use Rattle.steps_rwlock.specs.RwLockDeeds.{Admits, MayReply, MayHearWaking, rwlock_role, rwlock_deeds}
 use Rattle.steps_rwlock.specs.RwLockDeeds.{does_and_wakes, wake_deeds}
 use Rattle.steps_rwlock.specs.RwLockProfiles.{rwlock_profile}
 use Rattle.steps_rwlock.specs.RwLockCalls.{MayStand, IsCalling, next_row}
@@ -311,7 +311,7 @@ module _ (r : Rules) (a : Admission) (s : Site) (t l : ℕ) where
   bump_sections : (q : RwLockPurpose) (again : Bool) (to : RwLockAt) (whom : Option ℕ) (told : Reply)
       → Admits r a → IsSite r s → s.role t ≡ rwlock_role (of q again to) → MayStand a (of q again to)
       → IsOfBump q again → t < length s.lock.shared
-      → MayHear r a s t (of q again to) to whom told → IsNotLate told
+      → MayReply r a s t (of q again to) to whom told → IsNotLate told
       → CallFollows r s.lock t l (call_profile a (Bump (of q again to))) (rwlock_deeds a (of q again to) whom
       told) (next_rows a (bump_next q (rwlock_next a (of q again to) told)))
   bump_sections (purpose.Enter x Patient) again to whom told admits h is stands bump there hears now =

@@ -26,7 +26,7 @@ use Rattle.steps_rwlock.specs.declared.release.WakeAt.{WakeAt}
 use Rattle.steps_rwlock.specs.declared.release.WakeAt.TheVariants as waking
 use Rattle.steps_rwlock.specs.RwLockSteps.{wanted, start_of, rwlock_next}
 use Rattle.steps_rwlock.specs.RwLockDeeds.{at_rest, within, rwlock_role, rwlock_deeds, role_next, Admits}
-use Rattle.steps_rwlock.specs.RwLockDeeds.{MayHear, MayHearParking, MayHearWaking, Follows}
+use Rattle.steps_rwlock.specs.RwLockDeeds.{MayReply, MayHearParking, MayHearWaking, Follows}
 use Rattle.steps_rwlock.specs.RwLockCalls.{MayStand}
 use Rattle.steps_rwlock.proofs.RwLockFit.{knows_all}
 use Rattle.steps_base.proofs.Deeds.{put_same}
@@ -72,7 +72,7 @@ module _ (r : Rules) (a : Admission) (s : Site) (t : ℕ) where
   waking_unheard start m k whom told is h = is
 
   unheard : (p : RwLockPlace) (to : RwLockAt) (whom : Option ℕ) (told : Reply) → IsOfHand told
-      → MayHear r a s t p to whom told → ⊥
+      → MayReply r a s t p to whom told → ⊥
   unheard p (at.Park k) whom told is h = parking_unheard Main _ k told is h
   unheard p (at.Aside k) whom told is h = parking_unheard Second _ k told is h
   unheard p (at.Wake m k) whom told is h = waking_unheard (start_of p.purpose) m k whom told is h
@@ -88,7 +88,7 @@ module _ (r : Rules) (a : Admission) (s : Site) (t : ℕ) where
   unheard p to whom told is h = h
 
   pub not_given : (b : Bool) (p : RwLockPlace) (whom : Option ℕ) (told : Reply)
-      → MayHear r a s t p p.at whom told → given b p told ≡ None
+      → MayReply r a s t p p.at whom told → given b p told ≡ None
   not_given b p whom (reply.HandedBy by alone) hears =
       absurd (unheard p p.at whom (reply.HandedBy by alone) tt hears)
   not_given b p whom (reply.Woken n) hears = absurd (unheard p p.at whom (reply.Woken n) tt hears)
@@ -173,7 +173,7 @@ module _ (r : Rules) (a : Admission) (s : Site) (t : ℕ) (admits : Admits r a) 
   handed_sections x how b to told is hears = absurd hears
 
   within_calls : (p : RwLockPlace) (whom : Option ℕ) (told : Reply) → MayStand a p → s.role t ≡ rwlock_role p
-      → t < length s.lock.shared → MayHear r a s t p p.at whom told
+      → t < length s.lock.shared → MayReply r a s t p p.at whom told
       → Follows r s t (rwlock_deeds a p whom told) (role_next (rwlock_next a p told))
   within_calls p whom told stands is there hears = rwlock_sections_follow r a s t p whom told
       (is_at r a s t p admits h is stands there) hears

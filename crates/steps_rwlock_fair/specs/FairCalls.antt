@@ -18,7 +18,7 @@ use Rattle.spec_locks.specs.Codes.{has_parked}
 use Rattle.steps_rwlock.specs.declared.places.Admission.{Admission}
 use Rattle.steps_rwlock.specs.declared.purposes.RwLockPurpose.{RwLockPurpose}
 use Rattle.steps_rwlock.specs.declared.purposes.RwLockPurpose.TheVariants as purpose
-use Rattle.steps_rwlock.specs.RwLockDeeds.{Admits, MayHear}
+use Rattle.steps_rwlock.specs.RwLockDeeds.{Admits, MayReply}
 use Rattle.steps_rwlock.specs.RwLockCalls.{MayStand, WaitsIfBlocked, MayBeTold}
 use Rattle.steps_rwlock_fair.specs.declared.places.RwLockCallPlace.{RwLockCallPlace}
 use Rattle.steps_rwlock_fair.specs.declared.places.RwLockCallPlace.TheVariants.{Plain, PeekQueue, HandOver}
@@ -110,8 +110,8 @@ MayHearHanded x handed.Accept reply.Done = Unit {0}
 MayHearHanded x to told = ⊥
 
 abbrev pub CallMayHear : Rules → Admission → Site → ℕ → RwLockCallPlace → Option ℕ → Reply → Type 0
-CallMayHear r a s t (Plain p) whom told = MayHear r a s t p p.at whom told
-CallMayHear r a s t (Bump p) whom told = MayHear r a s t p p.at whom told
+CallMayHear r a s t (Plain p) whom told = MayReply r a s t p p.at whom told
+CallMayHear r a s t (Bump p) whom told = MayReply r a s t p p.at whom told
 CallMayHear r a s t (PeekQueue x) whom told = ⊥
 CallMayHear r a s t (HandOver x b to) whom told = MayHearHanding r s t to whom told
 CallMayHear r a s t (Handed x how b to) whom told = MayHearHanded x to told

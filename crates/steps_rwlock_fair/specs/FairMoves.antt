@@ -12,7 +12,7 @@ use Rattle.steps_base.specs.declared.acts.Act.{Act}
 use Rattle.steps_base.specs.declared.acts.Act.TheVariants as act
 use Rattle.steps_base.specs.declared.acts.Reply.TheVariants.{Late}
 use Rattle.spec_locks.specs.Sites.{Pends}
-use Rattle.steps_base.specs.Moves.{Move, Hears, MovesByAct, GoesIn, TellsHanded, Accepts, Sleeps, IsHeld}
+use Rattle.steps_base.specs.Moves.{StepView, Hears, MovesByAct, GoesIn, TellsHanded, Accepts, Sleeps, IsHeld}
 use Rattle.steps_base.specs.Moves.{HandsOver as Hands, IsGiven, WasGiven, row_of, location_of}
 use Rattle.steps_base.specs.Profiles.{hand}
 use Rattle.steps_rwlock.specs.declared.places.Admission.{Admission}
@@ -24,7 +24,7 @@ use Rattle.steps_rwlock_fair.specs.FairProfiles.{call_profile, call_late_line}
 use Rattle.steps_rwlock_fair.specs.FairCalls.{CallStands, CallMayHear, in_hand_of}
 use Rattle.steps_rwlock_fair.specs.FairLaws.{next_rows}
 
-abbrev pub call_move : Admission → RwLockCallPlace → Move
+abbrev pub call_move : Admission → RwLockCallPlace → StepView
 call_move a c = record {
   row = call_profile a c;
   next = λ told. row_of (next_rows a (call_next a c told));
@@ -58,7 +58,7 @@ call_hears a c r s t whom told = CallMayHear r a s t c whom told
 
 -- by its act, as in any call; or it hands a right over, tells so to those that have it, or ends a
 -- call that was handed it
-abbrev pub CallMoves : ℕ → Bool → Move → Hears → Act → Type 0
+abbrev pub CallMoves : ℕ → Bool → StepView → Hears → Act → Type 0
 CallMoves l recursive x hears (act.HandOver k op) = (k ≡ l) × Hands x op
 CallMoves l recursive x hears (act.Leave keys wakes) =
     MovesByAct l recursive x hears (act.Leave keys wakes)
@@ -76,7 +76,7 @@ FairActsMove =
 
 -- a thread in a line sleeps there or is inside its section, only a pending writer stands aside, and one in a
 -- hand is so to be woken until it is handed the lock
-pub record CallWaits (x : Move) : Type 0 where
+pub record CallWaits (x : StepView) : Type 0 where
   pub aside : x.row.stands ≡ Some Second
       → (x.row.wants ≡ Some Exclusive)
       × ((falls_back : Bool) × (x.row.role.claims ≡ Some (Pends falls_back)))

@@ -269,16 +269,16 @@ impl RwLockCallPlace {
     }
 
     /// From where the thread looks at the word once more, in place of an act that leads to sleep.
-    pub fn looking(self, admission: Admission) -> Option<RwLockCallPlace>
+    pub fn respins_from(self, admission: Admission) -> Option<RwLockCallPlace>
         ensures { result ≡ call_looking admission self }
     {
         match self {
             RwLockCallPlace::Plain(place) => {
-                let place = place.looking(admission)?;
+                let place = place.respins_from(admission)?;
                 Some(RwLockCallPlace::Plain(place))
             }
             RwLockCallPlace::Bump(place) => {
-                let place = place.looking(admission)?;
+                let place = place.respins_from(admission)?;
                 Some(RwLockCallPlace::Bump(place))
             }
             _ => None,

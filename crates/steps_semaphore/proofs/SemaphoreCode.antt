@@ -25,7 +25,7 @@ use Rattle.steps_semaphore.specs.declared.places.SemaphorePlace.{SemaphorePlace}
 use Rattle.steps_semaphore.specs.declared.places.SemaphorePlace.TheVariants.{Acquire, Try, Release}
 use Rattle.steps_semaphore.specs.declared.places.TheConstants.{NOT_PARKED}
 use Rattle.steps_semaphore.specs.SemaphoreDeeds.{enter_deeds, semaphore_deeds}
-use Rattle.steps_semaphore.specs.SemaphoreLaws.{LeavesWord, MayHear, SemaphoreStepsCode, semaphore_role}
+use Rattle.steps_semaphore.specs.SemaphoreLaws.{LeavesWord, MayReply, SemaphoreStepsCode, semaphore_role}
 use Rattle.steps_semaphore.specs.SemaphoreSteps.{decided, is_free, semaphore_act, semaphore_shares}
 use Rattle.steps_semaphore.specs.SemaphoreSteps.{permits_taken}
 use Rattle.steps_semaphore.proofs.SemaphoreWords.{bit_few, cleared, free_in, held_few, one_less, one_more}
@@ -211,7 +211,7 @@ module _ (limit : ℕ) (s : Site) (t l : ℕ) (h : IsSite (record {
   -- ---------------------------------------------------------------- each place
 
   each_code : (p : SemaphorePlace) (whom : Option ℕ) (f : Op) → s.role t ≡ semaphore_role p
-      → MayHear r s t p whom (Value v) → semaphore_act l p ≡ act.Word l f → LeavesWord r s t p whom f
+      → MayReply r s t p whom (Value v) → semaphore_act l p ≡ act.Word l f → LeavesWord r s t p whom f
   each_code (Acquire timed retries acquire.Load) whom f is hears does = let g : op.Load ≡ f = cc
       in rw (← g) (leaves _ whom _ _ _ _ refl refl refl (refl, refl))
   each_code (Acquire timed retries (acquire.Decide expected)) whom f is hears does =
@@ -230,7 +230,7 @@ module _ (limit : ℕ) (s : Site) (t l : ℕ) (h : IsSite (record {
 
 pub semaphore_steps_code : SemaphoreStepsCode
 semaphore_steps_code r s t l p whom f a hears does =
-    subst (λ x. IsSite x s → MayHear x s t p whom (Value (code x s)) → LeavesWord x s t p whom f)
+    subst (λ x. IsSite x s → MayReply x s t p whom (Value (code x s)) → LeavesWord x s t p whom f)
     (λ i. record {
       sort = sym a.sort i;
       limit = r.limit;

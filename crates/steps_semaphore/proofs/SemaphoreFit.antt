@@ -24,7 +24,7 @@ use Rattle.steps_semaphore.specs.declared.release.ReleaseAt.TheVariants as relea
 use Rattle.steps_semaphore.specs.declared.places.SemaphorePlace.{SemaphorePlace}
 use Rattle.steps_semaphore.specs.declared.places.SemaphorePlace.TheVariants.{Acquire, Try, Release}
 use Rattle.steps_semaphore.specs.SemaphoreDeeds.{enter_deeds, semaphore_deeds, take_deeds}
-use Rattle.steps_semaphore.specs.SemaphoreLaws.{Follows, MayHear, MayHearAcquiring, MayHearReleasing}
+use Rattle.steps_semaphore.specs.SemaphoreLaws.{Follows, MayReply, MayHearAcquiring, MayHearReleasing}
 use Rattle.steps_semaphore.specs.SemaphoreLaws.{MayHearTrying, SemaphoreStepsFollow, TakesFirst, role_next}
 use Rattle.steps_semaphore.specs.SemaphoreLaws.{semaphore_role}
 use Rattle.steps_semaphore.specs.SemaphoreProfiles.{with_retry, carrying, permit_holder, inside}
@@ -293,14 +293,14 @@ module _ (limit : ℕ) (s : Site) (t : ℕ) (h : IsSite (record { sort = Semapho
   -- ---------------------------------------------------------------- each place
 
   each_follows : (p : SemaphorePlace) (whom : Option ℕ) (told : Reply) → s.role t ≡ semaphore_role p
-      → MayHear r s t p whom told → Follows r s t p whom told
+      → MayReply r s t p whom told → Follows r s t p whom told
   each_follows (Acquire timed retries at) whom told is f = acquires timed retries at whom told is f
   each_follows (Try at) whom told is f = trying at whom told is f
   each_follows (Release at) whom told is f = releases at whom told is f
 
 pub semaphore_steps_follow : SemaphoreStepsFollow
 semaphore_steps_follow r s t p whom told a f =
-    subst (λ x. IsSite x s → MayHear x s t p whom told → Follows x s t p whom told)
+    subst (λ x. IsSite x s → MayReply x s t p whom told → Follows x s t p whom told)
     (λ i. record {
       sort = sym a.sort i;
       limit = r.limit;

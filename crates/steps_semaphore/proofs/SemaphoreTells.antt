@@ -15,7 +15,7 @@ use Rattle.steps_semaphore.specs.declared.release.ReleaseAt.TheVariants as relea
 use Rattle.steps_semaphore.specs.declared.places.SemaphorePlace.{SemaphorePlace}
 use Rattle.steps_semaphore.specs.declared.places.SemaphorePlace.TheVariants.{Acquire, Try, Release}
 use Rattle.steps_semaphore.specs.SemaphoreDeeds.{semaphore_deeds}
-use Rattle.steps_semaphore.specs.SemaphoreLaws.{MayHear, SemaphoreStepsTell, next_row, semaphore_role}
+use Rattle.steps_semaphore.specs.SemaphoreLaws.{MayReply, SemaphoreStepsTell, next_row, semaphore_role}
 use Rattle.steps_semaphore.specs.SemaphoreProfiles.{semaphore_profile}
 use Rattle.steps_semaphore.specs.SemaphoreSteps.{is_free, semaphore_next}
 use Rattle.steps_semaphore.proofs.SemaphoreCalls.{Tells, attempts, checks, exchanges, gives, gives_up}
@@ -38,7 +38,7 @@ module _ (limit : ℕ) (s : Site) (t l : ℕ) (h : IsSite (record {
       in (tt, λ room. omega arith)
 
   each_tells : (p : SemaphorePlace) (whom : Option ℕ) (told : Reply) → s.role t ≡ semaphore_role p
-      → MayHear r s t p whom told → told ≢ Late
+      → MayReply r s t p whom told → told ≢ Late
       → Tells limit l t s.lock p (semaphore_deeds p whom told) (semaphore_next p told)
   each_tells (Acquire timed again acquire.Load) whom (Value v) is f now = quiet limit l t s.lock
       (Acquire timed again acquire.Load) (Acquire timed again (acquire.Decide v)) [] tt refl (λ rights. refl)
@@ -77,7 +77,7 @@ module _ (limit : ℕ) (s : Site) (t l : ℕ) (h : IsSite (record {
 
 pub semaphore_steps_tell : SemaphoreStepsTell
 semaphore_steps_tell r s t l p whom told a f now =
-    subst (λ x. IsSite x s → MayHear x s t p whom told → CallFollows x s.lock t l (semaphore_profile p)
+    subst (λ x. IsSite x s → MayReply x s t p whom told → CallFollows x s.lock t l (semaphore_profile p)
     (semaphore_deeds p whom told) (next_row (semaphore_next p told)))
     (λ i. record {
       sort = sym a.sort i;

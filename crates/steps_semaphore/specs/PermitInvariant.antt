@@ -9,7 +9,7 @@ use Rattle.spec_locks.specs.Permits.{HasPermits}
 use Rattle.spec_locks.specs.Sites.{Site, IsSite, IsDebtorRole, opening_site}
 use Rattle.steps_semaphore.specs.declared.places.SemaphorePlace.{SemaphorePlace}
 use Rattle.steps_semaphore.specs.SemaphoreDeeds.{semaphore_deeds}
-use Rattle.steps_semaphore.specs.SemaphoreLaws.{MayHear, semaphore_role}
+use Rattle.steps_semaphore.specs.SemaphoreLaws.{MayReply, semaphore_role}
 
 -- the rules of a semaphore of so many permits
 abbrev pub semaphore : ℕ → Rules
@@ -28,7 +28,7 @@ abbrev pub StepsKeepTended : Type 0
 StepsKeepTended =
     (permits : ℕ) (s : Site) (t : ℕ) (p : SemaphorePlace) (whom : Option ℕ) (told : Reply)
     → permits ≤ 2 ^ 62 → IsTended permits s → t < length s.lock.shared
-    → s.role t ≡ semaphore_role p → MayHear (semaphore permits) s t p whom told
+    → s.role t ≡ semaphore_role p → MayReply (semaphore permits) s t p whom told
     → IsTended permits (after_all (semaphore permits) (semaphore_deeds p whom told) s t)
 
 -- it holds of a new one, whose word says that all permits are free

@@ -85,10 +85,10 @@ MayHearReleasing r s t (release.Clear any) whom (Value seen) = seen ≡ code r s
 MayHearReleasing r s t (release.Leave any) whom Done = s.lock.taken t ≡ None
 MayHearReleasing r s t at whom told = ⊥
 
-abbrev pub MayHear : Rules → Site → ℕ → SemaphorePlace → Option ℕ → Reply → Type 0
-MayHear r s t (Acquire timed retries at) whom told = MayHearAcquiring r s t timed at told
-MayHear r s t (Try at) whom told = MayHearTrying r s at told
-MayHear r s t (Release at) whom told = MayHearReleasing r s t at whom told
+abbrev pub MayReply : Rules → Site → ℕ → SemaphorePlace → Option ℕ → Reply → Type 0
+MayReply r s t (Acquire timed retries at) whom told = MayHearAcquiring r s t timed at told
+MayReply r s t (Try at) whom told = MayHearTrying r s at told
+MayReply r s t (Release at) whom told = MayHearReleasing r s t at whom told
 
 -- ---------------------------------------------------------------- the laws
 
@@ -102,7 +102,7 @@ pub record Follows (r : Rules) (s : Site) (t : ℕ) (p : SemaphorePlace) (whom :
 abbrev pub SemaphoreStepsFollow : Type 0
 SemaphoreStepsFollow =
     (r : Rules) (s : Site) (t : ℕ) (p : SemaphorePlace) (whom : Option ℕ) (told : Reply)
-    → IsAt r s t p → MayHear r s t p whom told
+    → IsAt r s t p → MayReply r s t p whom told
     → Follows r s t p whom told
 
 -- the word that an operation leaves is the semaphore's after the deeds, and so are the permits that
@@ -118,7 +118,7 @@ pub record LeavesWord (r : Rules) (s : Site) (t : ℕ) (p : SemaphorePlace) (who
 abbrev pub SemaphoreStepsCode : Type 0
 SemaphoreStepsCode =
     (r : Rules) (s : Site) (t l : ℕ) (p : SemaphorePlace) (whom : Option ℕ) (op : Op)
-    → IsAt r s t p → MayHear r s t p whom (Value (code r s)) → semaphore_act l p ≡ act.Word l op
+    → IsAt r s t p → MayReply r s t p whom (Value (code r s)) → semaphore_act l p ≡ act.Word l op
     → LeavesWord r s t p whom op
 
 -- ---------------------------------------------------------------- a step's effect on its call
@@ -132,7 +132,7 @@ next_row (next.End answer) = next.End answer
 abbrev pub SemaphoreStepsTell : Type 0
 SemaphoreStepsTell =
     (r : Rules) (s : Site) (t l : ℕ) (p : SemaphorePlace) (whom : Option ℕ) (told : Reply)
-    → IsAt r s t p → MayHear r s t p whom told → told ≢ Late
+    → IsAt r s t p → MayReply r s t p whom told → told ≢ Late
     → CallFollows r s.lock t l (semaphore_profile p) (semaphore_deeds p whom told)
     (next_row (semaphore_next p told))
 

@@ -176,7 +176,7 @@ impl SemaphorePlace {
     }
 
     /// From where the thread looks at the word once more, in place of an act that leads to sleep.
-    pub fn looking(self) -> Option<SemaphorePlace>
+    pub fn respins_from(self) -> Option<SemaphorePlace>
         ensures { result ≡ semaphore_looking self }
     {
         match self {

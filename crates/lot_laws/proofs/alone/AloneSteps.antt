@@ -2,7 +2,7 @@
 use Rattle.lot_laws.proofs.Names
 use Names.{◌≡◌, ◌≢◌, ℕ, zero, suc, ◌+◌, ◌-◌, ◌<◌, Bool, true, false, Option, Some, None, is_some, nat_lt}
 use Names.{length, if◌then◌else◌, refl, ap, sym, ◌∙◌, arith, Act, Sleep, Closure, Step, Turn, Outcome}
-use Names.{outcome_of, act_of, next_act, looking, State, SoloEnd, alone_after, solo, after, step_outcome}
+use Names.{outcome_of, act_of, next_act, respins_from, State, SoloEnd, alone_after, solo, after, step_outcome}
 use Names.{is_possible, state_after_turn, turn_outcome, go_of, reply_to, closed_place, place_at, put}
 use Names.{can_turn, going_outcome, look_outcome, state_after_act, Place, both}
 use Rattle.steps_base.specs.declared.acts.Act.TheVariants.{End}
@@ -23,7 +23,7 @@ going_possible w t p h = outcome_possible (next_act (place_at (state_after_act w
 turn_possible : (w : State) (t : ℕ) (x : Turn) → can_turn w t x ≡ true → turn_outcome w t x
     ≢ outcome.TheVariants.NotNow
 turn_possible w t turn.TheVariants.Go can h = going_possible w t (place_at w t) h
-turn_possible w t turn.TheVariants.Spin can h = by_look (looking (place_at w t)) can h
+turn_possible w t turn.TheVariants.Spin can h = by_look (respins_from (place_at w t)) can h
   where
     by_look : (o : Option Place) → is_some o ≡ true → look_outcome w t o ≢ outcome.TheVariants.NotNow
     by_look None can h = absurd cc

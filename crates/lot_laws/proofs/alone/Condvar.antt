@@ -2,7 +2,7 @@
 use Rattle.lot_laws.proofs.Names
 use Names.{ℕ, true, Option, Some, None, if◌then◌else◌, ◌≡◌, ◌⊎◌, ◌+◌, ◌*◌, ◌<◌, length, get_or-set_same, inl}
 use Names.{inr, refl, sym, ◌∙◌, ap, subst, arith, lt-ltb, Op, apply, Outcome, Next, Reply, outcome_of}
-use Names.{Location, location_by, CondvarPlace, IsReached, MayHear, after_condvar_deeds, condvar_deeds}
+use Names.{Location, location_by, CondvarPlace, IsReached, MayReply, after_condvar_deeds, condvar_deeds}
 use Names.{condvar_profile, mutex_side, condvar_act, condvar_next, mutex_beside, Place, Idle, Condvar, act_of}
 use Names.{condvar_does, condvar_goes, next_act, next_place, Line, Main, IsThere, PlaceFits, SameSize, State}
 use Names.{after, can_do, go_of, go_outcome, going_outcome, is_possible, place_at, put, reply_to, section_at}
@@ -108,7 +108,7 @@ module _ (t l m : ℕ) (keeps : Keeps t) (w : State) (p : CondvarPlace) (g : Goe
     queue_then = so_then (λ s. (lock_state s l).queue) (λ q. refl)
         ∙ (goes_led w t l p g.world.well_formed g.world.inductive g.place lock_there can).1
 
-    pub hears : MayHear (condvar_of w l) t p told
+    pub hears : MayReply (condvar_of w l) t p told
     hears = may_hear w t l p g.world.inductive g.place can
 
     -- after the act it stands here

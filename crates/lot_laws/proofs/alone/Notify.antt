@@ -3,7 +3,7 @@
 use Rattle.lot_laws.proofs.Names
 use Names.{ℕ, Bool, true, false, if◌then◌else◌, ◌==◌, ◌&&◌, ◌≡◌, ◌+◌, ◌*◌, ◌≤◌, List, [], ◌∷◌, drop, length}
 use Names.{nat_lt, not, inl, inr, refl, sym, ◌∙◌, ap, subst, arith, Op, apply, first_of, Outcome, Reply}
-use Names.{Requeued, outcome_of, is_locked, NotifyAt, Notify, MayHear, after_condvar_deeds, condvar_deeds}
+use Names.{Requeued, outcome_of, is_locked, NotifyAt, Notify, MayReply, after_condvar_deeds, condvar_deeds}
 use Names.{condvar_next, is_shown, marks, move_act, moved_one, notified, notify_act, Condvar, SeeAgain}
 use Names.{MissIt, Queued, State, after, can_do, go_of, is_there, place_at, queue_at, reply_to}
 use Names.{state_after_act, word_at, lock_state, condvar_of, Rests}
@@ -129,7 +129,7 @@ module _ (t l m : ℕ) (keeps : Keeps t) where
           → reply_to w t (notify_act true l m (notify.Move locked)) ≡ Requeued number none_left
           → number ≡ length q
       number_is locked g number none_left told =
-          subst (λ r. MayHear (condvar_of w l) t (Notify true m (notify.Move locked)) r) told
+          subst (λ r. MayReply (condvar_of w l) t (Notify true m (notify.Move locked)) r) told
           (hears t l m keeps w (Notify true m (notify.Move locked)) g refl) ∙ ap length e
 
       afterwards : (locked : Bool) (g : Alone w true (notify.Move locked)) (number : ℕ) → number ≡ length q

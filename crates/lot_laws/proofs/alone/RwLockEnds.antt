@@ -128,11 +128,11 @@ module _ (w : State) (t l : ℕ) (a : Admission) (inductive : IsInductive w) (ad
   abbrev queues : Line → List Waiter
   queues m = queue_at w (key_of l m)
 
-  abbrev looking : RwLockPurpose → RwLockAt → RwLockPlace
-  looking q at = place_for t l a q false at
+  abbrev respins_from : RwLockPurpose → RwLockAt → RwLockPlace
+  respins_from q at = place_for t l a q false at
 
   -- its answer holds
-  holds : (q : RwLockPurpose) (at : RwLockAt) → place_at w t ≡ RwLock l a (Plain (looking q at))
+  holds : (q : RwLockPurpose) (at : RwLockAt) → place_at w t ≡ RwLock l a (Plain (respins_from q at))
       → (answer : Answer)
       → x ≡ outcome.End answer → HasAnswered t (Some (purpose_by q l)) (call_at w t).former answer
       (locks_of v2)
@@ -146,7 +146,8 @@ module _ (w : State) (t l : ℕ) (a : Admission) (inductive : IsInductive w) (ad
 
   -- each thread that has entered owns
   enters_owns : (y : Access) (how : Patience) (at : RwLockAt)
-      → place_at w t ≡ RwLock l a (Plain (looking (purpose.Enter y how) at)) → x ≡ outcome.End (entered how)
+      → place_at w t ≡ RwLock l a (Plain (respins_from (purpose.Enter y how) at)) → x
+      ≡ outcome.End (entered how)
       → (x ≡ outcome.End (entered_answer how)) × Owns (lock_state v2 l) t (wanted y)
   enters_owns y how at is e = (told, by_how how (holds (purpose.Enter y how) at is (entered_answer how) told))
     where
@@ -166,14 +167,16 @@ module _ (w : State) (t l : ℕ) (a : Admission) (inductive : IsInductive w) (ad
   queued y e = ap (map queued_of) e ∙ queued_after (2 * l) t y (queue_at w (2 * l))
 
   barred_by : (y : Access) (how : Patience) (at : RwLockAt)
-      → Decides t l a (decision_blocked how (word_at w l)) (looking (purpose.Enter y how) at) (word_at w l)
+      → Decides t l a (decision_blocked how (word_at w l)) (respins_from (purpose.Enter y how) at)
+      (word_at w l)
       queues v2 x
       → WaitsAlone how (lock_state w l) t (wanted y) x (lock_state v2 l)
   barred_by y Try at h = h
   barred_by y Patient at h = either (has_parked (word_at w l)) h
     where
       either : (b : Bool)
-          → Decides t l a (if b then decisions.Park else decisions.Mark) (looking (purpose.Enter y Patient)
+          → Decides t l a (if b then decisions.Park else decisions.Mark)
+          (respins_from (purpose.Enter y Patient)
           at)
           (word_at w l) queues v2 x
           → WaitsAlone Patient (lock_state w l) t (wanted y) x (lock_state v2 l)
@@ -182,7 +185,8 @@ module _ (w : State) (t l : ℕ) (a : Admission) (inductive : IsInductive w) (ad
   barred_by y Timed at h = either (has_parked (word_at w l)) h
     where
       either : (b : Bool)
-          → Decides t l a (if b then decisions.Park else decisions.Mark) (looking (purpose.Enter y Timed) at)
+          → Decides t l a (if b then decisions.Park else decisions.Mark)
+          (respins_from (purpose.Enter y Timed) at)
           (word_at w l) queues v2 x
           → WaitsAlone Timed (lock_state w l) t (wanted y) x (lock_state v2 l)
       either true h = (h.0, queued (wanted y) h.1)
@@ -190,20 +194,22 @@ module _ (w : State) (t l : ℕ) (a : Admission) (inductive : IsInductive w) (ad
 
   -- a thread that is to share looks at the word
   pub shares_alone : (y : Access) (how : Patience) → wanted y ≢ Exclusive
-      → place_at w t ≡ RwLock l a (Plain (looking (purpose.Enter y how) at.Load))
-      → Decides t l a (decision a (wanted y) how (word_at w l)) (looking (purpose.Enter y how) at.Load)
+      → place_at w t ≡ RwLock l a (Plain (respins_from (purpose.Enter y how) at.Load))
+      → Decides t l a (decision a (wanted y) how (word_at w l)) (respins_from (purpose.Enter y how) at.Load)
       (word_at w l) queues v2 x
       → EntersAlone (word_at w l ≡ 0) (locks_of w) t l (wanted y) how x (locks_of v2)
   shares_alone y how shared is h = record {
     owns = λ may. enters_owns y how at.Load is
-        (takes_one y shared (subst (λ d. Decides t l a d (looking (purpose.Enter y how) at.Load) (word_at w l)
+        (takes_one y shared (subst (λ d. Decides t l a d (respins_from (purpose.Enter y how) at.Load)
+        (word_at w l)
         queues v2 x) (takes w l a inductive admits y how (may_enter y shared may)) h));
     pends = λ e may some. absurd (shared e);
     refused = λ sort e. absurd (shared e);
-    full = λ full. subst (λ d. Decides t l a d (looking (purpose.Enter y how) at.Load) (word_at w l) queues v2
+    full = λ full. subst (λ d. Decides t l a d (respins_from (purpose.Enter y how) at.Load) (word_at w l)
+        queues v2
         x) (refuses w l a inductive admits y how full) h;
     barred = λ b. barred_by y how at.Load
-        (subst (λ d. Decides t l a d (looking (purpose.Enter y how) at.Load) (word_at w l) queues v2 x)
+        (subst (λ d. Decides t l a d (respins_from (purpose.Enter y how) at.Load) (word_at w l) queues v2 x)
         (waits w l a inductive admits y how b) h);
   }
     where
@@ -265,14 +271,15 @@ module _ (w : State) (t l : ℕ) (a : Admission) (inductive : IsInductive w) (ad
       unset false y h = refl
 
   abbrev writer : Patience → RwLockPlace
-  writer how = looking (purpose.Enter access.Exclusive how) at.First
+  writer how = respins_from (purpose.Enter access.Exclusive how) at.First
 
   -- a writer that finds a word that isn't clear
   module _ (how : Patience)
       (h : Decides t l a (decision a Exclusive how (word_at w l)) (writer how) (word_at w l) queues v2 x)
     where
       settles : MayEnter (rules_in w l) (lock_state w l) Exclusive
-          → Settles t l a (count_in (plus (word_at w l) 8) == 0) (looking (purpose.Enter access.Exclusive how)
+          → Settles t l a (count_in (plus (word_at w l) 8) == 0)
+          (respins_from (purpose.Enter access.Exclusive how)
           at.Look) queues v2 x
       settles may = subst (λ d. Decides t l a d (writer how) (word_at w l) queues v2 x)
           (takes w l a inductive admits access.Exclusive how may) h
@@ -288,13 +295,14 @@ module _ (w : State) (t l : ℕ) (a : Admission) (inductive : IsInductive w) (ad
       settles_alone : MayEnter (rules_in w l) (lock_state w l) Exclusive → readers (lock_state w l) ≡ 0
           → x ≡ outcome.End (entered how)
       settles_alone may none = subst (λ (b : Bool). Settles t l a b
-          (looking (purpose.Enter access.Exclusive how) at.Look) queues v2 x)
+          (respins_from (purpose.Enter access.Exclusive how) at.Look) queues v2 x)
           (ap (λ n. n == 0) (counts may ∙ none)) (settles may)
 
       settles_aside : MayEnter (rules_in w l) (lock_state w l) Exclusive → 1 ≤ readers (lock_state w l)
           → (x ≡ outcome.Sleep) × ((lock_state v2 l).aside ≡ Some t)
       settles_aside may some = let g : Sleeps t l a Second (writer how) queues v2 x =
-          subst (λ (b : Bool). Settles t l a b (looking (purpose.Enter access.Exclusive how) at.Look) queues
+          subst (λ (b : Bool). Settles t l a b (respins_from (purpose.Enter access.Exclusive how) at.Look)
+          queues
           v2
           x) left (settles may) in
           (g.0, sleeps_aside Exclusive (nobody_aside (nobody_writes may).1) g.1)
@@ -369,7 +377,7 @@ module _ (w : State) (t l : ℕ) (a : Admission) (inductive : IsInductive w) (ad
   -- ---------------------------------------------------------------- a right given up, or turned into another
 
   -- tells what the thread had of the lock as its call began
-  began : (q : RwLockPurpose) (at : RwLockAt) → place_at w t ≡ RwLock l a (Plain (looking q at))
+  began : (q : RwLockPurpose) (at : RwLockAt) → place_at w t ≡ RwLock l a (Plain (respins_from q at))
       → ((rights : ℕ → Rights) → before q at l rights ≡ rights) → (call_at w t).former
       ≡ (λ k. rights_of (lock_state w k) t)
   began q at is same_rights = ap (λ p. (call_state p (λ k. rights_of (lock_state w k) t)).former) is
@@ -394,7 +402,7 @@ module _ (w : State) (t l : ℕ) (a : Admission) (inductive : IsInductive w) (ad
       either true = omega arith
       either false = omega arith
 
-  lost_one : (y : Access) → place_at w t ≡ RwLock l a (Plain (looking (purpose.Release y) at.GiveWay))
+  lost_one : (y : Access) → place_at w t ≡ RwLock l a (Plain (respins_from (purpose.Release y) at.GiveWay))
       → x ≡ outcome.End answer.Ok
       → with_right (wanted y) (rights_of (lock_state v2 l) t) ≡ rights_of (lock_state w l) t
   lost_one y is told = let h = holds (purpose.Release y) at.GiveWay is answer.Ok told in
@@ -403,7 +411,7 @@ module _ (w : State) (t l : ℕ) (a : Admission) (inductive : IsInductive w) (ad
       ∙ ap (λ f. f l) (h.former_is ∙ began (purpose.Release y) at.GiveWay is (λ rights. refl))
 
   pub releases_alone : (y : Access) → place_at w t ≡ RwLock l a
-      (Plain (looking (purpose.Release y) at.GiveWay))
+      (Plain (respins_from (purpose.Release y) at.GiveWay))
       → x ≡ outcome.End answer.Ok → ReleasesAlone (locks_of w) t l (wanted y) false x (locks_of v2)
   releases_alone access.Shared is told = (told, lost_one access.Shared is told)
   releases_alone access.Upgradable is told = (told, lost_one access.Upgradable is told)
@@ -467,7 +475,7 @@ module _ (w : State) (t l : ℕ) (a : Admission) (inductive : IsInductive w) (ad
 
   -- tells what a conversion has made of its thread's rights
   replaced : (q : RwLockPurpose) (at : RwLockAt) (y z : Want) (how : Patience) (answer : Answer)
-      → place_at w t ≡ RwLock l a (Plain (looking q at)) → purpose_by q l ≡ Converts l y z how
+      → place_at w t ≡ RwLock l a (Plain (respins_from q at)) → purpose_by q l ≡ Converts l y z how
       → ((rights : ℕ → Rights) → before q at l rights ≡ rights)
       → x ≡ outcome.End answer
       → ((c : CallState) → AnswerHolds (Some (Converts l y z how)) (locks_of v2) t c answer → (k : ℕ)
@@ -480,7 +488,7 @@ module _ (w : State) (t l : ℕ) (a : Admission) (inductive : IsInductive w) (ad
       ∙ put_here (λ k. rights_of (lock_state w k) t) l (with_right z (rights_of (lock_state w l) t))
 
   pub downgrades_alone : (d : Downgrade)
-      → place_at w t ≡ RwLock l a (Plain (looking (purpose.Downgrade d) at.GiveWay))
+      → place_at w t ≡ RwLock l a (Plain (respins_from (purpose.Downgrade d) at.GiveWay))
       → x ≡ outcome.End answer.Ok → ConvertsAlone (lock_state w l) t (wanted (to_of d)) Patient x
       (lock_state v2 l)
   downgrades_alone downgrade.ToShared is told = (
@@ -503,12 +511,12 @@ module _ (w : State) (t l : ℕ) (a : Admission) (inductive : IsInductive w) (ad
 
   -- an upgrade has the upgradable right as it begins
   upgrades_from : (how : Patience) (at : RwLockAt) → place_at w t ≡ RwLock l a
-      (Plain (looking (purpose.Upgrade how) at))
+      (Plain (respins_from (purpose.Upgrade how) at))
       → (role_at None (purpose.Upgrade how) at).claims ≡ Some (Has Upgradable) → (lock_state w l).upgradable
       ≡ Some t
   upgrades_from how at is claims = (inductive.sites.site l).held t (Has Upgradable)
       (ap (λ p. (role_on p l).claims) is
-      ∙ ap (λ (b : Bool). (if b then rwlock_role (looking (purpose.Upgrade how) at) else idle).claims)
+      ∙ ap (λ (b : Bool). (if b then rwlock_role (respins_from (purpose.Upgrade how) at) else idle).claims)
       (same l) ∙ claims)
 
   readers_and_one : (lock_state w l).upgradable ≡ Some t → count_in (word_at w l) ≡ readers (lock_state w l)
@@ -517,7 +525,7 @@ module _ (w : State) (t l : ℕ) (a : Admission) (inductive : IsInductive w) (ad
       + one_if_some o) own
 
   upgrade_owns : (how : Patience) (at : RwLockAt) → place_at w t ≡ RwLock l a
-      (Plain (looking (purpose.Upgrade how) at))
+      (Plain (respins_from (purpose.Upgrade how) at))
       → ((rights : ℕ → Rights) → before (purpose.Upgrade how) at l rights ≡ rights)
       → x ≡ outcome.End (entered how)
       → (x ≡ outcome.End (entered_answer how)) × ((lock_state v2 l).exclusive ≡ Some t)
@@ -548,9 +556,9 @@ module _ (w : State) (t l : ℕ) (a : Admission) (inductive : IsInductive w) (ad
       → (count_in (word_at w l) == 1) ≡ false
   is_not_one own some = ap (λ n. n == 1) (readers_and_one own) ∙ grind (arith, nat_tests)
 
-  pub tries_upgrade : place_at w t ≡ RwLock l a (Plain (looking (purpose.Upgrade Try) at.Load))
-      → Decides t l a (decided a (looking (purpose.Upgrade Try) at.Load) (word_at w l))
-      (looking (purpose.Upgrade Try) at.Load)
+  pub tries_upgrade : place_at w t ≡ RwLock l a (Plain (respins_from (purpose.Upgrade Try) at.Load))
+      → Decides t l a (decided a (respins_from (purpose.Upgrade Try) at.Load) (word_at w l))
+      (respins_from (purpose.Upgrade Try) at.Load)
       (word_at w l) queues v2 x
       → ConvertsAlone (lock_state w l) t Exclusive Try x (lock_state v2 l)
   tries_upgrade is h = (
@@ -564,13 +572,13 @@ module _ (w : State) (t l : ℕ) (a : Admission) (inductive : IsInductive w) (ad
 
       by_count : (b : Bool) → (count_in (word_at w l) == 1) ≡ b
           → Decides t l a (if b then decisions.Take else decisions.Refuse answer.No)
-          (looking (purpose.Upgrade Try) at.Load)
+          (respins_from (purpose.Upgrade Try) at.Load)
           (word_at w l) queues v2 x
       by_count b e = subst (λ (b : Bool). Decides t l a (if b then decisions.Take else decisions.Refuse
-          answer.No) (looking (purpose.Upgrade Try) at.Load) (word_at w l) queues v2 x) e h
+          answer.No) (respins_from (purpose.Upgrade Try) at.Load) (word_at w l) queues v2 x) e h
 
   pub upgrades_alone : (how : Patience) → how ≢ Try → place_at w t ≡ RwLock l a
-      (Plain (looking (purpose.Upgrade how) at.GiveWay))
+      (Plain (respins_from (purpose.Upgrade how) at.GiveWay))
       → Upgrades t l a (count_in (word_at w l) == 1) how false (word_at w l) queues v2 x
       → ConvertsAlone (lock_state w l) t Exclusive how x (lock_state v2 l)
   upgrades_alone how waits is h = (
@@ -597,8 +605,8 @@ module _ (w : State) (t l : ℕ) (a : Admission) (inductive : IsInductive w) (ad
       left some = let e = readers_and_one own in let few = small in grind (arith, nat_tests)
 
       aside : 1 ≤ readers (lock_state w l) → (x ≡ outcome.Sleep) × ((lock_state v2 l).aside ≡ Some t)
-      aside some = let g : Sleeps t l a Second (looking (purpose.Upgrade how) at.Look) queues v2 x =
-          subst (λ (b : Bool). Settles t l a b (looking (purpose.Upgrade how) at.Look) queues v2 x)
+      aside some = let g : Sleeps t l a Second (respins_from (purpose.Upgrade how) at.Look) queues v2 x =
+          subst (λ (b : Bool). Settles t l a b (respins_from (purpose.Upgrade how) at.Look) queues v2 x)
           (left some) (by_count false (is_not_one own some)) in
           (g.0, sleeps_aside Exclusive (nobody_aside nobody_pending) g.1)
 

@@ -2,7 +2,7 @@
 use Rattle.lot_laws.proofs.Names
 use Names.{ℕ, Bool, true, false, if◌then◌else◌, ◌==◌, ◌||◌, ◌≡◌, ◌≢◌, ◌⊎◌, ◌+◌, ◌*◌, length, drop, is_none}
 use Names.{inl, inr, refl, sym, ap, subst, arith, without, Outcome, Reply, Value, Took, Removed, TakenBy}
-use Names.{MovedTo, HandedBy, Woken, outcome_of, UnlockAt, in_unlock, is_parked, unlock_act, Wait, Stands}
+use Names.{MovedTo, HandedBy, Woken, outcome_of, UnlockAt, in_unlock, is_parked, unlock_act, Wait, WaiterFate}
 use Names.{WaitAt, IsReached, stands_after, past_release, condvar_next, first_lock, in_wait, is_shown}
 use Names.{released, wait_act, Place, Condvar, next_place, State, after, can_do, go_of, place_at, queue_at}
 use Names.{reply_to, state_after_act, word_at, Befalls, acted_keeps, Rests}
@@ -15,7 +15,7 @@ use Rattle.steps_mutex.specs.declared.lock.Entry.TheVariants as entry
 use Rattle.steps_mutex.specs.declared.lock.LockAt.TheVariants as lock
 use Rattle.steps_mutex.specs.declared.places.MutexPlace.TheVariants as mutex
 use Rattle.steps_mutex.specs.declared.unlock.UnlockAt.TheVariants as unlock
-use Rattle.steps_condvar.specs.declared.wait.Stands.TheVariants as stands
+use Rattle.steps_condvar.specs.declared.wait.WaiterFate.TheVariants as stands
 use Rattle.steps_condvar.specs.declared.wait.WaitAt.TheVariants as wait
 use Rattle.lot_laws.proofs.alone.Condvar.{Afterwards, GoesAlone, Keeps, free_beside, free_here}
 use Rattle.lot_laws.proofs.alone.Condvar.{leads_afterwards}
@@ -28,16 +28,16 @@ module _ (t l m : ℕ) (keeps : Keeps t) (timed : Bool) where
   abbrev pub Alone : State → WaitAt → Type 0
   Alone w at = GoesAlone w t l m (Wait m timed at)
 
-  abbrev pub releasing : Stands → UnlockAt → WaitAt
+  abbrev pub releasing : WaiterFate → UnlockAt → WaitAt
   releasing s at = wait.Release s (mutex.Unlock at)
 
   -- ---------------------------------------------------------------- where it stands once it has acted
 
   -- in its release, whatever befell it there
   abbrev InRelease : UnlockAt → Place → Type 0
-  InRelease at p = (s : Stands) × (p ≡ Condvar l (Wait m timed (releasing s at)))
+  InRelease at p = (s : WaiterFate) × (p ≡ Condvar l (Wait m timed (releasing s at)))
 
-  told_there : (at : UnlockAt) (s : Stands) (r : Reply) → Befalls r
+  told_there : (at : UnlockAt) (s : WaiterFate) (r : Reply) → Befalls r
       → InRelease at (next_place (Condvar l (Wait m timed (releasing s at))) r)
   told_there at s (TakenBy u) h = (stands_after s (TakenBy u), refl)
   told_there at s (MovedTo key) h = (stands_after s (MovedTo key), refl)
@@ -45,7 +45,7 @@ module _ (t l m : ℕ) (keeps : Keeps t) (timed : Bool) where
   told_there at s (Woken n) h = (stands_after s (Woken n), refl)
   told_there at s r h = absurd h
 
-  module _ (w : State) (s : Stands) (at : UnlockAt) (g : Alone w (releasing s at)) where
+  module _ (w : State) (s : WaiterFate) (at : UnlockAt) (g : Alone w (releasing s at)) where
     in_release : InRelease at (place_at (state_after_act w t (Condvar l (Wait m timed (releasing s at)))
         (unlock_act m at)) t)
     in_release = acted_keeps (InRelease at) w t t (Condvar l (Wait m timed (releasing s at)))
@@ -54,7 +54,7 @@ module _ (t l m : ℕ) (keeps : Keeps t) (timed : Bool) where
 
     -- tells what is left to do after this reply, whatever befell it
     abbrev LeftThere : (State → Outcome → Type 0) → ℕ → Reply → Type 0
-    LeftThere P k r = (s2 : Stands) → Afterwards t l m keeps w (Wait m timed (releasing s at)) g P k
+    LeftThere P k r = (s2 : WaiterFate) → Afterwards t l m keeps w (Wait m timed (releasing s at)) g P k
         (condvar_next (Wait m timed (releasing s2 at)) r)
 
     goes_there : (P : State → Outcome → Type 0) (k : ℕ) → can_do w (unlock_act m at) ≡ true
@@ -77,17 +77,17 @@ module _ (t l m : ℕ) (keeps : Keeps t) (timed : Bool) where
 
   -- tells what holds of a state from the release on, and what it comes to after it
   module _ (P : State → Outcome → Type 0) (J : State → Type 0)
-      (kept : (w : State) (s : Stands) (at : UnlockAt) → Alone w (releasing s at) → at ≢ unlock.Subtract
+      (kept : (w : State) (s : WaiterFate) (at : UnlockAt) → Alone w (releasing s at) → at ≢ unlock.Subtract
       → can_do w (unlock_act m at) ≡ true → J w → J (after w (go_of t)))
-      (finish : (w : State) (s : Stands) → J w → Alone w (past_release s)
+      (finish : (w : State) (s : WaiterFate) → J w → Alone w (past_release s)
       → ((outcome_of (wait_act l m (past_release s)) ≡ outcome.Sleep) × P w outcome.Sleep)
       ⊎ ((outcome_of (wait_act l m (past_release s)) ≡ outcome.Step) × Leads 8 w t P)) where
-    wakes : (w : State) (s : Stands) (any : Bool) → J w → Alone w (releasing s (unlock.Leave any))
+    wakes : (w : State) (s : WaiterFate) (any : Bool) → J w → Alone w (releasing s (unlock.Leave any))
         → Leads 9 w t P
     wakes w s any j g = goes_there w s (unlock.Leave any) g P 8 refl (λ s2 h. finish (after w (go_of t)) s2
         (kept w s (unlock.Leave any) g (λ e. cc) refl j) h)
 
-    clears : (w : State) (s : Stands) (any : Bool) → J w → Alone w (releasing s (unlock.Clear any))
+    clears : (w : State) (s : WaiterFate) (any : Bool) → J w → Alone w (releasing s (unlock.Clear any))
         → Leads 10 w t P
     clears w s any j g = goes_there w s (unlock.Clear any) g P 9 refl
         (λ s2 h. inr (
@@ -96,11 +96,11 @@ module _ (t l m : ℕ) (keeps : Keeps t) (timed : Bool) where
               h,
         ))
 
-    takes : (w : State) (s : Stands) → J w → Alone w (releasing s unlock.Take) → Leads 11 w t P
+    takes : (w : State) (s : WaiterFate) → J w → Alone w (releasing s unlock.Take) → Leads 11 w t P
     takes w s j g = goes_there w s unlock.Take g P 10 refl
         (λ s2. taken s2 _ (length (drop 1 (queue_at w (2 * m))) == 0))
       where
-        taken : (s2 : Stands) (any none_left : Bool)
+        taken : (s2 : WaiterFate) (any none_left : Bool)
             → Afterwards t l m keeps w (Wait m timed (releasing s unlock.Take)) g P 10
             (condvar_next (Wait m timed (releasing s2 unlock.Take)) (Took any none_left))
         taken s2 any true h = inr (
@@ -114,7 +114,7 @@ module _ (t l m : ℕ) (keeps : Keeps t) (timed : Bool) where
               (wakes (after w (go_of t)) s2 any (kept w s unlock.Take g (λ e. cc) refl j) h),
         )
 
-    enters : (w : State) (s : Stands) → J w → Alone w (releasing s unlock.Enter) → Leads 12 w t P
+    enters : (w : State) (s : WaiterFate) → J w → Alone w (releasing s unlock.Enter) → Leads 12 w t P
     enters w s j g = elim (free_beside t l m keeps w (Wait m timed (releasing s unlock.Enter)) g refl refl
         refl) [
           | inl free ↦ let can : can_do w (unlock_act m unlock.Enter) ≡ true = ap is_none free in
@@ -123,11 +123,11 @@ module _ (t l m : ℕ) (keeps : Keeps t) (timed : Bool) where
           | inr barred ↦ leads_barred w t P 12 barred
         ]
 
-    pub subtracts : (w : State) (s : Stands) (g : Alone w (releasing s unlock.Subtract))
+    pub subtracts : (w : State) (s : WaiterFate) (g : Alone w (releasing s unlock.Subtract))
         → J (after w (go_of t)) → Leads 13 w t P
     subtracts w s g j = goes_there w s unlock.Subtract g P 12 refl (λ s2. seen s2 (word_at w m))
       where
-        seen : (s2 : Stands) (v : ℕ)
+        seen : (s2 : WaiterFate) (v : ℕ)
             → Afterwards t l m keeps w (Wait m timed (releasing s unlock.Subtract)) g P 12
             (condvar_next (Wait m timed (releasing s2 unlock.Subtract)) (Value v))
         seen s2 v = either (is_parked v)
@@ -142,7 +142,7 @@ module _ (t l m : ℕ) (keeps : Keeps t) (timed : Bool) where
               | inr on ↦ inr (on.0, leads_more 8 12 (after w (go_of t)) t P (omega arith) on.1)
             ]
 
-    pub releases : (w : State) (s : Stands) (at : UnlockAt) → at ≢ unlock.Subtract → J w
+    pub releases : (w : State) (s : WaiterFate) (at : UnlockAt) → at ≢ unlock.Subtract → J w
         → Alone w (releasing s at)
         → Leads 12 w t P
     releases w s unlock.Subtract other j g = absurd (other refl)
@@ -159,7 +159,7 @@ module _ (t l m : ℕ) (keeps : Keeps t) (timed : Bool) where
   relocks_first : (w : State) (late again : Bool) → Alone w (wait.Lock late (first_lock again)) → RestsIn 8 w
   relocks_first w late again g = relock_rests t l m keeps timed late w again lock.First tt (λ e. cc) g
 
-  released_rests : (w : State) (s : Stands) → Unit {0} → Alone w (past_release s)
+  released_rests : (w : State) (s : WaiterFate) → Unit {0} → Alone w (past_release s)
       → ((outcome_of (wait_act l m (past_release s)) ≡ outcome.Sleep) × Rests outcome.Sleep)
       ⊎ ((outcome_of (wait_act l m (past_release s)) ≡ outcome.Step) × RestsIn 8 w)
   released_rests w (stands.Noted note.Normal) j g = inr (refl, relocks_first w false true g)
@@ -170,13 +170,14 @@ module _ (t l m : ℕ) (keeps : Keeps t) (timed : Bool) where
   released_rests w (stands.InHand by) j g = inl (refl, tt)
   released_rests w (stands.Handed by) j g = inl (refl, tt)
 
-  after_subtract : (w : State) (s : Stands) (at : UnlockAt) → at ≢ unlock.Subtract → Alone w (releasing s at)
+  after_subtract : (w : State) (s : WaiterFate) (at : UnlockAt) → at ≢ unlock.Subtract
+      → Alone w (releasing s at)
       → RestsIn 13 w
   after_subtract w s at other g = leads_more 12 13 w t (λ v o. Rests o) (omega arith)
       (releases (λ v o. Rests o) (λ v. Unit {0}) (λ v s at h other can j. tt) released_rests w s at other tt
       g)
 
-  release_rests : (w : State) (s : Stands) (at : UnlockAt) → Alone w (releasing s at) → RestsIn 13 w
+  release_rests : (w : State) (s : WaiterFate) (at : UnlockAt) → Alone w (releasing s at) → RestsIn 13 w
   release_rests w s unlock.Subtract g = subtracts (λ v o. Rests o) (λ v. Unit {0})
       (λ v s at h other can j. tt) released_rests w s g tt
   release_rests w s unlock.Enter g = after_subtract w s unlock.Enter (λ e. cc) g

@@ -3,7 +3,7 @@
 use Rattle.lot_laws.proofs.Names
 use Names.{ℕ, Bool, true, false, Option, Some, None, if◌then◌else◌, ◌==◌, ◌||◌, ◌≡◌, ◌≢◌, ◌⊎◌, ◌*◌, ◌≤◌, ◌<◌}
 use Names.{List, [], ◌∷◌, ◌++◌, length, inl, inr, refl, sym, ◌∙◌, ap, subst, arith, get_or-set_same}
-use Names.{nat_tests, first_of, Outcome, outcome_of, UnlockAt, unlock_act, Wait, Stands, WaitAt, IsListed}
+use Names.{nat_tests, first_of, Outcome, outcome_of, UnlockAt, unlock_act, Wait, WaiterFate, WaitAt, IsListed}
 use Names.{after_condvar_deeds, condvar_deeds, word_showing, wait_row, past_release, in_wait, is_shown}
 use Names.{shown_as, wait_act, Condvar, SeeOther, Show, Queued, State, after, can_do, go_of, queue_at}
 use Names.{queues_without_first, reply_to, state_after_act, state_after_taking, unlocked, word_at, lock_state}
@@ -15,7 +15,7 @@ use Rattle.spec_locks.specs.declared.outcomes.Answer.TheVariants as answer
 use Rattle.spec_locks.specs.declared.outcomes.Outcome.TheVariants as outcome
 use Rattle.steps_base.specs.declared.acts.Next.TheVariants as next
 use Rattle.steps_mutex.specs.declared.unlock.UnlockAt.TheVariants as unlock
-use Rattle.steps_condvar.specs.declared.wait.Stands.TheVariants as stands
+use Rattle.steps_condvar.specs.declared.wait.WaiterFate.TheVariants as stands
 use Rattle.steps_condvar.specs.declared.wait.WaitAt.TheVariants as wait
 use Rattle.spec_locks.specs.Locks.{times}
 use Rattle.lot_laws.proofs.alone.Condvar.{Afterwards, GoesAlone, Keeps, mutex_there, queue_then, so_then}
@@ -44,7 +44,7 @@ module _ (t l m : ℕ) (keeps : Keeps t) (timed : Bool) where
     abbrev Sleeps : State → Outcome → Type 0
     Sleeps v o = (o ≡ outcome.Sleep) × LetGo v
 
-    module _ (w : State) (s : Stands) (at : UnlockAt) (g : Alone w (releasing t l m keeps timed s at))
+    module _ (w : State) (s : WaiterFate) (at : UnlockAt) (g : Alone w (releasing t l m keeps timed s at))
         (can : can_do w (unlock_act m at) ≡ true) where
       abbrev acted : State
       acted = state_after_act w t (Condvar l (Wait m timed (releasing t l m keeps timed s at)))
@@ -54,11 +54,11 @@ module _ (t l m : ℕ) (keeps : Keeps t) (timed : Bool) where
       owner_then e = so_then t l m keeps w (Wait m timed (releasing t l m keeps timed s at)) g can
           (λ s. owner_at s m) (λ q. refl) ∙ e
 
-    there : (w : State) (s : Stands) (at : UnlockAt) → Alone w (releasing t l m keeps timed s at)
+    there : (w : State) (s : WaiterFate) (at : UnlockAt) → Alone w (releasing t l m keeps timed s at)
         → m < length w.locks
     there w s at g = mutex_there t l m keeps w (Wait m timed (releasing t l m keeps timed s at)) g refl
 
-    owner_kept : (w : State) (s : Stands) (at : UnlockAt) → Alone w (releasing t l m keeps timed s at)
+    owner_kept : (w : State) (s : WaiterFate) (at : UnlockAt) → Alone w (releasing t l m keeps timed s at)
         → at ≢ unlock.Subtract
         → owner_at w m ≡ None
         → owner_at (state_after_act w t (Condvar l (Wait m timed (releasing t l m keeps timed s at)))
@@ -76,7 +76,7 @@ module _ (t l m : ℕ) (keeps : Keeps t) (timed : Bool) where
     owner_kept w s (unlock.Leave true) g other free = free
     owner_kept w s (unlock.Leave false) g other free = free
 
-    kept : (w : State) (s : Stands) (at : UnlockAt) → Alone w (releasing t l m keeps timed s at)
+    kept : (w : State) (s : WaiterFate) (at : UnlockAt) → Alone w (releasing t l m keeps timed s at)
         → at ≢ unlock.Subtract
         → can_do w (unlock_act m at) ≡ true → LetGo w → LetGo (after w (go_of t))
     kept w s at g other can j = (
@@ -92,7 +92,7 @@ module _ (t l m : ℕ) (keeps : Keeps t) (timed : Bool) where
           g.place).listed in
           let same : times t (lock_state v l).queue ≡ times t q = ap (times t) j.0 in omega arith
 
-      finish : (v : State) (s : Stands) → LetGo v → Alone v (past_release s)
+      finish : (v : State) (s : WaiterFate) → LetGo v → Alone v (past_release s)
           → ((outcome_of (wait_act l m (past_release s)) ≡ outcome.Sleep) × Sleeps v outcome.Sleep)
           ⊎ ((outcome_of (wait_act l m (past_release s)) ≡ outcome.Step) × Leads 8 v t Sleeps)
       finish v (stands.Noted note.Normal) j g =

@@ -3,7 +3,7 @@
 use Rattle.lot_laws.proofs.Names
 use Names.{ℕ, Bool, true, false, Option, Some, None, if◌then◌else◌, ◌==◌, ◌≡◌, ◌≢◌, ◌*◌, ◌+◌, ◌<◌, List, []}
 use Names.{◌∷◌, length, refl, sym, ◌∙◌, ap, subst, One, Want, first_of, times, without, Check, Reply, Done}
-use Names.{Parked, Removed, holds, Location, Accepts, AreLeaving, GoesIn, Hears, LeavesLine, Move, Parks}
+use Names.{Parked, Removed, holds, Location, Accepts, AreLeaving, GoesIn, Hears, LeavesLine, StepView, Parks}
 use Names.{location_of, location_then, inside_of, Hand, Profile, hand, taken_from, Park, Rules, keep_from}
 use Names.{putting, Case, Deed, End, In, Line, Main, Out, Role, Second, Site, after_deed, Place, State}
 use Names.{place_at, put, queue_at, queues_with_last, queues_without, section_at, state_after_park}
@@ -26,14 +26,14 @@ free_is None x e = refl
 free_is (Some h) x e = absurd cc
 
 -- into the section of a line, in somebody's hand or not
-pub record Enters (x : Move) (m : Line) (told : Reply) : Type 0 where
+pub record Enters (x : StepView) (m : Line) (told : Reply) : Type 0 where
   pub out : (location_of x).inside ≡ None
   pub deeds : x.deeds None told ≡ In m ∷ []
   pub goes : location_then x told ≡ record (location_of x) { inside = Some m }
   pub held : taken_from (x.next told).hand (x.next told).wants true ≡ taken_from x.row.hand x.row.wants true
 
 module _ (w : State) (t l : ℕ) (inductive : IsInductive w) (there : t < length w.places) (r : Rules)
-    (rules : rules_in w l ≡ r) (x : Move) where
+    (rules : rules_in w l ≡ r) (x : StepView) where
   abbrev here : Site
   here = lock_by w l r
 

@@ -3,7 +3,7 @@
 use Rattle.lot_laws.proofs.Names
 use Names.{ℕ, Bool, true, false, Option, Some, None, if◌then◌else◌, ◌≡◌, ◌≢◌, ◌*◌, ◌+◌, ◌<◌, List, [], ◌∷◌}
 use Names.{length, inl, inr, refl, sym, ◌∙◌, ap, subst, Normal, Op, Want, first_of, apply, Act, Check, Next}
-use Names.{Reply, Parked, Picked, TakenBy, Took, Value, Late, Woken, CallFollows, holds, outcome_of, Move}
+use Names.{Reply, Parked, Picked, TakenBy, Took, Value, Late, Woken, CallFollows, holds, outcome_of, StepView}
 use Names.{Picks, StaysPut, TakesAside, TellsHanded, WasGiven, location_then, row_of, takes_aside, Wakes}
 use Names.{Location, location_by, Hand, Of, hand, in_hand, taken_from, shares_then, Profile, RestsAfter}
 use Names.{TakesAll, aside_in, code, parked_in, case_of, event_by, OfOnce, Rules, is_recursive, keep_from}
@@ -100,7 +100,7 @@ module _ (w : State) (t l : ℕ) (p : Place) (inductive : IsInductive w) (shape 
   abbrev v : Says
   v = book.says p
 
-  abbrev x : Move
+  abbrev x : StepView
   x = move_of v
 
   pub k : Tied w l p v

@@ -2,7 +2,8 @@
 -- here.
 use Rattle.lot_laws.proofs.Names
 use Names.{slice_index, Op, Waiter, apply, Act, Next, Reply, Value, Late, Owners, CallFollows, Accepts}
-use Names.{GoesIn, Hears, Move, MovesByAct, RowWaits, TakesAside, TellsHanded, WasGiven, row_of, CallWaits}
+use Names.{GoesIn, Hears, StepView, MovesByAct, RowWaits, TakesAside, TellsHanded, WasGiven, row_of}
+use Names.{CallWaits}
 use Names.{One, shares_then, Profile, hand, RowPromises, OnceState, HasLimit, aside_in, code, parked_in}
 use Names.{AllNeeded, after_all, Rules, Taken, is_recursive, standing, Deed, IsSite, Line, Main, Runs, Second}
 use Names.{Site, has_readers, ClosureAnswers, RestsAfter, TakesAll}
@@ -25,7 +26,7 @@ pub record IsThere (r : Rules) (s : Site) (t : ℕ) (row : Profile) : Type 0 whe
   pub aside : aside_in r.sort (code r s) ≡ s.aside_parked
   pub limits : has_readers r.sort ≡ true → (r.limit < 2 ^ 60 - 1) × HasLimit r s.lock
 
-module _ (r : Rules) (s : Site) (t : ℕ) (x : Move) where
+module _ (r : Rules) (s : Site) (t : ℕ) (x : StepView) where
   -- the deeds of a reply may be done, and the next row says what the thread does then
   pub record Follows (who : Option ℕ) (told : Reply) : Type 0 where
     pub needed : AllNeeded r (x.deeds who told) s t
@@ -45,7 +46,7 @@ module _ (r : Rules) (s : Site) (t : ℕ) (x : Move) where
     pub aside : aside_in r.sort (code r afterwards) ≡ afterwards.aside_parked
 
 -- where an act takes it: by the act, for every sort of lock
-abbrev pub MovesBy : Rules → ℕ → Move → Hears → Act → Type 0
+abbrev pub MovesBy : Rules → ℕ → StepView → Hears → Act → Type 0
 MovesBy r l x hears (act.Take key whom.First) = ((r.sort ≡ Semaphore) × (key ≡ key_of l Main)
     × TakesFirst take_deeds x hears) ⊎ ((key ≡ key_of l Second) × TakesAside x hears)
 MovesBy r l x hears (act.Take key whom.All) = (key ≡ key_of l Main) × TakesAll x hears
@@ -66,7 +67,7 @@ pub record Says : Type 1 where
   pub deeds : Option ℕ → Reply → List Deed
   pub hears : Hears
 
-abbrev pub move_of : Says → Move
+abbrev pub move_of : Says → StepView
 move_of v = record { row = v.row; next = λ told. row_of (v.comes told); deeds = v.deeds }
 
 -- a page: the laws of what a place says, at a lock with these rules
@@ -92,8 +93,8 @@ pub record Page (r : Rules) (l : ℕ) (v : Says) (y : Act) (owners : ℕ → ℕ
   pub promises : RowPromises r.sort l v.row y
 
 -- where nobody is handed the lock while asleep
-pub plainly_waits : (x : Move) → RowWaits x → CallWaits x
+pub plainly_waits : (x : StepView) → RowWaits x → CallWaits x
 plainly_waits x z = record { aside = z.aside; stands = z.stands; held = λ u h. (z.held u false h).1 }
 
-pub never_given : (x : Move) → RowWaits x → (u : ℕ) → x.row.hand ≡ hand u true → WasGiven x u
+pub never_given : (x : StepView) → RowWaits x → (u : ℕ) → x.row.hand ≡ hand u true → WasGiven x u
 never_given x z u h = absurd (let e : true ≡ false = (z.held u true h).0 in cc)

@@ -3,7 +3,8 @@ use Rattle.lot_laws.proofs.Names
 use Names.{ℕ, Bool, true, false, Option, Some, None, if◌then◌else◌, ◌≡◌, refl, subst, CondvarPlace, Wait}
 use Names.{condvar_looking, in_lock, MutexPlace, Lock, mutex_looking, OncePlace, once_looking}
 use Names.{RwLockCallPlace, SemaphorePlace, semaphore_looking, call_looking, Place, Idle, Mutex, RwLock, Once}
-use Names.{Condvar, Semaphore, beside_of, in_condvar, in_mutex, in_once, in_rwlock, in_semaphore, looking}
+use Names.{Condvar, Semaphore, beside_of, in_condvar, in_mutex, in_once, in_rwlock, in_semaphore}
+use Names.{respins_from}
 use Names.{profile_beside}
 use Rattle.steps_condvar.specs.declared.wait.WaitAt.TheVariants as wait
 use Rattle.steps_mutex.specs.declared.lock.LockAt.TheVariants as lock
@@ -11,7 +12,7 @@ use Rattle.steps_mutex.specs.declared.lock.LockAt.TheVariants as lock
 abbrev pub SameBeside : Place → Place → Type 0
 SameBeside p q = (beside_of q ≡ beside_of p) × (profile_beside q ≡ profile_beside p)
 
-pub looks_beside : (p q : Place) → looking p ≡ Some q → SameBeside p q
+pub looks_beside : (p q : Place) → respins_from p ≡ Some q → SameBeside p q
 looks_beside Idle q is = absurd cc
 looks_beside (Mutex l at) q is = by_place (mutex_looking at) is
   where

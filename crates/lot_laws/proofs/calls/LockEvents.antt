@@ -152,7 +152,7 @@ woken_goes_on (Once k at) t l h r = woken_call (Once k at) t l tt h r
 
 module _ (w v : State) (t l : ℕ) where
   pub wakes_others : Befalls w v t l (Woken Normal) → Others w v t (AtLock l Wake)
-  wakes_others befalls u ne r = ap (λ p. call_state p r) (befalls u ne)
+  wakes_others delivers u ne r = ap (λ p. call_state p r) (delivers u ne)
       ∙ either (is_taken_by t (taken_at (place_at w u) l)) refl
     where
       either : (b : Bool) → is_taken_by t (taken_at (place_at w u) l) ≡ b
@@ -307,7 +307,8 @@ module _ (w v : State) (t l : ℕ) (to : Option ℕ) (h : IsEvent w v t (AtLock 
 
   pub hands_others : (alone : Bool) → Befalls w v t l (HandedBy t alone)
       → OthersFollow w v t (AtLock l (HandsOff Exclusive (heir to)))
-  hands_others alone befalls u ne = ap (λ p. call_state p (rights v u)) (befalls u ne) ∙ either (cases_to to)
+  hands_others alone delivers u ne = ap (λ p. call_state p (rights v u)) (delivers u ne)
+      ∙ either (cases_to to)
     where
       cases_to : (o : Option ℕ) → (o ≡ Some u) ⊎ (o ≢ Some u)
       cases_to None = inr (λ e. cc)

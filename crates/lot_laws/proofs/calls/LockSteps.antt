@@ -7,7 +7,8 @@ use Names.{can_go, run_ending, Closes, Rules, once_promises, Purpose, lock_for, 
 use Names.{is_closure, Run, OncePlace, once_profile, SemaphorePlace, Acquire, semaphore_profile, taken_from}
 use Names.{has_readers, ltb-true, lt-ltb, One, Value, Parked, HandedBy, Woken, Turn, Step, lock_in, Outcome}
 use Names.{Lock, TryLock, Unlock, UnlockFair, First, Load, Asleep, Place, Idle, Mutex, RwLock, Once, Condvar}
-use Names.{Semaphore, outcome_of, act_of, next_place, next_act, looking, late_key, first_place, rwlock_goes}
+use Names.{Semaphore, outcome_of, act_of, next_place, next_act, respins_from, late_key, first_place}
+use Names.{rwlock_goes}
 use Names.{key_in, calls, State, place_at, word_at, kind_at, section_at, put, state_after_act, go_reply}
 use Names.{state_with_sections, reply_to, can_do, state_after_look, look_outcome, state_after_go, go_outcome}
 use Names.{going_outcome, state_after_late_on, is_free_under, can_turn, state_after_turn, turn_outcome}
@@ -241,7 +242,7 @@ condvar_no_mutex w l (condvars.Notify all m at) other r of = other of
 module _ (w : State) (t : ℕ) (shape : IsWellFormed w) (inductive : IsInductive w) (there : t
     < length w.places)
     (q : Place)
-    (is : looking (place_at w t) ≡ Some q) where
+    (is : respins_from (place_at w t) ≡ Some q) where
   abbrev moved : State
   moved = put w t q
 
@@ -271,7 +272,7 @@ module _ (w : State) (t : ℕ) (shape : IsWellFormed w) (inductive : IsInductive
       subst (FitsItsLock w) e (inductive.stands.calls t) in own_sort w l ((call_profile a c).purpose l)
       (call_promises (rules_in w l) a l c calls.0 calls.1).own (λ f. let both : false ≡ true =
       sym (ap has_readers f) ∙ calls.0.0 in cc) of)
-  look_stays (Mutex l at) e of = let loads = mutex_looks l at q (ap looking (sym e) ∙ is) in
+  look_stays (Mutex l at) e of = let loads = mutex_looks l at q (ap respins_from (sym e) ∙ is) in
       let now : place_at moved t ≡ Mutex l (Lock loads.0 loads.1 Load) = here w t there q is ∙ loads.2 in
       stays_as_before w t there q is _ (locks_of (state_after_go moved t))
       (subst (λ p. Stays (locks_of moved) t ((locks_of moved).calls t) (going_outcome moved t p)
@@ -360,9 +361,10 @@ module _ (w : State) (t : ℕ) (shape : IsWellFormed w) (inductive : IsInductive
     turned_does counted condvars (turn.TheVariants.Begin c) can = begin_goes w t c shape inductive there can
     turned_does counted condvars turn.TheVariants.Go can =
         (may_go w t can, going_goes w t shape inductive there counted condvars can)
-    turned_does counted condvars turn.TheVariants.Spin can = (can, by_look (looking (place_at w t)) refl can)
+    turned_does counted condvars turn.TheVariants.Spin can =
+        (can, by_look (respins_from (place_at w t)) refl can)
       where
-        by_look : (o : Option Place) → looking (place_at w t) ≡ o → is_some o ≡ true
+        by_look : (o : Option Place) → respins_from (place_at w t) ≡ o → is_some o ≡ true
             → Looks (locks_of w) t (look_outcome w t o) (locks_of (state_after_look w t o))
         by_look None is can = absurd cc
         by_look (Some q) is can = looks w t shape inductive there q is counted condvars
@@ -416,9 +418,9 @@ module _ (w : State) (t : ℕ) (shape : IsWellFormed w) (inductive : IsInductive
         → SectionChanges (section_at w key) t (section_at (state_after_turn w t x) key)
     turned_sections (turn.TheVariants.Begin c) can key = inl refl
     turned_sections turn.TheVariants.Go can key = gone_sections w t shape inductive can key
-    turned_sections turn.TheVariants.Spin can key = by_look (looking (place_at w t)) refl
+    turned_sections turn.TheVariants.Spin can key = by_look (respins_from (place_at w t)) refl
       where
-        by_look : (o : Option Place) → looking (place_at w t) ≡ o
+        by_look : (o : Option Place) → respins_from (place_at w t) ≡ o
             → SectionChanges (section_at w key) t (section_at (state_after_look w t o) key)
         by_look None is = inl refl
         by_look (Some q) is = gone_sections (put w t q) t (well_formed_moved w t shape inductive there q is)
@@ -441,9 +443,9 @@ module _ (w : State) (t : ℕ) (shape : IsWellFormed w) (inductive : IsInductive
         told_step _ (put_sleeps w t there w (first_place (kind_at w (lock_in c)) c) refl
         ∙ begins_awake (kind_at w (lock_in c)) c)
     turned_told turn.TheVariants.Go can = told_going w t there
-    turned_told turn.TheVariants.Spin can = by_look (looking (place_at w t)) refl can
+    turned_told turn.TheVariants.Spin can = by_look (respins_from (place_at w t)) refl can
       where
-        by_look : (o : Option Place) → looking (place_at w t) ≡ o → is_some o ≡ true
+        by_look : (o : Option Place) → respins_from (place_at w t) ≡ o → is_some o ≡ true
             → (look_outcome w t o ≡ outcome.TheVariants.Sleep)
             ↔ (sleeps (act_of (place_at (state_after_look w t o) t)) ≡ true)
         by_look None is can = absurd cc
@@ -482,9 +484,9 @@ module _ (w : State) (t : ℕ) (shape : IsWellFormed w) (inductive : IsInductive
         (get_or-set_same w.places t (first_place (kind_at w (lock_in c)) c) Idle there)
         ∙ begins_outside (kind_at w (lock_in c)) c)
     turned_runs turn.TheVariants.Go can = going_runs w there
-    turned_runs turn.TheVariants.Spin can = by_look (looking (place_at w t)) refl can
+    turned_runs turn.TheVariants.Spin can = by_look (respins_from (place_at w t)) refl can
       where
-        by_look : (o : Option Place) → looking (place_at w t) ≡ o → is_some o ≡ true
+        by_look : (o : Option Place) → respins_from (place_at w t) ≡ o → is_some o ≡ true
             → is_closure (look_outcome w t o) ≡ runs_closure (act_of (place_at (state_after_look w t o) t))
         by_look None is can = absurd cc
         by_look (Some q) is can = going_runs (put w t q) (there_moved w t shape inductive there q is)

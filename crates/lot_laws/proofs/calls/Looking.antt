@@ -8,7 +8,8 @@ use Names.{IsReached, IsRelock, condvar_looking, in_lock, mutex_beside, Entry, i
 use Names.{next_place, beside_of, profile_beside, is_lock, Closed, in_once, once_looking, OncePlace}
 use Names.{SemaphorePlace, semaphore_looking, RwLockCallPlace, fair_looks_stand, call_looking, in_rwlock}
 use Names.{cases_eq, Act, Word, Outcome, taken_from, MutexPlace, Place, Idle, Mutex, RwLock, Once, Condvar}
-use Names.{Semaphore, act_of, looking, called_lock, profile, in_mutex, in_semaphore, mutex_looking, State}
+use Names.{Semaphore, act_of, respins_from, called_lock, profile, in_mutex, in_semaphore, mutex_looking}
+use Names.{State}
 use Names.{unlocked, place_at, put, can_go, state_after_act, state_after_go, IsLook, look, Profile, Rights}
 use Names.{rights_of, LocksState, GoesOn, Stays, idle, lock_state, locks_of, call_on_both, stance_of, nowhere}
 use Names.{KeepsWordsAndQueues, FitsCondvar, FitsItsLock, Goes, IsInductive, rules_in}
@@ -70,7 +71,7 @@ looks_on (Wait m timed (wait.Lock late to)) at2 is reached = absurd cc
 looks_on at at2 is reached = absurd cc
 
 -- it is in the same call, of a lock of its sort
-calls_on : (w : State) (p q : Place) → looking p ≡ Some q → FitsItsLock w p → FitsItsLock w q
+calls_on : (w : State) (p q : Place) → respins_from p ≡ Some q → FitsItsLock w p → FitsItsLock w q
 calls_on w Idle q is calls = absurd cc
 calls_on w (Condvar l at) q is calls = by_place (condvar_looking at) refl is
   where
@@ -258,7 +259,8 @@ module _ (w : State) (t : ℕ) (there : t < length w.places) (q : Place) (it : I
 
 -- ---------------------------------------------------------------- a look
 
-module _ (w : State) (t : ℕ) (there : t < length w.places) (q : Place) (is : looking (place_at w t) ≡ Some q)
+module _ (w : State) (t : ℕ) (there : t < length w.places) (q : Place)
+    (is : respins_from (place_at w t) ≡ Some q)
   where
     abbrev looked : State
     looked = put w t q

@@ -5,7 +5,7 @@ use Names.{is_some, inl, inr, refl, sym, ap, subst, eqb-true, has_aside, is_runn
 use Names.{semaphore_act, One, Act, MutexPlace, mutex_act, mutex_looking, OncePlace, Course, course_act}
 use Names.{course_of, Admission, RwLockPlace, RwLockAt, Decision, act_at, count_act, decided as decides}
 use Names.{decided_act, exchange, plus, gone_to, is_mark, looking_at, in_call, in_lock, Place, Idle, Mutex}
-use Names.{RwLock, Once, Condvar, Semaphore, act_of, in_condvar, in_mutex, in_once, in_rwlock, looking}
+use Names.{RwLock, Once, Condvar, Semaphore, act_of, in_condvar, in_mutex, in_once, in_rwlock, respins_from}
 use Names.{in_semaphore, State, place_at, kind_at, FitsItsLock, IsInductive, sort_at, LeadsToSleep, SetsBit}
 use Rattle.spec_locks.specs.Locks as locks
 use Rattle.steps_semaphore.specs.declared.places.SemaphorePlace.TheVariants as semaphore
@@ -116,7 +116,7 @@ condvar_there : (l m : ℕ) (timed timed_out : Bool) (o : Option MutexPlace)
 condvar_there l m timed timed_out None h = absurd cc
 condvar_there l m timed timed_out (Some to) h = refl
 
-place_looks : (w : State) (p : Place) → FitsItsLock w p → is_some (looking p) ≡ true → Looks w p
+place_looks : (w : State) (p : Place) → FitsItsLock w p → is_some (respins_from p) ≡ true → Looks w p
 place_looks w Idle fits h = absurd cc
 place_looks w (Mutex l to) fits h = (
   l,
@@ -166,6 +166,6 @@ place_looks w (Condvar l (condvar.Wait m timed (wait.Lock timed_out to))) fits h
 place_looks w (Condvar l (condvar.Wait m timed to)) fits h = absurd cc
 place_looks w (Condvar l to) fits h = absurd cc
 
-pub looks : (w : State) → IsInductive w → (t : ℕ) → is_some (looking (place_at w t)) ≡ true
+pub looks : (w : State) → IsInductive w → (t : ℕ) → is_some (respins_from (place_at w t)) ≡ true
     → Looks w (place_at w t)
 looks w inductive t h = place_looks w (place_at w t) (inductive.stands.calls t) h

@@ -11,7 +11,8 @@ use Names.{once_looking, once_next, RwLockAt, RwLockPlace, act_at, after_count, 
 use Names.{decided_act, exchange, exchanged_next, next_at, gone_to, looking_at, RwLockCallPlace, call_looking}
 use Names.{in_call, bump_next, call_act, call_next, plain_next, condvar_next, in_lock, SemaphorePlace}
 use Names.{semaphore_act, semaphore_looking, semaphore_next, Place, Idle, Mutex, RwLock, Once, Condvar}
-use Names.{Semaphore, act_of, condvar_goes, in_condvar, in_mutex, in_once, in_rwlock, in_semaphore, looking}
+use Names.{Semaphore, act_of, condvar_goes, in_condvar, in_mutex, in_once, in_rwlock, in_semaphore}
+use Names.{respins_from}
 use Names.{mutex_goes, next_place, once_goes, rwlock_goes, semaphore_goes, State, after, can_do, is_possible}
 use Names.{place_at, put, reply_to, state_after_act, state_after_go, state_after_turn, word_at, LooksNoMore}
 use Rattle.core_base.specs.declared.ops.Op.TheVariants as op
@@ -122,18 +123,19 @@ module _ (k l seen now : ℕ) where
   Found a = a ≡ act.Word l (op.Exchange seen now)
 
   mutex_quiet : (p : MutexPlace) → is_some (mutex_looking p) ≡ true → Found (mutex_act k p)
-      → looking (mutex_goes k (mutex_next p (Value seen))) ≡ None
+      → respins_from (mutex_goes k (mutex_next p (Value seen))) ≡ None
   mutex_quiet (mutex.Lock e again (lock.Decide s)) h is = by_one (s == 1) refl h
     where
       by_one : (b : Bool) → (s == 1) ≡ b → is_some (if b then Some (mutex.Lock e again lock.Load) else None)
-          ≡ true → looking (mutex_goes k (mutex_next (mutex.Lock e again (lock.Decide s)) (Value seen)))
+          ≡ true → respins_from (mutex_goes k (mutex_next (mutex.Lock e again (lock.Decide s)) (Value seen)))
           ≡ None
       by_one true one g = let same : s ≡ 1 = eqb-true s 1 one in
           let found : 1 ≡ seen = (let f : Found (mutex_act k (mutex.Lock e again (lock.Decide 1))) =
           subst (λ x. Found (mutex_act k (mutex.Lock e again (lock.Decide x)))) same is in cc) in
-          subst (λ x. looking (mutex_goes k (mutex_next (mutex.Lock e again (lock.Decide x)) (Value seen)))
+          subst (λ x. respins_from (mutex_goes k
+          (mutex_next (mutex.Lock e again (lock.Decide x)) (Value seen)))
           ≡ None) (sym same)
-          (subst (λ x. looking (mutex_goes k (mutex_next (mutex.Lock e again (lock.Decide 1)) (Value x)))
+          (subst (λ x. respins_from (mutex_goes k (mutex_next (mutex.Lock e again (lock.Decide 1)) (Value x)))
           ≡ None) found refl)
       by_one false one g = absurd cc
   mutex_quiet (mutex.Lock e again to) h is = absurd cc
@@ -142,21 +144,22 @@ module _ (k l seen now : ℕ) where
   -- A wait that locks its mutex again doesn't look once more either.
   relock_quiet : (m : ℕ) (timed late : Bool) (p : MutexPlace) → is_some (mutex_looking p) ≡ true
       → Found (mutex_act m p)
-      → looking (condvar_goes k (condvar_next (condvar.Wait m timed (wait.Lock late p)) (Value seen))) ≡ None
+      → respins_from (condvar_goes k (condvar_next (condvar.Wait m timed (wait.Lock late p)) (Value seen)))
+      ≡ None
   relock_quiet m timed late (mutex.Lock e again (lock.Decide s)) h is = by_one (s == 1) refl h
     where
       by_one : (b : Bool) → (s == 1) ≡ b → is_some (if b then Some (mutex.Lock e again lock.Load) else None)
           ≡ true
-          → looking (condvar_goes k (condvar_next
+          → respins_from (condvar_goes k (condvar_next
           (condvar.Wait m timed (wait.Lock late (mutex.Lock e again (lock.Decide s)))) (Value seen)))
           ≡ None
       by_one true one g = let same : s ≡ 1 = eqb-true s 1 one in
           let found : 1 ≡ seen = (let f : Found (mutex_act m (mutex.Lock e again (lock.Decide 1))) =
           subst (λ x. Found (mutex_act m (mutex.Lock e again (lock.Decide x)))) same is in cc) in
-          subst (λ x. looking (condvar_goes k
+          subst (λ x. respins_from (condvar_goes k
           (condvar_next (condvar.Wait m timed (wait.Lock late (mutex.Lock e again (lock.Decide x))))
           (Value seen))) ≡ None) (sym same)
-          (subst (λ x. looking (condvar_goes k
+          (subst (λ x. respins_from (condvar_goes k
           (condvar_next (condvar.Wait m timed (wait.Lock late (mutex.Lock e again (lock.Decide 1))))
           (Value x))) ≡ None) found refl)
       by_one false one g = absurd cc
@@ -164,22 +167,22 @@ module _ (k l seen now : ℕ) where
   relock_quiet m timed late p h is = absurd cc
 
   semaphore_quiet : (p : SemaphorePlace) → is_some (semaphore_looking p) ≡ true → Found (semaphore_act k p)
-      → looking (semaphore_goes k (semaphore_next p (Value seen))) ≡ None
+      → respins_from (semaphore_goes k (semaphore_next p (Value seen))) ≡ None
   semaphore_quiet (semaphore.Acquire timed again (acquire.Decide s)) h is = by_none (s == 0) refl h
     where
       by_none : (b : Bool) → (s == 0) ≡ b
           → is_some (if b then Some (semaphore.Acquire timed again acquire.Load) else None) ≡ true
-          → looking (semaphore_goes k (semaphore_next (semaphore.Acquire timed again (acquire.Decide s))
+          → respins_from (semaphore_goes k (semaphore_next (semaphore.Acquire timed again (acquire.Decide s))
           (Value seen))) ≡ None
       by_none true none g = let same : s ≡ 0 = eqb-true s 0 none in
           let found : 0 ≡ seen = (let f : Found
           (semaphore_act k (semaphore.Acquire timed again (acquire.Decide 0))) =
           subst (λ x. Found (semaphore_act k (semaphore.Acquire timed again (acquire.Decide x)))) same is
           in cc) in
-          subst (λ x. looking (semaphore_goes k
+          subst (λ x. respins_from (semaphore_goes k
           (semaphore_next (semaphore.Acquire timed again (acquire.Decide x)) (Value seen))) ≡ None)
           (sym same)
-          (subst (λ x. looking (semaphore_goes k
+          (subst (λ x. respins_from (semaphore_goes k
           (semaphore_next (semaphore.Acquire timed again (acquire.Decide 0)) (Value x))) ≡ None) found
           refl)
       by_none false none g = absurd cc
@@ -194,11 +197,11 @@ module _ (k l seen now : ℕ) where
   in_none false b q e = refl
 
   once_quiet : (p : OncePlace) → is_some (once_looking p) ≡ true → Found (once_act k p)
-      → looking (once_goes k (once_next p (Value seen))) ≡ None
+      → respins_from (once_goes k (once_next p (Value seen))) ≡ None
   once_quiet (once.Look c again (look.Decide s)) h is = by_course (course_of c s) refl (is_running s) h is
     where
       then_at : (b : Bool) → b ≡ true → (x : Course) → x ≡ course.Marks
-          → looking (once_goes k (if b && steps.is_run x
+          → respins_from (once_goes k (if b && steps.is_run x
           then next.At (once.Run (steps.is_forced c) (steps.closure_begun (Value seen)))
           else steps.in_look c (steps.still_retries again (Value seen)) (if b && steps.is_mark x
           then next.At (look.Decide (steps.marked seen)) else steps.looked c seen))) ≡ None
@@ -213,7 +216,7 @@ module _ (k l seen now : ℕ) where
       by_course : (x : Course) → course_of c s ≡ x → (r : Bool)
           → is_some (if r && steps.is_mark x then Some (once.Look c again look.Load) else None) ≡ true
           → Found (course_act k s x)
-          → looking (once_goes k (once_next (once.Look c again (look.Decide s)) (Value seen))) ≡ None
+          → respins_from (once_goes k (once_next (once.Look c again (look.Decide s)) (Value seen))) ≡ None
       by_course course.Marks e r g f = let same : s ≡ seen = cc
           in then_at (seen == s) (ap (λ x. seen == x) same ∙ same_number seen) (course_of c seen)
           (ap (course_of c) (sym same) ∙ e)
@@ -237,12 +240,12 @@ module _ (k l seen now : ℕ) where
     none_looks b p None e = refl
     none_looks b p (Some x) e = absurd cc
 
-    on_plain : (n : Next RwLockPlace) → NoLook n → looking (rwlock_goes k a (plain_next n)) ≡ None
+    on_plain : (n : Next RwLockPlace) → NoLook n → respins_from (rwlock_goes k a (plain_next n)) ≡ None
     on_plain (next.At q) h = none_looks false q (looking_at a q q.at) h
     on_plain (next.End x) h = absurd h
 
     on_bump : (q : RwLockPurpose) (n : Next RwLockPlace) → NoLook n
-        → looking (rwlock_goes k a (bump_next q n)) ≡ None
+        → respins_from (rwlock_goes k a (bump_next q n)) ≡ None
     on_bump q (next.At p) h = none_looks true p (looking_at a p p.at) h
     on_bump q (next.End x) h = absurd h
 
@@ -297,7 +300,7 @@ module _ (k l seen now : ℕ) where
     there b p None h = absurd cc
 
     call_quiet : (c : RwLockCallPlace) → is_some (in_rwlock k a (call_looking a c)) ≡ true
-        → Found (call_act k a c) → looking (rwlock_goes k a (call_next a c (Value seen))) ≡ None
+        → Found (call_act k a c) → respins_from (rwlock_goes k a (call_next a c (Value seen))) ≡ None
     call_quiet (fair.Plain p) h f = on_plain (next_at a p p.at (Value seen))
         (rwlock_quiet p p.at (there false p (looking_at a p p.at) h) f)
     call_quiet (fair.Bump p) h f = on_bump p.purpose (next_at a p p.at (Value seen))
@@ -321,8 +324,8 @@ module _ (k l seen now : ℕ) where
   relock_there m timed late (Some x) h = refl
   relock_there m timed late None h = absurd cc
 
-place_quiet : (p : Place) (l seen now : ℕ) → is_some (looking p) ≡ true → act_of p ≡ act.Word l
-    (op.Exchange seen now) → looking (next_place p (Value seen)) ≡ None
+place_quiet : (p : Place) (l seen now : ℕ) → is_some (respins_from p) ≡ true → act_of p ≡ act.Word l
+    (op.Exchange seen now) → respins_from (next_place p (Value seen)) ≡ None
 place_quiet Idle l seen now h is = absurd cc
 place_quiet (Mutex k at) l seen now h is =
     mutex_quiet k l seen now at (mutex_there k l seen now (mutex_looking at) h) is
@@ -351,22 +354,22 @@ looks_no_more w s goes l seen now may is was = by_there (cases_lt s.thread (leng
     t : ℕ
     t = s.thread
 
-    by_there : (t < length w.places) ⊎ (length w.places ≤ t) → is_some (looking (place_at (after w s) t))
+    by_there : (t < length w.places) ⊎ (length w.places ≤ t) → is_some (respins_from (place_at (after w s) t))
         ≡ false
     by_there (inr past) = absurd (let idle : place_at w t ≡ Idle = past_all w.places t Idle past
-        in let f : false ≡ true = sym (ap (λ p. is_some (looking p)) idle) ∙ may in cc)
+        in let f : false ≡ true = sym (ap (λ p. is_some (respins_from p)) idle) ∙ may in cc)
     by_there (inl there) = by_possible (is_possible w s) refl
       where
         possible : is_possible w s ≡ true
         possible = rw (goes, lt-ltb t (length w.places) there) (ap (can_do w) is)
 
-        then_none : is_some (looking (place_at (state_after_go w t) t)) ≡ false
-        then_none = ap (λ p. is_some (looking p)) (word_goes w t l (op.Exchange seen now) there is
+        then_none : is_some (respins_from (place_at (state_after_go w t) t)) ≡ false
+        then_none = ap (λ p. is_some (respins_from p)) (word_goes w t l (op.Exchange seen now) there is
             ∙ ap (λ v. next_place (place_at w t) (Value v)) was)
             ∙ ap is_some (place_quiet (place_at w t) l seen now may is)
 
         by_possible : (b : Bool) → is_possible w s ≡ b
-            → is_some (looking (place_at (if b then state_after_turn w t s.turn else w) t)) ≡ false
-        by_possible true e = subst (λ x. is_some (looking (place_at (state_after_turn w t x) t)) ≡ false)
+            → is_some (respins_from (place_at (if b then state_after_turn w t s.turn else w) t)) ≡ false
+        by_possible true e = subst (λ x. is_some (respins_from (place_at (state_after_turn w t x) t)) ≡ false)
             (sym goes) then_none
         by_possible false e = absurd (let f : true ≡ false = sym possible ∙ e in cc)

@@ -311,9 +311,9 @@ module _ (w : State) (t l : ℕ) (inductive : IsInductive w) (is_of : IsOf l (pl
       b.places u Idle ∙ ap (λ (xs : List Place). place_after_telling t reply (get_or xs u Idle)) places
 
   -- it has taken them
-  pub befalls : (b : State) (reply : Reply) → b.places ≡ w.places → carried_at (place_at w t) l ≡ Some false
+  pub delivers : (b : State) (reply : Reply) → b.places ≡ w.places → carried_at (place_at w t) l ≡ Some false
       → Befalls w (put (state_after_telling b t reply) t p2) t l reply
-  befalls b reply places carries u ne = told_at b reply places u ne
+  delivers b reply places carries u ne = told_at b reply places u ne
       ∙ ap (λ c. if c then next_place (place_at w u) reply else place_at w u)
       (same_test (is_thread t (taker (place_at w u))) refl)
     where
@@ -360,7 +360,7 @@ module _ (w : State) (t l : ℕ) (inductive : IsInductive w) (is_of : IsOf l (pl
       (event_by l y)) (sym h.1.1)
       (wakes_others w (put (state_after_telling (state_with_sections w keys None) t (Woken x)) t p2) t l
       (subst (λ y. Befalls w (put (state_after_telling (state_with_sections w keys None) t (Woken y)) t
-      p2) t l (Woken note.Normal)) (sym h.1.0) (befalls (state_with_sections w keys None)
+      p2) t l (Woken note.Normal)) (sym h.1.0) (delivers (state_with_sections w keys None)
       (Woken note.Normal) (sections_stay w keys None) h.0)))
   wakes_own plain p (act.Leave keys (wakes.All x)) here c (inr h) =
       calm w t p2 (put (state_after_telling (state_with_sections w keys None) t (Woken x)) t p2) l c h.1.1

@@ -10,7 +10,7 @@ use Names.{RwLockPurpose, Decision, act_at, decided as decides, decided_act, giv
 use Names.{rollback_op, wake_act, want_at, word_taken, gone_to, is_mark, looking_at, RwLockCallPlace}
 use Names.{HandOverAt, call_looking, in_call, accept_act, call_act, hand_over_act, WaitAt, IsReached}
 use Names.{condvar_act, in_lock, Place, Idle, Mutex, RwLock, Once, Condvar, Semaphore, act_of, in_condvar}
-use Names.{in_mutex, in_once, in_rwlock, in_semaphore, looking, State, kind_at, place_at, sort_at}
+use Names.{in_mutex, in_once, in_rwlock, in_semaphore, respins_from, State, kind_at, place_at, sort_at}
 use Names.{IsWaitingCall, SetsBit, IsOwn, call_own, course_own, semaphore_own, call_at, call_state}
 use Names.{lock_state, FitsItsLock, IsInductive}
 use Rattle.core_base.specs.declared.ops.Op.TheVariants as op
@@ -421,7 +421,7 @@ module _ (w : State) (r : ℕ → Rights) (l seen now : ℕ) (bit : SetsBit (sor
   of_wait : (k m : ℕ) (timed : Bool) (at : WaitAt) → IsReached (condvar.Wait m timed at)
       → is_plain_mutex (kind_at w m) ≡ true → sort_at w k ≡ locks.Condvar
       → condvar_act k (condvar.Wait m timed at) ≡ act.Word l (op.Exchange seen now)
-      → is_some (looking (Condvar k (condvar.Wait m timed at))) ≡ true
+      → is_some (respins_from (Condvar k (condvar.Wait m timed at))) ≡ true
   of_wait k m timed (wait.Lock late at) reached plain sort is = condvar_there k m timed late
       (mutex_looking at) (mutex_spins m at l seen now is (bit_at m locks.Mutex (mutex_word m at l seen now is)
       (ap (λ (x : Rules). x.sort) (plain_rules (kind_at w m) plain))))
@@ -445,7 +445,7 @@ module _ (w : State) (r : ℕ → Rights) (l seen now : ℕ) (bit : SetsBit (sor
   of_wait k m timed (wait.GiveUpMoved none_left) reached plain sort is = absurd cc
 
   place_spins : (p : Place) → FitsItsLock w p → IsWaitingCall (call_state p r) l
-      → act_of p ≡ act.Word l (op.Exchange seen now) → is_some (looking p) ≡ true
+      → act_of p ≡ act.Word l (op.Exchange seen now) → is_some (respins_from p) ≡ true
   place_spins Idle fits waits is = absurd cc
   place_spins (Mutex k at) fits waits is = mutex_there k (mutex_looking at)
       (mutex_spins k at l seen now is (bit_at k locks.Mutex (mutex_word k at l seen now is)
@@ -463,6 +463,6 @@ module _ (w : State) (r : ℕ → Rights) (l seen now : ℕ) (bit : SetsBit (sor
 
 pub spins : (w : State) → IsInductive w → (t l seen now : ℕ) → IsWaitingCall (call_at w t) l
     → act_of (place_at w t) ≡ act.Word l (op.Exchange seen now) → SetsBit (sort_at w l) seen now
-    → is_some (looking (place_at w t)) ≡ true
+    → is_some (respins_from (place_at w t)) ≡ true
 spins w inductive t l seen now waits is bit = place_spins w (λ k. rights_of (lock_state w k) t) l seen now bit
     (place_at w t) (inductive.stands.calls t) waits is

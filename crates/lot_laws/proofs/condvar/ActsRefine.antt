@@ -5,7 +5,7 @@ use Names.{ℕ, Bool, true, false, Some, None, if◌then◌else◌, ◌==◌, �
 use Names.{inl, inr, get_or-set_same, refl, sym, ◌∙◌, ap, subst, arith, is_plain_mutex, outcome_of, is_thread}
 use Names.{taken_from, Act, Next, At, Reply, Done, Late, Took, Value, UnlockAt, unlock_act, Place, Condvar}
 use Names.{Idle, condvar_does, condvar_goes, is_lock, next_act, next_place, NotifyAt, CondvarPlace, Look}
-use Names.{Notify, Wait, Stands, WaitAt, IsReachedNext, condvar_call_by, look_event, notify_event}
+use Names.{Notify, Wait, WaiterFate, WaitAt, IsReachedNext, condvar_call_by, look_event, notify_event}
 use Names.{notify_deeds, wait_deeds, beside_deeds, condvar_profile, hand_of, taker_of, wants_beside}
 use Names.{condvar_act, condvar_next, first_lock, in_notify, in_wait, mutex_beside, mutex_shown, next_notify}
 use Names.{next_wait, notified, notify_act, wait_act, waiter_deeds, condvar_places_reached, WaitsAside}
@@ -22,7 +22,7 @@ use Rattle.steps_base.specs.declared.acts.Whom.TheVariants as whom
 use Rattle.steps_mutex.specs.declared.places.MutexPlace.TheVariants as mutex
 use Rattle.steps_mutex.specs.declared.unlock.UnlockAt.TheVariants as unlock
 use Rattle.steps_condvar.specs.declared.notify.NotifyAt.TheVariants as notify
-use Rattle.steps_condvar.specs.declared.wait.Stands.TheVariants as stands
+use Rattle.steps_condvar.specs.declared.wait.WaiterFate.TheVariants as stands
 use Rattle.steps_condvar.specs.declared.wait.WaitAt.TheVariants as wait
 use Rattle.steps_condvar.specs.CondvarProfiles.{want_of}
 use Rattle.spec_locks.specs.Locks as locks
@@ -310,7 +310,7 @@ module _ (w : State) (t l : ℕ) (shape : IsWellFormed w) (inductive : IsInducti
 
   -- ---------------------------------------------------------------- its release of the mutex
 
-  module _ (m : ℕ) (timed : Bool) (s : Stands) (a : UnlockAt) (is : place_at w t ≡ Condvar l
+  module _ (m : ℕ) (timed : Bool) (s : WaiterFate) (a : UnlockAt) (is : place_at w t ≡ Condvar l
       (Wait m timed (releasing s a)))
       (can : can_do w (unlock_act m a) ≡ true) where
     abbrev releases : CondvarPlace
@@ -362,7 +362,7 @@ module _ (w : State) (t l : ℕ) (shape : IsWellFormed w) (inductive : IsInducti
         left_reached)
 
   -- where nothing befell it
-  module _ (m : ℕ) (timed : Bool) (s : Stands) (a : UnlockAt) (is : place_at w t ≡ Condvar l
+  module _ (m : ℕ) (timed : Bool) (s : WaiterFate) (a : UnlockAt) (is : place_at w t ≡ Condvar l
       (Wait m timed (releasing s a)))
       (can : can_do w (unlock_act m a) ≡ true) where
     abbrev Goes : Type 0
@@ -372,7 +372,7 @@ module _ (w : State) (t l : ℕ) (shape : IsWellFormed w) (inductive : IsInducti
     unheld : is_thread t (taker_of s) ≡ false → (k : ℕ) → is_taken_by t (taken_at (place_at w t) k) ≡ false
     unheld free k = ap (λ q. is_taken_by t (taken_at q k)) is ∙ either (is_lock k (Some m) && not (l == k))
       where
-        by_stand : (s : Stands) → is_thread t (taker_of s) ≡ false
+        by_stand : (s : WaiterFate) → is_thread t (taker_of s) ≡ false
             → is_taken_by t (taken_from (hand_of s) (wants_beside (Some (want_of s))) true) ≡ false
         by_stand stands.Listed free = refl
         by_stand stands.Moved free = refl
@@ -493,18 +493,18 @@ module _ (w : State) (t l : ℕ) (shape : IsWellFormed w) (inductive : IsInducti
             refl) (At (Wait m timed (releasing (stands.InHand t) (unlock.Leave true)))) refl) ∙ same t
 
   -- for every act of its release
-  module _ (m : ℕ) (timed : Bool) (s : Stands) (a : UnlockAt) (is : place_at w t ≡ Condvar l
+  module _ (m : ℕ) (timed : Bool) (s : WaiterFate) (a : UnlockAt) (is : place_at w t ≡ Condvar l
       (Wait m timed (releasing s a)))
       (can : can_do w (unlock_act m a) ≡ true) where
-    abbrev Released : Stands → UnlockAt → Type 0
+    abbrev Released : WaiterFate → UnlockAt → Type 0
     Released s a = GoesOn (locks_of w) t (going_outcome w t (Condvar l (Wait m timed (releasing s a))))
         (locks_of (state_after_going w t (Condvar l (Wait m timed (releasing s a)))))
 
-    abbrev stood_at : Stands → UnlockAt → Place
+    abbrev stood_at : WaiterFate → UnlockAt → Place
     stood_at s a = place_at (state_after_act w t (Condvar l (Wait m timed (releasing s a))) (unlock_act m a))
         t
 
-    abbrev From : Stands → Stands → UnlockAt → Type 0
+    abbrev From : WaiterFate → WaiterFate → UnlockAt → Type 0
     From now s a = place_at w t ≡ Condvar l (Wait m timed (releasing s a)) → can_do w (unlock_act m a) ≡ true
         → stood_at s a ≡ Condvar l (Wait m timed (releasing now a))
         → FitsItsLock w (next_place (stood_at s a) (reply_to w t (unlock_act m a))) → Released s a

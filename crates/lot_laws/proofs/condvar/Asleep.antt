@@ -7,7 +7,7 @@ use Names.{WaitAt, is_locked, condvar_act, move_act, mutex_beside, notify_act, I
 use Names.{condvar_place_purpose, mutex_side, Taken, MayWait, Has, Line, Main, want_of, taken_at, nowhere}
 use Names.{location, location_at}
 use Rattle.steps_condvar.specs.declared.notify.NotifyAt.TheVariants as notify
-use Rattle.steps_condvar.specs.declared.wait.Stands.TheVariants as stands
+use Rattle.steps_condvar.specs.declared.wait.WaiterFate.TheVariants as stands
 use Rattle.steps_condvar.specs.declared.wait.WaitAt.TheVariants as wait
 use Rattle.steps_mutex.specs.declared.lock.Entry.TheVariants as entry
 use Rattle.steps_mutex.specs.declared.lock.LockAt.TheVariants as lock

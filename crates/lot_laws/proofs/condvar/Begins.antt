@@ -13,7 +13,7 @@ use Rattle.spec_locks.specs.declared.kinds.Kind.TheVariants as kind
 use Rattle.spec_locks.specs.declared.calls.Call.TheVariants as call
 use Rattle.spec_locks.specs.declared.calls.CondvarCall.TheVariants as condvar_call
 use Rattle.spec_locks.specs.declared.outcomes.Outcome.TheVariants as outcome
-use Rattle.steps_condvar.specs.declared.wait.Stands.TheVariants as stands
+use Rattle.steps_condvar.specs.declared.wait.WaiterFate.TheVariants as stands
 use Rattle.steps_condvar.specs.declared.wait.WaitAt.TheVariants as wait
 use Rattle.spec_locks.specs.Locks as locks
 use Rattle.lot_laws.proofs.calls.CallEvents.{rights}

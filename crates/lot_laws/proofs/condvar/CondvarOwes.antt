@@ -4,7 +4,7 @@ use Rattle.lot_laws.proofs.Names
 use Names.{ℕ, Bool, true, false, Option, Some, None, if◌then◌else◌, ◌==◌, ◌≡◌, ◌<◌, ◌⊎◌, ◌↔◌, ◌||◌, inl, inr}
 use Names.{length, refl, sym, ◌∙◌, ap, subst, One, CondvarCall, Outcome, outcome_of, Enter, Next, Late, At}
 use Names.{MutexPlace, in_unlock, is_parked, mutex_act, mutex_next, NotifyAt, CondvarPlace, Wait, Look}
-use Names.{Notify, Stands, WaitAt, IsReached, has_released, past_release, condvar_act, condvar_first}
+use Names.{Notify, WaiterFate, WaitAt, IsReached, has_released, past_release, condvar_act, condvar_first}
 use Names.{condvar_next, in_notify, in_wait, is_shown, mutex_beside, mutex_shown, next_notify, notified}
 use Names.{notify_act, released, relocked, Condvar, act_of, condvar_does, condvar_goes, late_key, line_owed}
 use Names.{next_act, Rights, Sort, Waits, CallState, Line, Main, has_readers, State, going_outcome, place_at}
@@ -19,7 +19,7 @@ use Rattle.steps_base.specs.declared.acts.Next.TheVariants.{End as Over}
 use Rattle.steps_mutex.specs.declared.places.MutexPlace.TheVariants as mutex
 use Rattle.steps_mutex.specs.declared.unlock.UnlockAt.TheVariants as unlock
 use Rattle.steps_condvar.specs.declared.notify.NotifyAt.TheVariants as notify
-use Rattle.steps_condvar.specs.declared.wait.Stands.TheVariants as stands
+use Rattle.steps_condvar.specs.declared.wait.WaiterFate.TheVariants as stands
 use Rattle.steps_condvar.specs.declared.wait.WaitAt.TheVariants as wait
 use Rattle.steps_condvar.specs.CondvarProfiles.{has_given_up}
 use Rattle.spec_locks.specs.Locks as locks
@@ -61,7 +61,7 @@ locker_stays : (n : ℕ) (timed late : Bool) (x : Next MutexPlace) (l : ℕ) (m 
 locker_stays n timed late (At at) l m e = e.2
 locker_stays n timed late (Over answer) l m e = e
 
-sleeper_stays : (n : ℕ) (timed : Bool) (s : Stands) → IsEntering (Wait n timed (past_release s)) → ⊥
+sleeper_stays : (n : ℕ) (timed : Bool) (s : WaiterFate) → IsEntering (Wait n timed (past_release s)) → ⊥
 sleeper_stays n timed (stands.Noted note.Normal) e = e
 sleeper_stays n timed (stands.Noted note.HandOff) e = e
 sleeper_stays n timed s e = e
@@ -72,7 +72,7 @@ module _ (w : State) (t k : ℕ) where
   next_of at q = condvar_next q (reply_to w t (condvar_act k at))
 
   -- it enters the section next only from its release, where that saw the bit
-  release_enters : (n : ℕ) (timed : Bool) (s s2 : Stands) (at : MutexPlace)
+  release_enters : (n : ℕ) (timed : Bool) (s s2 : WaiterFate) (at : MutexPlace)
       → IsReached (Wait n timed (wait.Release s at))
       → (l : ℕ) (m : Line)
       → EntersNext (next_of (Wait n timed (wait.Release s at)) (Wait n timed (wait.Release s2 at))) l m
@@ -381,7 +381,7 @@ pub record GoesLate (k : ℕ) (at : CondvarPlace) : Type 0 where
   pub shut : (w : State) (t l : ℕ) (r : ℕ → Rights) → LetsBy w t l (call_state (Condvar k at) r) → ⊥
 
 -- a wait that sleeps has released its mutex
-sleeper_shut : (k j : ℕ) (timed : Bool) (s : Stands) (w : State) (t l : ℕ) (r : ℕ → Rights)
+sleeper_shut : (k j : ℕ) (timed : Bool) (s : WaiterFate) (w : State) (t l : ℕ) (r : ℕ → Rights)
     → LetsBy w t l (call_state (Condvar k (Wait j timed (wait.Asleep s))) r) → ⊥
 sleeper_shut k j timed s w t l r h = elim h [
   | inl releases ↦ let released : true ≡ false = releases.1 in cc

@@ -3,7 +3,7 @@ use Rattle.lot_laws.proofs.Names
 use Names.{ℕ, Bool, true, false, Option, None, if◌then◌else◌, ◌==◌, ◌≡◌, refl, sym, ◌∙◌, ap, in_line, Next}
 use Names.{Reply, TakenBy, MovedTo, HandedBy, Woken, Mutex, Condvar, condvar_goes, line_owed, mutex_goes}
 use Names.{next_place, or_else, profile, mutex_next, MutexPlace, NotifyAt, CondvarPlace, Wait, Look, Notify}
-use Names.{Stands, WaitAt, in_wait, relocked, is_main_line, Main}
+use Names.{WaiterFate, WaitAt, in_wait, relocked, is_main_line, Main}
 use Rattle.core_base.specs.declared.keys.Line.{Line}
 use Rattle.core_base.specs.declared.notes.Note.TheVariants as note
 use Rattle.steps_base.specs.declared.acts.Next.TheVariants as next
@@ -43,7 +43,7 @@ mutex_owes m at r b = sym (own (mutex_next at r)) ∙ mutex_befallen m at r b m 
     own (next.At q) = ap (λ b. or_else None (if b then (profile (Mutex m q)).owes else None)) (same m)
     own (next.End answer) = refl
 
-release_owes : (c m : ℕ) (timed : Bool) (s : Stands) (at : MutexPlace) (r : Reply) → Befalls r → (k : ℕ)
+release_owes : (c m : ℕ) (timed : Bool) (s : WaiterFate) (at : MutexPlace) (r : Reply) → Befalls r → (k : ℕ)
     → line_owed (next_place (Condvar c (Wait m timed (wait.Release s at))) r) k
     ≡ line_owed (Condvar c (Wait m timed (wait.Release s at))) k
 release_owes c m timed s at (TakenBy t) b k = refl
@@ -52,7 +52,7 @@ release_owes c m timed s at (HandedBy t alone) b k = refl
 release_owes c m timed s at (Woken n) b k = refl
 release_owes c m timed s at r b k = absurd b
 
-asleep_owes : (c m : ℕ) (timed : Bool) (s : Stands) (r : Reply) → Befalls r → (k : ℕ)
+asleep_owes : (c m : ℕ) (timed : Bool) (s : WaiterFate) (r : Reply) → Befalls r → (k : ℕ)
     → line_owed (next_place (Condvar c (Wait m timed (wait.Asleep s))) r) k
     ≡ line_owed (Condvar c (Wait m timed (wait.Asleep s))) k
 asleep_owes c m timed s (TakenBy t) b k = refl

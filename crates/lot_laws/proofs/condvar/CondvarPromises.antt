@@ -7,7 +7,7 @@ use Names.{condvar_row, condvar_place_purpose, mutex_side, notify_row, wait_row,
 use Names.{Second, State, kind_at, call_state, taken_at, nowhere, location, location_at, FitsItsLock, sort_at}
 use Names.{KnowsRights}
 use Rattle.steps_condvar.specs.declared.notify.NotifyAt.TheVariants as notify
-use Rattle.steps_condvar.specs.declared.wait.Stands.TheVariants as stands
+use Rattle.steps_condvar.specs.declared.wait.WaiterFate.TheVariants as stands
 use Rattle.steps_condvar.specs.declared.wait.WaitAt.TheVariants as wait
 use Rattle.steps_mutex.specs.declared.places.MutexPlace.TheVariants as mutex
 use Rattle.steps_mutex.specs.declared.unlock.UnlockAt.TheVariants as unlock

@@ -2,7 +2,7 @@
 use Rattle.lot_laws.proofs.Names
 use Names.{ℕ, Option, Some, None, ◌≡◌, ◌≢◌, ◌↔◌, List, [], ◌∷◌, inl, inr, refl, sym, ◌∙◌, ap, subst, cases_eq}
 use Names.{Next, Reply, CondvarPlace, condvar_row, condvar_next, AllCondvarNeeded, Follows, IsAtNext}
-use Names.{IsAtStage, MayHear, after_condvar_deeds, condvar_deeds, condvar_steps_follow, Idle, Condvar}
+use Names.{IsAtStage, MayReply, after_condvar_deeds, condvar_deeds, condvar_steps_follow, Idle, Condvar}
 use Names.{condvar_goes, profile_at, CondvarDeed, BeginsWait, EndsWait, GoIn, GoOut, Show, SeeOther}
 use Names.{StandLast, SeeAgain, MissIt, HideAndTakeAll, MoveFirst, MoveAll, LeaveList, ShowNone}
 use Names.{CondvarNeeded, CondvarSite, Inside, IsCondvar, IsInsideNot, MayGoOut, CondvarPhase, condvar_leads}
@@ -104,7 +104,7 @@ module _ (w v : State) (t l : ℕ) (at : CondvarPlace) (told : Reply) (stands : 
     (stands_then : Stands v)
     (is : place_at w t ≡ Condvar l at)
     (n : Next CondvarPlace) (goes : place_at v t ≡ condvar_goes l n) (alike : Alike (condvar_next at told) n)
-    (condvar : IsCondvar (condvar_of w l)) (hears : MayHear (condvar_of w l) t at told)
+    (condvar : IsCondvar (condvar_of w l)) (hears : MayReply (condvar_of w l) t at told)
     (says : (u : ℕ) → u ≢ t → (stage_of (place_at v u) l ≡ stage_of (place_at w u) l)
     × (names_of (place_at v u) l ≡ names_of (place_at w u) l))
     (section : SectionChanges (section_at w (key_of l Main)) t (section_at v (key_of l Main))) where

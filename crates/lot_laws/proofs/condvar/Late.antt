@@ -3,10 +3,11 @@
 use Rattle.lot_laws.proofs.Names
 use Names.{ℕ, Bool, true, false, Some, None, if◌then◌else◌, ◌==◌, ◌*◌, ◌<◌, ◌≡◌, ◌≢◌, inl, inr, refl, sym}
 use Names.{◌∙◌, ap, Sleep, Late, in_line, Condvar, act_of, late_key, next_place, NotifyAt, CondvarPlace, Wait}
-use Names.{Look, Notify, Stands, WaitAt, condvar_act, move_act, mutex_beside, notify_act, wait_act, IsReached}
+use Names.{Look, Notify, WaiterFate, WaitAt, condvar_act, move_act, mutex_beside, notify_act, wait_act}
+use Names.{IsReached}
 use Names.{wait_row, Rights, IsTimed, Line, Main, Second, PlaceFits, call_state, key_of, location_at}
 use Rattle.steps_condvar.specs.declared.notify.NotifyAt.TheVariants as notify
-use Rattle.steps_condvar.specs.declared.wait.Stands.TheVariants as stands
+use Rattle.steps_condvar.specs.declared.wait.WaiterFate.TheVariants as stands
 use Rattle.steps_condvar.specs.declared.wait.WaitAt.TheVariants as wait
 use Rattle.steps_mutex.specs.declared.places.MutexPlace.TheVariants as mutex
 use Rattle.steps_mutex.specs.declared.unlock.UnlockAt.TheVariants as unlock
@@ -50,7 +51,8 @@ pub record IsLate (k : ℕ) (at : CondvarPlace) (key : ℕ) : Type 0 where
   pub awake : act_of (next_place (Condvar k at) Late) ≢ Sleep
 
 module _ (k : ℕ) where
-  late_wait : (m : ℕ) (s : Stands) → k ≢ m → (key : ℕ) → late_key (Condvar k (Wait m true (wait.Asleep s)))
+  late_wait : (m : ℕ) (s : WaiterFate) → k ≢ m → (key : ℕ)
+      → late_key (Condvar k (Wait m true (wait.Asleep s)))
       ≡ Some key
       → IsLate k (Wait m true (wait.Asleep s)) key
   late_wait m stands.Listed apart key h = record {
@@ -120,7 +122,7 @@ module _ (k : ℕ) where
       by_lock false true h = cc
       by_lock false false h = cc
 
-  asleep_late : (m : ℕ) (timed : Bool) (s : Stands) (l : ℕ) (r : ℕ → Rights)
+  asleep_late : (m : ℕ) (timed : Bool) (s : WaiterFate) (l : ℕ) (r : ℕ → Rights)
       → IsTimed (call_state (Condvar k (Wait m timed (wait.Asleep s))) r).purpose
       (call_state (Condvar k (Wait m timed (wait.Asleep s))) r).recalls l
       → (n : Line) → (location_at (Condvar k (Wait m timed (wait.Asleep s))) l).stands ≡ Some n

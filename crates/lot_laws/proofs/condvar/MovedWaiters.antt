@@ -10,7 +10,7 @@ use Names.{IsInductive, condvar_of, key_of, rules_in, Reply, WasMoved, waiters_a
 use Names.{TakenBy}
 use Rattle.steps_mutex.specs.declared.places.MutexPlace.TheVariants as mutex
 use Rattle.steps_condvar.specs.declared.notify.NotifyAt.TheVariants as notify
-use Rattle.steps_condvar.specs.declared.wait.Stands.TheVariants as stands
+use Rattle.steps_condvar.specs.declared.wait.WaiterFate.TheVariants as stands
 use Rattle.steps_condvar.specs.declared.wait.WaitAt.TheVariants as wait
 use Rattle.spec_locks.specs.Condvars as condvars
 use Rattle.spec_locks.specs.Locks as locks

@@ -4,7 +4,8 @@
 use Rattle.lot_laws.proofs.Names
 use Names.{ℕ, Bool, true, false, Option, Some, None, if◌then◌else◌, ◌==◌, ◌≡◌, ◌≢◌, ◌⊎◌, inl, inr, refl, sym}
 use Names.{◌∙◌, ap, subst, eqb-true, Exclusive, Sleep, in_line, LockAt, inside, mutex_profile, is_locked}
-use Names.{NotifyAt, CondvarPlace, Wait, Look, Notify, Stands, WaitAt, IsLockOf, IsReached, condvar_profile}
+use Names.{NotifyAt, CondvarPlace, Wait, Look, Notify, WaiterFate, WaitAt, IsLockOf, IsReached}
+use Names.{condvar_profile}
 use Names.{condvar_place_purpose, condvar_recalls, condvar_released, condvar_row, has_moved, has_mutex}
 use Names.{is_main_line, condvar_act, mutex_beside, Condvar, is_lock, line_owed, or_else, Rights, Sort}
 use Names.{HasMoved, Saw, Role, Has, Line, Main, Second, counts_some, idle, WaitHasReleased, WakesWaiters}
@@ -14,7 +15,7 @@ use Rattle.steps_mutex.specs.declared.lock.Entry.TheVariants as entry
 use Rattle.steps_mutex.specs.declared.lock.LockAt.TheVariants as lock
 use Rattle.steps_mutex.specs.declared.unlock.UnlockAt.TheVariants as unlock
 use Rattle.steps_condvar.specs.declared.notify.NotifyAt.TheVariants as notify
-use Rattle.steps_condvar.specs.declared.wait.Stands.TheVariants as stands
+use Rattle.steps_condvar.specs.declared.wait.WaiterFate.TheVariants as stands
 use Rattle.steps_condvar.specs.declared.wait.WaitAt.TheVariants as wait
 use Rattle.spec_locks.specs.Locks as sorts
 use Rattle.lot_laws.proofs.condvar.CondvarPromises.{StandsAt, neither_nowhere, notifier_nowhere}
@@ -132,7 +133,7 @@ module _ (c m : ℕ) where
   owns_it true = refl
   owns_it false = refl
 
-  asleep_none : (timed : Bool) (s : Stands) → IsReached (Wait m timed (wait.Asleep s))
+  asleep_none : (timed : Bool) (s : WaiterFate) → IsReached (Wait m timed (wait.Asleep s))
       → IsDebtorHere (Wait m timed (wait.Asleep s)) → ⊥
   asleep_none timed (stands.Noted note) reached d = reached
   asleep_none timed stands.Listed reached d = idle_owes sorts.Mutex Main d

@@ -4,7 +4,7 @@ use Rattle.lot_laws.proofs.Names
 use Names.{ℕ, Bool, true, false, None, if◌then◌else◌, ◌==◌, ◌≡◌, ◌≢◌, ◌<◌, List, [], ◌∷◌, length, not, refl}
 use Names.{sym, ◌∙◌, ap, subst, inl, inr, cases_eq, Op, apply, Act, Next, At, Value, with_exclusive}
 use Names.{inside_of, taken_from, location_by, Place, Condvar, condvar_goes, is_locked, NotifyAt}
-use Names.{CondvarPlace, Notify, MayHear, condvar_deeds, row_beside, row_there, there, FollowsBeside}
+use Names.{CondvarPlace, Notify, MayReply, condvar_deeds, row_beside, row_there, there, FollowsBeside}
 use Names.{MayHearBeside, beside_deeds, role_next, condvar_next, condvar_owners, in_notify, is_shown, marks}
 use Names.{next_notify, notify_act, condvar_steps_follow, notifiers_code, notifiers_follow, code, IsCondvar}
 use Names.{WaitsAside, Rules, Deed, Main, MarkOwned, Site, State, can_do, owners_at, place_at, put, reply_to}
@@ -68,7 +68,7 @@ module _ (w : State) (t l m : ℕ) (all : Bool) (inductive : IsInductive w) (is_
           (subst (λ a. condvars_hear a) acts_so (may_hear w t l (notifies at) inductive is can)))
         where
           condvars_hear : Act → Type 0
-          condvars_hear a = MayHear (condvar_of w l) t (notifies at) (reply_to w t a)
+          condvars_hear a = MayReply (condvar_of w l) t (notifies at) (reply_to w t a)
 
     -- under both keys, whether its mutex is still the one that is shown
     module _ (shown : Bool) where

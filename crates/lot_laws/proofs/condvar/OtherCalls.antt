@@ -11,7 +11,7 @@ use Names.{CallState, Event, LocksState, Moves, Nothing, is_taken_by, woken, Cas
 use Names.{can_do, place_at, put, reply_to, state_after_act, word_at, place_after_telling}
 use Names.{state_after_telling, state_with_sections, call_state, taken_at, IsInductive, rules_in, carried_at}
 use Names.{hand_at, WordIs, holds, get_or-map, cases_eq, Normal, is_thread, hand, Location, next_place, taker}
-use Names.{Stands}
+use Names.{WaiterFate}
 use Rattle.steps_base.specs.declared.acts.Next.TheVariants.{End as Over}
 use Rattle.steps_base.specs.declared.acts.Whom.TheVariants.{First}
 use Rattle.steps_mutex.specs.declared.lock.Entry.TheVariants as entry
@@ -257,7 +257,7 @@ module _ (w : State) (t l m : ℕ) (timed : Bool) (inductive : IsInductive w) (p
     afterwards p p2 = put (state_after_act w t (Condvar l (waits p)) (wait_act l m p)) t p2
 
     -- it wakes the threads that it took
-    wakes : (s : Stands) → place_at w t
+    wakes : (s : WaiterFate) → place_at w t
         ≡ Condvar l (waits (wait.Release s (mutex.Unlock (unlock.Leave true)))) → (p2 : Place)
         → IsEvent w (afterwards (wait.Release s (mutex.Unlock (unlock.Leave true))) p2) t
         (AtLock m locks.Wake)

@@ -3,7 +3,7 @@
 use Rattle.lot_laws.proofs.Names
 use Names.{ℕ, Bool, true, false, None, if◌then◌else◌, ◌==◌, ◌≡◌, ◌*◌, ◌+◌, ◌<◌, length, not, refl, sym, ◌∙◌}
 use Names.{ap, subst, get_or-set_same, One, Next, Reply, TakenBy, MovedTo, HandedBy, Woken, MutexPlace}
-use Names.{LockAt, is_locked, lock_act, mutex_next, NotifyAt, CondvarPlace, Wait, Look, Notify, Stands}
+use Names.{LockAt, is_locked, lock_act, mutex_next, NotifyAt, CondvarPlace, Wait, Look, Notify, WaiterFate}
 use Names.{WaitAt, IsLockOf, IsReached, wait_row, stands_after, comes_from_another, past_release, condvar_act}
 use Names.{condvar_next, release_next, released, Place, Idle, Condvar, condvar_goes, next_place, State}
 use Names.{place_at, reply_to, state_after_act, state_after_going, acted_keeps, tells, performed_counts}
@@ -15,14 +15,14 @@ use Rattle.steps_mutex.specs.declared.places.MutexPlace.TheVariants as mutex
 use Rattle.steps_mutex.specs.declared.lock.Entry.TheVariants as entry
 use Rattle.steps_mutex.specs.declared.lock.LockAt.TheVariants as lock
 use Rattle.steps_condvar.specs.declared.notify.NotifyAt.TheVariants as notify
-use Rattle.steps_condvar.specs.declared.wait.Stands.TheVariants as stands
+use Rattle.steps_condvar.specs.declared.wait.WaiterFate.TheVariants as stands
 use Rattle.steps_condvar.specs.declared.wait.WaitAt.TheVariants as wait
 use Rattle.lot_laws.proofs.condvar.FollowsDeeds.{Alike}
 use Rattle.lot_laws.proofs.promises.RowPromises.{Befalls}
 
 -- for all that befell it while it released its mutex
 abbrev pub IsStill : CondvarPlace → CondvarPlace → Type 0
-IsStill (Wait m timed (wait.Release s a)) q = (s2 : Stands) × (q ≡ Wait m timed (wait.Release s2 a))
+IsStill (Wait m timed (wait.Release s a)) q = (s2 : WaiterFate) × (q ≡ Wait m timed (wait.Release s2 a))
 IsStill p q = q ≡ p
 
 abbrev pub StandsAt : ℕ → CondvarPlace → Place → Type 0
@@ -32,12 +32,12 @@ module _ (l : ℕ) where
   abbrev Keeps : CondvarPlace → Reply → Type 0
   Keeps at r = (p : Place) → StandsAt l at p → StandsAt l at (next_place p r)
 
-  releases : (m : ℕ) (timed : Bool) (s : Stands) (a : MutexPlace) (r : Reply) → Befalls r
+  releases : (m : ℕ) (timed : Bool) (s : WaiterFate) (a : MutexPlace) (r : Reply) → Befalls r
       → Keeps (Wait m timed (wait.Release s a)) r
   releases m timed s a r h p stood = subst (λ x. StandsAt l (Wait m timed (wait.Release s a))
       (next_place x r)) (sym (stood.1 ∙ ap (Condvar l) stood.2.1)) (told stood.2.0 r h)
     where
-      told : (s2 : Stands) (r : Reply) → Befalls r
+      told : (s2 : WaiterFate) (r : Reply) → Befalls r
           → StandsAt l (Wait m timed (wait.Release s a))
           (next_place (Condvar l (Wait m timed (wait.Release s2 a))) r)
       told s2 (TakenBy t) h = (
@@ -114,11 +114,12 @@ pub alike_same : (n : Next CondvarPlace) → Alike n n
 alike_same (next.At q) = (refl, refl)
 alike_same (next.End answer) = tt
 
-release_stage : (m : ℕ) (s : Stands) (a : MutexPlace) (r : Reply) → (wait_row m (release_next s a r)).stage
+release_stage : (m : ℕ) (s : WaiterFate) (a : MutexPlace) (r : Reply)
+    → (wait_row m (release_next s a r)).stage
     ≡ None
 release_stage m s a r = by_reply (comes_from_another r)
   where
-    by_after : (s : Stands) → (wait_row m (past_release s)).stage ≡ None
+    by_after : (s : WaiterFate) → (wait_row m (past_release s)).stage ≡ None
     by_after (stands.Noted note.Normal) = refl
     by_after (stands.Noted note.HandOff) = refl
     by_after s = refl

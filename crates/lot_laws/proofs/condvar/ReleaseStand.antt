@@ -3,14 +3,15 @@
 use Rattle.lot_laws.proofs.Names
 use Names.{ℕ, Bool, true, false, if◌then◌else◌, ◌==◌, ◌≡◌, ◌≢◌, ◌⊎◌, ◌*◌, ◌<◌, List, [], ◌∷◌, length, drop}
 use Names.{get_or, set, get_or-set_other, get_or-set_same, inl, inr, refl, sym, ◌∙◌, ap, subst, get_or-map}
-use Names.{cases_eq, Waiter, first_of, TakenBy, Took, Woken, is_thread, UnlockAt, unlock_act, Wait, Stands}
+use Names.{cases_eq, Waiter, first_of, TakenBy, Took, Woken, is_thread, UnlockAt, unlock_act, Wait}
+use Names.{WaiterFate}
 use Names.{WaitAt, hand, hand_of, taker_of, Place, Condvar, Idle, next_place, Main, State, is_there}
 use Names.{place_after_telling, place_at, queue_at, queues_without_first, reply_to, state_after_act}
 use Names.{state_after_taking, IsInductive, key_of, rules_in}
 use Rattle.core_base.specs.declared.notes.Note.TheVariants as note
 use Rattle.steps_mutex.specs.declared.places.MutexPlace.TheVariants as mutex
 use Rattle.steps_mutex.specs.declared.unlock.UnlockAt.TheVariants as unlock
-use Rattle.steps_condvar.specs.declared.wait.Stands.TheVariants as stands
+use Rattle.steps_condvar.specs.declared.wait.WaiterFate.TheVariants as stands
 use Rattle.steps_condvar.specs.declared.wait.WaitAt.TheVariants as wait
 use Rattle.spec_locks.specs.Locks as locks
 use Rattle.lot_laws.proofs.machine.Parts as glue
@@ -18,15 +19,15 @@ use Rattle.lot_laws.proofs.machine.Parts.{differ, same}
 use Rattle.lot_laws.proofs.condvar.WaitTakes.{moved_first}
 use Rattle.lot_laws.proofs.condvar.WaitWakes.{not_given}
 
-abbrev pub releasing : Stands → UnlockAt → WaitAt
+abbrev pub releasing : WaiterFate → UnlockAt → WaitAt
 releasing s at = wait.Release s (mutex.Unlock at)
 
 -- it isn't in the hand that it opens
-abbrev pub IsLeft : ℕ → Stands → UnlockAt → Type 0
+abbrev pub IsLeft : ℕ → WaiterFate → UnlockAt → Type 0
 IsLeft t s at = at ≡ unlock.Leave true → is_thread t (taker_of s) ≡ false
 
 -- it was the first of the queue, to which it was moved
-pub record TookItself (w : State) (t m : ℕ) (s s2 : Stands) (at : UnlockAt) : Type 0 where
+pub record TookItself (w : State) (t m : ℕ) (s s2 : WaiterFate) (at : UnlockAt) : Type 0 where
   pub takes : at ≡ unlock.Take
   pub moved : s ≡ stands.Moved
   pub in_hand : s2 ≡ stands.InHand t
@@ -34,7 +35,7 @@ pub record TookItself (w : State) (t m : ℕ) (s s2 : Stands) (at : UnlockAt) : 
   pub told : reply_to w t (unlock_act m unlock.Take) ≡ Took true none_left
 
 -- it was in its own hand, and leaves the section
-pub record WokeItself (t : ℕ) (s s2 : Stands) (at : UnlockAt) : Type 0 where
+pub record WokeItself (t : ℕ) (s s2 : WaiterFate) (at : UnlockAt) : Type 0 where
   pub leaves : at ≡ unlock.Leave true
   pub in_hand : s ≡ stands.InHand t
   pub noted : s2 ≡ stands.Noted note.Normal
@@ -43,19 +44,19 @@ module _ (w : State) (t l m : ℕ) (timed : Bool) (inductive : IsInductive w) (h
     (apart : m ≢ l)
     (sort : (rules_in w m).sort ≡ locks.Mutex) (plain : rules_in w m ≡ glue.mutex)
     (line : key_of m Main < length w.queues) (section : key_of m Main < length w.sections) where
-  abbrev pub place_of : Stands → UnlockAt → Place
+  abbrev pub place_of : WaiterFate → UnlockAt → Place
   place_of s at = Condvar l (Wait m timed (releasing s at))
 
-  abbrev acted : Stands → UnlockAt → State
+  abbrev acted : WaiterFate → UnlockAt → State
   acted s at = state_after_act w t (place_of s at) (unlock_act m at)
 
   -- where it stands once it has acted
-  pub record LeftAt (s : Stands) (at : UnlockAt) : Type 0 where
-    pub now : Stands
+  pub record LeftAt (s : WaiterFate) (at : UnlockAt) : Type 0 where
+    pub now : WaiterFate
     pub place : place_at (acted s at) t ≡ place_of now at
     pub how : ((now ≡ s) × IsLeft t s at) ⊎ (TookItself w t m s now at ⊎ WokeItself t s now at)
 
-  module _ (s : Stands) (is : place_at w t ≡ place_of s unlock.Take) where
+  module _ (s : WaiterFate) (is : place_at w t ≡ place_of s unlock.Take) where
     abbrev after_take : List Waiter → State
     after_take q = state_after_taking (record w { queues = queues_without_first w.queues (2 * m) }) t
         (first_of q)
@@ -90,17 +91,17 @@ module _ (w : State) (t l m : ℕ) (timed : Bool) (inductive : IsInductive w) (h
       }
     ]
 
-  abbrev Told : Stands → Type 0
+  abbrev Told : WaiterFate → Type 0
   Told s = place_at (acted s (unlock.Leave true)) t ≡ place_after_telling t (Woken note.Normal)
       (place_of s (unlock.Leave true))
 
   -- it opens its hand
-  leaves : (s : Stands) → place_at w t ≡ place_of s (unlock.Leave true) → LeftAt s (unlock.Leave true)
+  leaves : (s : WaiterFate) → place_at w t ≡ place_of s (unlock.Leave true) → LeftAt s (unlock.Leave true)
   leaves s is = by_stand s (not_given w t l m timed inductive here apart sort plain section true s is)
       (get_or-map (place_after_telling t (Woken note.Normal)) w.places t Idle
       ∙ ap (place_after_telling t (Woken note.Normal)) is)
     where
-      by_stand : (s : Stands) → (hand_of s ≡ hand t true → ⊥) → Told s → LeftAt s (unlock.Leave true)
+      by_stand : (s : WaiterFate) → (hand_of s ≡ hand t true → ⊥) → Told s → LeftAt s (unlock.Leave true)
       by_stand stands.Listed given told = record {
         now = stands.Listed;
         place = told;
@@ -141,7 +142,7 @@ module _ (w : State) (t l m : ℕ) (timed : Bool) (inductive : IsInductive w) (h
       ]
 
   -- for every act
-  pub left_at : (s : Stands) (at : UnlockAt) → place_at w t ≡ place_of s at → LeftAt s at
+  pub left_at : (s : WaiterFate) (at : UnlockAt) → place_at w t ≡ place_of s at → LeftAt s at
   left_at s unlock.Subtract is = record { now = s; place = is; how = inl (refl, λ e. absurd cc) }
   left_at s unlock.Enter is = record { now = s; place = is; how = inl (refl, λ e. absurd cc) }
   left_at s unlock.Take is = takes s is (queue_at w (2 * m)) refl

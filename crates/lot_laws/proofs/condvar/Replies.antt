@@ -5,8 +5,9 @@ use Names.{ℕ, suc, Bool, true, false, Option, Some, None, if◌then◌else◌,
 use Names.{[], ◌∷◌, map, drop, length, not, refl, sym, ◌∙◌, ap, subst, arith, One, Waiter, first_of, times}
 use Names.{without, moved_by, taken_by, Act, taken_from, Location, location_by, LockAt, UnlockAt}
 use Names.{mutex_profile, is_locked, lock_act, unlock_act, Condvar, profile_at, NotifyAt, CondvarPlace, Wait}
-use Names.{Look, Notify, Stands, WaitAt, comes_from_another, condvar_act, move_act, mutex_beside, notify_act}
-use Names.{wait_act, condvar_row, has_mutex, mutex_side, notify_row, IsLockOf, IsReached, IsAt, MayHear}
+use Names.{Look, Notify, WaiterFate, WaitAt, comes_from_another, condvar_act, move_act, mutex_beside}
+use Names.{notify_act}
+use Names.{wait_act, condvar_row, has_mutex, mutex_side, notify_row, IsLockOf, IsReached, IsAt, MayReply}
 use Names.{MayHearNotifying, MayHearWaiting, word_showing, MayHearBeside, MayHearLocking, MayHearReleasing}
 use Names.{MayHearWaiter, TakesFirst, condvar_moves_fit, code, shown_code, word_by, CondvarSite, IsCondvar}
 use Names.{MoveFits, WaitsAside, moved_of, HasTakenNobody, one_if_some, Taken, keep_from, Rules, first_thread}
@@ -154,11 +155,11 @@ module _ (w : State) (t l : ℕ) (at : CondvarPlace) (inductive : IsInductive w)
     notifying_hears all m (notify.Leave any number) reached can = tt
 
     -- at the condition variable
-    pub may_hear : can_do w (condvar_act l at) ≡ true → MayHear here t at (reply_to w t (condvar_act l at))
+    pub may_hear : can_do w (condvar_act l at) ≡ true → MayReply here t at (reply_to w t (condvar_act l at))
     may_hear can = by_place at fits_here.reached can
       where
         by_place : (p : CondvarPlace) → IsReached p → can_do w (condvar_act l p) ≡ true
-            → MayHear here t p (reply_to w t (condvar_act l p))
+            → MayReply here t p (reply_to w t (condvar_act l p))
         by_place (Wait m timed p) reached can = waiting_hears m timed p reached can
         by_place (Look all) reached can = tt
         by_place (Notify all m p) reached can = notifying_hears all m p reached can
@@ -251,7 +252,7 @@ module _ (w : State) (t l : ℕ) (at : CondvarPlace) (inductive : IsInductive w)
       left_beside = sym (empty_line (without t (queue_at w (2 * m))))
           ∙ ap is_empty (queued_without t (queue_at w (2 * m)))
 
-      releasing_hears : (s : Stands) (p : UnlockAt)
+      releasing_hears : (s : WaiterFate) (p : UnlockAt)
           → (has_mutex s ≡ true → (mutex_profile (mutex.Unlock p)).role.claims ≡ None)
           → carried_at (place_at w t) m ≡ (mutex_profile (mutex.Unlock p)).carries → can_do w (unlock_act m p)
           ≡ true

@@ -5,7 +5,7 @@ use Names.{ℕ, Bool, true, false, Option, Some, None, if◌then◌else◌, ◌=
 use Names.{get_or-set_same, inl, inr, refl, sym, ◌∙◌, ap, subst, cases_eq, SemaphorePlace, semaphore_looking}
 use Names.{MutexPlace, mutex_looking, OncePlace, once_looking, RwLockCallPlace, call_looking, Look, Notify}
 use Names.{Wait, in_lock, Place, Condvar, Idle, Mutex, Once, RwLock, Semaphore, in_condvar, in_mutex, in_once}
-use Names.{in_rwlock, looking, profile_at, in_semaphore, IsCondvar, LockState, Main, State, closed_place}
+use Names.{in_rwlock, respins_from, profile_at, in_semaphore, IsCondvar, LockState, Main, State, closed_place}
 use Names.{place_at, put, section_at, lock_state, AreCondvars, condvar_of, inside_as, key_of}
 use Rattle.steps_mutex.specs.declared.lock.LockAt.TheVariants as lock
 use Rattle.steps_mutex.specs.declared.places.MutexPlace.TheVariants as mutex
@@ -61,7 +61,7 @@ abbrev Says : Place → Place → Type 0
 Says p q = (k : ℕ) → (stage_of q k ≡ stage_of p k) × (names_of q k ≡ names_of p k)
 
 -- from where it looks at the word once more
-looks_alike : (p q : Place) → looking p ≡ Some q → Says p q
+looks_alike : (p q : Place) → respins_from p ≡ Some q → Says p q
 looks_alike Idle q is = absurd cc
 looks_alike (Mutex l at) q is = by_place (mutex_looking at) is
   where
@@ -104,7 +104,8 @@ looks_alike (Condvar l (Wait m timed p)) q is = absurd cc
 looks_alike (Condvar l (Look all)) q is = absurd cc
 looks_alike (Condvar l (Notify all m p)) q is = absurd cc
 
-pub looking_condvars : (w : State) (t : ℕ) (q : Place) → t < length w.places → looking (place_at w t) ≡ Some q
+pub looking_condvars : (w : State) (t : ℕ) (q : Place) → t < length w.places → respins_from (place_at w t)
+    ≡ Some q
     → AreCondvars w
     → AreCondvars (put w t q)
 looking_condvars w t q there is condvars = put_condvars w t q there (looks_alike (place_at w t) q is) condvars

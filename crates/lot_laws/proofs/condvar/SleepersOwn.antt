@@ -6,7 +6,7 @@ use Names.{CondvarPlace, Wait, Look, Notify, WaitAt, condvar_act, wait_act, IsRe
 use Names.{condvar_place_purpose, Place, Condvar, act_of, State, place_at, call_at, call_state, locks_of}
 use Names.{sleeps, IsInductive}
 use Rattle.steps_mutex.specs.declared.places.MutexPlace.TheVariants as mutex
-use Rattle.steps_condvar.specs.declared.wait.Stands.TheVariants as stands
+use Rattle.steps_condvar.specs.declared.wait.WaiterFate.TheVariants as stands
 use Rattle.steps_condvar.specs.declared.wait.WaitAt.TheVariants as wait
 use Rattle.lot_laws.proofs.calls.CallEvents.{rights}
 use Rattle.lot_laws.proofs.condvar.CondvarPromises.{two_purpose}

@@ -3,9 +3,9 @@ use Rattle.lot_laws.proofs.Names
 use Names.{ℕ, Bool, true, false, Option, Some, None, if◌then◌else◌, ◌==◌, ◌≡◌, ◌≢◌, ◌⊎◌, ◌*◌, ◌<◌, length}
 use Names.{nat_lt, is_some, inl, inr, refl, sym, ◌∙◌, ap, subst, length-set, get_or-set_other}
 use Names.{get_or-set_same, cases_eq, ltb-true, CondvarCall, lock_in, Call, Step, Turn, Late, CondvarPlace}
-use Names.{Wait, Look, Notify, WaitAt, MayHear, after_condvar_deeds, condvar_deeds, condvar_act}
+use Names.{Wait, Look, Notify, WaitAt, MayReply, after_condvar_deeds, condvar_deeds, condvar_act}
 use Names.{condvar_first, condvar_next, in_lock, Place, Idle, Mutex, RwLock, Once, Condvar, Semaphore, act_of}
-use Names.{first_place, in_condvar, is_idle, late_key, called_lock, looking, next_place, profile_at}
+use Names.{first_place, in_condvar, is_idle, late_key, called_lock, respins_from, next_place, profile_at}
 use Names.{BeginsWait, IsCondvar, IsInsideNot, condvar_leads, Rules, putting, rules_of, condvar_deed_keeps}
 use Names.{SectionChanges, Line, Main, has_readers, IsWellFormed, PlaceFits, State, after, can_do, can_turn}
 use Names.{is_free_under, is_open_to, is_possible, kind_at, place_at, put, queue_at, reply_to, runs_closure}
@@ -18,7 +18,7 @@ use Rattle.spec_locks.specs.declared.calls.Call.TheVariants as call
 use Rattle.spec_locks.specs.declared.calls.Turn as turn
 use Rattle.steps_mutex.specs.declared.places.MutexPlace.TheVariants as mutex
 use Rattle.steps_mutex.specs.declared.lock.LockAt.TheVariants as lock
-use Rattle.steps_condvar.specs.declared.wait.Stands.TheVariants as stands
+use Rattle.steps_condvar.specs.declared.wait.WaiterFate.TheVariants as stands
 use Rattle.steps_condvar.specs.declared.wait.WaitAt.TheVariants as wait
 use Rattle.spec_locks.specs.Locks as locks
 use Rattle.spec_locks.specs.Locks.{times}
@@ -65,7 +65,7 @@ module _ (w v : State) (t l : ℕ) (at : CondvarPlace) (shape : IsWellFormed w) 
 
   -- it goes into the section of the queue where it slept
   slept : (p : CondvarPlace) (key : ℕ) → at ≡ p → v ≡ state_after_late_on w t (Some key)
-      → MayHear (condvar_of w l) t p Late
+      → MayReply (condvar_of w l) t p Late
       → (lock_state v l).shown ≡ (after_condvar_deeds (condvar_deeds p Late) (condvar_of w l) t).shown
       → (lock_state v l).queue ≡ (after_condvar_deeds (condvar_deeds p Late) (condvar_of w l) t).waiters
       → IsCondvar (condvar_of v l)
@@ -109,7 +109,7 @@ record LooksFrom (l : ℕ) (at : CondvarPlace) (q : Place) : Type 0 where
   pub names : names_of q l ≡ names_of (Condvar l at) l
   pub acts : (w : State) → can_do w (condvar_act l place) ≡ true
 
-looks_from : (l : ℕ) (at : CondvarPlace) (q : Place) → looking (Condvar l at) ≡ Some q → LooksFrom l at q
+looks_from : (l : ℕ) (at : CondvarPlace) (q : Place) → respins_from (Condvar l at) ≡ Some q → LooksFrom l at q
 looks_from l (Wait m timed (wait.Lock late (mutex.Lock e again (lock.Decide seen)))) q is =
     by_word (seen == 1) is
   where
@@ -157,7 +157,7 @@ module _ (w : State) (s : Step) (shape : IsWellFormed w) (inductive : IsInductiv
       after_step w s shape inductive counted condvars in step.0.sections (key_of l Main)
 
   -- from where it looks
-  looks : (q : Place) → t < length w.places → looking (place_at w t) ≡ Some q
+  looks : (q : Place) → t < length w.places → respins_from (place_at w t) ≡ Some q
       → v ≡ state_after_look w t (Some q)
       → IsCondvar (condvar_of v l)
   looks q there looking_is led = goes_on looked v t l from.place (looking_well_formed w t q shape looking_is)
@@ -170,7 +170,7 @@ module _ (w : State) (s : Step) (shape : IsWellFormed w) (inductive : IsInductiv
       looked = put w t q
 
       from : LooksFrom l at q
-      from = looks_from l at q (ap looking (sym is) ∙ looking_is)
+      from = looks_from l at q (ap respins_from (sym is) ∙ looking_is)
 
       here : place_at (put w t q) t ≡ q
       here = get_or-set_same w.places t q Idle there
@@ -200,9 +200,9 @@ module _ (w : State) (s : Step) (shape : IsWellFormed w) (inductive : IsInductiv
   turned there turn.TheVariants.Late can led = late w v t l at shape inductive stands_then is there lt condvar
       says section (led ∙ ap (λ p. state_after_late_on w t (late_key p)) is)
       (ap (λ p. is_free_under w (late_key p)) (sym is) ∙ can)
-  turned there turn.TheVariants.Spin can led = by_look (looking (place_at w t)) refl led
+  turned there turn.TheVariants.Spin can led = by_look (respins_from (place_at w t)) refl led
     where
-      by_look : (o : Option Place) → looking (place_at w t) ≡ o → v ≡ state_after_look w t o
+      by_look : (o : Option Place) → respins_from (place_at w t) ≡ o → v ≡ state_after_look w t o
           → IsCondvar (condvar_of v l)
       by_look None e f = subst (λ (x : State). IsCondvar (condvar_of x l)) (sym f) condvar
       by_look (Some q) e f = looks q there e f
@@ -373,8 +373,8 @@ after_condvars w s shape inductive counted condvars l sort_then =
             absurd (let no : is_free_under w (late_key (place_at w s.thread)) ≡ false =
             ap (λ p. is_free_under w (late_key p)) idle in cc)
         turned_idle there turn.TheVariants.Spin can led =
-            absurd (let no : is_some (looking (place_at w s.thread)) ≡ false =
-            ap (λ p. is_some (looking p)) idle in cc)
+            absurd (let no : is_some (respins_from (place_at w s.thread)) ≡ false =
+            ap (λ p. is_some (respins_from p)) idle in cc)
         turned_idle there turn.TheVariants.Ok can led = absurd (let runs =
             (both (runs_closure (act_of (place_at w s.thread))) _ can).0 in let none : runs_closure
             (act_of (place_at w s.thread)) ≡ false = ap (λ p. runs_closure (act_of p)) idle in cc)

@@ -2,7 +2,8 @@
 use Rattle.lot_laws.proofs.Names
 use Names.{ℕ, Bool, true, false, None, if◌then◌else◌, ◌==◌, ◌≡◌, ◌≢◌, ◌+◌, ◌*◌, ◌<◌, List, [], length, refl}
 use Names.{sym, ◌∙◌, ap, subst, eqb-true, One, Act, Next, At, Reply, Place, Condvar, condvar_goes, next_place}
-use Names.{LockAt, UnlockAt, is_locked, lock_act, unlock_act, mutex_next, CondvarPlace, Wait, Stands, WaitAt}
+use Names.{LockAt, UnlockAt, is_locked, lock_act, unlock_act, mutex_next, CondvarPlace, Wait, WaiterFate}
+use Names.{WaitAt}
 use Names.{IsReached, IsLockOf, wait_deeds, relocked_deeds, wait_act, condvar_next, waiter_deeds, IsCondvar}
 use Names.{Main, State, can_do, place_at, put, reply_to, state_after_act, queues_with_last, word_at, acts}
 use Names.{FitsItsLock, Goes, GoesAll, IsInductive, condvar_of, key_of, rules_in, MutexPlace, WordIs, holds}
@@ -111,10 +112,10 @@ module _ (w : State) (t l m : ℕ) (timed : Bool) (inductive : IsInductive w) (i
 
   -- ---------------------------------------------------------------- it releases its mutex
 
-  abbrev releasing : Stands → UnlockAt → WaitAt
+  abbrev releasing : WaiterFate → UnlockAt → WaitAt
   releasing s at = wait.Release s (mutex.Unlock at)
 
-  release_goes : (s : Stands) (at : UnlockAt) → place_at w t ≡ Condvar l (waits (releasing s at))
+  release_goes : (s : WaiterFate) (at : UnlockAt) → place_at w t ≡ Condvar l (waits (releasing s at))
       → can_do w (unlock_act m at) ≡ true → GoesOnBy (releasing s at) (unlock_act m at)
   release_goes s unlock.Subtract is can = beside (releasing s unlock.Subtract) (unlock_act m unlock.Subtract)
       is refl refl refl (subtracts w t l m timed inductive is_there apart sort_m lock_m s is)

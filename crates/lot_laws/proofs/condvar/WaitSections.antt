@@ -3,8 +3,8 @@
 use Rattle.lot_laws.proofs.Names
 use Names.{ℕ, Bool, true, false, Some, None, if◌then◌else◌, ◌≡◌, ◌≢◌, ◌*◌, ◌<◌, List, [], ◌∷◌, length, refl}
 use Names.{sym, ◌∙◌, ap, subst, inl, inr, cases_eq, One, Exclusive, Act, Next, At, Reply, Done, Parked}
-use Names.{Nobody, Move, Line, Location, location_by, Place, Condvar, condvar_goes, LockAt, UnlockAt}
-use Names.{still_retries, CondvarPlace, Wait, Stands, WaitAt, condvar_next, in_wait, next_wait, relocked}
+use Names.{Nobody, StepView, Line, Location, location_by, Place, Condvar, condvar_goes, LockAt, UnlockAt}
+use Names.{still_retries, CondvarPlace, Wait, WaiterFate, WaitAt, condvar_next, in_wait, next_wait, relocked}
 use Names.{wait_act, row_beside, there, MayHearWaiter, WaiterFollows, itself_woken, waiter_deeds, waiter_next}
 use Names.{Park, Rules, keep_from, Case, Deed, Role, End, In, Main, Out, Site, wakened, State, can_do}
 use Names.{place_at, put, reply_to, section_at, state_after_act, word_at, queues_with_last, acts, taken_at}
@@ -51,7 +51,7 @@ module _ (w : State) (t l m : ℕ) (timed : Bool) (inductive : IsInductive w) (i
   FitsNext at a = FitsItsLock w (condvar_goes l (condvar_next (waits at) (reply_to w t a)))
 
   -- what a place of a wait says of its thread at the mutex
-  abbrev move : WaitAt → Move
+  abbrev move : WaitAt → StepView
   move at = record {
     row = row_beside (At (waits at));
     next = λ told. row_beside (in_wait m timed (next_wait m timed at told));
@@ -121,7 +121,7 @@ module _ (w : State) (t l m : ℕ) (timed : Bool) (inductive : IsInductive w) (i
   abbrev leave : Act
   leave = act.Leave (One (2 * m)) Nobody
 
-  abbrev releasing : Stands → UnlockAt → WaitAt
+  abbrev releasing : WaiterFate → UnlockAt → WaitAt
   releasing s at = wait.Release s (mutex.Unlock at)
 
   abbrev relocks : Bool → Bool → LockAt → WaitAt
@@ -140,7 +140,7 @@ module _ (w : State) (t l m : ℕ) (timed : Bool) (inductive : IsInductive w) (i
       (none_so (section_at w (2 * m)) can) g
 
   -- to release it, with somebody to wake
-  pub enters_to_release : (s : Stands) → place_at w t ≡ Condvar l (waits (releasing s unlock.Enter))
+  pub enters_to_release : (s : WaiterFate) → place_at w t ≡ Condvar l (waits (releasing s unlock.Enter))
       → can_do w enter ≡ true
       → FitsNext (releasing s unlock.Enter) enter → Kept (releasing s unlock.Enter) enter
   enters_to_release s is can fits = enters (releasing s unlock.Enter) is refl can refl (refl, refl) (record {

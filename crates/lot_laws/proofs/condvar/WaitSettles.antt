@@ -3,7 +3,7 @@
 use Rattle.lot_laws.proofs.Names
 use Names.{ℕ, Bool, true, false, Some, if◌then◌else◌, ◌==◌, ◌≡◌, ◌≢◌, ◌+◌, ◌*◌, not, refl, sym, ◌∙◌, ap}
 use Names.{eqb-true, One, hand, Location, location_by, Next, MutexPlace, LockAt, mutex_profile, in_unlock}
-use Names.{is_locked, is_parked, lock_act, mutex_next, CondvarPlace, Wait, Look, Notify, Stands, WaitAt}
+use Names.{is_locked, is_parked, lock_act, mutex_next, CondvarPlace, Wait, Look, Notify, WaiterFate, WaitAt}
 use Names.{IsLockOf, IsReached, has_mutex, carries_beside, condvar_profile, mutex_side, past_release}
 use Names.{mutex_beside, next_wait, released, relocked, wait_act, Place, Idle, Mutex, RwLock, Once, Condvar}
 use Names.{Semaphore, is_lock, Main, has_readers, State, can_do, place_at, reply_to, section_at, word_at}
@@ -21,7 +21,7 @@ use Rattle.steps_mutex.specs.declared.lock.LockAt.TheVariants as lock
 use Rattle.steps_mutex.specs.declared.unlock.UnlockAt.TheVariants as unlock
 use Rattle.steps_mutex.specs.MutexSteps.{entered, in_lock}
 use Rattle.steps_condvar.specs.declared.notify.NotifyAt.TheVariants as notify
-use Rattle.steps_condvar.specs.declared.wait.Stands.TheVariants as stands
+use Rattle.steps_condvar.specs.declared.wait.WaiterFate.TheVariants as stands
 use Rattle.steps_condvar.specs.declared.wait.WaitAt.TheVariants as wait
 use Rattle.spec_locks.specs.Locks as locks
 use Rattle.lot_laws.proofs.condvar.Replies.{rules_beside, location_beside}
@@ -151,7 +151,7 @@ module _ (w : State) (t l m : ℕ) (timed : Bool) (inductive : IsInductive w) wh
       (Wait m timed (wait.Release (stands.Handed u) (mutex.Unlock (unlock.Leave any)))) = sym giver.1
       ∙ ap (place_at w) one ∙ is in cc
 
-  settled_afterwards : (s : Stands) → ((u : ℕ) → s ≡ stands.Handed u → ⊥) → IsSettled (past_release s)
+  settled_afterwards : (s : WaiterFate) → ((u : ℕ) → s ≡ stands.Handed u → ⊥) → IsSettled (past_release s)
   settled_afterwards stands.Listed free = tt
   settled_afterwards stands.Moved free = tt
   settled_afterwards (stands.InHand u) free = tt
@@ -170,12 +170,12 @@ module _ (w : State) (t l m : ℕ) (timed : Bool) (inductive : IsInductive w) wh
   leaves true = tt
   leaves false = tt
 
-  subtracts : (s : Stands) → ((u : ℕ) → s ≡ stands.Handed u → ⊥) → (b : Bool)
+  subtracts : (s : WaiterFate) → ((u : ℕ) → s ≡ stands.Handed u → ⊥) → (b : Bool)
       → IsSettled (released s (in_unlock (if b then next.At unlock.Enter else next.End answer.Ok)))
   subtracts s free true = tt
   subtracts s free false = settled_afterwards s free
 
-  takes : (s : Stands) (any b : Bool)
+  takes : (s : WaiterFate) (any b : Bool)
       → IsSettled (released s (in_unlock (if b then next.At (unlock.Clear any)
       else next.At (unlock.Leave any))))
   takes s any true = tt

@@ -4,14 +4,14 @@ use Rattle.lot_laws.proofs.Names
 use Names.{ℕ, Bool, true, false, Option, Some, None, if◌then◌else◌, ◌==◌, ◌≡◌, ◌≢◌, ◌*◌, ◌<◌, List, [], ◌∷◌}
 use Names.{length, map, drop, get_or, set, refl, sym, ◌∙◌, ap, subst, inl, inr, get_or-set_same}
 use Names.{get_or-set_other, cases_eq, Waiter, first_of, At, Reply, Took, TakenBy, taken_from, Location}
-use Names.{location_by, Place, Condvar, Idle, next_place, UnlockAt, CondvarPlace, Wait, Stands, WaitAt}
+use Names.{location_by, Place, Condvar, Idle, next_place, UnlockAt, CondvarPlace, Wait, WaiterFate, WaitAt}
 use Names.{released, in_unlock, row_beside, row_there, there, wait_row, WaiterFollows, waiter_deeds}
 use Names.{TakeFirst, Taken, first_thread, queued_of, Deed, Main, Site, State, is_there, place_at, put}
 use Names.{queue_at, queues_without_first, state_after_taking, acts, taken_at, role_on, location_at}
 use Names.{FitsItsLock, Goes, IsInductive, key_of, rules_in, site_of}
 use Rattle.steps_mutex.specs.declared.places.MutexPlace.TheVariants as mutex
 use Rattle.steps_mutex.specs.declared.unlock.UnlockAt.TheVariants as unlock
-use Rattle.steps_condvar.specs.declared.wait.Stands.TheVariants as stands
+use Rattle.steps_condvar.specs.declared.wait.WaiterFate.TheVariants as stands
 use Rattle.steps_condvar.specs.declared.wait.WaitAt.TheVariants as wait
 use Rattle.spec_locks.specs.Locks as locks
 use Rattle.lot_laws.proofs.machine.Parts as glue
@@ -35,10 +35,10 @@ module _ (w : State) (t l m : ℕ) (timed : Bool) (inductive : IsInductive w) (h
   abbrev lock : Site
   lock = site_of w m
 
-  abbrev releasing : Stands → UnlockAt → WaitAt
+  abbrev releasing : WaiterFate → UnlockAt → WaitAt
   releasing s at = wait.Release s (mutex.Unlock at)
 
-  abbrev taking : Stands → WaitAt
+  abbrev taking : WaiterFate → WaitAt
   taking s = releasing s unlock.Take
 
   abbrev beside_of : WaitAt → Location
@@ -48,7 +48,7 @@ module _ (w : State) (t l m : ℕ) (timed : Bool) (inductive : IsInductive w) (h
   taken_of at = taken_from (row_beside (At (waits at))).hand (row_beside (At (waits at))).wants true
 
   -- after it the bit goes, where nobody is left
-  abbrev goes_to : Stands → Bool → Bool → WaitAt
+  abbrev goes_to : WaiterFate → Bool → Bool → WaitAt
   goes_to s any none_left = released s
       (in_unlock (if none_left then At (unlock.Clear any) else At (unlock.Leave any)))
 
@@ -59,16 +59,16 @@ module _ (w : State) (t l m : ℕ) (timed : Bool) (inductive : IsInductive w) (h
   abbrev after : List Waiter → State
   after q = state_after_taking (record w { queues = queues_without_first w.queues (2 * m) }) t (first_of q)
 
-  abbrev deeds_of : List Waiter → Stands → List Deed
+  abbrev deeds_of : List Waiter → WaiterFate → List Deed
   deeds_of q s = waiter_deeds (taking s) (first_thread (map queued_of q)) (told q)
 
-  abbrev KeptBy : List Waiter → Stands → Type 0
+  abbrev KeptBy : List Waiter → WaiterFate → Type 0
   KeptBy q s = Goes w (put (after q) t (next_place (place_at (after q) t) (told q))) m (acts t (deeds_of q s))
 
   abbrev FitsBy : List Waiter → Type 0
   FitsBy q = FitsItsLock w (next_place (place_at (after q) t) (told q))
 
-  module _ (s : Stands) (is : place_at w t ≡ Condvar l (waits (taking s))) where
+  module _ (s : WaiterFate) (is : place_at w t ≡ Condvar l (waits (taking s))) where
     location_was : location_at (place_at w t) m ≡ beside_of (taking s)
     location_was = ap (λ q. location_at q m) is ∙ location_beside l m apart (At (waits (taking s))) refl
 
@@ -88,7 +88,7 @@ module _ (w : State) (t l m : ℕ) (timed : Bool) (inductive : IsInductive w) (h
         (first_thread (map queued_of q)) (told q)) e follows
 
     -- where it goes on, as it stands then
-    module _ (s2 : Stands) (any none_left : Bool)
+    module _ (s2 : WaiterFate) (any none_left : Bool)
         (stays : location_by (row_there (At (waits (goes_to s2 any none_left)))) ≡ there (waits (taking s)))
       where
         abbrev then_at : Place
@@ -182,7 +182,7 @@ module _ (w : State) (t l m : ℕ) (timed : Bool) (inductive : IsInductive w) (h
   -- ---------------------------------------------------------------- it takes itself
 
   -- a thread that stands in the line of the mutex was moved there
-  moved_so : (s : Stands) → (beside_of (taking s)).stands ≡ Some Main → s ≡ stands.Moved
+  moved_so : (s : WaiterFate) → (beside_of (taking s)).stands ≡ Some Main → s ≡ stands.Moved
   moved_so stands.Moved h = refl
   moved_so stands.Listed h = absurd cc
   moved_so (stands.InHand by) h = absurd cc
@@ -254,7 +254,7 @@ module _ (w : State) (t l m : ℕ) (timed : Bool) (inductive : IsInductive w) (h
         ∙ sym (does_then stands.Moved is (stands.InHand t) true nobody_left (own_there nobody_left)
         ∙ own_does nobody_left))) fits
 
-  pub moved_first : (s : Stands) → place_at w t ≡ Condvar l (waits (taking s))
+  pub moved_first : (s : WaiterFate) → place_at w t ≡ Condvar l (waits (taking s))
       → (x : Waiter) (rest : List Waiter)
       → queue_at w (2 * m) ≡ x ∷ rest → x.thread ≡ t → s ≡ stands.Moved
   moved_first s is x rest e itself = moved_so s (sym (ap (λ (y : Location). y.stands) (location_was s is))
@@ -263,7 +263,7 @@ module _ (w : State) (t l m : ℕ) (timed : Bool) (inductive : IsInductive w) (h
 
   -- ---------------------------------------------------------------- each thread that it takes
 
-  pub takes : (s : Stands) → place_at w t ≡ Condvar l (waits (taking s)) → FitsBy (queue_at w (2 * m))
+  pub takes : (s : WaiterFate) → place_at w t ≡ Condvar l (waits (taking s)) → FitsBy (queue_at w (2 * m))
       → KeptBy (queue_at w (2 * m)) s
   takes s is fits = by_line (queue_at w (2 * m)) refl fits
     where
@@ -274,7 +274,7 @@ module _ (w : State) (t l m : ℕ) (timed : Bool) (inductive : IsInductive w) (h
         | inl itself ↦ by_stand s is (moved_first s is x rest e itself) itself
       ]
         where
-          by_stand : (s : Stands) → place_at w t ≡ Condvar l (waits (taking s)) → s ≡ stands.Moved
+          by_stand : (s : WaiterFate) → place_at w t ≡ Condvar l (waits (taking s)) → s ≡ stands.Moved
               → x.thread ≡ t
               → KeptBy (x ∷ rest) s
           by_stand s is f itself = subst (λ z. KeptBy (x ∷ rest) z) (sym f)

@@ -4,7 +4,8 @@ use Rattle.lot_laws.proofs.Names
 use Names.{ℕ, Bool, true, false, Option, Some, None, if◌then◌else◌, ◌==◌, ◌≡◌, ◌≢◌, ◌⊎◌, ◌*◌, ◌<◌, [], ◌∷◌}
 use Names.{length, refl, sym, ◌∙◌, ap, subst, inl, inr, cases_eq, get_or-map, One, Act, At, Done, Woken}
 use Names.{wakes_taken, is_thread, hand, taken_from, in_hand, Location, location_by, Place, Condvar, Idle}
-use Names.{next_place, taker, CondvarPlace, Wait, Stands, WaitAt, past_release, row_beside, row_there, there}
+use Names.{next_place, taker, CondvarPlace, Wait, WaiterFate, WaitAt, past_release, row_beside, row_there}
+use Names.{there}
 use Names.{hand_of, taker_of, wait_row, WaiterFollows, Taken, keep_from, Role, Main, Out, Site, wakened}
 use Names.{State, place_after_telling, place_at, put, state_after_act, state_after_telling}
 use Names.{state_with_sections, acts, taken_at, role_on, location_at, FitsItsLock, Goes, IsInductive}
@@ -13,7 +14,7 @@ use Rattle.core_base.specs.declared.notes.Note.TheVariants as note
 use Rattle.steps_base.specs.declared.acts.Act.TheVariants as act
 use Rattle.steps_mutex.specs.declared.places.MutexPlace.TheVariants as mutex
 use Rattle.steps_mutex.specs.declared.unlock.UnlockAt.TheVariants as unlock
-use Rattle.steps_condvar.specs.declared.wait.Stands.TheVariants as stands
+use Rattle.steps_condvar.specs.declared.wait.WaiterFate.TheVariants as stands
 use Rattle.steps_condvar.specs.declared.wait.WaitAt.TheVariants as wait
 use Rattle.spec_locks.specs.Deeds as laws
 use Rattle.spec_locks.specs.Locks as locks
@@ -50,17 +51,17 @@ module _ (w : State) (t l m : ℕ) (timed : Bool) (inductive : IsInductive w) (i
   abbrev here : Site
   here = site_of w m
 
-  abbrev leaving : Bool → Stands → WaitAt
+  abbrev leaving : Bool → WaiterFate → WaitAt
   leaving any s = wait.Release s (mutex.Unlock (unlock.Leave any))
 
   abbrev leave : Bool → Act
   leave any = act.Leave (One (2 * m)) (wakes_taken any note.Normal)
 
-  abbrev Kept : Bool → Stands → Type 0
+  abbrev Kept : Bool → WaiterFate → Type 0
   Kept any s = let v = state_after_act w t (Condvar l (waits (leaving any s))) (leave any)
       in Goes w (put v t (next_place (place_at v t) Done)) m (acts t (Out ∷ []))
 
-  abbrev FitsNext : Bool → Stands → Type 0
+  abbrev FitsNext : Bool → WaiterFate → Type 0
   FitsNext any s = let v = state_after_act w t (Condvar l (waits (leaving any s))) (leave any)
       in FitsItsLock w (next_place (place_at v t) Done)
 
@@ -72,7 +73,7 @@ module _ (w : State) (t l m : ℕ) (timed : Bool) (inductive : IsInductive w) (i
   beside_of at = location_by (row_beside (At (waits at)))
 
   -- tells what leaving makes of how it stands
-  record GoesOn (any : Bool) (s s2 : Stands) : Type 0 where
+  record GoesOn (any : Bool) (s s2 : WaiterFate) : Type 0 where
     stays : location_by (row_there (At (waits (past_release s2)))) ≡ there (waits (leaving any s))
     side : beside_of (past_release s2) ≡ record (beside_of (leaving any s)) {
       inside = None;
@@ -85,7 +86,8 @@ module _ (w : State) (t l m : ℕ) (timed : Bool) (inductive : IsInductive w) (i
     told : next_place (place_after_telling t (Woken note.Normal) (Condvar l (waits (leaving any s)))) Done
         ≡ Condvar l (waits (past_release s2))
 
-  goes_on : (any : Bool) (s : Stands) → (hand_of s ≡ hand t true → ⊥) → (s2 : Stands) × GoesOn any s s2
+  goes_on : (any : Bool) (s : WaiterFate) → (hand_of s ≡ hand t true → ⊥) → (s2 : WaiterFate)
+      × GoesOn any s s2
   goes_on any stands.Listed h = (
     stands.Listed,
     record {
@@ -108,7 +110,7 @@ module _ (w : State) (t l m : ℕ) (timed : Bool) (inductive : IsInductive w) (i
   )
   goes_on any (stands.InHand u) h = either (u == t) refl
     where
-      either : (b : Bool) → (u == t) ≡ b → (s2 : Stands) × GoesOn any (stands.InHand u) s2
+      either : (b : Bool) → (u == t) ≡ b → (s2 : WaiterFate) × GoesOn any (stands.InHand u) s2
       either true e = (
         stands.Noted note.Normal,
         record {
@@ -131,7 +133,7 @@ module _ (w : State) (t l m : ℕ) (timed : Bool) (inductive : IsInductive w) (i
       )
   goes_on any (stands.Handed u) h = either (cases_eq u t)
     where
-      either : ((u ≡ t) ⊎ (u ≢ t)) → (s2 : Stands) × GoesOn any (stands.Handed u) s2
+      either : ((u ≡ t) ⊎ (u ≢ t)) → (s2 : WaiterFate) × GoesOn any (stands.Handed u) s2
       either (inl e) = absurd (h (ap (λ x. hand x true) e))
       either (inr ne) = let f : (u == t) ≡ false = differ u t ne in (
         stands.Handed u,
@@ -166,7 +168,7 @@ module _ (w : State) (t l m : ℕ) (timed : Bool) (inductive : IsInductive w) (i
 
   -- ---------------------------------------------------------------- it goes out
 
-  module _ (any : Bool) (s : Stands) (is : place_at w t ≡ Condvar l (waits (leaving any s))) where
+  module _ (any : Bool) (s : WaiterFate) (is : place_at w t ≡ Condvar l (waits (leaving any s))) where
     location_was : location_at (place_at w t) m ≡ beside_of (leaving any s)
     location_was = ap (λ q. location_at q m) is ∙ location_beside l m apart (At (waits (leaving any s))) refl
 
@@ -196,7 +198,7 @@ module _ (w : State) (t l m : ℕ) (timed : Bool) (inductive : IsInductive w) (i
         by_any true a b = let c : Some false ≡ Some true = sym a ∙ b in cc
         by_any false a b = let c : ◌≡◌ {A = Option Bool} None (Some true) = sym a ∙ b in cc
 
-    goes : (s2 : Stands) × GoesOn any s s2
+    goes : (s2 : WaiterFate) × GoesOn any s s2
     goes = goes_on any s not_given
 
     abbrev p2 : Place
@@ -237,7 +239,7 @@ module _ (w : State) (t l m : ℕ) (timed : Bool) (inductive : IsInductive w) (i
         ∙ sym (ap (keep_from t) taken_was)
 
   -- a thread that it has in hand tries again
-  module _ (s : Stands) (is : place_at w t ≡ Condvar l (waits (leaving true s))) where
+  module _ (s : WaiterFate) (is : place_at w t ≡ Condvar l (waits (leaving true s))) where
     abbrev then_at : Place
     then_at = Condvar l (waits (past_release (goes true s is).0))
 
@@ -275,7 +277,7 @@ module _ (w : State) (t l m : ℕ) (timed : Bool) (inductive : IsInductive w) (i
         ∙ ap (λ o. if is_thread t o then None else (location_at (place_at w t) m).hand) (taker_is s)
         ∙ ap (λ (y : Location). if is_thread t (taker_of s) then None else y.hand) (location_was true s is))
       where
-        taker_is : (s : Stands) → taker (Condvar l (waits (leaving true s))) ≡ taker_of s
+        taker_is : (s : WaiterFate) → taker (Condvar l (waits (leaving true s))) ≡ taker_of s
         taker_is stands.Listed = refl
         taker_is stands.Moved = refl
         taker_is (stands.InHand by) = refl
@@ -295,11 +297,11 @@ module _ (w : State) (t l m : ℕ) (timed : Bool) (inductive : IsInductive w) (i
 
   -- ---------------------------------------------------------------- it has nobody in hand
 
-  module _ (s : Stands) (is : place_at w t ≡ Condvar l (waits (leaving false s))) where
+  module _ (s : WaiterFate) (is : place_at w t ≡ Condvar l (waits (leaving false s))) where
     abbrev out_at : Place
     out_at = Condvar l (waits (past_release s))
 
-    out_there : (s : Stands) → location_by (row_there (At (waits (past_release s)))) ≡ there
+    out_there : (s : WaiterFate) → location_by (row_there (At (waits (past_release s)))) ≡ there
         (waits (leaving false s))
     out_there stands.Listed = refl
     out_there stands.Moved = refl
@@ -308,7 +310,7 @@ module _ (w : State) (t l m : ℕ) (timed : Bool) (inductive : IsInductive w) (i
     out_there (stands.Noted note.Normal) = refl
     out_there (stands.Noted note.HandOff) = refl
 
-    out_beside : (s : Stands) → beside_of (past_release s) ≡ record (beside_of (leaving false s)) {
+    out_beside : (s : WaiterFate) → beside_of (past_release s) ≡ record (beside_of (leaving false s)) {
       inside =
           None;
     }
@@ -319,7 +321,7 @@ module _ (w : State) (t l m : ℕ) (timed : Bool) (inductive : IsInductive w) (i
     out_beside (stands.Noted note.Normal) = refl
     out_beside (stands.Noted note.HandOff) = refl
 
-    out_taken : (s : Stands) → taken_of (past_release s) ≡ taken_of (leaving false s)
+    out_taken : (s : WaiterFate) → taken_of (past_release s) ≡ taken_of (leaving false s)
     out_taken stands.Listed = refl
     out_taken stands.Moved = refl
     out_taken (stands.InHand by) = refl

@@ -4,7 +4,7 @@ use Rattle.lot_laws.proofs.Names
 use Names.{ℕ, Bool, true, false, Option, Some, None, if◌then◌else◌, ◌==◌, ◌&&◌, ◌≡◌, ◌≢◌, ◌<◌, List, [], ◌∷◌}
 use Names.{length, not, refl, sym, ◌∙◌, ap, subst, inl, inr, cases_eq, Op, Exclusive, apply, Next, At, Reply}
 use Names.{Value, Owners, with_exclusive, taken_from, location_by, Condvar, condvar_goes, LockAt, UnlockAt}
-use Names.{enter_deeds, is_locked, is_parked, in_unlock, unlock_act, CondvarPlace, Wait, Stands, WaitAt}
+use Names.{enter_deeds, is_locked, is_parked, in_unlock, unlock_act, CondvarPlace, Wait, WaiterFate, WaitAt}
 use Names.{condvar_next, condvar_owners, in_wait, next_wait, relocked, released, wait_act, past_release}
 use Names.{row_beside, row_there, there, LeavesMutex, MayHearWaiter, WaiterFollows, itself_woken, unended}
 use Names.{waiter_deeds, waiter_next, waiters_code, waiters_follow, code, Leave, Rules, Case, Clear, Deed}
@@ -21,7 +21,7 @@ use Rattle.steps_mutex.specs.declared.lock.LockAt.TheVariants as lock
 use Rattle.steps_mutex.specs.declared.places.MutexPlace.TheVariants as mutex
 use Rattle.steps_mutex.specs.declared.unlock.UnlockAt.TheVariants as unlock
 use Rattle.steps_mutex.specs.MutexSteps.{in_lock}
-use Rattle.steps_condvar.specs.declared.wait.Stands.TheVariants as stands
+use Rattle.steps_condvar.specs.declared.wait.WaiterFate.TheVariants as stands
 use Rattle.steps_condvar.specs.declared.wait.WaitAt.TheVariants as wait
 use Rattle.spec_locks.specs.declared.outcomes.Answer.TheVariants as answer
 use Rattle.spec_locks.specs.Deeds as laws
@@ -171,7 +171,7 @@ module _ (w : State) (t l m : ℕ) (timed : Bool) (inductive : IsInductive w) (i
   abbrev seen : ℕ
   seen = word_at w m
 
-  abbrev releasing : Stands → UnlockAt → WaitAt
+  abbrev releasing : WaiterFate → UnlockAt → WaitAt
   releasing s at = wait.Release s (mutex.Unlock at)
 
   abbrev relocks : Bool → Bool → LockAt → WaitAt
@@ -179,7 +179,7 @@ module _ (w : State) (t l m : ℕ) (timed : Bool) (inductive : IsInductive w) (i
 
   module _ (lt : m < length w.locks) where
     -- it owns the mutex no more; waiters are seen, or its release is over
-    module _ (s : Stands) where
+    module _ (s : WaiterFate) where
       abbrev subtracted : Bool → Next CondvarPlace
       subtracted b = At (waits (released s (in_unlock (if b then At unlock.Enter else Over answer.Ok))))
 
@@ -187,7 +187,7 @@ module _ (w : State) (t l m : ℕ) (timed : Bool) (inductive : IsInductive w) (i
       subtracted_there true = (refl, refl)
       subtracted_there false = ended s
         where
-          ended : (s : Stands) → StaysThere (releasing s unlock.Subtract) (At (waits (past_release s)))
+          ended : (s : WaiterFate) → StaysThere (releasing s unlock.Subtract) (At (waits (past_release s)))
           ended stands.Listed = (refl, refl)
           ended stands.Moved = (refl, refl)
           ended (stands.InHand by) = (refl, refl)
@@ -199,7 +199,7 @@ module _ (w : State) (t l m : ℕ) (timed : Bool) (inductive : IsInductive w) (i
       subtracted_beside true = (refl, refl)
       subtracted_beside false = ended s
         where
-          ended : (s : Stands) → StaysBeside (releasing s unlock.Subtract) (At (waits (past_release s)))
+          ended : (s : WaiterFate) → StaysBeside (releasing s unlock.Subtract) (At (waits (past_release s)))
           ended stands.Listed = (refl, refl)
           ended stands.Moved = (refl, refl)
           ended (stands.InHand by) = (refl, refl)

@@ -9,7 +9,7 @@ use Names.{IsReached, after_wake, is_taken_by, one_more_at, call_state, taken_at
 use Names.{role_on, nowhere, location, location_at, hand_at}
 use Rattle.core_base.specs.declared.notes.Note.TheVariants as note
 use Rattle.steps_mutex.specs.declared.lock.LockAt.TheVariants as lock
-use Rattle.steps_condvar.specs.declared.wait.Stands.TheVariants as stands
+use Rattle.steps_condvar.specs.declared.wait.WaiterFate.TheVariants as stands
 use Rattle.steps_condvar.specs.declared.wait.WaitAt.TheVariants as wait
 use Rattle.steps_mutex.specs.declared.unlock.UnlockAt.TheVariants as unlock
 use Rattle.lot_laws.specs.Locations.{location_by}

@@ -9,7 +9,8 @@ use Names.{Bump, Handed, HandOverAt, HandedAt, call_first, release_first, in_han
 use Names.{bump_ended, bump_next, call_next, entering, given, gives_up_at, gives_way, glances, hand_over_next}
 use Names.{handed_by, handed_next, handed_woken, plain_next, unless_given, woken_with, OncePlace}
 use Names.{once_looking, once_next, CondvarPlace, condvar_next, condvar_looking, Place, Idle, Mutex, RwLock}
-use Names.{Once, Condvar, Semaphore, first_place, in_mutex, in_once, in_rwlock, late_key, looking, mutex_goes}
+use Names.{Once, Condvar, Semaphore, first_place, in_mutex, in_once, in_rwlock, late_key, respins_from}
+use Names.{mutex_goes}
 use Names.{next_place, once_goes, rwlock_goes, condvar_goes, in_condvar, in_semaphore, semaphore_goes, State}
 use Names.{held, place_at, AreCounted, IsCountOfHand, carried_at, nowhere, location}
 use Rattle.core_base.specs.declared.notes.Note as note
@@ -303,7 +304,7 @@ looks_bare_at j a true (Some p) q is = let there : RwLock j a (Bump p) ≡ q = c
 looks_bare_at j a false (Some p) q is = let there : RwLock j a (Plain p) ≡ q = cc
     in subst LooksBare there (bare_at j a (Plain p) refl (λ no. no))
 
-pub looks_bare : (p q : Place) → looking p ≡ Some q → LooksBare q
+pub looks_bare : (p q : Place) → respins_from p ≡ Some q → LooksBare q
 looks_bare Idle q is = absurd cc
 looks_bare (Mutex j at) q is = by_place (mutex_looking at) is
   where

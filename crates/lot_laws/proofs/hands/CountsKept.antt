@@ -9,7 +9,7 @@ use Names.{mutex_act, mutex_next, Admission, RwLockCallPlace, Plain, PeekQueue, 
 use Names.{HandOverAt, in_hand_of, any_taken, call_act, call_next, freed_next, has_room, hand_over_act}
 use Names.{hand_over_next, looked, parked_as, with_taken, word_without, has_parked, once_act, condvar_act}
 use Names.{condvar_next, Place, Idle, Mutex, RwLock, Once, Condvar, Semaphore, act_of, first_place, late_key}
-use Names.{looking, next_place, rwlock_goes, LockState, Turned, State, after, can_turn, go_reply, held}
+use Names.{respins_from, next_place, rwlock_goes, LockState, Turned, State, after, can_turn, go_reply, held}
 use Names.{is_possible, kind_at, place_at, put, state_after_act, state_after_hand_over_by}
 use Names.{state_after_late_on, state_after_look, state_after_operation, state_after_turn, step_outcome}
 use Names.{word_at, IsWellFormed, after_size, both, lock_state, locks_of, AreCondvars, AreCounted}
@@ -289,7 +289,7 @@ module _ (w : State) (t : ℕ) (inductive : IsInductive w) (counted : AreCounted
     < length w.places)
   where
     -- it looks at the word once more
-    spun_counts : (p : Option Place) → looking (place_at w t) ≡ p → (l : ℕ) (k : Counted)
+    spun_counts : (p : Option Place) → respins_from (place_at w t) ≡ p → (l : ℕ) (k : Counted)
         → counted_on (place_at (state_after_look w t p) t) l ≡ Some k → IsCountOfHand (state_after_look w t p)
         t
         k
@@ -346,7 +346,8 @@ module _ (w : State) (t : ℕ) (inductive : IsInductive w) (counted : AreCounted
           (ap (λ p. counted_on p l) (sym (gone_place w t single there)) ∙ e)))
       | inr two ↦ absurd (none_is k _ (two_bare w t inductive there two l) e)
     ]
-    turned_counts turn.TheVariants.Spin can afterwards o turned l k e = spun_counts (looking (place_at w t))
+    turned_counts turn.TheVariants.Spin can afterwards o turned l k e = spun_counts
+        (respins_from (place_at w t))
         refl
         l
         k e

@@ -2,7 +2,7 @@
 -- them still.
 use Rattle.lot_laws.proofs.Names
 use Names.{ℕ, Some, None, ◌≡◌, ◌<◌, List, inl, inr, length, length-set, get_or-set_other, get_or-set_same}
-use Names.{sym, ◌∙◌, ap, cases_eq, Kind, hand_owner, Place, Idle, looking, or_else, State, held, held_by}
+use Names.{sym, ◌∙◌, ap, cases_eq, Kind, hand_owner, Place, Idle, respins_from, or_else, State, held, held_by}
 use Names.{opening, place_at, put, idle_at, look, AreCounted}
 use Rattle.lot_laws.proofs.hands.Counting.{are_counted, counted_on, counts_there, looks_bare, none_is}
 use Rattle.lot_laws.proofs.calls.Beside.{looks_beside}
@@ -29,7 +29,7 @@ module _ (w : State) (t : ℕ) (q : Place) (there : t < length w.places) (same_h
   ])
 
 -- a thread that looks at the word once more has counted nobody
-pub looking_counted : (w : State) (t : ℕ) → t < length w.places → (q : Place) → looking (place_at w t)
+pub looking_counted : (w : State) (t : ℕ) → t < length w.places → (q : Place) → respins_from (place_at w t)
     ≡ Some q → AreCounted w
     → AreCounted (put w t q)
 looking_counted w t there q is = put_counted w t q there (let b = looks_beside (place_at w t) q is in let r =

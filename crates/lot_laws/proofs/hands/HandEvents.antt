@@ -66,7 +66,7 @@ module _ (w v : State) (t l : ℕ) (right : Want) (successor : Option Queued)
       → ((u : ℕ) (x : Want) → IsTaken (lock_state w l) t u x → IsHandedCall l t alone x (place_at w u))
       → ((u : ℕ) (x : Want) → IsTaken (lock_state w l) t u x → IsSingle (place_at w u))
       → OthersFollow w v t (AtLock l (HandOff right successor))
-  hands_many befalls calls of_one u ne = ap (λ p. call_state p (rights v u)) (befalls u ne)
+  hands_many delivers calls of_one u ne = ap (λ p. call_state p (rights v u)) (delivers u ne)
       ∙ by_hand (taken_at (place_at w u) l) refl
     where
       handed_call : (x : Want) → IsTaken (lock_state w l) t u x

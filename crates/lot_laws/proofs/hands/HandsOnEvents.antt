@@ -97,8 +97,8 @@ module _ (w : State) (t l : ℕ) (a : Admission) (c : RwLockCallPlace) (inductiv
       (λ none. in_no_hand w inductive t l (λ h. none (sym carried_now ∙ h)))
 
   -- all in its hand are told, and nobody else
-  befalls : Befalls w afterwards t l (HandedBy t alone)
-  befalls u ne = get_or-set_other (state_after_act w t (RwLock l a c) (act.HandOver l op)).places t u
+  delivers : Befalls w afterwards t l (HandedBy t alone)
+  delivers u ne = get_or-set_other (state_after_act w t (RwLock l a c) (act.HandOver l op)).places t u
       (next_place (RwLock l a c) (Value (word_at w l))) Idle ne
       ∙ ap (λ b. get_or (state_after_hand_over_by b w t (RwLock l a c) l op).places u Idle) takes
       ∙ get_or-map (place_after_telling t (HandedBy t alone)) w.places u Idle
@@ -241,4 +241,4 @@ module _ (w : State) (t l : ℕ) (a : Admission) (c : RwLockCallPlace) (inductiv
       (given w t l a c inductive shape there lt is k is_k count op e takes)
       (bare w t l a c inductive shape there lt
       is k is_k count op e) right (more_right w t l a c inductive shape there lt is k is_k count op e takes))
-      befalls handed_calls handed_single)
+      delivers handed_calls handed_single)

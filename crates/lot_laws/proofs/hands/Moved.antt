@@ -2,7 +2,8 @@
 -- effect all that it has in hand own, and else nothing changes. No place is named, as in `MovesKept`.
 use Rattle.lot_laws.proofs.Names
 use Names.{ℕ, Bool, true, false, Option, Some, None, ◌≡◌, ◌+◌, ◌*◌, ◌<◌, List, [], ◌∷◌, ◌++◌, length, refl}
-use Names.{sym, ◌∙◌, ap, subst, Op, apply, Done, Value, Wakes, One, takes_effect, wakes_taken, Move, Hears}
+use Names.{sym, ◌∙◌, ap, subst, Op, apply, Done, Value, Wakes, One, takes_effect, wakes_taken, StepView}
+use Names.{Hears}
 use Names.{Accepts, HandsOver, TellsHanded, bit_left, heir_of, inside_of, Profile, in_hand, Location}
 use Names.{location_by, Place, owners_after, profile, Rules, HandOff, without_owner, Site, Deed, Case, End}
 use Names.{Main, has_readers, code, Successor, State, place_at, word_at, owners_at, shares_at, queue_at, put}
@@ -36,7 +37,7 @@ heirs_same (Some x) = refl
 
 module _ (w : State) (t l : ℕ) (inductive : IsInductive w) (there : t < length w.places)
     (own : IsOf l (place_at w t)) (r : Rules)
-    (rules : rules_in w l ≡ r) (readers : has_readers r.sort ≡ true) (x : Move)
+    (rules : rules_in w l ≡ r) (readers : has_readers r.sort ≡ true) (x : StepView)
     (same_row : profile (place_at w t) ≡ x.row)
     (lt : l < length w.locks) (p : Place) (op : Op) (g : HandsOver x op) where
   abbrev here : Site
@@ -132,7 +133,7 @@ module _ (w : State) (t l : ℕ) (inductive : IsInductive w) (there : t < length
 
 module _ (w : State) (t l : ℕ) (inductive : IsInductive w) (there : t < length w.places)
     (own : IsOf l (place_at w t)) (r : Rules)
-    (rules : rules_in w l ≡ r) (x : Move) (same_row : profile (place_at w t) ≡ x.row)
+    (rules : rules_in w l ≡ r) (x : StepView) (same_row : profile (place_at w t) ≡ x.row)
     (hears : Hears) where
   abbrev now : Site
   now = lock_by w l r

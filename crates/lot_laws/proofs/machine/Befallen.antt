@@ -2,7 +2,7 @@
 -- doesn't come.
 use Rattle.lot_laws.proofs.Names
 use Names.{ℕ, Bool, true, false, Option, Some, None, if◌then◌else◌, ◌≡◌, ◌≢◌, refl, ◌∙◌, ap, get_or-set_other}
-use Names.{One, Turn, Step, Act, Reply, Place, Idle, act_of, late_key, looking, next_place, State, after}
+use Names.{One, Turn, Step, Act, Reply, Place, Idle, act_of, late_key, respins_from, next_place, State, after}
 use Names.{closed_place, is_possible, place_at, put, state_after_act, state_after_go, state_after_going}
 use Names.{state_after_late_on, state_after_look, state_after_turn, state_with_sections, acted_keeps}
 use Rattle.spec_locks.specs.declared.calls.Turn as turn
@@ -41,7 +41,7 @@ module _ {A : Type 0} (g : Place → A) (kept : (p : Place) (r : Reply) → Befa
         ≡ g (place_at w u)
     turned_keeps w t u (turn.TheVariants.Begin c) ne = put_keeps w t u _ ne
     turned_keeps w t u turn.TheVariants.Go ne = went_keeps w t u (place_at w t) ne
-    turned_keeps w t u turn.TheVariants.Spin ne = spun_keeps w t u (looking (place_at w t)) ne
+    turned_keeps w t u turn.TheVariants.Spin ne = spun_keeps w t u (respins_from (place_at w t)) ne
     turned_keeps w t u turn.TheVariants.Late ne = late_keeps w t u (late_key (place_at w t)) ne
     turned_keeps w t u turn.TheVariants.Ok ne = put_went_keeps w t u (closed_place w t true) ne
     turned_keeps w t u turn.TheVariants.Err ne = put_went_keeps w t u (closed_place w t false) ne

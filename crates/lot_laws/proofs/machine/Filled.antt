@@ -2,7 +2,8 @@
 use Rattle.lot_laws.proofs.Names
 use Names.{ℕ, zero, suc, Bool, true, false, Option, Some, None, if◌then◌else◌, ◌||◌, ◌≡◌, ◌⊎◌, inl, inr, List}
 use Names.{[], ◌∷◌, get_or, set, refl, ap, ◌∙◌, Keys, One, Two, Op, first_of, Step, Turn, Act, Wakes}
-use Names.{takes_effect, holds, Place, act_of, looking, late_key, fills, full_by, rules_of, is_full, State}
+use Names.{takes_effect, holds, Place, act_of, respins_from, late_key, fills, full_by, rules_of, is_full}
+use Names.{State}
 use Names.{unlocked, place_at, word_at, kind_at, filled_at, queue_at, put, state_after_operation}
 use Names.{state_after_hand_over_by, state_with_sections, queues_with_last, queues_without_first}
 use Names.{state_after_taking, state_after_wake, state_after_act, state_after_look, state_after_late_on}
@@ -88,7 +89,7 @@ late_marks w t (Some key) k = inl refl
 turned_marks : (w : State) (t : ℕ) (x : Turn) → Marks w (state_after_turn w t x)
 turned_marks w t (turn.TheVariants.Begin c) k = inl refl
 turned_marks w t turn.TheVariants.Go k = performed_marks w t (place_at w t) (act_of (place_at w t)) k
-turned_marks w t turn.TheVariants.Spin k = looked_marks w t (looking (place_at w t)) k
+turned_marks w t turn.TheVariants.Spin k = looked_marks w t (respins_from (place_at w t)) k
 turned_marks w t turn.TheVariants.Late k = late_marks w t (late_key (place_at w t)) k
 turned_marks w t turn.TheVariants.Ok k = looked_marks w t (Some (closed_place w t true)) k
 turned_marks w t turn.TheVariants.Err k = looked_marks w t (Some (closed_place w t false)) k

@@ -2,7 +2,8 @@
 use Rattle.lot_laws.proofs.Names
 use Names.{ℕ, Bool, true, false, Option, Some, None, if◌then◌else◌, ◌||◌, ◌≡◌, length, replicate, get_or, set}
 use Names.{refl, ap, ◌∙◌, Op, Kind, has_readers, rules_of, MutexCall, RwLockCall, Turn, Step, CondvarCall}
-use Names.{OnceCall, SemaphoreCall, Place, has_call, act_of, looking, late_key, State, shares_handed_over}
+use Names.{OnceCall, SemaphoreCall, Place, has_call, act_of, respins_from, late_key, State}
+use Names.{shares_handed_over}
 use Names.{unlocked, place_at, word_at, shares_at, filled_at, kind_at, state_after_hand_over}
 use Names.{state_after_look, put, state_after_late_on, state_after_turn, closed_place, is_possible, after}
 use Names.{apply, fills, or-false, is_mutex}
@@ -36,7 +37,7 @@ spun_kinds w t (Some q) k = performed_kinds (put w t q) t (place_at (put w t q) 
 turned_kinds : (w : State) (t : ℕ) (x : Turn) (k : ℕ) → kind_at (state_after_turn w t x) k ≡ kind_at w k
 turned_kinds w t (turn.TheVariants.Begin c) k = refl
 turned_kinds w t turn.TheVariants.Go k = performed_kinds w t (place_at w t) (act_of (place_at w t)) k
-turned_kinds w t turn.TheVariants.Spin k = spun_kinds w t (looking (place_at w t)) k
+turned_kinds w t turn.TheVariants.Spin k = spun_kinds w t (respins_from (place_at w t)) k
 turned_kinds w t turn.TheVariants.Late k = late_kinds w t (late_key (place_at w t)) k
 turned_kinds w t turn.TheVariants.Ok k = spun_kinds w t (Some (closed_place w t true)) k
 turned_kinds w t turn.TheVariants.Err k = spun_kinds w t (Some (closed_place w t false)) k

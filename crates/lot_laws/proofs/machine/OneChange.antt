@@ -4,7 +4,8 @@ use Names.{subst, sym, ℕ, Bool, true, false, Option, Some, None, if◌then◌e
 use Names.{[], ◌∷◌, ◌++◌, get_or, set, map, drop, refl, ◌∙◌, ap, get_or-set_other, Value, word_after}
 use Names.{state_after_close, state_after_operation, closed_place, cases_eq, ltb-true, Keys, One, Two, waiter}
 use Names.{without, first_of, Act, Wakes, Late, Turn, Step, Place, lock_in, act_of, called_lock, next_place}
-use Names.{first_place, looking, late_key, state_after_hand_over_by, State, left_in_line, state_after_requeue}
+use Names.{first_place, respins_from, late_key, state_after_hand_over_by, State, left_in_line}
+use Names.{state_after_requeue}
 use Names.{state_after_take, can_turn, unlocked, place_at, word_at, queue_at, section_at, put}
 use Names.{state_with_sections, queues_with_last, queues_without_first, state_after_taking, state_after_wake}
 use Names.{state_after_act, state_after_look, state_after_late_on, go_reply, state_after_turn, is_possible}
@@ -30,7 +31,8 @@ use Rattle.lot_laws.proofs.machine.PlaceTest.{IsLineAct}
 use Rattle.steps_base.specs.declared.acts.Whom.TheVariants as whom
 
 -- a thread that looks at the word once more changes none
-spun_touches : (w : State) (t : ℕ) → t < length w.places → (o : Option Place) → looking (place_at w t) ≡ o
+spun_touches : (w : State) (t : ℕ) → t < length w.places → (o : Option Place) → respins_from (place_at w t)
+    ≡ o
     → KeepsWordsAndQueues w (state_after_look w t o)
 spun_touches w t there None is = (λ l. refl, λ key. refl)
 spun_touches w t there (Some q) is = looks_untouched w t there q is
@@ -216,7 +218,8 @@ module _ (w : State) (t : ℕ) (inductive : IsInductive w) (there : t < length w
         two_gone two
   ]
 
-  spin_one : (o : Option Place) → looking (place_at w t) ≡ o → ChangesOneThing w t (state_after_look w t o)
+  spin_one : (o : Option Place) → respins_from (place_at w t) ≡ o
+      → ChangesOneThing w t (state_after_look w t o)
   spin_one o is = same_one w (state_after_look w t o) t (spun_touches w t there o is)
 
   late_one : (o : Option ℕ) → ChangesOneThing w t (state_after_late_on w t o)
@@ -246,7 +249,7 @@ module _ (w : State) (t : ℕ) (inductive : IsInductive w) (there : t < length w
       in
       put_one w acted t t (next_place (place_at acted t) (go_reply w t))
       (gone_one (called_lock (place_at w t)) refl)
-  turned_one turn.TheVariants.Spin can = spin_one (looking (place_at w t)) refl
+  turned_one turn.TheVariants.Spin can = spin_one (respins_from (place_at w t)) refl
   turned_one turn.TheVariants.Late can = late_one (late_key (place_at w t))
   turned_one turn.TheVariants.Ok can = closed_one true (closes_one w t true can)
   turned_one turn.TheVariants.Err can = closed_one false (closes_one w t false can)
@@ -269,7 +272,7 @@ late_touches w t (Some key) = (λ l. refl, λ key. refl)
 turned_touches : (w : State) (t : ℕ) (x : Turn) → t < length w.places → TouchesOnlyByGoing w x
     (state_after_turn w t x)
 turned_touches w t (turn.TheVariants.Begin c) there = (λ l. refl, λ key. refl)
-turned_touches w t turn.TheVariants.Spin there = spun_touches w t there (looking (place_at w t)) refl
+turned_touches w t turn.TheVariants.Spin there = spun_touches w t there (respins_from (place_at w t)) refl
 turned_touches w t turn.TheVariants.Late there = late_touches w t (late_key (place_at w t))
 turned_touches w t x there = tt
 

@@ -9,7 +9,7 @@ use Names.{entry_purpose, mutex_profile, is_locked, mutex_act, Course, OncePlace
 use Names.{course_of, once_act, SemaphorePlace, patience, semaphore_profile, is_free, semaphore_act}
 use Names.{Admission, RwLockPlace, RwLockAt, Decision, RwLockPurpose, rwlock_profile, act_at, decided}
 use Names.{decided_act, exchange, plus, HandOverAt, RwLockCallPlace, call_profile, call_act, has_room}
-use Names.{hand_over_act, NotifyAt, CondvarPlace, Stands, WaitAt, condvar_profile, hand_of, has_moved}
+use Names.{hand_over_act, NotifyAt, CondvarPlace, WaiterFate, WaitAt, condvar_profile, hand_of, has_moved}
 use Names.{is_main_line, is_moved, mutex_side, condvar_act, move_act, Place, Idle, Mutex, RwLock, Once}
 use Names.{Condvar, Semaphore, act_of, profile, profile_beside, IsTry, keys_entered, sleeps, key_of}
 use Names.{EntersSection}
@@ -42,7 +42,7 @@ use Rattle.steps_rwlock_fair.specs.declared.handed.HandedAt.TheVariants as hande
 use Rattle.steps_rwlock_fair.specs.declared.places.RwLockCallPlace.TheVariants as fair
 use Rattle.steps_condvar.specs.declared.notify.NotifyAt.TheVariants as notify
 use Rattle.steps_condvar.specs.declared.places.CondvarPlace.TheVariants as condvar
-use Rattle.steps_condvar.specs.declared.wait.Stands.TheVariants as stands
+use Rattle.steps_condvar.specs.declared.wait.WaiterFate.TheVariants as stands
 use Rattle.steps_condvar.specs.declared.wait.WaitAt.TheVariants as wait
 use Rattle.lot_laws.specs.ThreadDeeds.{mutex_row}
 use Rattle.lot_laws.specs.Refinement.{runs_closure}
@@ -546,7 +546,7 @@ wait_beside l m timed (wait.Release s to) = let f = (mutex_facts m to).by_row in
   unheld = by_stand s;
 }
   where
-    by_stand : (s : Stands) (n : Line) → in_line (is_moved s) Main ≡ Some n → hand_of s ≡ None
+    by_stand : (s : WaiterFate) (n : Line) → in_line (is_moved s) Main ≡ Some n → hand_of s ≡ None
     by_stand stands.Moved n h = refl
     by_stand s n h = absurd cc
 wait_beside l m timed (wait.Lock late to) = let f = (mutex_facts m to).by_row in record {

@@ -10,7 +10,7 @@ use Names.{Reply, Late, Next, MutexPlace, OncePlace, once_act, once_next, Semaph
 use Names.{semaphore_first, semaphore_next, SemaphoreCall, CondvarPlace, condvar_next, condvar_act}
 use Names.{mutex_beside, Place, Idle, Mutex, RwLock, Once, Condvar, Semaphore, Wakes, Whom, takes_effect}
 use Names.{outcome_of, holds, mutex_act, mutex_first, mutex_next, act_of, beside_of, called_lock}
-use Names.{profile_beside, next_place, next_act, mutex_goes, mutex_does, late_key, first_place, looking}
+use Names.{profile_beside, next_place, next_act, mutex_goes, mutex_does, late_key, first_place, respins_from}
 use Names.{key_in, profile, rwlock_does, rwlock_goes, once_does, once_goes, condvar_goes, condvar_does}
 use Names.{semaphore_does, semaphore_goes, Op, state_after_hand_over_by, State, state_after_take, place_at}
 use Names.{queue_at, section_at, can_do, can_go, is_free_under, word_at, state_with_sections}
@@ -421,7 +421,7 @@ nobody_turns w t (turn.TheVariants.Begin c) idle = elim (cases_lt t (length w.pl
 nobody_turns w t turn.TheVariants.Go idle =
     inr (λ may. may.called (ap (λ p. (call_state p (rights w t)).purpose) idle))
 nobody_turns w t turn.TheVariants.Spin idle = inr (λ may. let e : false ≡ true =
-    sym (ap (λ p. is_some (looking p)) idle) ∙ may in cc)
+    sym (ap (λ p. is_some (respins_from p)) idle) ∙ may in cc)
 nobody_turns w t turn.TheVariants.Late idle = inr (λ may. let e : false ≡ true =
     sym (ap (λ p. sleeps (act_of p)) idle) ∙ may.asleep in cc)
 nobody_turns w t turn.TheVariants.Ok idle = inr (λ may. let e : false ≡ true =

@@ -7,7 +7,8 @@ use Names.{get_or-map, cases_eq, cases_lt, eqb-true, set_past, Keys, One, Two, f
 use Names.{lock_picked, taken_by, Step, Turn, Act, Sleep, Next, At, Reply, TakenBy, MovedTo, HandedBy, Woken}
 use Names.{holds, takes_effect, is_thread, MutexPlace, mutex_act, mutex_next, CondvarPlace, WaitAt, NotifyAt}
 use Names.{condvar_act, condvar_next, notify_act, move_act, in_wait, relocked, wait_act, Place, Idle, Mutex}
-use Names.{RwLock, Once, Condvar, Semaphore, act_of, condvar_goes, late_key, looking, mutex_goes, next_place}
+use Names.{RwLock, Once, Condvar, Semaphore, act_of, condvar_goes, late_key, respins_from, mutex_goes}
+use Names.{next_place}
 use Names.{taker, State, hand_over_told, is_possible, after, listed, moved_threads, place_after_telling}
 use Names.{place_at, places_told, put, queue_at, queues_without_first, closed_place, state_after_act}
 use Names.{state_after_go, state_after_hand_over_by, state_after_late_on, state_after_look}
@@ -17,7 +18,7 @@ use Rattle.steps_base.specs.declared.acts.Act.TheVariants as act
 use Rattle.steps_base.specs.declared.acts.Wakes.TheVariants as wakes
 use Rattle.steps_base.specs.declared.acts.Whom.TheVariants as whom
 use Rattle.steps_condvar.specs.declared.places.CondvarPlace.TheVariants as condvar
-use Rattle.steps_condvar.specs.declared.wait.Stands.TheVariants as stands
+use Rattle.steps_condvar.specs.declared.wait.WaiterFate.TheVariants as stands
 use Rattle.steps_condvar.specs.declared.wait.WaitAt.TheVariants as wait
 use Rattle.steps_condvar.specs.declared.notify.NotifyAt.TheVariants as notify
 use Rattle.lot_laws.proofs.machine.Hearing.{Quiet, call_hears, mutex_hears, once_hears, semaphore_hears}
@@ -188,7 +189,7 @@ module _ (w : State) (t u : ℕ) (other : u ≢ t) (free : is_thread t (taker (p
   turned_sleeps : (x : Turn) → act_of (place_at (state_after_turn w t x) u) ≡ Sleep
   turned_sleeps (turn.Begin c) = put_sleeps w t u _ other asleep
   turned_sleeps turn.Go = gone_sleeps w t u other free asleep
-  turned_sleeps turn.Spin = looked_sleeps (looking (place_at w t))
+  turned_sleeps turn.Spin = looked_sleeps (respins_from (place_at w t))
   turned_sleeps turn.Late = late_sleeps (late_key (place_at w t))
   turned_sleeps turn.Ok = looked_sleeps (Some (closed_place w t true))
   turned_sleeps turn.Err = looked_sleeps (Some (closed_place w t false))

@@ -7,7 +7,8 @@ use Names.{RwLockAt, RwLockPurpose, act_at, rwlock_next, RwLockCallPlace, bump_n
 use Names.{plain_next, unless_given, OncePlace, once_act, SemaphorePlace, semaphore_act, CondvarPlace, WaitAt}
 use Names.{NotifyAt, condvar_act, in_lock, in_wait, relocked, wait_act, Place, Idle, Mutex, RwLock, Once}
 use Names.{Condvar, Semaphore, act_of, condvar_goes, in_condvar, in_mutex, in_once, in_semaphore, late_key}
-use Names.{looking, mutex_goes, next_place, rwlock_goes, State, after, closed_place, is_possible, place_at}
+use Names.{respins_from, mutex_goes, next_place, rwlock_goes, State, after, closed_place, is_possible}
+use Names.{place_at}
 use Names.{put, state_after_act, state_after_go, state_after_going, state_after_late_on, state_after_look}
 use Names.{state_after_turn, state_with_sections, Befalls, acted_keeps, sleeps, stance_by, stance_of}
 use Rattle.core_base.specs.declared.notes.Note.TheVariants as note
@@ -513,7 +514,7 @@ module _ (s : Status) (awake : s.asleep ≡ false) where
       → As (place_at (state_after_turn w t x) u)
   turned_keeps w t u (turn.TheVariants.Begin c) ne h = put_keeps w t u _ ne h
   turned_keeps w t u turn.TheVariants.Go ne h = went_keeps w t u (place_at w t) ne h
-  turned_keeps w t u turn.TheVariants.Spin ne h = spun_keeps w t u (looking (place_at w t)) ne h
+  turned_keeps w t u turn.TheVariants.Spin ne h = spun_keeps w t u (respins_from (place_at w t)) ne h
   turned_keeps w t u turn.TheVariants.Late ne h = late_keeps w t u (late_key (place_at w t)) ne h
   turned_keeps w t u turn.TheVariants.Ok ne h = put_went_keeps w t u (closed_place w t true) ne h
   turned_keeps w t u turn.TheVariants.Err ne h = put_went_keeps w t u (closed_place w t false) ne h

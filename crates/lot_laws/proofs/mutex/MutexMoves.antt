@@ -2,7 +2,7 @@
 use Rattle.lot_laws.proofs.Names
 use Names.{ℕ, Bool, true, false, Some, None, if◌then◌else◌, ◌==◌, ◌≡◌, ◌+◌, ◌*◌, [], ◌∷◌, inl, inr, refl}
 use Names.{subst, not, ◌⊎◌, One, Exclusive, Act, Next, At, Owners, with_exclusive, Accepts, GoesIn, GoesOut}
-use Names.{Hears, LeavesLine, Move, Parks, TellsHanded, inside_of, row_of, location_of, location_then}
+use Names.{Hears, LeavesLine, StepView, Parks, TellsHanded, inside_of, row_of, location_of, location_then}
 use Names.{in_hand, Location, location_by, code, Leave, Rules, Case, End, Line, Main, Mark, Site, Entry}
 use Names.{MutexPlace, Lock, TryLock, Unlock, UnlockFair, enter_deeds, mutex_deeds, take_deeds, mutex_row}
 use Names.{next_row, mutex_late_line, in_unlock, is_locked, is_parked, mutex_act, mutex_next, mutex_owners}
@@ -22,13 +22,13 @@ use Rattle.steps_mutex.specs.declared.unlock.UnlockAt.TheVariants as unlock
 use Rattle.steps_mutex.specs.declared.hand_off.HandOffAt.TheVariants as hand_off
 use Rattle.steps_mutex.specs.declared.places.MutexPlace.TheVariants.{Bump}
 use Rattle.steps_mutex.specs.declared.places.MutexPlace.TheVariants.{HandOff}
-use Rattle.steps_mutex.specs.MutexLaws.{MayHear}
+use Rattle.steps_mutex.specs.MutexLaws.{MayReply}
 use Rattle.steps_mutex.specs.MutexSteps.{entered, in_lock}
 use Rattle.lot_laws.proofs.mutex.Acts.{IsOfWord}
 use Rattle.steps_base.proofs.Moving.{goes_in, goes_out}
 use Rattle.lot_laws.proofs.sites.FirstTaken.{TakesFirst}
 
-abbrev pub mutex_move : MutexPlace → Move
+abbrev pub mutex_move : MutexPlace → StepView
 mutex_move p = record {
   row = mutex_row p;
   next = λ told. row_of (next_row (mutex_next p told));
@@ -37,23 +37,23 @@ mutex_move p = record {
 
 -- tells what it may be told
 abbrev pub mutex_hears : MutexPlace → Hears
-mutex_hears p r s t whom told = MayHear r s t p whom told
+mutex_hears p r s t whom told = MayReply r s t p whom told
 
 -- it works on the word, and stays where it is
-pub record Works (x : Move) (hears : Hears) : Type 0 where
+pub record Works (x : StepView) (hears : Hears) : Type 0 where
   pub free : (location_of x).hand ≡ None
   pub deeds : (seen : ℕ) → IsOfWord (x.deeds None (reply.Value seen))
   pub goes : (seen : ℕ) → location_then x (reply.Value seen) ≡ location_of x
   pub may : (r : Rules) (s : Site) (t : ℕ) → hears r s t None (reply.Value (code r s))
 
-works : {x : Move} {hears : Hears} → (location_of x).hand ≡ None
+works : {x : StepView} {hears : Hears} → (location_of x).hand ≡ None
     → ((seen : ℕ) → IsOfWord (x.deeds None (reply.Value seen)))
     → ((seen : ℕ) → location_then x (reply.Value seen) ≡ location_of x)
     → ((r : Rules) (s : Site) (t : ℕ) → hears r s t None (reply.Value (code r s))) → Works x hears
 works free deeds goes may = record { free = free; deeds = deeds; goes = goes; may = may }
 
 -- by its act, on the one line of a mutex
-abbrev pub MutexMoves : ℕ → Move → Hears → Act → Type 0
+abbrev pub MutexMoves : ℕ → StepView → Hears → Act → Type 0
 MutexMoves l x hears (act.Word k f) = (k ≡ l) × Works x hears
 MutexMoves l x hears (act.Take key First) = (key ≡ key_of l Main) × TakesFirst take_deeds x hears
 MutexMoves l x hears (act.Leave keys wakes) =

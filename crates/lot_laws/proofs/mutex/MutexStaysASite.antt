@@ -24,13 +24,13 @@ use Rattle.spec_locks.specs.Locks as locks
 use Rattle.spec_locks.specs.Deeds as laws
 use Rattle.steps_mutex.specs.declared.places.MutexPlace.TheVariants.{HandOff}
 use Rattle.steps_mutex.specs.declared.hand_off.HandOffAt.TheVariants as hand_off
-use Rattle.steps_mutex.specs.MutexLaws.{Follows, IsAt, LeavesMutex, MayHear}
+use Rattle.steps_mutex.specs.MutexLaws.{Follows, IsAt, LeavesMutex, MayReply}
 use Rattle.steps_mutex.specs.MutexLaws.{role_next}
 use Rattle.lot_laws.specs.ThreadDeeds.{Act as OneDeed}
 use Rattle.lot_laws.proofs.calls.CallEvents.{AreClaims}
 use Rattle.lot_laws.specs.Locations.{hand}
 use Rattle.lot_laws.proofs.calls.LockEvents.{Befalls}
-use Rattle.lot_laws.proofs.calls.OtherCalls.{WakesOwn, befalls, befalls_nobody}
+use Rattle.lot_laws.proofs.calls.OtherCalls.{WakesOwn, delivers, befalls_nobody}
 use Rattle.lot_laws.proofs.hands.Handed.{handed_is}
 use Rattle.lot_laws.proofs.machine.AtPlaces.{in_no_hand}
 use Rattle.lot_laws.proofs.machine.Parts.{IsOf, IsSingle, base_at, differ, free_of, location_here, mutex}
@@ -151,7 +151,7 @@ module _ (w : State) (t l : ℕ) (at : MutexPlace) (inductive : IsInductive w) (
   Followed who told = IsFollowed w t l inductive there own r refl (mutex_move at) same_row who told
       (next_place (place_at w t) told)
 
-  followed : (who : Option ℕ) (told : Reply) → MayHear r here t at who told → Followed who told
+  followed : (who : Option ℕ) (told : Reply) → MayReply r here t at who told → Followed who told
   followed who told hears = let f = mutex_steps_follow r here t at who told at_now hears in record {
     of = next_of l (place_at w t) told own;
     fits = subst (λ q. FitsItsLock w (next_place q told)) (sym is) (fits_next (mutex_next at told));
@@ -189,7 +189,7 @@ module _ (w : State) (t l : ℕ) (at : MutexPlace) (inductive : IsInductive w) (
 
   -- where nobody claims the mutex then
   plainly : {q : Place} {y : Act} (who : Option ℕ) → claims_at at who ≡ []
-      → Goes w (Then q y) l (acts t (deeds_of who (reply_to w t y))) → MayHear r here t at who
+      → Goes w (Then q y) l (acts t (deeds_of who (reply_to w t y))) → MayReply r here t at who
       (reply_to w t y) → reply_to w t y ≢ Late
       → (location_then (mutex_move at) (reply_to w t y)).hand ≡ None → WakesOwn (mutex_row at).carries y
       (case_at who (reply_to w t y)) ⊎ HandsOn q y who → GoesFrom q y
@@ -210,7 +210,7 @@ module _ (w : State) (t l : ℕ) (at : MutexPlace) (inductive : IsInductive w) (
 
   -- one operation on the word
   on_word : (op : Op) → mutex_act l at ≡ act.Word l op → claims_at at None ≡ []
-      → MayHear r here t at None (Value (code r here)) → OwnedBy r (deeds_of None (Value (word_at w l))) here
+      → MayReply r here t at None (Value (code r here)) → OwnedBy r (deeds_of None (Value (word_at w l))) here
       t
       → (location_of (mutex_move at)).hand ≡ None → location_then (mutex_move at) (Value (word_at w l))
       ≡ location_of (mutex_move at)
@@ -233,8 +233,8 @@ module _ (w : State) (t l : ℕ) (at : MutexPlace) (inductive : IsInductive w) (
       ∙ free))))
       sees (λ x. cc) (ap (λ (y : Location). y.hand) goes ∙ free) others
     where
-      sees : MayHear r here t at None (Value (word_at w l))
-      sees = subst (λ v. MayHear r here t at None (Value v)) (sym word_is) may
+      sees : MayReply r here t at None (Value (word_at w l))
+      sees = subst (λ v. MayReply r here t at None (Value v)) (sym word_is) may
 
       leaves : LeavesMutex r here t at None op (owners_at w l)
       leaves = mutex_steps_code r here t l at None op (owners_at w l) at_now may e refl
@@ -293,7 +293,7 @@ module _ (w : State) (t l : ℕ) (at : MutexPlace) (inductive : IsInductive w) (
   -- ---------------------------------------------------------------- by each act but the store of a hand-off
 
   module _ (nothing : StoresNothing at) where
-    brief : (told : Reply) → IsBrief told → MayHear r here t at None told → Followed None told
+    brief : (told : Reply) → IsBrief told → MayReply r here t at None told → Followed None told
     brief told now hears = followed None told hears
 
     go_on : (who : Option ℕ) (y : Act) → GoesBy w t l inductive shape there lt own (mutex_move at) same_row
@@ -478,12 +478,12 @@ module _ (w : State) (t l : ℕ) (bumps none_left : Bool) (inductive : IsInducti
           (subst (λ x. ActsNeeded x (acts t (deeds_to one.0) ++ claims_of (Some one.0)) (lock_by w l x)) plain
           (follows.needed.0, (follows.needed.1.0, (hands.owner, tt))));
       tells = mutex_steps_tell (rules_in w l) site_now t l at_one (Some one.0) (Value (word_at w l)) at_it
-          (subst (λ v. MayHear (rules_in w l) site_now t at_one (Some one.0) (Value v))
+          (subst (λ v. MayReply (rules_in w l) site_now t at_one (Some one.0) (Value v))
           (sym (inductive.sites.word l)) may) (λ x. cc);
       others = inr (
         unshared_then w t l,
         refl,
-        befalls w t l inductive (rw is refl)
+        delivers w t l inductive (rw is refl)
             (Mutex l (HandOff bumps (hand_off.Leave true))) (state_after_hand_over w t (Mutex l at_one) l
             store)
             (hand_over_told w t l) refl (ap (λ (y : Location). y.carries) (own_stance l (place_at w t) at_one
@@ -502,7 +502,7 @@ module _ (w : State) (t l : ℕ) (bumps none_left : Bool) (inductive : IsInducti
         at_it : IsAt (rules_in w l) site_now t at_one
         at_it = at_now w t l at_one inductive shape there lt is
 
-        may : MayHear (rules_in w l) site_now t at_one (Some one.0) (Value (code (rules_in w l) site_now))
+        may : MayReply (rules_in w l) site_now t at_one (Some one.0) (Value (code (rules_in w l) site_now))
         may = (refl, refl, hands_to w t l one.0 inductive plain one.1, ap (λ p. taken_at p l) is)
 
         follows : Follows (rules_in w l) site_now t at_one (Some one.0) (Value (code (rules_in w l) site_now))

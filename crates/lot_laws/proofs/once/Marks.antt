@@ -6,7 +6,8 @@ use Names.{One, Two, first_of, apply, OnceCall, Step, Turn, Kind, Sort, Phase, N
 use Names.{rules_of, has_readers, Act, holds, takes_effect, CondvarPlace, Wait, Look as PeekQueue, Notify}
 use Names.{mutex_act, Course, Ends, Marks, OncePlace, Run, GiveUp, course_act, course_of, is_forced, marked}
 use Names.{once_act, started, MayGo, coded, marked_is, may_go, started_is, unmarked_is, word, call_act}
-use Names.{semaphore_act, Place, Idle, Mutex, RwLock, Once, Condvar, Semaphore, act_of, late_key, looking}
+use Names.{semaphore_act, Place, Idle, Mutex, RwLock, Once, Condvar, Semaphore, act_of, late_key}
+use Names.{respins_from}
 use Names.{IsWellFormed, State, after, can_turn, is_possible, kind_at, opening, first_word, place_at, put}
 use Names.{queue_at, queues_with_last, queues_without_first, state_after_act, state_after_close}
 use Names.{state_after_go, state_after_hand_over_by, state_after_late_on, state_after_look}
@@ -301,7 +302,7 @@ module _ (w : State) (inductive : IsInductive w) (fine : AreUnmarked w) where
 
 module _ (w : State) (t : ℕ) (inductive : IsInductive w) (there : t < length w.places) (fine : AreUnmarked w)
   where
-    looked : (o : Option Place) → looking (place_at w t) ≡ o → AreUnmarked (state_after_look w t o)
+    looked : (o : Option Place) → respins_from (place_at w t) ≡ o → AreUnmarked (state_after_look w t o)
     looked None e = fine
     looked (Some q) e = gone_unmarked (put w t q) (looking_inductive w t there q e inductive) fine t
 
@@ -320,7 +321,7 @@ module _ (w : State) (t : ℕ) (inductive : IsInductive w) (there : t < length w
     turned : (x : Turn) → can_turn w t x ≡ true → AreUnmarked (state_after_turn w t x)
     turned (turn.TheVariants.Begin c) can = fine
     turned turn.TheVariants.Go can = gone_unmarked w inductive fine t
-    turned turn.TheVariants.Spin can = looked (looking (place_at w t)) refl
+    turned turn.TheVariants.Spin can = looked (respins_from (place_at w t)) refl
     turned turn.TheVariants.Late can = late (late_key (place_at w t))
     turned turn.TheVariants.Ok can = closed true can
     turned turn.TheVariants.Err can = closed false can

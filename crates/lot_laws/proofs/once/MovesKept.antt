@@ -3,7 +3,8 @@
 use Rattle.lot_laws.proofs.Names
 use Names.{ℕ, Bool, true, false, Option, Some, None, if◌then◌else◌, ◌==◌, ◌||◌, ◌≡◌, ◌*◌, ◌≤◌, ◌<◌, List, []}
 use Names.{◌∷◌, ◌++◌, length, not, refl, sym, ◌∙◌, ap, subst, arith, nat_le, or-false, Op, Waiter, Want}
-use Names.{times, waiter, apply, Check, Reply, Value, Parked, Took, holds, Move, Hears, StaysPut, inside_of}
+use Names.{times, waiter, apply, Check, Reply, Value, Parked, Took, holds, StepView, Hears, StaysPut}
+use Names.{inside_of}
 use Names.{location_of, in_hand, Location, Rest, TakeAll, Rules, OfOnce, HasTakenNobody, Site, Deed, Main}
 use Names.{Case, has_readers, aside_in, code, count_in, fills, parked_in, Place, next_place, profile}
 use Names.{RestsAfter, TakesAll, State, filled_at, place_at, put, queue_at, queues_with_last}
@@ -43,7 +44,7 @@ all_in (y ∷ q) u h = ap (λ c. in_hand (not c) false) (some_left y q)
 
 module _ (w : State) (t l : ℕ) (inductive : IsInductive w) (there : t < length w.places)
     (own : IsOf l (place_at w t)) (r : Rules)
-    (rules : rules_in w l ≡ r) (x : Move) (same_row : profile (place_at w t) ≡ x.row) where
+    (rules : rules_in w l ≡ r) (x : StepView) (same_row : profile (place_at w t) ≡ x.row) where
   abbrev Followed : Reply → Place → Type 0
   Followed told p2 = IsFollowed w t l inductive there own r rules x same_row None told p2
 

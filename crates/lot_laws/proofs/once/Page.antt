@@ -24,7 +24,7 @@ use Rattle.steps_once.specs.declared.look.Course.TheVariants.{Runs, Parks}
 use Rattle.steps_once.specs.declared.run.RunAt.TheVariants as run
 use Rattle.steps_once.specs.declared.places.OncePlace.TheVariants.{Look}
 use Rattle.steps_once.specs.OnceCalls.{next_row}
-use Rattle.steps_once.specs.OnceDeeds.{IsAt, MayHear, role_next}
+use Rattle.steps_once.specs.OnceDeeds.{IsAt, MayReply, role_next}
 use Rattle.steps_once.proofs.OnceWords as words
 use Rattle.spec_locks.specs.declared.outcomes.Outcome.TheVariants as outcome
 use Rattle.spec_locks.specs.Onces.{Done as IsDone}
@@ -147,7 +147,7 @@ module _ (r : Rules) (l : ℕ) (p : OncePlace) (sort : r.sort ≡ locks.Once) wh
   is_at s t h = record { sort = sort; site = h.site; role = h.role }
 
   follows : (s : Site) (t : ℕ) (who : Option ℕ) (told : Reply) → IsThere r s t (once_profile p)
-      → MayHear r s t p told → Follows r s t (once_move p) who told
+      → MayReply r s t p told → Follows r s t (once_move p) who told
   follows s t who told h hears = let f = once_sections_follow r s t p told (is_at s t h) hears in record {
     needed = f.needed;
     role = f.role ∙ role_is (once_next p told);

@@ -10,7 +10,7 @@ use Names.{Nothing, calls_after, is_closure, locks_after, rules_at, state_told, 
 use Names.{MutexPlace, mutex_next, GiveUpAt, LookAt, RunAt, Run, GiveUp, begins_run, course_of, closure_begun}
 use Names.{in_look, in_run, is_forced, next_look, next_run, is_late_asleep, in_give_up, next_give_up}
 use Names.{SemaphorePlace, semaphore_next, RwLockCallPlace, call_next, CondvarPlace, condvar_next, Place}
-use Names.{Idle, Mutex, RwLock, Once, Condvar, Semaphore, act_of, called_lock, looking, mutex_goes}
+use Names.{Idle, Mutex, RwLock, Once, Condvar, Semaphore, act_of, called_lock, respins_from, mutex_goes}
 use Names.{next_place, once_goes, rwlock_goes, condvar_goes, semaphore_goes, IsWellFormed, State, after}
 use Names.{opening, place_at, put, runs_closure, step_outcome, RunsClosure, call_at, call_state, lock_state}
 use Names.{locks_of, sleeps, AreCondvars, AreCounted, IsInductive, RunsInClosures}
@@ -351,7 +351,7 @@ module _ (w : State) (s : Step) (o : Outcome) (step : IsTurn (locks_of w) s o (l
   by_turn turn.TheVariants.Go may does t l e = goes does (λ l h e. let f : true ≡ false = sym h.1
       ∙ may.outside in cc) t l e
   by_turn turn.TheVariants.Spin may does t l e = goes does.goes (λ l h e. let f : false ≡ true =
-      sym (ap (λ p. is_some (looking p)) (runs_one (place_at w u) h.1).is) ∙ may in cc) t l e
+      sym (ap (λ p. is_some (respins_from p)) (runs_one (place_at w u) h.1).is) ∙ may in cc) t l e
   by_turn turn.TheVariants.Ok may does t l e = goes does.goes (ends Finish (λ x e. cc) does) t l e
   by_turn turn.TheVariants.Err may does t l e = goes does.goes (ends Fail (λ x e. cc) does) t l e
 

@@ -5,7 +5,8 @@ use Names.{◌⊎◌, inl, inr, [], length, refl, sym, ◌∙◌, ap, subst, ari
 use Names.{GiveUp, cases_eq, eqb-true, ltb-true, nat_tests, One, Op, Want, Exclusive, Upgradable, Shared}
 use Names.{CallOnce, first_of, Turn, Step, MutexPlace, Lock, TryLock, Unlock, UnlockFair, LockAt, NOT_PARKED}
 use Names.{HandOffAt, Place, Idle, Mutex, RwLock, Once, Condvar, Semaphore, CondvarPlace, is_locked}
-use Names.{is_parked, lock_act, hand_off_act, act_of, looking, late_key, next_place, called_lock, profile}
+use Names.{is_parked, lock_act, hand_off_act, act_of, respins_from, late_key, next_place, called_lock}
+use Names.{profile}
 use Names.{State, unlocked, place_at, word_at, owners_at, kind_at, queue_at, state_after_operation}
 use Names.{queues_with_last, queues_without_first, state_after_act, state_after_taking, state_after_look}
 use Names.{state_after_go, put, state_after_late_on, state_after_turn, can_turn, is_possible, after}
@@ -341,7 +342,7 @@ module _ (w : State) (t l : ℕ) (shape : IsWellFormed w) (inductive : IsInducti
   -- it looks at the word once more, and goes on from there
   spin_gives : t < length w.places → IsFairRelease (call_state (place_at w t) (rights w t)).purpose l
       → (o : Option Place)
-      → looking (place_at w t) ≡ o → ComesTo w t l (state_after_look w t o)
+      → respins_from (place_at w t) ≡ o → ComesTo w t l (state_after_look w t o)
   spin_gives there h None is = inl own
   spin_gives there h (Some q) is = let well_formed = looking_well_formed w t q shape is in
       subst (λ s. ComesFrom s (word_at w l) t l (state_after_go (put w t q) t)) (locks_same w t there q is l)
@@ -356,7 +357,7 @@ module _ (w : State) (t l : ℕ) (shape : IsWellFormed w) (inductive : IsInducti
   turned_gives there h turn.TheVariants.Go can = go_gives w t l shape inductive own of_mutex (place_at w t)
       refl
       (shape.places t) h
-  turned_gives there h turn.TheVariants.Spin can = spin_gives there h (looking (place_at w t)) refl
+  turned_gives there h turn.TheVariants.Spin can = spin_gives there h (respins_from (place_at w t)) refl
   turned_gives there h turn.TheVariants.Late can = late_gives w t l shape inductive own of_mutex
       (late_key (place_at w t))
   turned_gives there h turn.TheVariants.Ok can =
@@ -466,7 +467,7 @@ module _ (w : State) (t l : ℕ) (shape : IsWellFormed w) (inductive : IsInducti
   abbrev Comes : State → Type 0
   Comes v = GivesFrom (rules_in w l) (lock_state w l) (lock_state v l) (word_at w l) t x
 
-  spin_gives_shared : t < length w.places → (o : Option Place) → looking (place_at w t) ≡ o
+  spin_gives_shared : t < length w.places → (o : Option Place) → respins_from (place_at w t) ≡ o
       → Comes (state_after_look w t o)
   spin_gives_shared there None is = inl h.2
   spin_gives_shared there (Some q) is =
@@ -489,7 +490,8 @@ module _ (w : State) (t l : ℕ) (shape : IsWellFormed w) (inductive : IsInducti
       inl (owner_stays w (state_after_turn w t (turn.TheVariants.Begin c)) l t x refl h.1 h.2)
   turned_gives_shared there turn.TheVariants.Go can = go_gives_shared w t l shape inductive counted x h.1 h.3
       there can h.0 h.2
-  turned_gives_shared there turn.TheVariants.Spin can = spin_gives_shared there (looking (place_at w t)) refl
+  turned_gives_shared there turn.TheVariants.Spin can = spin_gives_shared there (respins_from (place_at w t))
+      refl
   turned_gives_shared there turn.TheVariants.Late can = late_gives_shared (late_key (place_at w t))
   turned_gives_shared there turn.TheVariants.Ok can =
       absurd (subst (λ p. IsToGiveAt (call_state p (rights w t)) l x) (closes_one w t true can).is h.0).1

@@ -2,7 +2,8 @@
 use Rattle.lot_laws.proofs.Names
 use Names.{ℕ, Bool, true, false, Option, Some, None, ◌==◌, ◌≡◌, ◌≢◌, ◌≤◌, ◌⊎◌, inl, inr, refl, sym, ◌∙◌}
 use Names.{subst, arith, is_some, cases_lt, Step, Taken, standing, MayWait, LeavesOthers, MayWake}
-use Names.{is_taken_by, Main, Act, Sleep, Word, act_of, looking, taker, State, after, place_at, section_at}
+use Names.{is_taken_by, Main, Act, Sleep, Word, act_of, respins_from, taker, State, after, place_at}
+use Names.{section_at}
 use Names.{call_at, lock_state, locks_of, sleeps, stance_of, IsHandedOverIn, IsKept, LeadsToSleep, holder}
 use Names.{sort_at}
 use Rattle.core_base.specs.Keys.{key_of}
@@ -19,11 +20,13 @@ awake_yet sort l (inl h) = let e : Sleep ≡ Word l _ = h.2 in absurd cc
 awake_yet sort l (inr h) = absurd cc
 
 -- a thread that sleeps doesn't look at a word once more
-no_look : (w : State) → IsKept w → (u : ℕ) → act_of (place_at w u) ≡ Sleep → is_some (looking (place_at w u))
+no_look : (w : State) → IsKept w → (u : ℕ) → act_of (place_at w u) ≡ Sleep
+    → is_some (respins_from (place_at w u))
     ≡ false
-no_look w k u asleep = by_look (is_some (looking (place_at w u))) refl
+no_look w k u asleep = by_look (is_some (respins_from (place_at w u))) refl
   where
-    by_look : (b : Bool) → is_some (looking (place_at w u)) ≡ b → is_some (looking (place_at w u)) ≡ false
+    by_look : (b : Bool) → is_some (respins_from (place_at w u)) ≡ b → is_some (respins_from (place_at w u))
+        ≡ false
     by_look false e = e
     by_look true e = let leads = k.looks u e
         in absurd (awake_yet (sort_at w leads.0) leads.0 (subst (LeadsToSleep (sort_at w leads.0) leads.0)
@@ -74,8 +77,9 @@ module _ (w : State) (s : Step) (k : IsKept w) (kept : IsKept (after w s)) where
     where
       slept : act_of (place_at w u) ≡ Sleep → act_of (place_at v u) ≡ Sleep → stance_of (place_at v u)
           ≡ stance_of (place_at w u)
-      slept before now = stance_so (act_of (place_at v u)) (act_of (place_at w u)) (looking (place_at v u))
-          (looking (place_at w u)) (now ∙ sym before) (no_look v kept u now ∙ sym (no_look w k u before))
+      slept before now = stance_so (act_of (place_at v u)) (act_of (place_at w u))
+          (respins_from (place_at v u))
+          (respins_from (place_at w u)) (now ∙ sym before) (no_look v kept u now ∙ sym (no_look w k u before))
 
       by_act : (b : Bool) → sleeps (act_of (place_at w u)) ≡ b
           → (stance_of (place_at v u) ≡ stance_of (place_at w u)) ⊎ ((sleeps (act_of (place_at w u)) ≡ true)

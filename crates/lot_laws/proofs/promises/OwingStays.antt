@@ -3,7 +3,7 @@ use Rattle.lot_laws.proofs.Names
 use Names.{outcome_of, ℕ, Bool, true, false, Option, Some, None, if◌then◌else◌, ◌≡◌, ◌≢◌, ◌<◌, ◌⊎◌, ◌↔◌, inl}
 use Names.{inr, length, refl, sym, ◌∙◌, ap, subst, get_or-set_same, nat_lt, is_some, length-set, closed_place}
 use Names.{close_outcome, state_after_close, ltb-true, One, Call, Turn, Step, Outcome, Enter, Late, Place}
-use Names.{Idle, lock_in, condvar_first, act_of, condvar_goes, next_place, first_place, is_idle, looking}
+use Names.{Idle, lock_in, condvar_first, act_of, condvar_goes, next_place, first_place, is_idle, respins_from}
 use Names.{late_key, called_lock, line_owed, profile, next_act, State, place_at, word_at, state_after_go}
 use Names.{state_after_going, go_reply, go_outcome, going_outcome, is_free_under, is_open_to, can_begin}
 use Names.{state_after_begin, can_turn, turn_outcome, kind_at, put, state_after_look, look_outcome}
@@ -285,7 +285,7 @@ module _ (w : State) (t : ℕ) (shape : IsWellFormed w) (inductive : IsInductive
         here = get_or-set_same w.places t (next_place (place_at w t) Late) Idle there
 
     -- it looks at the word once more, and is in its call as before
-    spun_owing : (o : Option Place) → looking (place_at w t) ≡ o → is_some o ≡ true
+    spun_owing : (o : Option Place) → respins_from (place_at w t) ≡ o → is_some o ≡ true
         → IsInductive (state_after_look w t o)
         → (l : ℕ) (m : Line)
         → Owes (state_after_look w t o) t l m
@@ -327,7 +327,7 @@ module _ (w : State) (t : ℕ) (shape : IsWellFormed w) (inductive : IsInductive
     turned_owing (turn.TheVariants.Begin c) can afterwards l m =
         begun_owing c can afterwards l m outcome.TheVariants.Step
     turned_owing turn.TheVariants.Go can afterwards l m = gone_owes w t inductive there afterwards l m
-    turned_owing turn.TheVariants.Spin can afterwards l m = spun_owing (looking (place_at w t)) refl can
+    turned_owing turn.TheVariants.Spin can afterwards l m = spun_owing (respins_from (place_at w t)) refl can
         afterwards l
         m
     turned_owing turn.TheVariants.Late can afterwards l m = late_owing (late_key (place_at w t)) refl can

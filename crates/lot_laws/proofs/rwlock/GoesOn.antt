@@ -9,7 +9,7 @@ use Names.{has_given_up, late_at, looking_at, purpose_by, rwlock_profile, RwLock
 use Names.{IsOfBump, bump_next, call_act, plain_next, Place, Idle, Mutex, RwLock, Once, Condvar, Semaphore}
 use Names.{call_profile, in_call, OncePlace, CondvarPlace, mutex_act, semaphore_act, IsOwn, call_runs_none}
 use Names.{mutex_own, semaphore_own, ltb-true, Call, MutexPlace, SemaphorePlace, both, Want, act_of}
-use Names.{in_rwlock, is_idle, key_in, late_key, looking, next_act, next_place, profile, rwlock_does}
+use Names.{in_rwlock, is_idle, key_in, late_key, respins_from, next_act, next_place, profile, rwlock_does}
 use Names.{rwlock_goes, location, location_at, key_of, State, after, can_begin, can_close, can_do, can_turn}
 use Names.{closed_place, go_outcome, is_free_under, is_open_to, is_possible, kind_at, place_at, reply_to}
 use Names.{runs_closure, state_after_go, state_after_turn, step_outcome, turn_outcome, word_at}
@@ -309,7 +309,7 @@ none_looks k a b p None e = refl
 none_looks k a b p (Some x) e = absurd cc
 
 call_quiet : (k : ℕ) (a : Admission) (c : RwLockCallPlace) → CallStands a c → (r : ℕ → Rights) (l : ℕ)
-    → LetsBy c r k a l → looking (RwLock k a c) ≡ None
+    → LetsBy c r k a l → respins_from (RwLock k a c) ≡ None
 call_quiet k a (fair.Plain p) stands r l lets = none_looks k a false p (looking_at a p p.at)
     (plain_quiet k a p.purpose p.retries p.at stands.place r l lets)
 call_quiet k a (fair.Bump p) stands r l (inl down) = absurd down
@@ -348,8 +348,9 @@ module _ (w : State) (t : ℕ) (inductive : IsInductive w) (l : ℕ) (gives : Gi
   goes_outcome = gone_told w t (subst IsSingle (sym there.is) tt)
       ∙ ap (λ r. outcome_of (next_act (place_at w t) r)) (ap (reply_to w t) gives.works.1) ∙ onward
 
-  looks_none : looking (place_at w t) ≡ None
-  looks_none = ap looking there.is ∙ call_quiet there.lock there.admission there.call there.stands rights l
+  looks_none : respins_from (place_at w t) ≡ None
+  looks_none = ap respins_from there.is
+      ∙ call_quiet there.lock there.admission there.call there.stands rights l
       lets_there
 
   no_closure : runs_closure (act_of (place_at w t)) ≡ false
@@ -716,8 +717,9 @@ module _ (w : State) (t : ℕ) (inductive : IsInductive w) (l : ℕ) (lets : Let
   late_never = ap late_key here.is ∙ ap (key_in (Some l)) (call_late w t l here.admission here.call
       here.stands own_rights lets_here)
 
-  looks_never : looking (place_at w t) ≡ None
-  looks_never = ap looking here.is ∙ call_quiet l here.admission here.call here.stands own_rights l lets_here
+  looks_never : respins_from (place_at w t) ≡ None
+  looks_never = ap respins_from here.is
+      ∙ call_quiet l here.admission here.call here.stands own_rights l lets_here
 
   closes_never : (x : Bool) → can_close w t x ≡ true → ⊥
   closes_never x can = let runs =

@@ -18,7 +18,7 @@ use Rattle.steps_base.specs.declared.acts.Next.TheVariants as next
 use Rattle.steps_base.specs.declared.acts.Whom.TheVariants as whom
 use Rattle.steps_rwlock.specs.declared.places.RwLockAt.TheVariants as at
 use Rattle.steps_rwlock.specs.declared.park.ParkAt.TheVariants as parking
-use Rattle.steps_rwlock.specs.RwLockDeeds.{MayHear}
+use Rattle.steps_rwlock.specs.RwLockDeeds.{MayReply}
 use Rattle.spec_locks.specs.Deeds as laws
 use Rattle.spec_locks.specs.Locks as locks
 use Rattle.lot_laws.proofs.book.LockStaysASite.{ComesBy, MayCome, Tied}

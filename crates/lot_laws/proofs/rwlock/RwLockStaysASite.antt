@@ -30,7 +30,7 @@ use Rattle.steps_base.specs.Locations.{nowhere}
 use Rattle.steps_base.specs.Owners.{lock_seen}
 use Rattle.steps_rwlock.specs.declared.places.RwLockAt.TheVariants as at
 use Rattle.steps_rwlock.specs.declared.park.ParkAt.TheVariants as parking
-use Rattle.steps_rwlock.specs.RwLockDeeds.{MayHear}
+use Rattle.steps_rwlock.specs.RwLockDeeds.{MayReply}
 use Rattle.spec_locks.specs.Locks.{Normal as NormalSort, Semaphore}
 use Rattle.spec_locks.specs.Locks as locks
 use Rattle.spec_locks.specs.Deeds as laws
@@ -106,7 +106,7 @@ module _ (a : Admission) (p : RwLockPlace) where
   told_late to how e m h = absurd cc
 
   told_done : (r : Rules) (s : Site) (t : ℕ) (to : RwLockAt) (whom : Option ℕ)
-      → MayHear r a s t p to whom Done
+      → MayReply r a s t p to whom Done
       → MayBeTold a p to Done
   told_done r s t (at.Decide seen) whom h = h.0
   told_done r s t to whom h = tt

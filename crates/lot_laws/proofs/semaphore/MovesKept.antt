@@ -3,7 +3,8 @@
 use Rattle.lot_laws.proofs.Names
 use Names.{ℕ, Bool, true, false, Some, None, if◌then◌else◌, ◌==◌, ◌≡◌, ◌*◌, ◌<◌, List, [], ◌∷◌, length, map}
 use Names.{drop, refl, sym, ◌∙◌, ap, subst, arith, length-set, get_or-set_same, get_or-set_other, Waiter}
-use Names.{Want, Shared, threads_of, times, TakenBy, Took, Hears, Move, inside_of, Location, HasTakenNobody}
+use Names.{Want, Shared, threads_of, times, TakenBy, Took, Hears, StepView, inside_of, Location}
+use Names.{HasTakenNobody}
 use Names.{Knows, KnowsAll, Rules, TakeFirst, first_thread, putting, queued_of, Case, Main, Place, next_place}
 use Names.{profile, State, place_at, places_told, put, queue_at, queues_without_first, state_after_reply}
 use Names.{told_count, taken_at, acts, role_on, location, location_at, ActsNeeded, AreWaiting, FitsItsLock}
@@ -97,7 +98,7 @@ module _ (w : State) (t l : ℕ) (inductive : IsInductive w) (own : IsOf l (plac
 -- the first of the line, if there is one
 module _ (w : State) (t l : ℕ) (inductive : IsInductive w) (there : t < length w.places)
     (own : IsOf l (place_at w t)) (r : Rules)
-    (rules : rules_in w l ≡ r) (x : Move) (same_row : profile (place_at w t) ≡ x.row) (asleep : (u : ℕ)
+    (rules : rules_in w l ≡ r) (x : StepView) (same_row : profile (place_at w t) ≡ x.row) (asleep : (u : ℕ)
     → SleepsIfCalls w t l inductive there own r rules x same_row u)
     (hears : Hears) (many : TakesOne w l → ⊥) (line : 2 * l < length w.queues) (sort : r.sort ≡ Semaphore)
     (g : TakesFirst take_deeds x hears) where

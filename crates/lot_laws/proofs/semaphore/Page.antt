@@ -22,7 +22,7 @@ use Rattle.steps_semaphore.specs.declared.tries.TryAt.TheVariants as tries
 use Rattle.steps_semaphore.specs.declared.release.ReleaseAt.TheVariants as release
 use Rattle.steps_semaphore.specs.declared.places.SemaphorePlace.TheVariants.{Try}
 use Rattle.steps_semaphore.specs.SemaphoreDeeds.{enter_deeds}
-use Rattle.steps_semaphore.specs.SemaphoreLaws.{IsAt, MayHear, role_next, next_row}
+use Rattle.steps_semaphore.specs.SemaphoreLaws.{IsAt, MayReply, role_next, next_row}
 use Rattle.steps_semaphore.proofs.SemaphoreWords as words
 use Rattle.lot_laws.proofs.book.Page.{Follows, IsThere, Leaves, MovesBy, Page, Says, never_given}
 use Rattle.lot_laws.proofs.book.Page.{plainly_waits}
@@ -84,7 +84,7 @@ module _ (r : Rules) (s : Site) (t : ℕ) where
 
   -- it sees the word as it is
   sees_word : (l : ℕ) (p : SemaphorePlace) (op : Op) → semaphore_act l p ≡ act.Word l op
-      → MayHear r s t p None (Value (code r s))
+      → MayReply r s t p None (Value (code r s))
   sees_word l (Acquire timed again acquire.Load) op e = refl
   sees_word l (Acquire timed again (acquire.Decide was)) op e = refl
   sees_word l (Acquire timed again acquire.Clear) op e = refl
@@ -132,7 +132,7 @@ module _ (r : Rules) (l : ℕ) (p : SemaphorePlace) (sort : r.sort ≡ locks.Sem
     }
 
     follows : (s : Site) (t : ℕ) (who : Option ℕ) (told : Reply) → IsThere r s t (semaphore_profile p)
-        → MayHear r s t p who told → Follows r s t (semaphore_move p) who told
+        → MayReply r s t p who told → Follows r s t (semaphore_move p) who told
     follows s t who told h hears = let f = semaphore_steps_follow r s t p who told (is_at s t h) hears
         in record {
           needed = f.needed;

@@ -2,7 +2,7 @@
 -- asleep.
 use Rattle.lot_laws.proofs.Names
 use Names.{ℕ, Bool, true, false, Some, if◌then◌else◌, ◌==◌, ◌≡◌, ◌-◌, ◌*◌, [], ◌∷◌, inr, refl, sym, ap, subst}
-use Names.{not, One, Shared, Act, Next, At, AreOfWord, GoesIn, Hears, IsHeld, Move, MovesByAct, Sleeps}
+use Names.{not, One, Shared, Act, Next, At, AreOfWord, GoesIn, Hears, IsHeld, StepView, MovesByAct, Sleeps}
 use Names.{StaysPut, RowWaits, inside_of, row_of, location_then, hand, in_hand, Location, location_by}
 use Names.{has_parked, Leave as GivesBack, Case, End, Line, Main, Mark, Normal, Reply, TryAt, ReleaseAt}
 use Names.{SemaphorePlace, Acquire, Release, semaphore_deeds, semaphore_late_line, semaphore_profile}
@@ -23,11 +23,11 @@ use Rattle.steps_semaphore.specs.declared.tries.TryAt.TheVariants as tries
 use Rattle.steps_semaphore.specs.declared.release.ReleaseAt.TheVariants as release
 use Rattle.steps_semaphore.specs.declared.places.SemaphorePlace.TheVariants.{Try}
 use Rattle.steps_semaphore.specs.SemaphoreDeeds.{enter_deeds, take_deeds}
-use Rattle.steps_semaphore.specs.SemaphoreLaws.{MayHear, next_row}
+use Rattle.steps_semaphore.specs.SemaphoreLaws.{MayReply, next_row}
 use Rattle.steps_base.proofs.Moving.{awake, goes_in, goes_out, stands_inside, stays_put}
 use Rattle.lot_laws.proofs.sites.FirstTaken.{TakesFirst}
 
-abbrev pub semaphore_move : SemaphorePlace → Move
+abbrev pub semaphore_move : SemaphorePlace → StepView
 semaphore_move p = record {
   row = semaphore_profile p;
   next = λ told. row_of (next_row (semaphore_next p told));
@@ -36,10 +36,10 @@ semaphore_move p = record {
 
 -- tells what it may be told
 abbrev pub semaphore_hears : SemaphorePlace → Hears
-semaphore_hears p r s t whom told = MayHear r s t p whom told
+semaphore_hears p r s t whom told = MayReply r s t p whom told
 
 -- by its act, as in any call, or it takes the first
-abbrev pub SemaphoreMoves : ℕ → Move → Hears → Act → Type 0
+abbrev pub SemaphoreMoves : ℕ → StepView → Hears → Act → Type 0
 SemaphoreMoves l x hears (act.Take key First) = (key ≡ key_of l Main) × TakesFirst take_deeds x hears
 SemaphoreMoves l x hears y = MovesByAct l false x hears y
 

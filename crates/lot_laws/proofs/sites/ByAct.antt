@@ -5,7 +5,7 @@ use Rattle.lot_laws.proofs.Names
 use Names.{ℕ, Bool, true, false, Option, Some, None, ◌==◌, ◌≡◌, ◌≢◌, ◌*◌, ◌<◌, List, [], ◌∷◌, length, is_none}
 use Names.{inl, inr, refl, sym, ◌∙◌, ap, subst, arith, Keys, One, Normal, Waiter, Want, first_of, Act, Check}
 use Names.{Reply, Done, Value, Parked, Took, Removed, Late, Wakes, holds, wakes_taken, IsNotLate, Location}
-use Names.{Accepts, AreLeaving, AreOfWord, GoesIn, GoesOut, Hears, LeavesLine, Move, Parks, TellsHanded}
+use Names.{Accepts, AreLeaving, AreOfWord, GoesIn, GoesOut, Hears, LeavesLine, StepView, Parks, TellsHanded}
 use Names.{location_then, parks_in, in_hand, case_of, Rules, Case, Clear, Deed, End, FindNobody, In}
 use Names.{LeaveLine, Line, Main, Mark, Out, Site, Place, next_place, profile, State, are_free, place_at, put}
 use Names.{queue_at, reply_to, section_at, state_after_act, word_at, IsWellFormed, main_key_there, acts, Goes}
@@ -107,7 +107,7 @@ module _ (w : State) (l : ℕ) (shape : IsWellFormed w) (lt : l < length w.locks
 module _ (w : State) (t l : ℕ) (inductive : IsInductive w) (shape : IsWellFormed w) (there : t
     < length w.places)
     (lt : l < length w.locks)
-    (own : IsOf l (place_at w t)) (x : Move) (same_row : profile (place_at w t) ≡ x.row) (hears : Hears)
+    (own : IsOf l (place_at w t)) (x : StepView) (same_row : profile (place_at w t) ≡ x.row) (hears : Hears)
     (p : Place)
     (followed : (told : Reply) → IsBrief told → hears (rules_in w l) (lock_by w l (rules_in w l)) t None told
     → IsFollowed w t l inductive there own (rules_in w l) refl x same_row None told

@@ -2,7 +2,7 @@
 -- section, for the sorts of lock whose waiters are taken one at a time.
 use Rattle.lot_laws.proofs.Names
 use Names.{ℕ, Bool, true, false, Option, Some, None, ◌==◌, ◌≡◌, ◌*◌, ◌<◌, List, [], ◌∷◌, length, map, drop}
-use Names.{is_none, not, refl, sym, ◌∙◌, ap, subst, Waiter, first_of, Reply, Took, Location, Hears, Move}
+use Names.{is_none, not, refl, sym, ◌∙◌, ap, subst, Waiter, first_of, Reply, Took, Location, Hears, StepView}
 use Names.{inside_of, location_of, location_then, in_hand, HasTakenNobody, Rules, first_thread, queued_of}
 use Names.{Deed, FindNobody, Main, Site, idle, is_empty, Place, next_place, profile, State, is_there}
 use Names.{place_at, put, queue_at, queues_without_first, state_after_taking, lock_state, taken_at, acts}
@@ -14,7 +14,7 @@ use Rattle.lot_laws.proofs.sites.MovesKept.{IsFollowed, needed_by, own_by, locat
 use Rattle.lot_laws.proofs.sites.OneStep.{empty_line}
 
 -- by these deeds
-pub record TakesFirst (takes : Option ℕ → List Deed) (x : Move) (hears : Hears) : Type 0 where
+pub record TakesFirst (takes : Option ℕ → List Deed) (x : StepView) (hears : Hears) : Type 0 where
   pub was : location_of x ≡ inside_of Main
   pub deeds : (whom : Option ℕ) (any none_left : Bool) → x.deeds whom (Took any none_left) ≡ takes whom
   pub goes : (any none_left : Bool)
@@ -26,7 +26,7 @@ pub record TakesFirst (takes : Option ℕ → List Deed) (x : Move) (hears : Hea
 
 module _ (w : State) (t l : ℕ) (inductive : IsInductive w) (there : t < length w.places)
     (own : IsOf l (place_at w t)) (r : Rules)
-    (rules : rules_in w l ≡ r) (x : Move) (same_row : profile (place_at w t) ≡ x.row) (hears : Hears)
+    (rules : rules_in w l ≡ r) (x : StepView) (same_row : profile (place_at w t) ≡ x.row) (hears : Hears)
     (takes : Option ℕ → List Deed)
     (line : 2 * l < length w.queues) (g : TakesFirst takes x hears) where
   abbrev pub Followed : Option ℕ → Reply → Type 0

@@ -3,13 +3,13 @@
 use Rattle.lot_laws.proofs.Names
 use Names.{ℕ, Bool, true, false, Option, Some, None, if◌then◌else◌, ◌≡◌, ◌≢◌, ◌≤◌, inl, inr, refl, sym, ◌∙◌}
 use Names.{ap, subst, eqb-true, is_thread, Profile, hand_owner, location_by, Taken, standing, Line, Main}
-use Names.{CondvarPlace, NotifyAt, Stands, WaitAt, condvar_row, hand_of, is_listed, notify_row, wait_row}
+use Names.{CondvarPlace, NotifyAt, WaiterFate, WaitAt, condvar_row, hand_of, is_listed, notify_row, wait_row}
 use Names.{Place, Condvar, beside_of, calls, is_lock, or_else, profile, profile_beside, taker, State}
 use Names.{place_at, lock_state, taken_at, location, location_at, IsInductive, holder}
 use Rattle.steps_base.specs.Locations.{nowhere}
 use Rattle.steps_condvar.specs.declared.places.CondvarPlace.TheVariants as condvar
 use Rattle.steps_condvar.specs.declared.notify.NotifyAt.TheVariants as notify
-use Rattle.steps_condvar.specs.declared.wait.Stands.TheVariants as stands
+use Rattle.steps_condvar.specs.declared.wait.WaiterFate.TheVariants as stands
 use Rattle.steps_condvar.specs.declared.wait.WaitAt.TheVariants as wait
 use Rattle.lot_laws.specs.Locations.{Location}
 use Rattle.lot_laws.proofs.machine.Parts.{blank_beside, held_tells, single_or_two, single_location}
@@ -18,7 +18,7 @@ use Rattle.lot_laws.proofs.machine.PlaceTest.{beside_facts, row_facts}
 use Rattle.lot_laws.proofs.promises.PlacePromises.{stands_there}
 
 -- a thread that waits to be notified is in no hand
-listed_unheld : (s : Stands) → is_listed s ≡ true → hand_of s ≡ None
+listed_unheld : (s : WaiterFate) → is_listed s ≡ true → hand_of s ≡ None
 listed_unheld stands.Listed h = refl
 listed_unheld s h = absurd cc
 

@@ -4,7 +4,8 @@ use Rattle.lot_laws.proofs.Names
 use Names.{ℕ, Bool, true, false, Option, Some, None, if◌then◌else◌, ◌==◌, ◌≡◌, ◌≢◌, ◌+◌, ◌*◌, ◌≤◌, ◌<◌, List}
 use Names.{[], ◌∷◌, length, map, drop, get_or, cond, not, inl, inr, refl, sym, ◌∙◌, ap, subst, arith}
 use Names.{eqb-true, One, Normal, Op, Waiter, Want, Exclusive, without, first_of, times, apply, Check, Reply}
-use Names.{Wakes, Done, Value, Parked, Took, Picked, Removed, TakenBy, Woken, holds, wakes_taken, Move, Hears}
+use Names.{Wakes, Done, Value, Parked, Took, Picked, Removed, TakenBy, Woken, holds, wakes_taken, StepView}
+use Names.{Hears}
 use Names.{StaysPut, GoesIn, Parks, Picks, TakesAside, LeavesLine, GoesOut, Sleeps, IsHeld, AreOfWord}
 use Names.{AreLeaving, parks_in, inside_of, location_of, location_then, Profile, Of, hand, in_hand}
 use Names.{taken_from, CallWaits, Location, location_by, want_in_line, Place, next_place, profile}
@@ -97,7 +98,7 @@ pending_one (Some p) t u h g = sym h ∙ g
 
 module _ (w : State) (t l : ℕ) (inductive : IsInductive w) (there : t < length w.places)
     (own : IsOf l (place_at w t)) (r : Rules)
-    (rules : rules_in w l ≡ r) (x : Move) (same_row : profile (place_at w t) ≡ x.row) where
+    (rules : rules_in w l ≡ r) (x : StepView) (same_row : profile (place_at w t) ≡ x.row) where
   abbrev pub here : Site
   here = lock_by w l r
 
@@ -465,7 +466,7 @@ module _ (w : State) (t l : ℕ) (inductive : IsInductive w) (there : t < length
   -- another thread that calls the lock, and what befalls it
   pub record IsSleeper (u : ℕ) : Type 0 where
     pub single : IsSingle (place_at w u)
-    pub move : Move
+    pub move : StepView
     pub row : profile (place_at w u) ≡ move.row
     pub waits : CallWaits move
     pub taken : profile (next_place (place_at w u) (TakenBy t)) ≡ move.next (TakenBy t)

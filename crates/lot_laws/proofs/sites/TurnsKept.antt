@@ -6,7 +6,8 @@ use Names.{nat_lt, inl, inr, refl, subst, sym, ◌∙◌, ap, once_first, semaph
 use Names.{can_go, state_after_close, state_after_go, state_after_going, mutex_profile, once_profile}
 use Names.{semaphore_profile, ltb-true, Exclusive, Call, MutexCall, Step, Turn, has_call, is_fair, Place}
 use Names.{Idle, Mutex, RwLock, Once, Condvar, Semaphore, MutexPlace, mutex_first, mutex_right, act_of}
-use Names.{is_idle, looking, late_key, key_in, Claim, Has, Begin, HasClaim, idle, State, place_at, owners_at}
+use Names.{is_idle, respins_from, late_key, key_in, Claim, Has, Begin, HasClaim, idle, State, place_at}
+use Names.{owners_at}
 use Names.{kind_at, put, state_after_begin, can_begin, is_open_to, state_after_look, state_after_late_on}
 use Names.{is_free_under, state_after_turn, can_turn, is_possible, after, IsWellFormed, PlaceFits, lock_state}
 use Names.{taken_at, is_mutex, mutex_role, mutex_location, acts, begin_deed, nowhere, location, AreCondvars}
@@ -131,7 +132,7 @@ module _ (w : State) (t : ℕ) (inductive : IsInductive w) (shape : IsWellFormed
         (calls_readers (kind_at w l) l c right.0) right.1)
 
     -- it looks at the word once more
-    spun_kept : AreCounted w → AreCondvars w → (o : Option Place) → looking (place_at w t) ≡ o
+    spun_kept : AreCounted w → AreCondvars w → (o : Option Place) → respins_from (place_at w t) ≡ o
         → IsInductive (state_after_look w t o)
     spun_kept counted condvars None is = inductive
     spun_kept counted condvars (Some q) is =
@@ -212,7 +213,7 @@ module _ (w : State) (t : ℕ) (inductive : IsInductive w) (shape : IsWellFormed
         condvars
         can
     turned_kept counted condvars turn.TheVariants.Spin can =
-        spun_kept counted condvars (looking (place_at w t))
+        spun_kept counted condvars (respins_from (place_at w t))
         refl
     turned_kept counted condvars turn.TheVariants.Late can = late_kept (place_at w t) refl (shape.places t)
         can

@@ -9,8 +9,8 @@ use Rattle.lock_monitor.proofs.monitor.conditions.Goals as goal
 pub returns-in-Err-clause-token : goal.returns-in-Err-clause-token
 returns-in-Err-clause-token g c = (
   c.new.ensures.token.0,
-  stays_afterwards g.R.RawMutex.RawMutex.stays g.R.RawMutex.RawMutex.stays_on _ _ _
-      c.loop.invariant.stays c.new.ensures.token.1,
+  stays_afterwards g.R.RawMutex.RawMutex.keeps_rights g.R.RawMutex.RawMutex.keeps_rights_on _ _ _
+      c.loop.invariant.keeps_rights c.new.ensures.token.1,
 )
 
 pub returns-in-Err-clause-err : goal.returns-in-Err-clause-err
@@ -20,15 +20,16 @@ returns-in-Err-clause-err g c = refused_at_last (g.R.RawMutex.RawMutex.found_ful
 pub returns-in_err-push-in-Ok-clause-token : goal.returns-in_err-push-in-Ok-clause-token
 returns-in_err-push-in-Ok-clause-token g c = (
   c.new.ensures.token.0,
-  stays_afterwards g.R.RawMutex.RawMutex.stays g.R.RawMutex.RawMutex.stays_on _ _ _
-      c.loop.invariant.stays c.new.ensures.token.1,
+  stays_afterwards g.R.RawMutex.RawMutex.keeps_rights g.R.RawMutex.RawMutex.keeps_rights_on _ _ _
+      c.loop.invariant.keeps_rights c.new.ensures.token.1,
 )
 
 pub loop-preserved : goal.loop-preserved
 loop-preserved g c = record {
   thread = c.new.ensures.token.0;
-  stays = stays_afterwards g.R.RawMutex.RawMutex.stays g.R.RawMutex.RawMutex.stays_on _ _ _
-      c.loop.invariant.stays
+  keeps_rights = stays_afterwards g.R.RawMutex.RawMutex.keeps_rights g.R.RawMutex.RawMutex.keeps_rights_on _
+      _ _
+      c.loop.invariant.keeps_rights
       c.new.ensures.token.1;
   counted = ap length c.in_ok-push-in-Ok.ensures.items ∙ length-append _ _
       ∙ ap (λ n. n + 1) c.loop.invariant.counted;

@@ -6,7 +6,7 @@ use Rattle.lock_monitor.proofs.monitor.conditions.Given as goal
 abbrev pub invariant-loop : goal.invariant-loop
 invariant-loop g l = record {
   thread : g.R.RawMutex.RawMutex.is_token_of (arc_value l.lot) l.token;
-  stays : WaitedOrNot g.R.RawMutex.RawMutex.stays l.fn.token l.token;
+  keeps_rights : WaitedOrNot g.R.RawMutex.RawMutex.keeps_rights l.fn.token l.token;
   counted : length l.made.items ≡ l.counter;
   together : All (λ condition. g.R.RawCondvar.lot_of condition ≡ arc_value l.lot) l.made.items;
 }

@@ -9,7 +9,7 @@ pub loop-init : goal.loop-init
 loop-init g c = record {
   turns = (tt, tt);
   thread = c.requires.token;
-  stays = inl refl;
+  keeps_rights = inl refl;
   refused = (0, refl);
   guard = refl;
 }
@@ -18,8 +18,9 @@ pub loop-preserved : goal.loop-preserved
 loop-preserved g c = record {
   turns = (tt, tt);
   thread = c.in-Err.ensures.token.0;
-  stays = stays_afterwards g.R.RawMutex.RawMutex.stays g.R.RawMutex.RawMutex.stays_on _ _ _
-      c.loop.invariant.stays
+  keeps_rights = stays_afterwards g.R.RawMutex.RawMutex.keeps_rights g.R.RawMutex.RawMutex.keeps_rights_on _
+      _ _
+      c.loop.invariant.keeps_rights
       c.in-Err.ensures.token.1;
   refused = waits_on (λ mutex. g.R.RawCondvar.waited c.args.condvar.now mutex false answers.TwoMutexes) _ _ _
       _ _ c.loop.invariant.guard c.loop.invariant.refused c.in-Err.ensures.path;
@@ -29,8 +30,8 @@ loop-preserved g c = record {
 pub returns-in-Ok-clause-token : goal.returns-in-Ok-clause-token
 returns-in-Ok-clause-token g c = (
   c.in-Ok.ensures.token.0,
-  stays_after g.R.RawMutex.RawMutex.stays g.R.RawMutex.RawMutex.stays_on _ _ _
-      c.loop.invariant.stays c.in-Ok.ensures.token.1,
+  stays_after g.R.RawMutex.RawMutex.keeps_rights g.R.RawMutex.RawMutex.keeps_rights_on _ _ _
+      c.loop.invariant.keeps_rights c.in-Ok.ensures.token.1,
 )
 
 pub returns-in-Ok-clause-guard : goal.returns-in-Ok-clause-guard

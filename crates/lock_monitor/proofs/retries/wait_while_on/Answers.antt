@@ -11,7 +11,7 @@ pub loop-init : goal.loop-init
 loop-init g c = record {
   turns = (tt, tt);
   thread = c.requires.token;
-  stays = inl refl;
+  keeps_rights = inl refl;
   waits = (0, refl);
   guard = refl;
   callable = c.requires.callable;
@@ -22,16 +22,17 @@ pub loop-preserved : goal.loop-preserved
 loop-preserved g c = record {
   turns = (tt, tt);
   thread = c.wait_on-guard.ensures.token.0;
-  stays = stays_afterwards g.R.RawMutex.RawMutex.stays g.R.RawMutex.RawMutex.stays_on _ _ _
-      c.loop.invariant.stays
+  keeps_rights = stays_afterwards g.R.RawMutex.RawMutex.keeps_rights g.R.RawMutex.RawMutex.keeps_rights_on _
+      _ _
+      c.loop.invariant.keeps_rights
       c.wait_on-guard.ensures.token.1;
   waits = waits_on (λ mutex. WaitsAtLast (g.R.RawCondvar.waited c.args.condvar.now mutex false) answers.Ok) _
       _ _ _ _ c.loop.invariant.guard c.loop.invariant.waits c.wait_on-guard.ensures.path;
   guard = c.wait_on-guard.ensures.guard ∙ c.loop.invariant.guard;
   callable = mut_next g.F.FnMut _ _ _ _ _ (record { met = c.condition.ensures.met }) refl
       c.loop.invariant.callable;
-  kept = λ stays. stays _ _ _ (was_Called g.F.FnMut c.args.condition c.loop.condition _ _ _
-      c.condition.new.self c.condition.ensures.met (c.loop.invariant.kept stays) refl);
+  kept = λ keeps_rights. keeps_rights _ _ _ (was_Called g.F.FnMut c.args.condition c.loop.condition _ _ _
+      c.condition.new.self c.condition.ensures.met (c.loop.invariant.kept keeps_rights) refl);
 }
 
 pub wait_on-guard-requires-clause-token : goal.wait_on-guard-requires-clause-token
@@ -42,7 +43,7 @@ wait_on-guard-requires-clause-lot g c = ap g.R.RawMutex.RawMutex.lot_of c.loop.i
     ∙ c.requires.lot
 
 pub returns-then-not-condition-clause-token : goal.returns-then-not-condition-clause-token
-returns-then-not-condition-clause-token g c = (c.loop.invariant.thread, c.loop.invariant.stays)
+returns-then-not-condition-clause-token g c = (c.loop.invariant.thread, c.loop.invariant.keeps_rights)
 
 pub returns-then-not-condition-clause-guard : goal.returns-then-not-condition-clause-guard
 returns-then-not-condition-clause-guard g c = c.loop.invariant.guard

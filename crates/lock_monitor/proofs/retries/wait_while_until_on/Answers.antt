@@ -11,7 +11,7 @@ pub loop-init : goal.loop-init
 loop-init g c = record {
   turns = (tt, tt);
   thread = c.requires.token;
-  stays = inl refl;
+  keeps_rights = inl refl;
   waits = (0, refl);
   guard = refl;
   passed = not_begun;
@@ -23,8 +23,9 @@ pub loop-preserved : goal.loop-preserved
 loop-preserved g c = record {
   turns = (tt, tt);
   thread = c.wait_until_on-back.ensures.token.0;
-  stays = stays_afterwards g.R.RawMutex.RawMutex.stays g.R.RawMutex.RawMutex.stays_on _ _ _
-      c.loop.invariant.stays
+  keeps_rights = stays_afterwards g.R.RawMutex.RawMutex.keeps_rights g.R.RawMutex.RawMutex.keeps_rights_on _
+      _ _
+      c.loop.invariant.keeps_rights
       c.wait_until_on-back.ensures.token.1;
   waits = waits_so_far (λ mutex. WaitsAtLast (g.R.RawCondvar.waited c.args.condvar.now mutex true)) _ _ _ _ _
       _ c.loop.invariant.guard (not_late (WaitsAtLast (g.R.RawCondvar.waited c.args.condvar.now _ true))
@@ -33,8 +34,8 @@ loop-preserved g c = record {
   passed = c.wait_until_on-back.ensures.late;
   callable = mut_next g.F.FnMut _ _ _ _ _ (record { met = c.condition-holds.ensures.met }) refl
       c.loop.invariant.callable;
-  kept = λ stays. stays _ _ _ (was_Called g.F.FnMut c.args.condition c.loop.condition _ _ _
-      c.condition-holds.new.self c.condition-holds.ensures.met (c.loop.invariant.kept stays) refl);
+  kept = λ keeps_rights. keeps_rights _ _ _ (was_Called g.F.FnMut c.args.condition c.loop.condition _ _ _
+      c.condition-holds.new.self c.condition-holds.ensures.met (c.loop.invariant.kept keeps_rights) refl);
 }
 
 pub wait_until_on-back-requires-clause-token : goal.wait_until_on-back-requires-clause-token
@@ -45,7 +46,7 @@ wait_until_on-back-requires-clause-lot g c = ap g.R.RawMutex.RawMutex.lot_of c.l
     ∙ c.requires.lot
 
 pub returns-then-late-clause-token : goal.returns-then-late-clause-token
-returns-then-late-clause-token g c = (c.loop.invariant.thread, c.loop.invariant.stays)
+returns-then-late-clause-token g c = (c.loop.invariant.thread, c.loop.invariant.keeps_rights)
 
 pub returns-then-late-clause-guard : goal.returns-then-late-clause-guard
 returns-then-late-clause-guard g c = c.loop.invariant.guard

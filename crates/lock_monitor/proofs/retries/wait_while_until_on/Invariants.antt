@@ -12,7 +12,7 @@ abbrev pub invariant-loop : goal.invariant-loop
 invariant-loop g l = record {
   turns : (goal.iterator-loop g).can_next l.iterator' × (goal.iterator-loop g).is_finite l.iterator';
   thread : g.R.RawMutex.RawMutex.is_token_of (g.R.RawCondvar.lot_of l.condvar) l.token;
-  stays : WaitedOrNot g.R.RawMutex.RawMutex.stays l.fn.token l.token;
+  keeps_rights : WaitedOrNot g.R.RawMutex.RawMutex.keeps_rights l.fn.token l.token;
   waits : WaitedSoFar (WaitsAtLast (g.R.RawCondvar.waited l.fn.condvar (lock_of l.fn.guard) true)) l.late
       l.fn.token l.token;
   guard : lock_of l.guard ≡ lock_of l.fn.guard;

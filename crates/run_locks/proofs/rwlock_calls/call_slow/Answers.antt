@@ -17,7 +17,7 @@ rest_slow-requires-clause-fits g c = let begun = c.requires.begun in (
   begun.1,
   subst (λ (q : RwLockPurpose). Fits (IsUp g.C.Clock.tells c.args.limit.now) c.requires.begun.1
       (next_place (rwlock_begin c.args.word.now.number c.args.admission.now q) (Value c.args.seen))
-      (stage_of c.args.token.now None)) (sym c.lasting.ensures)
+      (stage_of c.args.token.now None)) (sym c.static_purpose.ensures)
       (fits_on (IsUp g.C.Clock.tells c.args.limit.now) c.args.word.now c.requires.own.2 c.args.admission.now
       c.requires.own.4 c.args.purpose c.args.seen begun.0 c.args.token.now begun.3 begun.1 begun.2),
 )
@@ -25,12 +25,12 @@ rest_slow-requires-clause-fits g c = let begun = c.requires.begun in (
 pub returns-clause-over : goal.returns-clause-over
 returns-clause-over g c = λ before base begins begun.
     subst (λ (q : RwLockPurpose). HasEndedRwLock (IsUp g.C.Clock.tells c.args.limit.now) c.args.word.now
-    c.args.admission.now q c.rest_slow.result before c.rest_slow.new.token) c.lasting.ensures
+    c.args.admission.now q c.rest_slow.result before c.rest_slow.new.token) c.static_purpose.ensures
     (ended_on_going (IsUp g.C.Clock.tells c.args.limit.now) c.args.word.now c.requires.own.2
-    c.args.admission.now c.requires.own.4 c.lasting.result.now c.args.seen before c.args.token.now
+    c.args.admission.now c.requires.own.4 c.static_purpose.result.now c.args.seen before c.args.token.now
     c.rest_slow.new.token c.rest_slow.result
     (subst (λ (q : RwLockPurpose). HasBegunRwLock c.args.word.now c.args.admission.now q (GoesOn c.args.seen)
-    before c.args.token.now) (sym c.lasting.ensures) begun) c.rest_slow.ensures.own.1 base
+    before c.args.token.now) (sym c.static_purpose.ensures) begun) c.rest_slow.ensures.own.1 base
     (subst (λ (q : RwLockPurpose). BeginsWith c.args.word.now.number q base (view_of before).owns)
-    (sym c.lasting.ensures) begins)
+    (sym c.static_purpose.ensures) begins)
     c.rest_slow.ensures.path c.rest_slow.ensures.over)

@@ -16,7 +16,7 @@ rest_missed-requires-clause-reached g c = let begun = c.requires.begun in (
   begun.1,
   subst (λ (q : RwLockPurpose). Reached (IsUp g.C.Clock.tells c.args.limit.now) c.requires.begun.1
       (rwlock_deciding c.args.word.now.number c.args.admission.now q c.args.seen) (Value c.args.found)
-      (stage_of c.args.token.now None)) (sym c.lasting.ensures)
+      (stage_of c.args.token.now None)) (sym c.static_purpose.ensures)
       (reached_missed (IsUp g.C.Clock.tells c.args.limit.now) c.args.word.now c.requires.own.2
       c.args.admission.now c.requires.own.4 c.args.purpose c.args.seen c.args.found begun.0
       c.args.token.now begun.3 begun.1 begun.2),
@@ -25,13 +25,13 @@ rest_missed-requires-clause-reached g c = let begun = c.requires.begun in (
 pub returns-clause-over : goal.returns-clause-over
 returns-clause-over g c = λ before base begins begun.
     subst (λ (q : RwLockPurpose). HasEndedRwLock (IsUp g.C.Clock.tells c.args.limit.now) c.args.word.now
-    c.args.admission.now q c.rest_missed.result before c.rest_missed.new.token) c.lasting.ensures
+    c.args.admission.now q c.rest_missed.result before c.rest_missed.new.token) c.static_purpose.ensures
     (ended_missed (IsUp g.C.Clock.tells c.args.limit.now) c.args.word.now c.requires.own.2
-    c.args.admission.now c.requires.own.4 c.lasting.result.now c.args.seen c.args.found before
+    c.args.admission.now c.requires.own.4 c.static_purpose.result.now c.args.seen c.args.found before
     c.args.token.now
     (subst (λ (q : RwLockPurpose). HasBegunRwLock c.args.word.now c.args.admission.now q
-    (Missed c.args.seen c.args.found) before c.args.token.now) (sym c.lasting.ensures) begun)
+    (Missed c.args.seen c.args.found) before c.args.token.now) (sym c.static_purpose.ensures) begun)
     c.rest_missed.new.token c.rest_missed.result c.rest_missed.ensures.own.1 base
     (subst (λ (q : RwLockPurpose). BeginsWith c.args.word.now.number q base (view_of before).owns)
-    (sym c.lasting.ensures) begins)
+    (sym c.static_purpose.ensures) begins)
     c.rest_missed.ensures.path c.rest_missed.ensures.over)

@@ -2,7 +2,7 @@ use Rattle.std.proofs.Common.{◌≡◌, true, None, refl, sym, ap, ◌∙◌, s
 use Rattle.core_base.specs.Clocks.{IsUp}
 use Rattle.core_base.specs.declared.notes.Note.TheVariants.{Normal}
 use Rattle.steps_base.specs.declared.acts.Reply.TheVariants.{Woken}
-use Rattle.steps_condvar.specs.declared.wait.Stands.TheVariants.{Listed}
+use Rattle.steps_condvar.specs.declared.wait.WaiterFate.TheVariants.{Listed}
 use Rattle.steps_condvar.specs.declared.wait.WaitAt.TheVariants as wait
 use Rattle.steps_mutex.specs.declared.lock.LockAt.TheVariants as lock
 use Rattle.lot_steps.specs.Steps.{next_act, next_place}

@@ -1,7 +1,7 @@
 use Rattle.std.proofs.Common.{refl, sym, ◌∙◌}
 use Rattle.core_base.specs.Clocks.{IsUp}
 use Rattle.steps_base.specs.declared.acts.Reply.TheVariants.{Done}
-use Rattle.steps_condvar.specs.declared.wait.Stands.TheVariants.{Listed}
+use Rattle.steps_condvar.specs.declared.wait.WaiterFate.TheVariants.{Listed}
 use Rattle.steps_condvar.specs.declared.wait.WaitAt.TheVariants as wait
 use Rattle.steps_mutex.specs.declared.unlock.UnlockAt.TheVariants as unlock
 use Rattle.run_locks.specs.CondvarCourses.{releases_at, wait_at}

@@ -68,7 +68,7 @@ pub(super) struct Told {
     /// How many have come in.
     pub(super) came: AtomicUsize,
     // Whether a thread that has come in stays.
-    stays: AtomicBool,
+    keeps_rights: AtomicBool,
     pub(super) inside: Inside,
 }
 
@@ -79,7 +79,7 @@ impl Told {
             held: AtomicBool::new(false),
             roles: AtomicUsize::new(0),
             came: AtomicUsize::new(0),
-            stays: AtomicBool::new(false),
+            keeps_rights: AtomicBool::new(false),
             inside: Inside::new(),
         }
     }
@@ -95,15 +95,15 @@ impl Told {
     }
 
     /// A thread that has come in stays from now on, or goes.
-    pub(super) fn keep_inside(&self, stays: bool) {
-        self.stays.store(stays, SeqCst);
+    pub(super) fn keep_inside(&self, keeps_rights: bool) {
+        self.keeps_rights.store(keeps_rights, SeqCst);
     }
 
     /// Tells that it has come in, and goes once it may.
     pub(super) fn note_coming(&self) {
         self.came.fetch_add(1, SeqCst);
         for _ in 0..TURNS {
-            if !self.stays.load(SeqCst) {
+            if !self.keeps_rights.load(SeqCst) {
                 return;
             }
             yield_now();

@@ -54,7 +54,7 @@ deref_mut_spec 𝓤 𝓛 𝓜 𝓡 wired X L =
     in let Ws : Fml = part_at D full_share (h.place, (tt, tt)) b o in
     let y : (walk_of 𝓛 En hs c).Ghost = ((κs, qs, bounds, a, (vptr b o ∷ [], tt)), gh) in let Post : Val
     → SProp 𝓤 = (walk_of 𝓛 En hs c).post y in
-    let cut : ent 𝓤 (sem 𝓛 (part_at G full_share h b o))
+    let split_views : ent 𝓤 (sem 𝓛 (part_at G full_share h b o))
     (base.Logic.ex 𝓤 (Opened 𝓛 G R F (λ v w. ap (λ (g : G.Denot). g.value)) (named 0) κ β bounds.0 q a.0
     pb e x)) =
     let Back : Lft → X.Denot → SProp 𝓤 = λ α w. wand 𝓤 (sem 𝓛 (lent R pb e α w)) (sem 𝓛 (Had w)) in
@@ -92,7 +92,8 @@ deref_mut_spec 𝓤 𝓛 𝓜 𝓡 wired X L =
       ghost_name = δ;
       now = x;
     }) (vptr pb e ∷ [])) ⊛ ‵ (flft κ q) ⊛ ‵ (follows G R γ δ F))))
-    (through_before 𝓛 G R F (λ v w. ap (λ (g : G.Denot). g.value)) (named 0) κ β bounds.0 q a.0 pb e x cut)
+    (through_before 𝓛 G R F (λ v w. ap (λ (g : G.Denot). g.value)) (named 0) κ β bounds.0 q a.0 pb e x
+    split_views)
     $ await ! tt $ pick ! (λ δ. split3 ! $
     use0 𝓛 (raw (fact 𝓤 (x ≡ x))) (fact_i 𝓤 (x ≡ x) (emp 𝓤) refl) $ move ! (3 ∷ 0 ∷ []) $ join !
     $ move ! (2 ∷ 3 ∷ []) $ join ! $ nothing ! $ nothing ! $ fjoin ! $

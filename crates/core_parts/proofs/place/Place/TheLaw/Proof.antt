@@ -99,9 +99,9 @@ module _ {M : Type 1} {𝓤 : Ura M} (𝓛 : Logic 𝓤) (m : Member) (d : Permi
       move ! (1 ∷ 0 ∷ []) $ use2 𝓛 (‵ (Fields x)) (apply∗ 𝓤 ⟦ parts_at full_share ks zero (x, tt) b o ⟧
       ⟦ Fields x ⟧) $ by ! (whole x))
 
-  cut : (q : Share) → A.bor κ P ∗ A.lft κ q ⊢ H.⇛ (A.bor κ Value ∗ A.lft κ q)
+  split_views : (q : Share) → A.bor κ P ∗ A.lft κ q ⊢ H.⇛ (A.bor κ Value ∗ A.lft κ q)
   unfolding fseps
-  cut q = qed 𝓛 (‵ (fbor κ P) ∷ ‵ (flft κ q) ∷ []) ∵ updating ! $ bor_open ! tt $ move ! (1 ∷ [])
+  split_views q = qed 𝓛 (‵ (fbor κ P) ∷ ‵ (flft κ q) ∷ []) ∵ updating ! $ bor_open ! tt $ move ! (1 ∷ [])
       $ use1 𝓛 (some (λ (x : R.Denot). ‵ (Fields x))) apart $ pick ! (λ x.
       use1 𝓛 ((‵ (At x) ⊛ ‵ ftrue) ⊛ raw (PartsBack 𝓛 full_share [] ks b o))
       (Struct-parts 𝓛 full_share [] ks (L, tt) (x, tt) b o) $ split ! $ split ! $
@@ -115,7 +115,7 @@ module _ {M : Type 1} {𝓤 : Ura M} (𝓛 : Logic 𝓤) (m : Member) (d : Permi
   made ts sp =
       qed 𝓛 (‵ (fbor κ P) ∷ raw (lfts 𝓛 ts) ∷ []) ∵ updating !
       $ use2 𝓛 (later (‵ (fbor κ Value) ⊛ raw (lfts 𝓛 ts))) (by_one 𝓛 κ ts sp (A.bor κ P) (A.bor κ Value)
-      cut) $
+      split_views) $
       await ! tt $ split ! $ name_new ! tt (gnum 0) (λ δ. let t : Id = (κ, δ) in fjoin ! $ move ! (1 ∷ 0 ∷ [])
       $ fjoin ! $ fpack ! Bool (state R d b o t) true $
       use1 𝓛 (later (‵ (finv (Inv R d b o t)))) (𝓛.invs.inv_new (Inv R d b o t)) $ await ! tt $

@@ -1,8 +1,8 @@
 use Rattle.core_words.proofs.AtWord.{table_takes_out}
 use Rattle.core_words.proofs.table.LotWords.take_out.Goals as goal
 
-pub stir-requires : goal.stir-requires
-stir-requires g c = table_takes_out c.args.self.now c.args.seat.now c.args.word (
+pub change_view-requires : goal.change_view-requires
+change_view-requires g c = table_takes_out c.args.self.now c.args.seat.now c.args.word (
   c.requires.own.0,
   c.requires.own.1,
 ) g.P.PermitPick.family g.P.PermitPick.at c.requires.pick.0 c.requires.pick.1

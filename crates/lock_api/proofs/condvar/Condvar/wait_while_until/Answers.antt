@@ -13,7 +13,7 @@ pub loop-init : goal.loop-init
 loop-init g c = record {
   turns = (tt, tt);
   thread = c.requires.token;
-  stays = inl refl;
+  keeps_rights = inl refl;
   waits = (0, refl);
   guard = refl;
   passed = not_begun;
@@ -25,8 +25,9 @@ pub loop-preserved : goal.loop-preserved
 loop-preserved g c = record {
   turns = (tt, tt);
   thread = c.in-Ok.ensures.token.0;
-  stays = stays_afterwards g.R.RawMutex.RawMutex.stays g.R.RawMutex.RawMutex.stays_on _ _ _
-      c.loop.invariant.stays
+  keeps_rights = stays_afterwards g.R.RawMutex.RawMutex.keeps_rights g.R.RawMutex.RawMutex.keeps_rights_on _
+      _ _
+      c.loop.invariant.keeps_rights
       c.in-Ok.ensures.token.1;
   waits = waits_so_far (λ mutex. g.R.RawCondvar.waited c.args.self.now mutex true) _ _ c.timed_out-late.result
       _ _ _ c.loop.invariant.guard (not_late (g.R.RawCondvar.waited c.args.self.now _ true) c.loop.late _ _
@@ -37,15 +38,15 @@ loop-preserved g c = record {
   passed = λ late. c.in-Ok.ensures.late (sym c.timed_out-late.ensures ∙ late);
   callable = mut_next g.F.FnMut _ _ _ _ _ (record { met = c.condition-holds.ensures.met }) refl
       c.loop.invariant.callable;
-  kept = λ stays. stays _ _ _ (was_Called g.F.FnMut c.args.condition c.loop.condition _ _ _
-      c.condition-holds.new.self c.condition-holds.ensures.met (c.loop.invariant.kept stays) refl);
+  kept = λ keeps_rights. keeps_rights _ _ _ (was_Called g.F.FnMut c.args.condition c.loop.condition _ _ _
+      c.condition-holds.new.self c.condition-holds.ensures.met (c.loop.invariant.kept keeps_rights) refl);
 }
 
 pub returns-in-Err-clause-token : goal.returns-in-Err-clause-token
 returns-in-Err-clause-token g c = (
   c.in-Err.ensures.token.0,
-  stays_afterwards g.R.RawMutex.RawMutex.stays g.R.RawMutex.RawMutex.stays_on _ _ _
-      c.loop.invariant.stays c.in-Err.ensures.token.1,
+  stays_afterwards g.R.RawMutex.RawMutex.keeps_rights g.R.RawMutex.RawMutex.keeps_rights_on _ _ _
+      c.loop.invariant.keeps_rights c.in-Err.ensures.token.1,
 )
 
 pub returns-in-Err-clause-path : goal.returns-in-Err-clause-path
@@ -58,7 +59,7 @@ returns-in-Err-clause-path g c = (
 )
 
 pub returns-then-late-clause-token : goal.returns-then-late-clause-token
-returns-then-late-clause-token g c = (c.loop.invariant.thread, c.loop.invariant.stays)
+returns-then-late-clause-token g c = (c.loop.invariant.thread, c.loop.invariant.keeps_rights)
 
 pub returns-then-late-clause-guard : goal.returns-then-late-clause-guard
 returns-then-late-clause-guard g c = c.loop.invariant.guard

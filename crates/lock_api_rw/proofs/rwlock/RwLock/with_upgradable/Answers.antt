@@ -5,7 +5,8 @@ use Rattle.lock_api_rw.proofs.rwlock.RwLock.with_upgradable.Goals as goal
 pub returns-in-Some-clause-visit : goal.returns-in-Some-clause-visit
 returns-in-Some-clause-visit g c = inl (
   (_, c.in-Some.ensures),
-  came_and_went g.R.RawRwLockHalves.walked g.R.RawRwLockHalves.woke _ _ _ _ _ _ _ _ c.in-Ok.ensures.guard
+  came_and_went g.R.RawRwLockHalves.took_steps g.R.RawRwLockHalves.woke_waiters _ _ _ _ _ _ _ _
+      c.in-Ok.ensures.guard
       c.in-Ok.ensures.path c.unlock.ensures.path c.unlock.ensures.record,
 )
 
@@ -13,7 +14,7 @@ pub returns-in-None-clause-token : goal.returns-in-None-clause-token
 returns-in-None-clause-token g c = (
   thread_of g.R.RawRwLockHalves.is_token_of g.R.RawRwLockHalves.lot_of _ _ _ _ c.in-Ok.ensures.guard
       c.upgrade-guard.ensures.guard c.unlock-in-None.ensures.token.0,
-  g.R.RawRwLockHalves.stays_on _ _ _ (g.R.RawRwLockHalves.stays_on _ _ _ c.in-Ok.ensures.token.1
+  g.R.RawRwLockHalves.keeps_rights_on _ _ _ (g.R.RawRwLockHalves.keeps_rights_on _ _ _ c.in-Ok.ensures.token.1
       c.upgrade-guard.ensures.token.1) c.unlock-in-None.ensures.token.1,
 )
 
@@ -21,7 +22,8 @@ pub returns-in-None-clause-visit : goal.returns-in-None-clause-visit
 returns-in-None-clause-visit g c = inr (
   (_, c.in-None.ensures),
   (_, _, c.run_on-answer.ensures),
-  came_up_and_went g.R.RawRwLockHalves.walked g.R.RawRwLockHalves.woke _ _ _ _ _ _ _ c.in-Ok.ensures.guard
+  came_up_and_went g.R.RawRwLockHalves.took_steps g.R.RawRwLockHalves.woke_waiters _ _ _ _ _ _ _
+      c.in-Ok.ensures.guard
       c.upgrade-guard.ensures.guard c.in-Ok.ensures.path c.upgrade-guard.ensures.path
       c.unlock-in-None.ensures.path c.unlock-in-None.ensures.record,
 )

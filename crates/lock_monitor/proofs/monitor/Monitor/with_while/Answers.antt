@@ -9,8 +9,10 @@ pub returns-clause-token : goal.returns-clause-token
 returns-clause-token g c = (
   subst (λ mutex. g.R.RawMutex.RawMutex.is_token_of (g.R.RawMutex.RawMutex.lot_of mutex) c.unlock.new.token)
       c.wait_while-guard.ensures.guard c.unlock.ensures.token.0,
-  g.R.RawMutex.RawMutex.stays_on _ _ _ c.lock-guard.ensures.token.1 (stays_after g.R.RawMutex.RawMutex.stays
-      g.R.RawMutex.RawMutex.stays_on _ _ _ c.wait_while-guard.ensures.token.1 c.unlock.ensures.token.1),
+  g.R.RawMutex.RawMutex.keeps_rights_on _ _ _ c.lock-guard.ensures.token.1
+      (stays_after g.R.RawMutex.RawMutex.keeps_rights
+      g.R.RawMutex.RawMutex.keeps_rights_on _ _ _ c.wait_while-guard.ensures.token.1
+      c.unlock.ensures.token.1),
 )
 
 pub returns-clause-ran : goal.returns-clause-ran
@@ -28,7 +30,7 @@ returns-clause-path g c = (
   _,
   c.lock-guard.ensures.path,
   c.wait_while-guard.ensures.path,
-  subst (λ mutex. g.R.RawMutex.RawMutex.walked mutex Unlock answers.Ok c.wait_while-guard.new.token
+  subst (λ mutex. g.R.RawMutex.RawMutex.took_steps mutex Unlock answers.Ok c.wait_while-guard.new.token
       c.unlock.new.token × g.R.RawMutex.RawMutex.released mutex Unlock c.wait_while-guard.new.token
       c.unlock.new.token)
       c.wait_while-guard.ensures.guard (c.unlock.ensures.path, c.unlock.ensures.record),

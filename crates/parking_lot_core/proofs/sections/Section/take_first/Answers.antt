@@ -4,7 +4,7 @@ use Rattle.core_base.specs.Lines.{line, lines, first_of}
 use Rattle.core_queues.specs.Buckets.{both}
 use Rattle.core_queues.specs.Places.{IsSameBucket}
 use Rattle.core_queues.specs.Wants.{wants_of}
-use Rattle.core_queues.specs.declared.queueing.Queueing.{Queueing}
+use Rattle.core_queues.specs.declared.section_queues.SectionQueues.{SectionQueues}
 use Rattle.core_queues.proofs.Halves.{line_old, side_first}
 use Rattle.parking_lot_core.specs.Sections.{others_in, waiting_in}
 use Rattle.parking_lot_core.proofs.Pairs.{alone_still, two_still}
@@ -28,7 +28,7 @@ pub returns-clause-first : goal.returns-clause-first
 returns-clause-first c = let turned = c.turn_to.new.self in let first = c.deref_mut.result.now in let old =
     waiting_in c.args.self.now in
     let same : lines (both first.queues.waiters (others_in turned)) ≡ lines old =
-    ap (λ (q : Queueing). lines (both q.queues.waiters (others_in turned))) c.deref_mut.ensures.value
+    ap (λ (q : SectionQueues). lines (both q.queues.waiters (others_in turned))) c.deref_mut.ensures.value
     ∙ c.turn_to.ensures.lines in
     let here : line c.args.key first.queues.waiters ≡ line c.args.key old =
     line_old c.args.key first.queues.waiters old (others_in turned) c.turn_to.ensures.none same in
@@ -38,7 +38,7 @@ pub returns-clause-wants : goal.returns-clause-wants
 returns-clause-wants c = let turned = c.turn_to.new.self in let first = c.deref_mut.result.now in let old =
     waiting_in c.args.self.now in
     let same : lines (both first.queues.waiters (others_in turned)) ≡ lines old =
-    ap (λ (q : Queueing). lines (both q.queues.waiters (others_in turned))) c.deref_mut.ensures.value
+    ap (λ (q : SectionQueues). lines (both q.queues.waiters (others_in turned))) c.deref_mut.ensures.value
     ∙ c.turn_to.ensures.lines in
     let here : line c.args.key first.queues.waiters ≡ line c.args.key old =
     line_old c.args.key first.queues.waiters old (others_in turned) c.turn_to.ensures.none same in
@@ -48,7 +48,7 @@ pub returns-clause-lines : goal.returns-clause-lines
 returns-clause-lines c = let turned = c.turn_to.new.self in let first = c.deref_mut.result.now in let old =
     waiting_in c.args.self.now in
     let same : lines (both first.queues.waiters (others_in turned)) ≡ lines old =
-    ap (λ (q : Queueing). lines (both q.queues.waiters (others_in turned))) c.deref_mut.ensures.value
+    ap (λ (q : SectionQueues). lines (both q.queues.waiters (others_in turned))) c.deref_mut.ensures.value
     ∙ c.turn_to.ensures.lines in
     side_first c.args.key first.queues.waiters c.take_first-first.new.self.queues.waiters old
     (others_in turned) c.turn_to.ensures.none same c.take_first-first.ensures.lines

@@ -25,7 +25,7 @@ returns-then-seen-eq-LOCKED-clause-over c = let mutex = c.args.self.now in let n
     (stepping (takes_in v (piece_of mutex.word Exclusive)) at (Exchange 1 0) seen)) (eq-eqb seen 1 one) in
     let added = ap (λ (v : View). v.steps) left
     ∙ ap (λ (k : WordKind). v.steps ++ step (word_index n k) (Exchange 1 0) seen) mutex.drawn.1 in
-    let stays : StaysAs old new = search rules in
+    let keeps_rights : StaysAs old new = search rules in
     let released : TookIfSeen n UnlockFair (steps_of old) (steps_of new) (last_of new) = (
       seen,
       [],
@@ -34,5 +34,8 @@ returns-then-seen-eq-LOCKED-clause-over c = let mutex = c.args.self.now in let n
         refl,
         c.leave_open_alone-seen.ensures.own.1,
       ),
-    ) in
-    (stays, path_at_once n UnlockFair seen old new one added c.leave_open_alone-seen.ensures.untold, released)
+    ) in (
+      keeps_rights,
+      path_at_once n UnlockFair seen old new one added c.leave_open_alone-seen.ensures.untold,
+      released,
+    )

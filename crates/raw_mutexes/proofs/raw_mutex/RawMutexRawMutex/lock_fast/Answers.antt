@@ -16,8 +16,8 @@ returns-in-Ok-clause-over c = let mutex = c.args.self.now in let n = mutex.word.
     let added = ap (λ (v : View). v.steps) c.in-Ok.ensures.stepped
     ∙ ap (λ (k : WordKind). (view_of old).steps ++ step (word_index n k) (Exchange 0 1) 0) mutex.drawn.1
     in
-    let stays : StaysAs old new = search rules in (
-      stays,
+    let keeps_rights : StaysAs old new = search rules in (
+      keeps_rights,
       path_at_once n Lock 0 old new refl added c.enter_open.ensures.untold,
       (search rules, search rules),
     )

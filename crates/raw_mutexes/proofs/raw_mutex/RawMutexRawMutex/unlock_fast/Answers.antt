@@ -21,11 +21,11 @@ returns-then-leave_open-eq-LOCKED-clause-over c = let mutex = c.args.self.now in
     let added : steps_of new ≡ steps_of old ++ step (mutex_at n) (Sub 1) seen =
     ap (λ (v : View). v.steps) c.leave_open.ensures.stepped
     ∙ ap (λ (k : WordKind). (view_of old).steps ++ step (word_index n k) (Sub 1) seen) mutex.drawn.1 in
-    let stays : StaysAs old new = search rules in
+    let keeps_rights : StaysAs old new = search rules in
     let released : TookIfSeen n Unlock (steps_of old) (steps_of new) (last_of new) = (
       seen,
       [],
       added ∙ sym (append-nil (steps_of old ++ step (mutex_at n) (Sub 1) seen)),
       subst (λ b. TookIfParked n b [] (last_of new)) (sym none) (refl, c.leave_open.ensures.own.1),
     ) in
-    (stays, path_at_once n Unlock seen old new none added c.leave_open.ensures.untold, released)
+    (keeps_rights, path_at_once n Unlock seen old new none added c.leave_open.ensures.untold, released)

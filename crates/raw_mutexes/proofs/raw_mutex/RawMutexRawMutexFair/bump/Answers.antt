@@ -19,13 +19,13 @@ pub bump_slow-requires-clause-begun : goal.bump_slow-requires-clause-begun
 bump_slow-requires-clause-begun g c = let n = c.args.self.now.word.number in let old = c.args.token.now
     in let mid = c.step-seen.new.token in let new = c.join.new.token in let seen = c.step-seen.result in
     let parked : is_parked seen ≡ true = search rules in
-    let stays : (view_of mid).owns ≡ (view_of old).owns = search rules in
+    let keeps_rights : (view_of mid).owns ≡ (view_of old).owns = search rules in
     let number : new.number ≡ old.number = search rules in
     let steps : (view_of new).steps ≡ (view_of old).steps ++ step (mutex_at n) Load seen =
     ap (λ (v : View). v.steps) c.join.ensures.joined
     ∙ ap (λ (v : View). v.steps) c.step-seen.ensures.stepped in
     let owns : (view_of new).owns ≡ mutex_ownership n ∷ (view_of old).owns =
-    ap (λ (v : View). v.owns) c.join.ensures.joined ∙ ap (λ os. mutex_ownership n ∷ os) stays in
+    ap (λ (v : View). v.owns) c.join.ensures.joined ∙ ap (λ os. mutex_ownership n ∷ os) keeps_rights in
     let has_it : has (mutex_ownership n) (mutex_ownership n ∷ (view_of old).owns) ≡ true = search rules in (
       old,
       (

@@ -100,7 +100,7 @@ returns-in_default g c = let over = c.bump.ensures.over (view_of c.args.token.no
     let full = bump_full c.args.self.now.word.number (view_of c.args.token.now).owns
     c.args.self.now.settings.admission c.args.access c.bump.result (stage_of c.bump.new.token None) over
     c.in_default.not-Ok in
-    let walked = courses_between (at_rwlock c.args.self.now.word.number)
+    let took_steps = courses_between (at_rwlock c.args.self.now.word.number)
     (RwLock c.args.self.now.word.number c.args.self.now.settings.admission
     (PeekQueue c.args.access)) ReadersFull
     c.args.token.now c.join.new.token c.bump.new.token c.bump.new.token c.join.ensures.own.0.1
@@ -110,8 +110,8 @@ returns-in_default g c = let over = c.bump.ensures.over (view_of c.args.token.no
     in record {
       token = (search rules, (search rules, full.2));
       right = refl;
-      path = walked;
+      path = took_steps;
       counted = full.1;
       full = bump_sees_full c.args.access c.args.self.now.word.number c.args.self.now.settings.admission
-          c.args.token.now c.bump.new.token walked;
+          c.args.token.now c.bump.new.token took_steps;
     }
