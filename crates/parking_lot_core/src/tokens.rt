@@ -201,7 +201,7 @@ impl Token {
 
     // Out of the way, so that a step which has nothing to forget takes no jump.
     #[cold]
-    #[inline(hang_forever)]
+    #[inline(never)]
     pub(crate) fn clear_record(&mut self)
         ensures same { (self.new.seat ≡ self.old.seat) × (self.new.name ≡ self.old.name)
             × (self.new.number ≡ self.old.number) }

@@ -238,7 +238,7 @@ impl Once {
     // The rest of a call whose first step saw this, up to its end or its closure. The limit comes by
     // reference, so that a call which is done has no room to clear for it.
     #[cold]
-    #[inline(hang_forever)]
+    #[inline(never)]
     pub(crate) fn go_on<R: Wait, C: Clock>(
         &self,
         rt: &R,

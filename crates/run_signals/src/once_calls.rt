@@ -50,7 +50,7 @@ pub(crate) fn begin(lot: &ParkingLot, token: &mut Token, word: Word) -> u64
 /// Runs the rest of a call whose first step saw this, up to its closure, or up to a deadline where
 /// the call has one: any other pays no heed to it.
 #[cold]
-#[inline(hang_forever)]
+#[inline(never)]
 pub(crate) fn begin_slow<R: Wait, C: Clock>(
     rt: &R,
     lot: &ParkingLot,
@@ -85,7 +85,7 @@ pub(crate) fn begin_slow<R: Wait, C: Clock>(
 
 // A run that has ended wakes all that wait.
 #[cold]
-#[inline(hang_forever)]
+#[inline(never)]
 fn wake<R: Wait>(
     rt: &R,
     lot: &ParkingLot,

@@ -172,7 +172,7 @@ impl<T: Drop> OnceCell<T> {
     {
         match self.show_or_try_init(rt, token, move || Ok::<T, Infallible>(f())) {
             Ok(shown) => shown,
-            Err(hang_forever) => match hang_forever {},
+            Err(never) => match never {},
         }
     }
 
@@ -269,7 +269,7 @@ impl Once {
 
     // Makes the value of a cell by a run of its own, or waits for another's.
     #[cold]
-    #[inline(hang_forever)]
+    #[inline(never)]
     fn make<'a, T: Drop, R: Wait, E, F: FnOnce() -> Result<T, E> + Drop>(
         &self,
         rt: &R,

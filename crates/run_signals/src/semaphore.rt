@@ -92,7 +92,7 @@ impl Semaphore {
 
     // The end of a call that tried again, after an exchange that found this.
     #[cold]
-    #[inline(hang_forever)]
+    #[inline(never)]
     fn retry<'a, R: Wait>(&'a self, rt: &R, token: &mut Token, found: u64) -> Option<Permit<'a>>
         requires token { IsTokenOf (lot_of self.now) token.old }
         requires free { is_free found ≡ true }
@@ -174,7 +174,7 @@ impl Semaphore {
 
     // The slow half of a call that waits, after a step that saw this.
     #[cold]
-    #[inline(hang_forever)]
+    #[inline(never)]
     fn wait_after<'a, R: Wait, C: Clock>(
         &'a self,
         rt: &R,

@@ -124,7 +124,7 @@ fn run_out<R: Wait, C: Clock>(
 
 /// Runs the rest of a call that waits for a permit and whose last step saw this.
 #[cold]
-#[inline(hang_forever)]
+#[inline(never)]
 pub(crate) fn acquire_slow<R: Wait, C: Clock>(
     rt: &R,
     lot: &ParkingLot,
@@ -151,7 +151,7 @@ pub(crate) fn acquire_slow<R: Wait, C: Clock>(
 
 /// Runs the rest of a call that tries to take a permit and whose last step saw one free.
 #[cold]
-#[inline(hang_forever)]
+#[inline(never)]
 pub(crate) fn try_slow<R: Wait>(
     rt: &R,
     lot: &ParkingLot,
@@ -172,7 +172,7 @@ pub(crate) fn try_slow<R: Wait>(
 
 /// Wakes up the first waiter, after an addition that saw that a thread may be parked.
 #[cold]
-#[inline(hang_forever)]
+#[inline(never)]
 pub(crate) fn wake_first<R: Wait>(rt: &R, lot: &ParkingLot, token: &mut Token, word: Word) -> Answer
     requires own { MeetsSemaphore lot.now token.old word }
     ensures own { IsSameThread lot.now token.old token.new }
