@@ -5,7 +5,7 @@ use Rattle.spec_locks.specs.declared.calls.Access.TheVariants as access
 use Rattle.spec_locks.specs.declared.calls.Downgrade.TheVariants as downgrade
 use Rattle.spec_locks.specs.declared.calls.Patience.TheVariants.{Patient, Timed, Try}
 use Rattle.spec_locks.specs.Locks.{Rights}
-use Rattle.spec_locks.specs.Purposes.{Blank, Recall}
+use Rattle.spec_locks.specs.Purposes.{Blank, CondvarMemory}
 use Rattle.spec_locks.specs.Sites.{Claim, Has, Role, idle}
 use Rattle.steps_base.specs.Locations.{Location, location_by, nowhere}
 use Rattle.steps_base.specs.Profiles.{Profile}
@@ -16,7 +16,7 @@ use Rattle.steps_rwlock.proofs.RwLockStands.{unwoken_fresh}
 -- what a row says of a call that has done nothing: its role, its location, whether it is late, gave up and
 -- failed, what it recalls, and whether it retries and is released
 abbrev pub Told : Type 0
-Told = Role × Location × Bool × Bool × Bool × Recall × Bool × Bool
+Told = Role × Location × Bool × Bool × Bool × CondvarMemory × Bool × Bool
 
 abbrev pub told : Profile → Told
 told row =

@@ -24,9 +24,9 @@ use Rattle.core_parts.specs.contracts.seats.change_view.Key.{name as #self}
 use Rattle.core_parts.proofs.seats.change_view.Statement.{statement}
 use Rattle.core_parts.proofs.seats.change_view.Code as code
 
-pub stir_spec : {M : Type 1} → statement M
+pub change_view_spec : {M : Type 1} → statement M
 unfolding Rattle.atomic_table.specs.Seated.seal
-stir_spec 𝓤 𝓛 𝓜 𝓡 wired T U Q P Mv _ _ _ _ _ g d g' d' _ _ =
+change_view_spec 𝓤 𝓛 𝓜 𝓡 wired T U Q P Mv _ _ _ _ _ g d g' d' _ _ =
     let H = 𝓛.H in let 𝓣 = tables 𝓤 H 𝓜 𝓡 𝓡.env in let R : RattleType = param 0 T in let W : RattleType =
     param 1 U in let X : RattleType = param 2 Q in let Y : RattleType = param 3 P in let En =
     ended T U Q P Mv g d g' d' in

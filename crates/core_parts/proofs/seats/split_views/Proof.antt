@@ -25,9 +25,9 @@ use Rattle.core_parts.specs.contracts.seats.split_views.Key.{name as #self}
 use Rattle.core_parts.proofs.seats.split_views.Statement.{statement}
 use Rattle.core_parts.proofs.seats.split_views.Code as code
 
-pub cut_spec : {M : Type 1} → statement M
+pub split_views_spec : {M : Type 1} → statement M
 unfolding Rattle.atomic_table.specs.Seated.seal
-cut_spec 𝓤 𝓛 𝓜 𝓡 wired T U Q P Mv _ _ _ _ _ g d g' d' _ _ =
+split_views_spec 𝓤 𝓛 𝓜 𝓡 wired T U Q P Mv _ _ _ _ _ g d g' d' _ _ =
     let H = 𝓛.H in let 𝓣 = tables 𝓤 H 𝓜 𝓡 𝓡.env in let R : RattleType = param 0 T in let W : RattleType =
     param 1 U in let X : RattleType = param 2 Q in let Y : RattleType = param 3 P in let En =
     ended T U Q P Mv g d g' d' in

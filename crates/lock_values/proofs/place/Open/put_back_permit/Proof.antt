@@ -32,9 +32,9 @@ use Rattle.lock_values.specs.contracts.place.Open.put_back_permit.Key.{name as #
 use Rattle.lock_values.proofs.place.Open.put_back_permit.Statement.{statement}
 use Rattle.lock_values.proofs.place.Open.put_back_permit.Code as code
 
-pub lay_back_spec : {M : Type 1} → statement M
+pub put_back_permit_spec : {M : Type 1} → statement M
 unfolding Rattle.atomic_table.specs.Seated.seal
-lay_back_spec 𝓤 𝓛 𝓜 𝓡 wired X T Q P LX _ _ _ g d _ =
+put_back_permit_spec 𝓤 𝓛 𝓜 𝓡 wired X T Q P LX _ _ _ g d _ =
     let H = 𝓛.H in let 𝓣 = tables 𝓤 H 𝓜 𝓡 𝓡.env in let R : RattleType = param 0 X in let S : RattleType =
     param 1 T in let Kr : RattleType = param 2 Q in let Y : RattleType = param 3 P in let W : RattleType =
     view.the_row in let En = ended X T Q P g d in
