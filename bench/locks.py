@@ -4,9 +4,10 @@
 It needs cargo, the package librust-parking-lot-dev of Debian, and for the count of instructions valgrind.
 
 python3 bench/locks.py [MODE ..] [--n N] [--runs N] [--sittings N] [--busy N] [--built], else every mode with 10
-million operations, nine times, in one sitting. It prints a table: the median of nanoseconds for an operation, the best in
-brackets, and what the busiest thread of ours did for one of the idlest, as the median and the greatest of the runs.
-With several sittings, each of so many runs, the ratio is the median of theirs, the least and the greatest in brackets,
+million operations, nine times, in one sitting. Both programs have each loop at two places in their code, and a side's
+figures are those of the place where its median is less. It prints a table: the median of nanoseconds for an operation,
+the best in brackets, and what the busiest thread of ours did for one of the idlest, as the median and the greatest of
+the runs. With several sittings, each of so many runs, the ratio is the median of theirs, the least and the greatest in brackets,
 and so is how much longer ours took. With --busy N, N processes run beside both programs that do nothing but keep a
 processor busy; then one thread alone is left out, and no instructions are counted. With --built it takes both programs
 as they lie in their folders.
@@ -38,6 +39,8 @@ THREADS = [1, 2, 4, 8]
 # Where threads wait for one another: for how many, and one operation for so many of another mode.
 TOGETHER = {"notify_all": [2, 4, 8], "pingpong": [2], "many_turns": [2, 4, 8], "queue": [2, 4, 8]}
 FEWER = 100
+# The loops at the first place in the code, and at the second: the words that ask for them.
+PLACES = [[], ["second"]]
 # A process that keeps a processor busy, until its parent ends.
 LOOP = "import os\nparent = os.getppid()\nwhile os.getppid() == parent:\n    for _ in range(1000000):\n        pass"
 COLLECTED = re.compile(r"Collected\s*:\s*(\d+)")
@@ -64,9 +67,10 @@ def busy_beside(count):
             loop.wait()
 
 
-def run(program, mode, threads, operations):
+def run(program, mode, threads, operations, place):
     """Nanoseconds for an operation, and how much more the busiest thread did than the idlest."""
-    done = subprocess.run([program, mode, str(threads), str(operations)], capture_output=True, text=True, check=True)
+    words = [program, mode, str(threads), str(operations), *place]
+    done = subprocess.run(words, capture_output=True, text=True, check=True)
     words = done.stdout.split()
     nanos, answer, low, high = (int(word) for word in words[3:])
     if answer != operations:
@@ -74,17 +78,20 @@ def run(program, mode, threads, operations):
     return nanos / operations, high / max(low, 1)
 
 
-def sitting(mode, other, threads, operations, runs):
-    """The runs of ours and of the other program, in turn: each run's nanoseconds and spread."""
-    ours, theirs = [], []
-    for _ in range(runs):
-        ours.append(run(OURS, mode, threads, operations))
-        theirs.append(run(THEIRS, other, threads, operations))
-    return ours, theirs
-
-
 def median_time(runs):
     return statistics.median(nanos for nanos, _ in runs)
+
+
+def sitting(mode, other, threads, operations, runs):
+    """The runs of ours and of the other program, in turn, each at its better place: a run's nanoseconds and spread."""
+    sides = [(OURS, mode), (THEIRS, other)]
+    places = PLACES if mode not in TOGETHER else PLACES[:1]
+    found = [[[] for _ in places] for _ in sides]
+    for _ in range(runs):
+        for number, place in enumerate(places):
+            for side, (program, name) in enumerate(sides):
+                found[side][number].append(run(program, name, threads, operations, place))
+    return [min(by_place, key=median_time) for by_place in found]
 
 
 def of_several(values):

@@ -15,7 +15,7 @@ const ONE_IN: u64 = 16;
 const PLACES: u64 = 16;
 const MOST_THREADS: usize = 64;
 const MOST_OPERATIONS: u64 = 1_000_000_000_000;
-const USAGE: &str = "usage: lotbench raw_mutex|raw_mutex_try|mutex|mutex_try|fair|many|many_fair|remutex|remutex2|raw_read|raw_write|read|write|rw_mix|read_recursive|upgradable|upgrade|downgrade|once|semaphore|semaphore2|notify|notify_all|pingpong|many_turns|queue|std_once THREADS N";
+const USAGE: &str = "usage: lotbench raw_mutex|raw_mutex_try|mutex|mutex_try|fair|many|many_fair|remutex|remutex2|raw_read|raw_write|read|write|rw_mix|read_recursive|upgradable|upgrade|downgrade|once|semaphore|semaphore2|notify|notify_all|pingpong|many_turns|queue|std_once THREADS N [second]";
 
 #[derive(Clone, Copy)]
 enum Mode {
@@ -114,6 +114,16 @@ impl Mode {
             Mode::StdOnce => "std_once",
         }
     }
+}
+
+/// A number of operations of a mode, which a number of threads do together, by the loop at one of its two places in
+/// the code.
+#[derive(Clone, Copy)]
+struct Plan {
+    mode: Mode,
+    threads: usize,
+    operations: u64,
+    is_second: bool,
 }
 
 /// On cache lines of its own.
@@ -300,7 +310,8 @@ impl Bench {
 }
 
 #[inline(never)]
-fn lock_raw(bench: &Bench, times: u64) {
+fn lock_raw<const SECOND: bool>(bench: &Bench, times: u64) {
+    black_box(SECOND);
     for _ in 0..times {
         bench.raw.0.lock();
         // It is locked by this thread.
@@ -309,7 +320,8 @@ fn lock_raw(bench: &Bench, times: u64) {
 }
 
 #[inline(never)]
-fn try_raw(bench: &Bench, times: u64) {
+fn try_raw<const SECOND: bool>(bench: &Bench, times: u64) {
+    black_box(SECOND);
     for _ in 0..times {
         while !bench.raw.0.try_lock() {}
         // It is locked by this thread.
@@ -318,7 +330,8 @@ fn try_raw(bench: &Bench, times: u64) {
 }
 
 #[inline(never)]
-fn lock_value(bench: &Bench, times: u64) {
+fn lock_value<const SECOND: bool>(bench: &Bench, times: u64) {
+    black_box(SECOND);
     for _ in 0..times {
         let mut value = bench.value.0.lock();
         *value = value.wrapping_add(1);
@@ -326,7 +339,8 @@ fn lock_value(bench: &Bench, times: u64) {
 }
 
 #[inline(never)]
-fn lock_fair(bench: &Bench, times: u64) {
+fn lock_fair<const SECOND: bool>(bench: &Bench, times: u64) {
+    black_box(SECOND);
     for _ in 0..times {
         let mut value = bench.fair.0.lock();
         *value = value.wrapping_add(1);
@@ -334,7 +348,8 @@ fn lock_fair(bench: &Bench, times: u64) {
 }
 
 #[inline(never)]
-fn add_along<M: lock_api::RawMutex>(row: &[Apart<lock_api::Mutex<M, u64>>], number: usize, times: u64) {
+fn add_along<const SECOND: bool, M: lock_api::RawMutex>(row: &[Apart<lock_api::Mutex<M, u64>>], number: usize, times: u64) {
+    black_box(SECOND);
     let stride = number * 2 + 1;
     let mut place = stride;
     for _ in 0..times {
@@ -345,14 +360,16 @@ fn add_along<M: lock_api::RawMutex>(row: &[Apart<lock_api::Mutex<M, u64>>], numb
 }
 
 #[inline(never)]
-fn lock_once(bench: &Bench, times: u64) {
+fn lock_once<const SECOND: bool>(bench: &Bench, times: u64) {
+    black_box(SECOND);
     for _ in 0..times {
         drop(bench.again.0.lock());
     }
 }
 
 #[inline(never)]
-fn lock_again(bench: &Bench, times: u64) {
+fn lock_again<const SECOND: bool>(bench: &Bench, times: u64) {
+    black_box(SECOND);
     for _ in 0..times {
         let outer = bench.again.0.lock();
         drop(bench.again.0.lock());
@@ -361,7 +378,8 @@ fn lock_again(bench: &Bench, times: u64) {
 }
 
 #[inline(never)]
-fn try_value(bench: &Bench, times: u64) {
+fn try_value<const SECOND: bool>(bench: &Bench, times: u64) {
+    black_box(SECOND);
     for _ in 0..times {
         let mut value = loop {
             if let Some(value) = bench.value.0.try_lock() {
@@ -373,7 +391,8 @@ fn try_value(bench: &Bench, times: u64) {
 }
 
 #[inline(never)]
-fn read_raw(bench: &Bench, times: u64) {
+fn read_raw<const SECOND: bool>(bench: &Bench, times: u64) {
+    black_box(SECOND);
     for _ in 0..times {
         bench.raw_rwlock.0.lock_shared();
         // This thread shares it.
@@ -382,7 +401,8 @@ fn read_raw(bench: &Bench, times: u64) {
 }
 
 #[inline(never)]
-fn write_raw(bench: &Bench, times: u64) {
+fn write_raw<const SECOND: bool>(bench: &Bench, times: u64) {
+    black_box(SECOND);
     for _ in 0..times {
         bench.raw_rwlock.0.lock_exclusive();
         // It is locked by this thread.
@@ -402,21 +422,24 @@ fn write_once(bench: &Bench) {
 }
 
 #[inline(never)]
-fn read_value(bench: &Bench, times: u64) {
+fn read_value<const SECOND: bool>(bench: &Bench, times: u64) {
+    black_box(SECOND);
     for _ in 0..times {
         read_once(bench);
     }
 }
 
 #[inline(never)]
-fn write_value(bench: &Bench, times: u64) {
+fn write_value<const SECOND: bool>(bench: &Bench, times: u64) {
+    black_box(SECOND);
     for _ in 0..times {
         write_once(bench);
     }
 }
 
 #[inline(never)]
-fn mix_value(bench: &Bench, times: u64) {
+fn mix_value<const SECOND: bool>(bench: &Bench, times: u64) {
+    black_box(SECOND);
     for turn in 0..times {
         if turn % ONE_IN == 0 {
             write_once(bench);
@@ -427,21 +450,24 @@ fn mix_value(bench: &Bench, times: u64) {
 }
 
 #[inline(never)]
-fn read_again(bench: &Bench, times: u64) {
+fn read_again<const SECOND: bool>(bench: &Bench, times: u64) {
+    black_box(SECOND);
     for _ in 0..times {
         black_box(*bench.rwlock.0.read_recursive());
     }
 }
 
 #[inline(never)]
-fn come_upgradable(bench: &Bench, times: u64) {
+fn come_upgradable<const SECOND: bool>(bench: &Bench, times: u64) {
+    black_box(SECOND);
     for _ in 0..times {
         black_box(*bench.rwlock.0.upgradable_read());
     }
 }
 
 #[inline(never)]
-fn upgrade_value(bench: &Bench, times: u64) {
+fn upgrade_value<const SECOND: bool>(bench: &Bench, times: u64) {
+    black_box(SECOND);
     for _ in 0..times {
         let mut value = RwLockUpgradableReadGuard::upgrade(bench.rwlock.0.upgradable_read());
         *value = value.wrapping_add(1);
@@ -449,7 +475,8 @@ fn upgrade_value(bench: &Bench, times: u64) {
 }
 
 #[inline(never)]
-fn downgrade_value(bench: &Bench, times: u64) {
+fn downgrade_value<const SECOND: bool>(bench: &Bench, times: u64) {
+    black_box(SECOND);
     for _ in 0..times {
         let mut value = bench.rwlock.0.write();
         *value = value.wrapping_add(1);
@@ -458,21 +485,24 @@ fn downgrade_value(bench: &Bench, times: u64) {
 }
 
 #[inline(never)]
-fn call_once(bench: &Bench, times: u64) {
+fn call_once<const SECOND: bool>(bench: &Bench, times: u64) {
+    black_box(SECOND);
     for _ in 0..times {
         bench.once.0.call_once(|| panic!("it is done"));
     }
 }
 
 #[inline(never)]
-fn call_std_once(bench: &Bench, times: u64) {
+fn call_std_once<const SECOND: bool>(bench: &Bench, times: u64) {
+    black_box(SECOND);
     for _ in 0..times {
         bench.std_once.0.call_once(|| panic!("it is done"));
     }
 }
 
 #[inline(never)]
-fn hold_permit(semaphore: &Semaphore, times: u64) {
+fn hold_permit<const SECOND: bool>(semaphore: &Semaphore, times: u64) {
+    black_box(SECOND);
     for _ in 0..times {
         semaphore.acquire();
         semaphore.release();
@@ -480,13 +510,46 @@ fn hold_permit(semaphore: &Semaphore, times: u64) {
 }
 
 #[inline(never)]
-fn notify_nobody(bench: &Bench, times: u64) {
+fn notify_nobody<const SECOND: bool>(bench: &Bench, times: u64) {
+    black_box(SECOND);
     for _ in 0..times {
         bench.desk.0.filled.0.notify_one();
     }
 }
 
-fn work(mode: Mode, bench: &Bench, threads: usize, number: usize) -> u64 {
+/// Does so many operations, by the loops at the first or at the second place in the code. `black_box` keeps the two
+/// from being made one.
+fn operate<const SECOND: bool>(mode: Mode, bench: &Bench, number: usize, times: u64) {
+    match mode {
+        Mode::RawMutex => lock_raw::<SECOND>(bench, times),
+        Mode::RawMutexTry => try_raw::<SECOND>(bench, times),
+        Mode::Mutex => lock_value::<SECOND>(bench, times),
+        Mode::MutexTry => try_value::<SECOND>(bench, times),
+        Mode::Fair => lock_fair::<SECOND>(bench, times),
+        Mode::Many => add_along::<SECOND, _>(&bench.plain_row, number, times),
+        Mode::ManyFair => add_along::<SECOND, _>(&bench.fair_row, number, times),
+        Mode::Remutex => lock_once::<SECOND>(bench, times),
+        Mode::Remutex2 => lock_again::<SECOND>(bench, times),
+        Mode::RawRead => read_raw::<SECOND>(bench, times),
+        Mode::RawWrite => write_raw::<SECOND>(bench, times),
+        Mode::Read => read_value::<SECOND>(bench, times),
+        Mode::Write => write_value::<SECOND>(bench, times),
+        Mode::RwMix => mix_value::<SECOND>(bench, times),
+        Mode::ReadRecursive => read_again::<SECOND>(bench, times),
+        Mode::Upgradable => come_upgradable::<SECOND>(bench, times),
+        Mode::Upgrade => upgrade_value::<SECOND>(bench, times),
+        Mode::Downgrade => downgrade_value::<SECOND>(bench, times),
+        Mode::Once => call_once::<SECOND>(bench, times),
+        Mode::Semaphore => hold_permit::<SECOND>(&bench.semaphore.0, times),
+        Mode::Semaphore2 => hold_permit::<SECOND>(&bench.semaphore2.0, times),
+        Mode::Notify => notify_nobody::<SECOND>(bench, times),
+        Mode::NotifyAll | Mode::PingPong | Mode::ManyTurns | Mode::Queue => {}
+        Mode::StdOnce => call_std_once::<SECOND>(bench, times),
+    }
+}
+
+fn work(plan: Plan, bench: &Bench, number: usize) -> u64 {
+    let Plan { mode, threads, is_second, .. } = plan;
     if matches!(mode, Mode::ManyTurns) {
         let alone = number % 2 == 0 && number + 1 == threads;
         return bench.desks[number / 2].work(mode, if alone { 1 } else { 2 });
@@ -500,46 +563,27 @@ fn work(mode: Mode, bench: &Bench, threads: usize, number: usize) -> u64 {
         if times == 0 {
             return done;
         }
-        match mode {
-            Mode::RawMutex => lock_raw(bench, times),
-            Mode::RawMutexTry => try_raw(bench, times),
-            Mode::Mutex => lock_value(bench, times),
-            Mode::MutexTry => try_value(bench, times),
-            Mode::Fair => lock_fair(bench, times),
-            Mode::Many => add_along(&bench.plain_row, number, times),
-            Mode::ManyFair => add_along(&bench.fair_row, number, times),
-            Mode::Remutex => lock_once(bench, times),
-            Mode::Remutex2 => lock_again(bench, times),
-            Mode::RawRead => read_raw(bench, times),
-            Mode::RawWrite => write_raw(bench, times),
-            Mode::Read => read_value(bench, times),
-            Mode::Write => write_value(bench, times),
-            Mode::RwMix => mix_value(bench, times),
-            Mode::ReadRecursive => read_again(bench, times),
-            Mode::Upgradable => come_upgradable(bench, times),
-            Mode::Upgrade => upgrade_value(bench, times),
-            Mode::Downgrade => downgrade_value(bench, times),
-            Mode::Once => call_once(bench, times),
-            Mode::Semaphore => hold_permit(&bench.semaphore.0, times),
-            Mode::Semaphore2 => hold_permit(&bench.semaphore2.0, times),
-            Mode::Notify => notify_nobody(bench, times),
-            Mode::NotifyAll | Mode::PingPong | Mode::ManyTurns | Mode::Queue => {}
-            Mode::StdOnce => call_std_once(bench, times),
+        if is_second {
+            operate::<true>(mode, bench, number, times);
+        } else {
+            operate::<false>(mode, bench, number, times);
         }
         done += times;
     }
 }
 
-fn plan_of(args: &[String]) -> Option<(Mode, usize, u64)> {
-    let [mode, threads, operations] = args else {
-        return None;
+fn plan_of(args: &[String]) -> Option<Plan> {
+    let (mode, threads, operations, is_second) = match args {
+        [mode, threads, operations] => (mode, threads, operations, false),
+        [mode, threads, operations, word] if word == "second" => (mode, threads, operations, true),
+        _ => return None,
     };
     let (mode, threads) = (Mode::named(mode)?, threads.parse().ok()?);
     let operations = operations.parse().ok()?;
-    // Who sends alone through a queue waits for ever.
+    // A thread that sends alone through a queue waits for ever.
     let least = if matches!(mode, Mode::Queue) { 2 } else { 1 };
     ((least..=MOST_THREADS).contains(&threads) && (1..=MOST_OPERATIONS).contains(&operations))
-        .then_some((mode, threads, operations))
+        .then_some(Plan { mode, threads, operations, is_second })
 }
 
 fn main() -> ExitCode {
@@ -548,10 +592,11 @@ fn main() -> ExitCode {
         println!("{USAGE}");
         return ExitCode::SUCCESS;
     }
-    let Some((mode, threads, operations)) = plan_of(&args) else {
+    let Some(plan) = plan_of(&args) else {
         eprintln!("lotbench: no such plan; {USAGE}, 1 to 64 threads, 1 to 10^12 operations");
         return ExitCode::from(2);
     };
+    let Plan { mode, threads, operations, .. } = plan;
     let pairs = threads.div_ceil(2) as u64;
     let bench = Box::new(Bench {
         raw: Apart(RawMutex::INIT),
@@ -576,7 +621,7 @@ fn main() -> ExitCode {
     let started = Instant::now();
     let counts: Vec<u64> = thread::scope(|scope| {
         let shared = &bench;
-        let spawned: Vec<_> = (0..threads).map(|number| scope.spawn(move || work(mode, shared, threads, number))).collect();
+        let spawned: Vec<_> = (0..threads).map(|number| scope.spawn(move || work(plan, shared, number))).collect();
         spawned.into_iter().map(|thread| thread.join().unwrap()).collect()
     });
     let nanos = started.elapsed().as_nanos();

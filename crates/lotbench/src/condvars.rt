@@ -144,7 +144,12 @@ pub(crate) fn done_at<R: Wait>(rt: &R, desk: &Desk, token: &mut Token) -> u64
 
 /// Notifies the first of nobody, so many times.
 #[inline(never)]
-pub(crate) fn notify_nobody<R: Wait>(rt: &R, condvar: &Condvar, token: &mut Token, times: u64)
+pub(crate) fn notify_nobody<const SECOND: bool, R: Wait>(
+    rt: &R,
+    condvar: &Condvar,
+    token: &mut Token,
+    times: u64,
+)
     requires { IsTokenOf (lot_of_condvar condvar.now) token.old }
     ensures { IsTokenOf (lot_of_condvar condvar.now) token.new }
 {

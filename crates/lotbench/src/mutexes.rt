@@ -89,7 +89,12 @@ fn guard_by_tries<'a, M: RawLock, R: Wait>(
 }
 
 #[inline(never)]
-pub(crate) fn lock_raw<M: RawLock, R: Wait>(rt: &R, mutex: &M, token: &mut M::Token, times: u64)
+pub(crate) fn lock_raw<const SECOND: bool, M: RawLock, R: Wait>(
+    rt: &R,
+    mutex: &M,
+    token: &mut M::Token,
+    times: u64,
+)
     requires { M.is_token_of (M.lot_of mutex.now) token.old }
     ensures { M.is_token_of (M.lot_of mutex.now) token.new }
 {
@@ -100,7 +105,12 @@ pub(crate) fn lock_raw<M: RawLock, R: Wait>(rt: &R, mutex: &M, token: &mut M::To
 }
 
 #[inline(never)]
-pub(crate) fn try_raw<M: RawLock, R: Wait>(rt: &R, mutex: &M, token: &mut M::Token, times: u64)
+pub(crate) fn try_raw<const SECOND: bool, M: RawLock, R: Wait>(
+    rt: &R,
+    mutex: &M,
+    token: &mut M::Token,
+    times: u64,
+)
     requires { M.is_token_of (M.lot_of mutex.now) token.old }
     ensures { M.is_token_of (M.lot_of mutex.now) token.new }
 {
@@ -111,7 +121,7 @@ pub(crate) fn try_raw<M: RawLock, R: Wait>(rt: &R, mutex: &M, token: &mut M::Tok
 }
 
 #[inline(never)]
-pub(crate) fn lock_value<M: RawLock, R: Wait>(
+pub(crate) fn lock_value<const SECOND: bool, M: RawLock, R: Wait>(
     rt: &R,
     mutex: &lock_api::Mutex<M, u64>,
     token: &mut M::Token,
@@ -128,7 +138,7 @@ pub(crate) fn lock_value<M: RawLock, R: Wait>(
 }
 
 #[inline(never)]
-pub(crate) fn try_value<M: RawLock, R: Wait>(
+pub(crate) fn try_value<const SECOND: bool, M: RawLock, R: Wait>(
     rt: &R,
     mutex: &lock_api::Mutex<M, u64>,
     token: &mut M::Token,
@@ -165,7 +175,12 @@ fn guard_of<'a, R: Wait>(
 }
 
 #[inline(never)]
-pub(crate) fn lock_once<R: Wait>(rt: &R, mutex: &ReentrantMutex<u64>, token: &mut Token, times: u64)
+pub(crate) fn lock_once<const SECOND: bool, R: Wait>(
+    rt: &R,
+    mutex: &ReentrantMutex<u64>,
+    token: &mut Token,
+    times: u64,
+)
     requires { IsTokenOf (lot_of mutex.now.0) token.old }
     ensures { IsTokenOf (lot_of mutex.now.0) token.new }
 {
@@ -176,7 +191,7 @@ pub(crate) fn lock_once<R: Wait>(rt: &R, mutex: &ReentrantMutex<u64>, token: &mu
 }
 
 #[inline(never)]
-pub(crate) fn lock_again<R: Wait>(
+pub(crate) fn lock_again<const SECOND: bool, R: Wait>(
     rt: &R,
     mutex: &ReentrantMutex<u64>,
     token: &mut Token,

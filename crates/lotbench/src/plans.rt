@@ -166,20 +166,33 @@ impl Mode {
     }
 }
 
+/// Where the loop of a mode lies in the code, which has each loop twice.
+#[derive(Clone, Copy, Debug, PartialEq, Eq)]
+pub enum CodePlace {
+    First,
+    Second,
+}
+
 /// A number of operations of a mode, which a number of threads do together.
 #[derive(Clone, Copy)]
 pub struct Plan {
     pub mode: Mode,
     pub threads: usize,
     pub operations: u64,
+    pub place: CodePlace,
     ghost some_threads: { (1 ≤ threads) × (threads ≤ MOST_THREADS) },
     ghost some_operations: { (1 ≤ operations) × (operations ≤ MOST_OPERATIONS) },
 }
 
-/// The plan of three arguments: a mode, how many threads, how many operations.
+/// The plan of three arguments: a mode, how many threads, how many operations. A fourth one, `second`, asks for
+/// the loop at the second place in the code.
 pub fn plan_of(args: &[&str]) -> Option<Plan> {
-    let [mode, threads, operations] = args else {
-        return None;
+    let (mode, threads, operations, place) = match args {
+        [mode, threads, operations] => (mode, threads, operations, CodePlace::First),
+        [mode, threads, operations, word] if *word == "second" => {
+            (mode, threads, operations, CodePlace::Second)
+        }
+        _ => return None,
     };
     let mode = Mode::named(mode)?;
     let threads = threads.parse::<usize>().ok()?;
@@ -195,5 +208,6 @@ pub fn plan_of(args: &[&str]) -> Option<Plan> {
         mode,
         threads,
         operations,
+        place,
     })
 }

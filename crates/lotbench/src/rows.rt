@@ -69,7 +69,7 @@ pub(crate) fn rows_of(
 
 /// Adds 1 under one mutex of a row after the other, with a stride of the thread's own.
 #[inline(never)]
-pub(crate) fn add_along<M: RawLock, R: Wait>(
+pub(crate) fn add_along<const SECOND: bool, M: RawLock, R: Wait>(
     rt: &R,
     row: &[CachePadded<lock_api::Mutex<M, u64>>],
     token: &mut M::Token,

@@ -1,7 +1,8 @@
 //! Plans, carried out by threads.
 //!
 //! Each loop of operations is a function of its own, which is inlined nowhere: so what stands
-//! beside it has no part in its time.
+//! beside it has no part in its time. Each is in the code twice, by a parameter that says nothing else: a
+//! loop of ten nanoseconds takes some of them more where a jump lies on a border of 32 bytes.
 ghost use Rattle.std.specs.Prelude.{◌≡◌, ◌≤◌, IfOk, IfSome, All};
 ghost use Rattle.std.proofs.Props.{props};
 ghost use Rattle.std.specs.Arc.{arc_value};
@@ -18,7 +19,7 @@ use crate::mutexes::{
     MUTEXES, Mutexes, lock_again, lock_once, lock_raw, lock_value, mutexes_of, try_raw, try_value,
     value_in as added_to,
 };
-use crate::plans::{Mode, Plan};
+use crate::plans::{CodePlace, Mode, Plan};
 use crate::rows::{ROWS, Rows, add_along, rows_of};
 use crate::rwlocks::{
     RWLOCKS, RwLocks, come_upgradable, downgrade_value, mix_value, read_raw, read_value,
@@ -139,7 +140,7 @@ fn bench_for(alloc: Global, plan: Plan) -> Result<(Bench, Ticket, Vec<Ticket>), 
 
 // Calls it so many times.
 #[inline(never)]
-fn call_once<R: Wait>(rt: &R, once: &Once, token: &mut Token, times: u64)
+fn call_once<const SECOND: bool, R: Wait>(rt: &R, once: &Once, token: &mut Token, times: u64)
     requires { IsTokenOf (lot_of_once once.now) token.old }
     ensures { IsTokenOf (lot_of_once once.now) token.new }
 {
@@ -149,8 +150,14 @@ fn call_once<R: Wait>(rt: &R, once: &Once, token: &mut Token, times: u64)
     }
 }
 
-// Does so many operations.
-fn operate<R: Wait>(rt: &R, mode: Mode, bench: &Bench, token: &mut Token, times: u64)
+// Does so many operations, by the loops at the first or at the second place in the code.
+fn operate<const SECOND: bool, R: Wait>(
+    rt: &R,
+    mode: Mode,
+    bench: &Bench,
+    token: &mut Token,
+    times: u64,
+)
     requires { IsTokenOf (lot_of bench.now.mutexes.value.raw) token.old }
     ensures { IsTokenOf (lot_of bench.now.mutexes.value.raw) token.new }
 {
@@ -158,28 +165,42 @@ fn operate<R: Wait>(rt: &R, mode: Mode, bench: &Bench, token: &mut Token, times:
     let rwlocks = &bench.rwlocks;
     let (lot, number) = (mutexes.raw.lot(), token.number());
     match mode {
-        Mode::RawMutex => lock_raw(rt, &mutexes.raw, token, times),
-        Mode::RawMutexTry => try_raw(rt, &mutexes.raw, token, times),
-        Mode::Mutex => lock_value(rt, &mutexes.value, token, times),
-        Mode::MutexTry => try_value(rt, &mutexes.value, token, times),
-        Mode::Fair => lock_value(rt, &mutexes.fair, token, times),
-        Mode::Many => add_along(rt, bench.rows.plain.as_slice(), token, lot, number, times),
-        Mode::ManyFair => add_along(rt, bench.rows.fair.as_slice(), token, lot, number, times),
-        Mode::Remutex => lock_once(rt, &mutexes.again, token, times),
-        Mode::Remutex2 => lock_again(rt, &mutexes.again, token, times),
-        Mode::RawRead => read_raw(rt, &rwlocks.raw, token, times),
-        Mode::RawWrite => write_raw(rt, &rwlocks.raw, token, times),
-        Mode::Read => read_value(rt, &rwlocks.value, token, times),
-        Mode::Write => write_value(rt, &rwlocks.value, token, times),
-        Mode::RwMix => mix_value(rt, &rwlocks.value, token, times),
-        Mode::ReadRecursive => read_value(rt, &rwlocks.recursive, token, times),
-        Mode::Upgradable => come_upgradable(rt, &rwlocks.value, token, times),
-        Mode::Upgrade => upgrade_value(rt, &rwlocks.value, token, times),
-        Mode::Downgrade => downgrade_value(rt, &rwlocks.value, token, times),
-        Mode::Once => call_once(rt, &bench.done, token, times),
-        Mode::Semaphore => hold_permit(rt, &bench.semaphores.one, token, times),
-        Mode::Semaphore2 => hold_permit(rt, &bench.semaphores.two, token, times),
-        Mode::Notify => notify_nobody(rt, &bench.desk.filled, token, times),
+        Mode::RawMutex => lock_raw::<SECOND, _, _>(rt, &mutexes.raw, token, times),
+        Mode::RawMutexTry => try_raw::<SECOND, _, _>(rt, &mutexes.raw, token, times),
+        Mode::Mutex => lock_value::<SECOND, _, _>(rt, &mutexes.value, token, times),
+        Mode::MutexTry => try_value::<SECOND, _, _>(rt, &mutexes.value, token, times),
+        Mode::Fair => lock_value::<SECOND, _, _>(rt, &mutexes.fair, token, times),
+        Mode::Many => add_along::<SECOND, _, _>(
+            rt,
+            bench.rows.plain.as_slice(),
+            token,
+            lot,
+            number,
+            times,
+        ),
+        Mode::ManyFair => add_along::<SECOND, _, _>(
+            rt,
+            bench.rows.fair.as_slice(),
+            token,
+            lot,
+            number,
+            times,
+        ),
+        Mode::Remutex => lock_once::<SECOND, _>(rt, &mutexes.again, token, times),
+        Mode::Remutex2 => lock_again::<SECOND, _>(rt, &mutexes.again, token, times),
+        Mode::RawRead => read_raw::<SECOND, _, _>(rt, &rwlocks.raw, token, times),
+        Mode::RawWrite => write_raw::<SECOND, _, _>(rt, &rwlocks.raw, token, times),
+        Mode::Read => read_value::<SECOND, _, _>(rt, &rwlocks.value, token, times),
+        Mode::Write => write_value::<SECOND, _, _>(rt, &rwlocks.value, token, times),
+        Mode::RwMix => mix_value::<SECOND, _, _>(rt, &rwlocks.value, token, times),
+        Mode::ReadRecursive => read_value::<SECOND, _, _>(rt, &rwlocks.recursive, token, times),
+        Mode::Upgradable => come_upgradable::<SECOND, _, _>(rt, &rwlocks.value, token, times),
+        Mode::Upgrade => upgrade_value::<SECOND, _, _>(rt, &rwlocks.value, token, times),
+        Mode::Downgrade => downgrade_value::<SECOND, _, _>(rt, &rwlocks.value, token, times),
+        Mode::Once => call_once::<SECOND, _>(rt, &bench.done, token, times),
+        Mode::Semaphore => hold_permit::<SECOND, _>(rt, &bench.semaphores.one, token, times),
+        Mode::Semaphore2 => hold_permit::<SECOND, _>(rt, &bench.semaphores.two, token, times),
+        Mode::Notify => notify_nobody::<SECOND, _>(rt, &bench.desk.filled, token, times),
         // These share no operations in batches.
         Mode::NotifyAll | Mode::PingPong | Mode::ManyTurns | Mode::Queue => (),
     }
@@ -224,7 +245,10 @@ fn work<R: Wait>(rt: &R, plan: Plan, bench: &Bench, ticket: Ticket, shares: &Sha
         if times == 0 {
             break;
         }
-        operate(rt, mode, bench, &mut token, times);
+        match plan.place {
+            CodePlace::First => operate::<false, R>(rt, mode, bench, &mut token, times),
+            CodePlace::Second => operate::<true, R>(rt, mode, bench, &mut token, times),
+        }
         done = done.saturating_add(times);
     }
     drop(token.leave());

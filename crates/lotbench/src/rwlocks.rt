@@ -50,7 +50,12 @@ pub(crate) fn value_in<R: Wait>(rt: &R, lock: &RwLock<u64>, token: &mut Token) -
 
 /// Comes in to read and leaves, so many times.
 #[inline(never)]
-pub(crate) fn read_raw<L: RawLock, R: Wait>(rt: &R, lock: &L, token: &mut L::Token, times: u64)
+pub(crate) fn read_raw<const SECOND: bool, L: RawLock, R: Wait>(
+    rt: &R,
+    lock: &L,
+    token: &mut L::Token,
+    times: u64,
+)
     requires { L.is_token_of (L.lot_of lock.now) token.old }
     ensures { L.is_token_of (L.lot_of lock.now) token.new }
 {
@@ -62,7 +67,12 @@ pub(crate) fn read_raw<L: RawLock, R: Wait>(rt: &R, lock: &L, token: &mut L::Tok
 }
 
 #[inline(never)]
-pub(crate) fn write_raw<L: RawLock, R: Wait>(rt: &R, lock: &L, token: &mut L::Token, times: u64)
+pub(crate) fn write_raw<const SECOND: bool, L: RawLock, R: Wait>(
+    rt: &R,
+    lock: &L,
+    token: &mut L::Token,
+    times: u64,
+)
     requires { L.is_token_of (L.lot_of lock.now) token.old }
     ensures { L.is_token_of (L.lot_of lock.now) token.new }
 {
@@ -74,7 +84,7 @@ pub(crate) fn write_raw<L: RawLock, R: Wait>(rt: &R, lock: &L, token: &mut L::To
 
 /// Reads the value.
 #[inline(never)]
-pub(crate) fn read_value<L: RawLock, R: Wait>(
+pub(crate) fn read_value<const SECOND: bool, L: RawLock, R: Wait>(
     rt: &R,
     lock: &lock_api_rw::RwLock<L, u64>,
     token: &mut L::Token,
@@ -93,7 +103,7 @@ pub(crate) fn read_value<L: RawLock, R: Wait>(
 
 /// Adds 1 to the value.
 #[inline(never)]
-pub(crate) fn write_value<L: RawLock, R: Wait>(
+pub(crate) fn write_value<const SECOND: bool, L: RawLock, R: Wait>(
     rt: &R,
     lock: &lock_api_rw::RwLock<L, u64>,
     token: &mut L::Token,
@@ -111,7 +121,7 @@ pub(crate) fn write_value<L: RawLock, R: Wait>(
 
 /// Reads the value, and adds 1 to it now and then.
 #[inline(never)]
-pub(crate) fn mix_value<L: RawLock, R: Wait>(
+pub(crate) fn mix_value<const SECOND: bool, L: RawLock, R: Wait>(
     rt: &R,
     lock: &lock_api_rw::RwLock<L, u64>,
     token: &mut L::Token,
@@ -134,7 +144,7 @@ pub(crate) fn mix_value<L: RawLock, R: Wait>(
 
 /// Comes in to read and perhaps write, and leaves.
 #[inline(never)]
-pub(crate) fn come_upgradable<L: RawRwLockUpgrade, R: Wait>(
+pub(crate) fn come_upgradable<const SECOND: bool, L: RawRwLockUpgrade, R: Wait>(
     rt: &R,
     lock: &lock_api_rw::RwLock<L, u64>,
     token: &mut L::Token,
@@ -153,7 +163,7 @@ pub(crate) fn come_upgradable<L: RawRwLockUpgrade, R: Wait>(
 
 /// Comes in to read, upgrades, and adds 1 to the value.
 #[inline(never)]
-pub(crate) fn upgrade_value<L: RawRwLockUpgrade, R: Wait>(
+pub(crate) fn upgrade_value<const SECOND: bool, L: RawRwLockUpgrade, R: Wait>(
     rt: &R,
     lock: &lock_api_rw::RwLock<L, u64>,
     token: &mut L::Token,
@@ -173,7 +183,7 @@ pub(crate) fn upgrade_value<L: RawRwLockUpgrade, R: Wait>(
 
 /// Adds 1 to the value, and reads on.
 #[inline(never)]
-pub(crate) fn downgrade_value<L: RawRwLockDowngrade, R: Wait>(
+pub(crate) fn downgrade_value<const SECOND: bool, L: RawRwLockDowngrade, R: Wait>(
     rt: &R,
     lock: &lock_api_rw::RwLock<L, u64>,
     token: &mut L::Token,

@@ -32,7 +32,12 @@ pub(crate) fn semaphores_of(lot: &Arc<ParkingLot>, token: &mut Token) -> Result<
 }
 
 #[inline(never)]
-pub(crate) fn hold_permit<R: Wait>(rt: &R, semaphore: &Semaphore, token: &mut Token, times: u64)
+pub(crate) fn hold_permit<const SECOND: bool, R: Wait>(
+    rt: &R,
+    semaphore: &Semaphore,
+    token: &mut Token,
+    times: u64,
+)
     requires { IsTokenOf (lot_of_semaphore semaphore.now) token.old }
     ensures { IsTokenOf (lot_of_semaphore semaphore.now) token.new }
 {

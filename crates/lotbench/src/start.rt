@@ -1,5 +1,5 @@
 //! The program's work for its arguments.
-use crate::plans::{MODES, Plan, plan_of};
+use crate::plans::{CodePlace, MODES, Plan, plan_of};
 use crate::runs::{Figures, carry_out};
 use crate::timing::{Loop, time_loop};
 use parking_lot::{Fault, ParkingLot};
@@ -22,7 +22,7 @@ pub(crate) const NO_MEMORY: u8 = 3;
 pub(crate) const BROKEN: u8 = 4;
 
 const USAGE: &str =
-    "usage: lotbench raw_mutex|raw_mutex_try|mutex|mutex_try|fair|many|many_fair|remutex|remutex2|raw_read|raw_write|read|write|rw_mix|read_recursive|upgradable|upgrade|downgrade|once|semaphore|semaphore2|notify|notify_all|pingpong|many_turns|queue THREADS N, lotbench each, lotbench lot SEATS, or lotbench least look|take|hold|hold_told N";
+    "usage: lotbench raw_mutex|raw_mutex_try|mutex|mutex_try|fair|many|many_fair|remutex|remutex2|raw_read|raw_write|read|write|rw_mix|read_recursive|upgradable|upgrade|downgrade|once|semaphore|semaphore2|notify|notify_all|pingpong|many_turns|queue THREADS N [second], lotbench each, lotbench lot SEATS, or lotbench least look|take|hold|hold_told N";
 
 /// Does what the arguments ask for, and gives the status of the process.
 pub(crate) fn start<R: Threads + Wait + Sync + Clock + Print + Eprint>(
@@ -76,6 +76,7 @@ fn try_each<R: Threads + Wait + Sync + Clock + Print + Eprint>(
             mode: *mode,
             threads: 2,
             operations: 1000,
+            place: CodePlace::First,
         };
         match carry_out(rt, alloc, plan) {
             Ok(told) => {
@@ -141,6 +142,7 @@ fn tell(rt: &impl Print, plan: Plan, told: Figures) -> io::Result<()> {
         mode: _,
         threads,
         operations,
+        place: _,
     } = plan;
     let Figures {
         nanos,
