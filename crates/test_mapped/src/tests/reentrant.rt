@@ -17,6 +17,15 @@ use std::sync::atomic::{AtomicBool, AtomicU64};
 use std::sync::{Arc, Wait};
 use std::thread::{Threads, map_vec, yield_now};
 
+// Takes one of the tickets of a lot.
+fn one_of(lot: &ParkingLot, tickets: &mut Vec<Ticket>) -> Option<Ticket>
+    requires { All (IsTicketOf lot.now) tickets.old.items }
+    ensures left { All (IsTicketOf lot.now) tickets.new.items }
+    ensures one { IfSome result (IsTicketOf lot.now) }
+{
+    tickets.pop()
+}
+
 // A lot of two words for two threads, with the token of the first and the ticket of the other.
 fn pair<A: Abort>(rt: &A, alloc: Global) -> (Arc<ParkingLot>, Token, Vec<Ticket>)
     ensures { IsTokenOf (arc_value result.0) result.1
@@ -25,7 +34,7 @@ fn pair<A: Abort>(rt: &A, alloc: Global) -> (Arc<ParkingLot>, Token, Vec<Ticket>
     let Ok((lot, mut tickets)) = ParkingLot::new(alloc, 2, 2) else {
         panic!(rt; "no lot");
     };
-    match tickets.pop() {
+    match one_of(&lot, &mut tickets) {
         Some(first) => (lot, first.enter(), tickets),
         None => panic!(rt; "no seat"),
     }
@@ -44,6 +53,16 @@ fn reentrant<T: Drop, A: Abort>(
         Ok(mutex) => (mutex, token, tickets),
         Err(_) => panic!(rt; "no reentrant mutex"),
     }
+}
+
+// Enters by one of the tickets of a mutex's lot.
+fn other_of<T>(mutex: &ReentrantMutex<T>, tickets: Vec<Ticket>) -> Option<Token>
+    requires { All (IsTicketOf (lot_of mutex.now.0)) tickets.items }
+    ensures { IfSome result (IsTokenOf (lot_of mutex.now.0)) }
+{
+    let mut tickets = tickets;
+    let other = tickets.pop()?;
+    Some(other.enter())
 }
 
 // The guard of one lock more.
@@ -144,9 +163,8 @@ fn tried_by_two<R: Wait + Abort>(
 
 #[test]
 fn tries_of_the_owner_succeed_and_of_others_fail(rt: HostRuntime) {
-    let (mutex, mut one, mut tickets) = reentrant(&rt, rt.alloc(), 7);
-    if let Some(ticket) = tickets.pop() {
-        let mut other = ticket.enter();
+    let (mutex, mut one, tickets) = reentrant(&rt, rt.alloc(), 7);
+    if let Some(mut other) = other_of(&mutex, tickets) {
         let found = tried_by_two(&rt, &mutex, &mut one, &mut other);
         check_eq(&rt, found, [true, true, false, true, true]);
     }
@@ -185,9 +203,8 @@ fn locked_by_a_guard<R: Wait + Abort>(
 
 #[test]
 fn a_guard_gives_another(rt: HostRuntime) {
-    let (mutex, mut one, mut tickets) = reentrant(&rt, rt.alloc(), 7);
-    if let Some(ticket) = tickets.pop() {
-        let mut other = ticket.enter();
+    let (mutex, mut one, tickets) = reentrant(&rt, rt.alloc(), 7);
+    if let Some(mut other) = other_of(&mutex, tickets) {
         let found = locked_by_a_guard(&rt, &mutex, &mut one, &mut other);
         check_eq(&rt, found, [false, false, true]);
     }
@@ -248,6 +265,22 @@ fn counts_name_their_thread_up_to_the_limit(rt: HostRuntime) {
     check_eq(&rt, advance_count(8589934591, 0), Err(Fault::LockCountFull));
 }
 
+// What the mutex shows to a thread.
+fn text_for<R: Wait + Abort>(
+    rt: &R,
+    alloc: Global,
+    mutex: &ReentrantMutex<[u8; 2]>,
+    token: &mut Token,
+) -> String
+    requires { IsTokenOf (lot_of mutex.now.0) token.old }
+    ensures token { IsSameThread (lot_of mutex.now.0) token.old token.new }
+{
+    let shown = mutex.show(token);
+    let text = text_of(rt, alloc, &shown);
+    shown.close(rt, token);
+    text
+}
+
 // The texts of a mutex that this thread has, and that another has.
 fn shown_to_two<R: Wait + Abort>(
     rt: &R,
@@ -259,21 +292,16 @@ fn shown_to_two<R: Wait + Abort>(
     requires { IsTokenOf (lot_of mutex.now.0) one.old × IsTokenOf (lot_of mutex.now.0) other.old }
 {
     let guard = locked(rt, mutex, one);
-    let shown = mutex.show(one);
-    let own = text_of(rt, alloc, &shown);
-    shown.close(rt, one);
-    let shown = mutex.show(other);
-    let others = text_of(rt, alloc, &shown);
-    shown.close(rt, other);
+    let own = text_for(rt, alloc, mutex, one);
+    let others = text_for(rt, alloc, mutex, other);
     end(rt, one, guard);
     (own, others)
 }
 
 #[test]
 fn a_reentrant_mutex_shows_its_value_to_its_owner(rt: HostRuntime) {
-    let (mutex, mut one, mut tickets) = reentrant(&rt, rt.alloc(), [0, 10]);
-    if let Some(ticket) = tickets.pop() {
-        let mut other = ticket.enter();
+    let (mutex, mut one, tickets) = reentrant(&rt, rt.alloc(), [0, 10]);
+    if let Some(mut other) = other_of(&mutex, tickets) {
         let (own, others) = shown_to_two(&rt, rt.alloc(), &mutex, &mut one, &mut other);
         check_eq(&rt, own.as_str(), "ReentrantMutex { data: [0, 10] }");
         check_eq(&rt, others.as_str(), "ReentrantMutex { data: <locked> }");
@@ -378,12 +406,27 @@ fn take_part<R: Wait + Abort>(
     read_after(rt, mutex, token, is_held)
 }
 
+// The tickets of all threads of a mutex's lot, after one of them has left it.
+fn tickets_of<T, A: Abort>(
+    rt: &A,
+    mutex: &ReentrantMutex<T>,
+    token: Token,
+    tickets: Vec<Ticket>,
+) -> Vec<Ticket>
+    requires { IsTokenOf (lot_of mutex.now.0) token × All (IsTicketOf (lot_of mutex.now.0)) tickets.items }
+    ensures { All (IsTicketOf (lot_of mutex.now.0)) result.items }
+{
+    let mut all = tickets;
+    if all.push(token.leave()).is_err() {
+        panic!(rt; "no memory");
+    }
+    all
+}
+
 // The values that both threads saw together, and the last one.
 fn play<R: Threads + Wait + Abort + Sync>(rt: &R, alloc: Global, alternate: bool) -> (u64, u64) {
-    let (mutex, token, mut tickets) = reentrant(rt, alloc, AtomicU64::new(0));
-    if tickets.push(token.leave()).is_err() {
-        return (0, 0);
-    }
+    let (mutex, token, tickets) = reentrant(rt, alloc, AtomicU64::new(0));
+    let tickets = tickets_of(rt, &mutex, token, tickets);
     let (came, is_held) = (AtomicU64::new(0), AtomicBool::new(false));
     let (shared, came, is_held) = (&mutex, &came, &is_held);
     let seen = map_vec(
