@@ -1,5 +1,5 @@
-//! Worked schedules, lines in and lines out, each with a name that says what happens in it; and tests
-//! that replay them, and others, whole. Further tests disturb them.
+//! Worked schedules, each a transcript with a name that says what happens in it; and tests that replay
+//! them, and others, whole. Further tests disturb them.
 #![tactic(auto)]
 
 pub mod condvars;
@@ -23,11 +23,11 @@ pub use fair::FAIR_RELEASES;
 pub use lates::LATE_WAITERS;
 pub use meanwhile::MEANWHILE;
 pub use moves::MOVES;
-pub use mutexes::{MUTEXES, TWO_TRIES};
+pub use mutexes::MUTEXES;
 pub use onces::ONCES;
 pub use refused::REFUSALS;
 pub use releases::RELEASES;
 pub use rwlocks::RWLOCKS;
 pub use scenes::{SCENES, Scene};
-pub use schedule::Schedule;
+pub use schedule::{Replay, Schedule};
 pub use semaphores::SEMAPHORES;

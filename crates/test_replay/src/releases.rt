@@ -8,400 +8,386 @@ pub const RELEASES: [Schedule; 7] = [
     // release.
     Schedule {
         name: "a moved waiter takes itself by its release",
-        lines: b"threads 2
-lock m mutex
-lock c condvar
-0 do lock m
-0 begin wait_timed c m
-0 go
-0 go
-0 go
-0 go
-show
-1 do notify_one c
-show
-0 go
-show
-0 solo
-show
-",
-        told: b"0 end ok
+        transcript: "> threads 2
+> lock m mutex
+> lock c condvar
+> 0 do lock m
+0 end ok
+> 0 begin wait_timed c m
 0 step
+> 0 go
 0 step
+> 0 go
 0 step
+> 0 go
 0 step
+> 0 go
 0 step
+> show
 m 1 own=0x
 c 1 queue=0w
+> 1 do notify_one c
 1 end yes
+> show
 m 3 own=0x queue=0x
 c 0
+> 0 go
 0 step
+> show
 m 2 queue=0x owe=0
 c 0
+> 0 solo
 0 end notified
+> show
 m 1 own=0x
 c 0
 ",
-        status: 0,
     },
     Schedule {
         name: "a moved waiter without a limit takes itself",
-        lines: b"threads 2
-lock m mutex
-lock c condvar
-0 do lock m
-0 begin wait c m
-0 go
-show
-0 go
-show
-0 go
-show
-0 go
-show
-1 do notify_one c
-show
-0 go
-show
-0 go
-0 go
-show
-0 go
-show
-0 go
-show
-0 go
-show
-",
-        told: b"0 end ok
+        transcript: "> threads 2
+> lock m mutex
+> lock c condvar
+> 0 do lock m
+0 end ok
+> 0 begin wait c m
 0 step
+> 0 go
 0 step
+> show
 m 1 own=0x
 c 0 owe=0
+> 0 go
 0 step
+> show
 m 1 own=0x
 c 1 owe=0
+> 0 go
 0 step
+> show
 m 1 own=0x
 c 1 queue=0w owe=0
+> 0 go
 0 step
+> show
 m 1 own=0x
 c 1 queue=0w
+> 1 do notify_one c
 1 end yes
+> show
 m 3 own=0x queue=0x
 c 0
+> 0 go
 0 step
+> show
 m 2 queue=0x owe=0
 c 0
+> 0 go
 0 step
+> 0 go
 0 step
+> show
 m 2 owe=0
 c 0
+> 0 go
 0 step
+> show
 m 0 owe=0
 c 0
+> 0 go
 0 step
+> show
 m 0 retry=0
 c 0
+> 0 go
 0 end ok
+> show
 m 1 own=0x
 c 0
 ",
-        status: 0,
     },
     // A waiter that has woken itself finds another owner, and sleeps until that one releases the mutex.
     Schedule {
         name: "a waiter that took itself finds another owner",
-        lines: b"threads 2
-lock m mutex
-lock c condvar
-0 do lock m
-0 begin wait c m
-0 go
-0 go
-0 go
-0 go
-1 do notify_all c
-0 go
-0 go
-0 go
-0 go
-0 go
-1 do lock m
-show
-0 go
-0 go
-0 spin
-0 go
-show
-0 solo
-show
-1 do unlock m
-show
-0 solo
-",
-        told: b"0 end ok
+        transcript: "> threads 2
+> lock m mutex
+> lock c condvar
+> 0 do lock m
+0 end ok
+> 0 begin wait c m
 0 step
+> 0 go
 0 step
+> 0 go
 0 step
+> 0 go
 0 step
+> 0 go
 0 step
+> 1 do notify_all c
 1 end 1
+> 0 go
 0 step
+> 0 go
 0 step
+> 0 go
 0 step
+> 0 go
 0 step
+> 0 go
 0 step
+> 1 do lock m
 1 end ok
+> show
 m 1 own=1x retry=0
 c 0
+> 0 go
 0 step
+> 0 go
 0 step
+> 0 spin
 0 step
+> 0 go
 0 step
+> show
 m 3 own=1x retry=0
 c 0
+> 0 solo
 0 sleep
+> show
 m 3 own=1x queue=0x
 c 0
+> 1 do unlock m
 1 end ok
+> show
 m 0 retry=0
 c 0
+> 0 solo
 0 end ok
 ",
-        status: 0,
     },
     // Another owner wakes a waiter that still releases: the waiter finds nobody in the queue, and
     // goes on by its note.
     Schedule {
         name: "an owner wakes a waiter that still releases",
-        lines: b"threads 2
-lock m mutex
-lock c condvar
-0 do lock m
-0 begin wait c m
-0 go
-0 go
-0 go
-0 go
-1 do notify_one c
-0 go
-1 do lock m
-show
-1 do unlock m
-show
-0 go
-0 go
-0 go
-show
-0 go
-0 go
-show
-",
-        told: b"0 end ok
+        transcript: "> threads 2
+> lock m mutex
+> lock c condvar
+> 0 do lock m
+0 end ok
+> 0 begin wait c m
 0 step
+> 0 go
 0 step
+> 0 go
 0 step
+> 0 go
 0 step
+> 0 go
 0 step
+> 1 do notify_one c
 1 end yes
+> 0 go
 0 step
+> 1 do lock m
 1 end ok
+> show
 m 3 own=1x queue=0x owe=0
 c 0
+> 1 do unlock m
 1 end ok
+> show
 m 0 owe=0 retry=0
 c 0
+> 0 go
 0 step
+> 0 go
 0 step
+> 0 go
 0 step
+> show
 m 0 owe=0 retry=0
 c 0
+> 0 go
 0 step
+> 0 go
 0 end ok
+> show
 m 1 own=0x
 c 0
 ",
-        status: 0,
     },
     Schedule {
         name: "an owner hands over to a waiter that still releases",
-        lines: b"threads 2
-lock m mutex
-lock c condvar
-0 do lock m
-0 begin wait_timed c m
-0 go
-0 go
-0 go
-0 go
-1 do notify_one c
-0 go
-0 late
-1 do lock m
-1 do unlock_fair m
-show
-0 go
-0 go
-0 go
-show
-0 go
-show
-0 go
-0 do unlock m
-show
-",
-        told: b"0 end ok
+        transcript: "> threads 2
+> lock m mutex
+> lock c condvar
+> 0 do lock m
+0 end ok
+> 0 begin wait_timed c m
 0 step
+> 0 go
 0 step
+> 0 go
 0 step
+> 0 go
 0 step
+> 0 go
 0 step
+> 1 do notify_one c
 1 end yes
+> 0 go
 0 step
+> 0 late
 0 not now
+> 1 do lock m
 1 end ok
+> 1 do unlock_fair m
 1 end ok
+> show
 m 1 own=0x owe=0
 c 0
+> 0 go
 0 step
+> 0 go
 0 step
+> 0 go
 0 step
+> show
 m 1 own=0x owe=0
 c 0
+> 0 go
 0 step
+> show
 m 1 own=0x
 c 0
+> 0 go
 0 end notified
+> 0 do unlock m
 0 end ok
+> show
 m 0
 c 0
 ",
-        status: 0,
     },
     // A waiter is taken and woken while it releases a mutex for which another waits, which it wakes
     // before it goes on.
     Schedule {
         name: "a waiter is taken while it wakes another",
-        lines: b"threads 3
-lock m mutex
-lock c condvar
-0 do lock m
-2 do lock m
-0 begin wait c m
-0 go
-0 go
-0 go
-0 go
-0 go
-1 begin notify_one c
-1 go
-1 go
-1 go
-1 go
-1 go
-show
-0 go
-1 go
-1 go
-show
-0 go
-0 go
-0 go
-show
-0 go
-show
-0 go
-2 solo
-show
-",
-        told: b"0 end ok
+        transcript: "> threads 3
+> lock m mutex
+> lock c condvar
+> 0 do lock m
+0 end ok
+> 2 do lock m
 2 sleep
+> 0 begin wait c m
 0 step
+> 0 go
 0 step
+> 0 go
 0 step
+> 0 go
 0 step
+> 0 go
 0 step
+> 0 go
 0 step
+> 1 begin notify_one c
 1 step
+> 1 go
 1 step
+> 1 go
 1 step
+> 1 go
 1 step
+> 1 go
 1 step
+> 1 go
 1 step
+> show
 m 2 queue=2x owe=0,1
 c 1 owe=1
+> 0 go
 0 not now
+> 1 go
 1 step
+> 1 go
 1 end yes
+> show
 m 2 queue=2x owe=0 retry=0
 c 0
+> 0 go
 0 step
+> 0 go
 0 step
+> 0 go
 0 step
+> show
 m 0 owe=0 retry=0
 c 0
+> 0 go
 0 step
+> show
 m 0 retry=0,2
 c 0
+> 0 go
 0 end ok
+> 2 solo
 2 sleep
+> show
 m 3 own=0x queue=2x
 c 0
 ",
-        status: 0,
     },
     // The owner that the notification saw is the waiter itself, which has released the mutex before
     // its bit is set.
     Schedule {
         name: "a notification sees the waiter itself as owner",
-        lines: b"threads 2
-lock m mutex
-lock c condvar
-0 do lock m
-0 begin wait c m
-0 go
-0 go
-0 go
-1 begin notify_one c
-1 go
-1 go
-0 go
-1 go
-1 go
-1 go
-0 go
-1 go
-1 go
-0 go
-1 go
-1 go
-show
-0 go
-",
-        told: b"0 end ok
+        transcript: "> threads 2
+> lock m mutex
+> lock c condvar
+> 0 do lock m
+0 end ok
+> 0 begin wait c m
 0 step
+> 0 go
 0 step
+> 0 go
 0 step
+> 0 go
 0 step
+> 1 begin notify_one c
 1 step
+> 1 go
 1 step
+> 1 go
 1 not now
+> 0 go
 0 step
+> 1 go
 1 step
+> 1 go
 1 step
+> 1 go
 1 step
+> 0 go
 0 sleep
+> 1 go
 1 step
+> 1 go
 1 step
+> 0 go
 0 not now
+> 1 go
 1 step
+> 1 go
 1 end yes
+> show
 m 0 retry=0
 c 0
+> 0 go
 0 end ok
 ",
-        status: 0,
     },
 ];

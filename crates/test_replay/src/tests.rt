@@ -7,7 +7,7 @@ mod text;
 
 use crate::{
     FAIR_RELEASES, LATE_WAITERS, MEANWHILE, MOVES, MUTEXES, ONCES, REFUSALS, RELEASES, RWLOCKS,
-    SEMAPHORES, SHOWN_MUTEXES, Schedule, TWO_TRIES,
+    Replay, SEMAPHORES, SHOWN_MUTEXES, Schedule,
 };
 use core_base::{ListQueues, Queues};
 use core_queues::BucketQueues;
@@ -72,53 +72,54 @@ fn leads_to(rt: &impl Abort, replayed: (Vec<u8>, u8), text: &[u8], status: u8) {
 }
 
 /// Each schedule of a table leads to its text and its status, over each kind of queues.
-fn answers(rt: &impl Abort, alloc: Global, table: &[Schedule]) {
+fn answers(rt: &impl Abort, alloc: Global, table: &[Schedule]) -> Result<(), Fail> {
     for schedule in table {
-        answers_over::<ListQueues>(rt, alloc, schedule);
-        answers_over::<BucketQueues>(rt, alloc, schedule);
+        let replay = schedule.read(alloc)?;
+        answers_over::<ListQueues>(rt, alloc, schedule.name, &replay);
+        answers_over::<BucketQueues>(rt, alloc, schedule.name, &replay);
     }
+    Ok(())
 }
 
-fn answers_over<Q: Queues + Drop>(rt: &impl Abort, alloc: Global, schedule: &Schedule) {
-    let name = schedule.name;
-    let (text, status) = replayed_over::<Q, _>(alloc, schedule.lines);
-    check_eq(rt, (name, text.as_slice()), (name, schedule.told));
-    check_eq(rt, (name, status), (name, schedule.status));
-}
-
-#[test]
-fn answers_inputs(rt: HostRuntime) {
-    answers(&rt, rt.alloc(), &MUTEXES);
+fn answers_over<Q: Queues + Drop>(rt: &impl Abort, alloc: Global, name: &str, replay: &Replay) {
+    let (text, status) = replayed_over::<Q, _>(alloc, replay.lines.as_bytes());
+    check_eq(rt, (name, text.as_slice()), (name, replay.told.as_bytes()));
+    check_eq(rt, (name, status), (name, replay.status));
 }
 
 #[test]
-fn answers_inputs_of_reader_writer_locks(rt: HostRuntime) {
-    answers(&rt, rt.alloc(), &RWLOCKS);
+fn answers_inputs(rt: HostRuntime) -> Result<(), Fail> {
+    answers(&rt, rt.alloc(), &MUTEXES)
 }
 
 #[test]
-fn answers_inputs_of_onces(rt: HostRuntime) {
-    answers(&rt, rt.alloc(), &ONCES);
+fn answers_inputs_of_reader_writer_locks(rt: HostRuntime) -> Result<(), Fail> {
+    answers(&rt, rt.alloc(), &RWLOCKS)
 }
 
 #[test]
-fn answers_inputs_of_semaphores(rt: HostRuntime) {
-    answers(&rt, rt.alloc(), &SEMAPHORES);
+fn answers_inputs_of_onces(rt: HostRuntime) -> Result<(), Fail> {
+    answers(&rt, rt.alloc(), &ONCES)
 }
 
 #[test]
-fn answers_inputs_of_condition_variables(rt: HostRuntime) {
-    answers(&rt, rt.alloc(), &RELEASES);
-    answers(&rt, rt.alloc(), &MOVES);
-    answers(&rt, rt.alloc(), &MEANWHILE);
-    answers(&rt, rt.alloc(), &SHOWN_MUTEXES);
-    answers(&rt, rt.alloc(), &LATE_WAITERS);
-    answers(&rt, rt.alloc(), &REFUSALS);
+fn answers_inputs_of_semaphores(rt: HostRuntime) -> Result<(), Fail> {
+    answers(&rt, rt.alloc(), &SEMAPHORES)
 }
 
 #[test]
-fn answers_inputs_of_fair_releases_and_bumps(rt: HostRuntime) {
-    answers(&rt, rt.alloc(), &FAIR_RELEASES);
+fn answers_inputs_of_condition_variables(rt: HostRuntime) -> Result<(), Fail> {
+    answers(&rt, rt.alloc(), &RELEASES)?;
+    answers(&rt, rt.alloc(), &MOVES)?;
+    answers(&rt, rt.alloc(), &MEANWHILE)?;
+    answers(&rt, rt.alloc(), &SHOWN_MUTEXES)?;
+    answers(&rt, rt.alloc(), &LATE_WAITERS)?;
+    answers(&rt, rt.alloc(), &REFUSALS)
+}
+
+#[test]
+fn answers_inputs_of_fair_releases_and_bumps(rt: HostRuntime) -> Result<(), Fail> {
+    answers(&rt, rt.alloc(), &FAIR_RELEASES)
 }
 
 /// Returns the end of a replay whose input comes in pieces, and breaks off after them, if it is
@@ -134,14 +135,17 @@ fn replayed_in_pieces(alloc: Global, bytes: &[u8], len: usize, is_broken: bool) 
 }
 
 #[test]
-fn reads_pieces(rt: HostRuntime) {
+fn reads_pieces(rt: HostRuntime) -> Result<(), Fail> {
     for schedule in MUTEXES.iter() {
+        let replay = schedule.read(rt.alloc())?;
         for len in [1, 2, 3, 127, 128, 129, 130] {
-            let (text, ended) = replayed_in_pieces(rt.alloc(), schedule.lines, len, false);
-            check_eq(&rt, (len, ended), (len, schedule.status));
-            check_eq(&rt, (len, text.as_slice()), (len, schedule.told));
+            let lines = replay.lines.as_bytes();
+            let (text, ended) = replayed_in_pieces(rt.alloc(), lines, len, false);
+            check_eq(&rt, (len, ended), (len, replay.status));
+            check_eq(&rt, (len, text.as_slice()), (len, replay.told.as_bytes()));
         }
     }
+    Ok(())
 }
 
 const STRANGERS: &[u8] = b"threads 1024
@@ -281,11 +285,15 @@ fn runs_the_steps_of_an_input(rt: HostRuntime) -> Result<(), Fail> {
     runs_over::<BucketQueues>(&rt, rt.alloc())
 }
 
+const BROKEN_OFF: [&[u8]; 2] = [
+    b"threads 1\nlock m mutex\n0 begin try_lock m\n",
+    b"threads 1\nlock m mutex\n0 begin try_lock m\n0 g",
+];
+
 #[test]
 fn a_failing_read_leaves_the_lines_before(rt: HostRuntime) {
-    let third_line = b"threads 1\nlock m mutex\n0 begin try_lock m\n".len();
-    for part in [third_line, third_line + 3] {
-        let found = replayed_in_pieces(rt.alloc(), &TWO_TRIES[..part], 7, true);
+    for part in BROKEN_OFF {
+        let found = replayed_in_pieces(rt.alloc(), part, 7, true);
         leads_to(&rt, found, b"0 step\n", 4);
     }
 }
@@ -324,11 +332,13 @@ fn a_failing_write_leaves_a_beginning(rt: HostRuntime) -> Result<(), Fail> {
 }
 
 #[test]
-fn a_slow_write_loses_nothing(rt: HostRuntime) {
+fn a_slow_write_loses_nothing(rt: HostRuntime) -> Result<(), Fail> {
     for schedule in MUTEXES.iter() {
-        let found = replayed_into(rt.alloc(), schedule.lines, 9999, Refusal::Fails);
-        leads_to(&rt, found, schedule.told, schedule.status);
+        let replay = schedule.read(rt.alloc())?;
+        let found = replayed_into(rt.alloc(), replay.lines.as_bytes(), 9999, Refusal::Fails);
+        leads_to(&rt, found, replay.told.as_bytes(), replay.status);
     }
+    Ok(())
 }
 
 /// Arguments that name no job.
@@ -346,7 +356,7 @@ fn tells_the_usage(rt: HostRuntime) {
     for args in WRONG {
         let mut text = Vec::new(rt.alloc());
         let mut errors = Vec::new(rt.alloc());
-        let mut reader = TWO_TRIES;
+        let mut reader = STRANGERS;
         let status = start::<BucketQueues, _, _, _>(
             rt.alloc(),
             args,

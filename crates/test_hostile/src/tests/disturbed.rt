@@ -106,9 +106,10 @@ fn bears<A: Abort>(rt: &A, alloc: Global, name: &str, script: &Script) -> Figure
 fn all_bear<A: Abort>(rt: &A, alloc: Global, table: &[Schedule]) -> Result<Figures, Fail> {
     let (mut runs, mut steps) = (0usize, 0usize);
     for schedule in table {
-        if schedule.status == 0 {
+        let replay = schedule.read(alloc)?;
+        if replay.status == 0 {
             let mut script = Script::new(alloc);
-            script.read(alloc, schedule.lines)?;
+            script.read(alloc, replay.lines.as_bytes())?;
             let found = bears(rt, alloc, schedule.name, &script);
             runs = runs.wrapping_add(found.0);
             steps = steps.wrapping_add(found.1);
