@@ -138,7 +138,7 @@ fn is_so(place: Place, line: Line) -> bool {
         Line::MightStep(reply, lock, op) => {
             hear_to(place, reply, Act::Word { lock, op }).is_some()
         }
-        Line::LooksNoMore => place.looking().is_none(),
+        Line::LooksNoMore => place.respins_from().is_none(),
         Line::Does(act) => act_at(place) == Some(act),
         Line::IsToStep(lock, op) => act_at(place) == Some(Act::Word { lock, op }),
         Line::Tells(outcome) => place.outcome() == outcome,
@@ -175,7 +175,7 @@ fn go(place: Place, line: Line) -> Option<Place> {
             let none_left = true;
             hear_to(place, Reply::Requeued { number, none_left }, act)
         }
-        Line::LooksAgain => place.looking(),
+        Line::LooksAgain => place.respins_from(),
         line => if is_so(place, line) {
             Some(place)
         } else {

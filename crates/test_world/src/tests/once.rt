@@ -53,7 +53,7 @@ fn a_waiter_of_a_run_tries_again_when_woken(rt: HostRuntime) {
     check_eq(&rt, taken.wants(), Some(Want::Wait));
     check(&rt, taken.late_key().is_none());
     let again = taken.next_place(Reply::Woken(Note::Normal));
-    check(&rt, again.retries_on(3) && again.looking().is_none());
+    check(&rt, again.retries_on(3) && again.respins_from().is_none());
 }
 
 const POISONS: &[Line] = &[
