@@ -641,7 +641,7 @@ below : (locks l : ℕ) → locks ≤ 256 → l < locks → l < 2 ^ 63
 below locks l few lt = omega arith
 
 -- the keys of a place are numbers
-has_keys : (locks : ℕ) (p : Place) → locks ≤ 256 → PlaceFits locks p → HasKeys p
+pub has_keys : (locks : ℕ) (p : Place) → locks ≤ 256 → PlaceFits locks p → HasKeys p
 has_keys locks Idle few h = tt
 has_keys locks (Mutex l at) few h = below locks l few h.0
 has_keys locks (RwLock l a at) few h = below locks l few h
