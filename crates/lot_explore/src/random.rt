@@ -1,5 +1,5 @@
 //! Walks whose moves a generator draws.
-ghost use Rattle.std.specs.Prelude.{◌≡◌, IfOk, IfSome};
+ghost use Rattle.std.specs.Prelude.{◌≡◌, IfOk, IfSome, true};
 ghost use Rattle.state_search.specs.Rules.{IsWrong};
 ghost use Rattle.lot_program.specs.Programs.{IsFit};
 ghost use Rattle.lot_program.specs.States.{rules_of_program};
@@ -31,17 +31,42 @@ pub fn walk_at_random<'a, Q: Queues + Drop>(
     ensures { IfOk result (λ found. IfSome found (λ walk. (walk.program ≡ program.now)
         × IsWrong (rules_of_program program.now) walk.state)) }
 {
-    let mut walk = Walk::new(alloc, program)?;
+    match Walk::new(alloc, program) {
+        Ok(mut walk) => match goes_wrong_by_draws(&mut walk, seed, most) {
+            Ok(true) => Ok(Some(walk)),
+            Ok(false) => {
+                drop(walk);
+                Ok(None)
+            }
+            Err(NoRoom) => {
+                drop(walk);
+                Err(NoRoom)
+            }
+        },
+        Err(NoRoom) => Err(NoRoom),
+    }
+}
+
+/// Walks on, as `walk_at_random` does, and answers whether something is wrong in the end.
+fn goes_wrong_by_draws<Q: Queues + Drop>(
+    walk: &mut Walk<'_, Q>,
+    seed: u64,
+    most: usize,
+) -> Result<bool, NoRoom>
+    ensures wrong { IfOk result (λ wrong. wrong ≡ true
+        → IsWrong (rules_of_program walk.old.program) walk.new.state) }
+    ensures program { walk.new.program ≡ walk.old.program }
+{
     let mut generator = Xoshiro256PlusPlus::seed_from_u64(seed);
     for _turn in 0..most {
         if walk.wrong()?.is_some() {
-            return Ok(Some(walk));
+            return Ok(true);
         }
-        if !draw_turn(&mut walk, &mut generator)? {
-            return Ok(None);
+        if !draw_turn(walk, &mut generator)? {
+            return Ok(false);
         }
     }
-    Ok(None)
+    Ok(false)
 }
 
 /// Takes a move that is drawn, if one is possible.

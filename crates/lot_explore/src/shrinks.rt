@@ -36,7 +36,10 @@ pub fn shrink<'a, Q: Queues + Drop>(alloc: Global, mut walk: Walk<'a, Q>) -> Wal
         return walk;
     };
     match shorter_walk(alloc, &walk, wrong) {
-        Ok(shorter) => shorter,
+        Ok(shorter) => {
+            drop(walk);
+            shorter
+        }
         Err(NoRoom) => walk,
     }
 }
@@ -47,16 +50,48 @@ fn shorter_walk<'a, Q: Queues + Drop>(
     wrong: Wrong,
 ) -> Result<Walk<'a, Q>, NoRoom> {
     let program = walk.program();
-    let Ok(moves) = Vec::from_slice(alloc, walk.moves()) else {
-        return Err(NoRoom);
-    };
-    let moves = leave_out_threads::<Q>(alloc, program, moves, wrong);
-    let moves = leave_out_halves::<Q>(alloc, program, moves, wrong);
-    let mut shorter = Walk::new(alloc, program)?;
-    for by in moves.iter() {
-        shorter.turn(*by)?;
+    match fewer_moves::<Q>(alloc, program, walk.moves(), wrong) {
+        Ok(moves) => walk_by(alloc, program, moves.as_slice()),
+        Err(NoRoom) => Err(NoRoom),
     }
-    Ok(shorter)
+}
+
+/// Leaves out moves, first those of whole threads.
+fn fewer_moves<Q: Queues + Drop>(
+    alloc: Global,
+    program: &Program,
+    moves: &[usize],
+    wrong: Wrong,
+) -> Result<Vec<usize>, NoRoom>
+    requires { IsFit program.now }
+{
+    match Vec::from_slice(alloc, moves) {
+        Ok(moves) => {
+            let moves = leave_out_threads::<Q>(alloc, program, moves, wrong);
+            Ok(leave_out_halves::<Q>(alloc, program, moves, wrong))
+        }
+        Err(_) => Err(NoRoom),
+    }
+}
+
+/// Takes moves from the start of a program.
+fn walk_by<'a, Q: Queues + Drop>(
+    alloc: Global,
+    program: &'a Program,
+    moves: &[usize],
+) -> Result<Walk<'a, Q>, NoRoom>
+    requires { IsFit program.now }
+{
+    match Walk::new(alloc, program) {
+        Ok(mut walk) => match walk.take_all(moves) {
+            Ok(_) => Ok(walk),
+            Err(NoRoom) => {
+                drop(walk);
+                Err(NoRoom)
+            }
+        },
+        Err(NoRoom) => Err(NoRoom),
+    }
 }
 
 /// Leaves out each thread without which the moves go wrong too.
@@ -133,15 +168,25 @@ fn moves_without<Q: Queues + Drop>(
 ) -> Result<Option<Vec<usize>>, NoRoom>
     requires { IsFit program.now }
 {
-    let mut shorter = Walk::<Q>::new(alloc, program)?;
-    for (at, by) in moves.iter().enumerate() {
-        if !omitted.has(at, *by) {
-            shorter.turn(*by)?;
+    match Walk::<Q>::new(alloc, program) {
+        Ok(mut shorter) => {
+            let taken = taken_without(alloc, &mut shorter, moves, omitted, wrong);
+            drop(shorter);
+            taken
         }
-        if shorter.scene().goes_wrong(program) {
-            break;
-        }
+        Err(NoRoom) => Err(NoRoom),
     }
+}
+
+/// Takes moves on a walk that has taken none, as `moves_without` does.
+fn taken_without<Q: Queues + Drop>(
+    alloc: Global,
+    shorter: &mut Walk<'_, Q>,
+    moves: &[usize],
+    omitted: Omitted,
+    wrong: Wrong,
+) -> Result<Option<Vec<usize>>, NoRoom> {
+    take_without(shorter, moves, omitted)?;
     if shorter.moves().len() >= moves.len() || shorter.wrong()? != Some(wrong) {
         return Ok(None);
     }
@@ -149,4 +194,21 @@ fn moves_without<Q: Queues + Drop>(
         Ok(taken) => Ok(Some(taken)),
         Err(_) => Err(NoRoom),
     }
+}
+
+/// Takes moves but for some, as long as nothing goes wrong, and passes over those that are impossible.
+fn take_without<Q: Queues + Drop>(
+    walk: &mut Walk<'_, Q>,
+    moves: &[usize],
+    omitted: Omitted,
+) -> Result<(), NoRoom> {
+    for (at, by) in moves.iter().enumerate() {
+        if !omitted.has(at, *by) {
+            walk.turn(*by)?;
+        }
+        if walk.scene().goes_wrong(walk.program()) {
+            break;
+        }
+    }
+    Ok(())
 }
