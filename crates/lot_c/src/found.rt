@@ -1,7 +1,6 @@
 //! What was found, as `lotexplore` prints it.
 use crate::status::{FOUND, GRAIN};
-use lot_findings::{Finding, Headline, write_schedule};
-use lot_reports::write_story;
+use lot_findings::{Finding, Headline, write_schedule, write_story};
 use state_search::NoRoom;
 use std::alloc::Global;
 use std::io;

@@ -2,7 +2,7 @@
 use clap::error::Error;
 use clap::{Arg, ArgAction, ArgMatches, Command, value_parser};
 use lot_program::Deadlines;
-use lot_reports::{GrainName, Turns};
+use lot_findings::{GrainName, Turns};
 use state_search::Limits;
 use std::alloc::Global;
 

@@ -2,7 +2,7 @@
 use crate::grain::Turns;
 use core_base::ListQueues;
 use lot_explore::{Walk, Wrong, shrink};
-use lot_findings::line_of;
+use crate::words::line_of;
 use lot_program::Program;
 use lot_program_text::{ProgramText, parse};
 use state_search::NoRoom;

@@ -1,7 +1,8 @@
 //! Walks by moves that are known.
 use core_base::ListQueues;
 use lot_explore::Walk;
-use lot_findings::{Finding, Source};
+use crate::finding::Finding;
+use crate::source::Source;
 use state_search::NoRoom;
 use std::alloc::Global;
 

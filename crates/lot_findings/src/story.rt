@@ -1,5 +1,6 @@
 //! What was found, in words.
-use lot_findings::{Finding, Lap, waitings, write_waitings};
+use crate::finding::{Finding, Lap};
+use crate::waits::{waitings, write_waitings};
 use std::alloc::Global;
 use std::io;
 use std::io::Write;
