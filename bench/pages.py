@@ -8,7 +8,7 @@ import re
 import subprocess
 import sys
 
-WRITTEN = {"docs/INDEX.md", "docs/STEPS.md"}
+WRITTEN = {"docs/STEPS.md"}
 WIDTH = 110
 WORDS = 25
 BEGINNINGS = re.compile(r"^(Who|Whom|Whoever|Whose|Of|Behind|What|So|The same)\b")
@@ -232,7 +232,7 @@ def main():
                                   wrong_numbers) for line in check()]
     for line in wrong:
         print(line)
-    current = subprocess.run([sys.executable, "bench/definitions.py", "--check"], check=False).returncode
+    current = subprocess.run([sys.executable, "bench/steps.py", "--check"], check=False).returncode
     count = sum(1 for page in pages() for _ in blocks(page))
     print(f"{len(pages())} pages, {count} blocks, {len(wrong)} wrong")
     return 1 if wrong or current or not count else 0
