@@ -4,7 +4,7 @@
 Each run has to end with the whole answer and status 0, or with `line K no memory` behind the answers to the lines
 before line K, and status 3. A run takes some ten seconds, since each builds the program, without its proofs.
 
-python3 bench/each_allocation.py [SCHEDULE], else crates/lotsim/stdin. The schedule has to be one without an error.
+python3 trials/each_allocation.py [SCHEDULE], else crates/lotsim/stdin. The schedule has to be one without an error.
 """
 
 import os

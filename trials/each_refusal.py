@@ -10,7 +10,7 @@ nothing lost, and pass.
 
 The programs that `rt ci` has built are run, with a small library before the C library's: it needs cc.
 
-python3 bench/each_refusal.py
+python3 trials/each_refusal.py
 """
 
 import os

@@ -1,11 +1,11 @@
 #!/usr/bin/env python3
-"""Random and mutated inputs for `lotsim replay`, beside `bench/second_reading.py`, which answers them too. Texts and statuses have to agree.
+"""Random and mutated inputs for `lotsim replay`, beside `trials/second_reading.py`, which answers them too. Texts and statuses have to agree.
 
 An input is a random schedule of that script, mutated in none to six places: a line is dropped, doubled, swapped, cut or replaced, or bytes are
 changed, added or joined. This script has a grammar of its own, and so tells where the first malformed line is.
 
 It needs Python 3.8 and the proved program. Build that first: `rt run -- replay < stdin` in crates/lotsim. Then:
-python3 bench/fuzz_replay.py crates/lotsim/out/lotsim SECONDS [FIRST_SEED]
+python3 trials/fuzz_replay.py crates/lotsim/out/lotsim SECONDS [FIRST_SEED]
 Where an answer differs, the input is written to the folder of temporary files, and the status is 1. With `-` in place of the program the
 inputs are answered here alone, which tries this script.
 """

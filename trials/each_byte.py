@@ -6,7 +6,7 @@ printed has to be the first part of what is printed otherwise. A read that fails
 
 The programs that `rt ci` has built are run, with a small library before the C library's: it needs cc.
 
-python3 bench/each_byte.py
+python3 trials/each_byte.py
 """
 
 import os

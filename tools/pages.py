@@ -185,7 +185,7 @@ def main():
                                   wrong_numbers) for line in check()]
     for line in wrong:
         print(line)
-    current = subprocess.run([sys.executable, "bench/steps.py", "--check"], check=False).returncode
+    current = subprocess.run([sys.executable, "tools/steps.py", "--check"], check=False).returncode
     count = sum(1 for page in pages() for _ in blocks(page))
     print(f"{len(pages())} pages, {count} blocks, {len(wrong)} wrong")
     return 1 if wrong or current or not count else 0

@@ -3,9 +3,9 @@
 variables, answered here and by `lotsim replay`, have to agree.
 
 Build the proved program first: `rt run -- replay < stdin` in crates/lotsim. Then:
-python3 bench/second_reading.py crates/lotsim/out/lotsim SCHEDULES LINES [FIRST_SEED] [--fair] [--once] [--semaphore] [--condvar]
+python3 trials/second_reading.py crates/lotsim/out/lotsim SCHEDULES LINES [FIRST_SEED] [--fair] [--once] [--semaphore] [--condvar]
 With --fair, fair releases and bumps of reader-writer locks are among the calls; with --once, each `Once` is among the locks, and with
---semaphore semaphores are; with --condvar the locks are mutexes and condition variables. To answer one schedule here: python3 bench/second_reading.py - < SCHEDULE
+--semaphore semaphores are; with --condvar the locks are mutexes and condition variables. To answer one schedule here: python3 trials/second_reading.py - < SCHEDULE
 """
 import os, random, subprocess, sys, tempfile
 

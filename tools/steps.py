@@ -8,7 +8,7 @@ STEPS = pathlib.Path("docs/STEPS.md")
 HEAD = """# The step tables
 
 What a thread does at each place of each call, and where it goes from there, for each sort of lock. Real threads and
-the simulated world take these steps. `python3 bench/steps.py` writes this page from the heads of the files.
+the simulated world take these steps. `python3 tools/steps.py` writes this page from the heads of the files.
 A failed exchange goes on with the value that it saw. [DEFINITIONS.md](DEFINITIONS.md) has the words of the locks.
 """
 
@@ -28,7 +28,7 @@ def main():
     if sys.argv[1:] != ["--check"]:
         STEPS.write_text(text)
     elif STEPS.read_text() != text:
-        print(f"{STEPS} is not what its sources say: run python3 bench/steps.py")
+        print(f"{STEPS} is not what its sources say: run python3 tools/steps.py")
         return 1
     return 0
 

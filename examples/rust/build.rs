@@ -22,7 +22,7 @@ fn main() {
 
 /// The folder of this repository's archive.
 fn own_out() -> PathBuf {
-    Path::new(env!("CARGO_MANIFEST_DIR")).join("../../../crates/lot_c/out")
+    Path::new(env!("CARGO_MANIFEST_DIR")).join("../../crates/lot_c/out")
 }
 
 /// The folder of the installed kit's archive.

@@ -1,7 +1,7 @@
 #!/usr/bin/env python3
 """Tells where the time of a crate's check goes: seconds by function, and by the kind of module that the prover makes of it.
 
-python3 bench/check.py CRATE [--tests] [--most N], in a checkout whose libraries are built (`rt check` in the crate's folder does that). It checks the
+python3 tools/check.py CRATE [--tests] [--most N], in a checkout whose libraries are built (`rt check` in the crate's folder does that). It checks the
 crate from nothing with one job, into a folder of its own, and goes by the times at which the modules were kept. Of a function it tells what all its
 modules took, `Lts` (the borrow checker's, which grows with statements and locals), `Tie` (what traits say of known types, which grows with the
 different methods called) and `Proof` (the search of goals that have no answer).

@@ -4,7 +4,7 @@
  * Inputs lie in pages that can only be read, and every buffer lies between pages that cannot be touched: once it
  * ends at the one, once it begins at the other. The linker wraps the calls of malloc, realloc and free:
  *
- *     cc -I include bench/c/buffers.c ARCHIVES -Wl,--wrap=malloc,--wrap=realloc,--wrap=free
+ *     cc -I include trials/buffers.c ARCHIVES -Wl,--wrap=malloc,--wrap=realloc,--wrap=free
  */
 #define _GNU_SOURCE
 #include "lot.h"

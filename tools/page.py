@@ -1,7 +1,7 @@
 """Tries a page of lotdraw in a browser: the keys, the slider, the buttons and a tap, by a script that is
 added to a copy of it; and takes pictures of it on a phone, on a screen and on paper, to be looked at.
 
-    python3 bench/page.py PROGRAM SCHEDULE FOLDER
+    python3 tools/page.py PROGRAM SCHEDULE FOLDER
 
 PROGRAM is a built lotdraw. It needs chromium, and pdftoppm for paper. It prints a line for each trial, and
 ends in status 1 where one fails.

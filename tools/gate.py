@@ -2,7 +2,7 @@
 """Runs the gate, or another command, and tells how many seconds of a processor each crate took: its proof, that of its tests, the second
 proof that its must-fail edits begin with, and each edit.
 
-python3 bench/gate.py [--edits] [COMMAND ..], else `rt ci`. It looks at the prover's processes twice a second, below the command alone, so what
+python3 tools/gate.py [--edits] [COMMAND ..], else `rt ci`. It looks at the prover's processes twice a second, below the command alone, so what
 lives shorter than that is missed. What an earlier run has passed on this machine is not done again: `rt ci --anew` does all.
 """
 
