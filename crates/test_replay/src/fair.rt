@@ -3,7 +3,7 @@
 
 use crate::schedule::Schedule;
 
-pub const FAIR_RELEASES: [Schedule; 15] = [
+pub const FAIR_RELEASES: [Schedule; 17] = [
     Schedule {
         name: "a fair release would pass the limit",
         transcript: "> threads 3
@@ -432,6 +432,62 @@ r 9 own=2x queue=0s
 0 end ok
 > show
 r 52 own=2u,1s,3s
+",
+    },
+    Schedule {
+        name: "a fair release hands over to two readers and the writer after them",
+        transcript: "> threads 4
+> lock r rwlock 4
+> 0 do write r
+0 end ok
+> 1 do read r
+1 sleep
+> 2 do read r
+2 sleep
+> 3 do write r
+3 sleep
+> 1 do unlock_shared_fair r
+1 not now
+> 0 do unlock_exclusive_fair r
+0 end ok
+> show
+r 40 own=3p,1s,2s
+> 3 solo
+3 sleep
+> 1 solo
+1 end ok
+> 1 do unlock_shared_fair r
+1 end ok
+> 2 solo
+2 end ok
+> 2 do unlock_shared_fair r
+2 end ok
+> 3 solo
+3 end ok
+> show
+r 8 own=3x
+",
+    },
+    Schedule {
+        name: "a bump lets an upgradable thread in, and then a writer",
+        transcript: "> threads 3
+> lock r rwlock 4
+> 0 do write r
+0 end ok
+> 1 do upgradable r
+1 sleep
+> 2 do write r
+2 sleep
+> 0 do bump_exclusive r
+0 sleep
+> 1 solo
+1 end ok
+> show
+r 21 own=1u queue=2x,0x
+> 1 do unlock_upgradable_fair r
+1 end ok
+> show
+r 9 own=2x queue=0x
 ",
     },
 ];

@@ -2,7 +2,7 @@
 
 use crate::schedule::Schedule;
 
-pub const MOVES: [Schedule; 4] = [
+pub const MOVES: [Schedule; 5] = [
     // Beside an unlocked mutex the first of all is woken, and the rest wait for the mutex.
     Schedule {
         name: "all are moved beside an unlocked mutex",
@@ -177,6 +177,51 @@ c 0
 1 end ok
 > 0 solo
 0 end ok
+",
+    },
+    Schedule {
+        name: "another locks the mutex before the woken one",
+        transcript: "> threads 5
+> lock m mutex
+> lock c condvar
+> 0 do lock m
+0 end ok
+> 0 do wait c m
+0 sleep
+> 1 do lock m
+1 end ok
+> 1 do wait c m
+1 sleep
+> 2 do lock m
+2 end ok
+> 2 do wait c m
+2 sleep
+> 3 do notify_all c
+3 end 3
+> 4 do lock m
+4 end ok
+> 0 solo
+0 sleep
+> show
+m 3 own=4x queue=1x,2x,0x
+c 0
+> 4 do unlock m
+4 end ok
+> 1 solo
+1 end ok
+> 1 do unlock m
+1 end ok
+> 2 solo
+2 end ok
+> 2 do unlock m
+2 end ok
+> 0 solo
+0 end ok
+> 0 do unlock m
+0 end ok
+> show
+m 0
+c 0
 ",
     },
 ];

@@ -2,7 +2,7 @@
 
 use crate::schedule::Schedule;
 
-pub const ONCES: [Schedule; 10] = [
+pub const ONCES: [Schedule; 12] = [
     Schedule {
         name: "a failed run poisons, a forced call mends",
         transcript: "> threads 1
@@ -318,6 +318,100 @@ o 12 own=0r queue=1w
 0 end ok
 > 1 go
 1 end ok
+> show
+o 1
+",
+    },
+    Schedule {
+        name: "a failed run wakes four, and a forced one begins",
+        transcript: "> threads 5
+> lock o once
+> 0 do call_once o
+0 closure New
+> 1 do call_once o
+1 sleep
+> 2 do wait o
+2 sleep
+> 3 do wait_force o
+3 sleep
+> 4 do call_once_force o
+4 sleep
+> 0 err
+0 step
+> show
+o 2 queue=1c,2w,3w,4c owe=0
+> 0 solo
+0 end failed
+> show
+o 2 retry=1,2,3,4
+> 1 solo
+1 end poisoned
+> 2 solo
+2 end poisoned
+> 4 solo
+4 closure Poisoned
+> 3 solo
+3 sleep
+> show
+o 12 own=4r queue=3w
+> 4 ok
+4 step
+> 4 solo
+4 end ok
+> 3 solo
+3 end ok
+> show
+o 1
+",
+    },
+    Schedule {
+        name: "a run wakes nine waiters",
+        transcript: "> threads 10
+> lock o once
+> 0 do call_once o
+0 closure New
+> 1 do call_once o
+1 sleep
+> 2 do wait_force o
+2 sleep
+> 3 do call_once_force o
+3 sleep
+> 4 do wait o
+4 sleep
+> 5 do call_once o
+5 sleep
+> 6 do wait_force o
+6 sleep
+> 7 do call_once_force o
+7 sleep
+> 8 do wait o
+8 sleep
+> 9 do call_once o
+9 sleep
+> 0 ok
+0 step
+> show
+o 1 queue=1c,2w,3c,4w,5c,6w,7c,8w,9c owe=0
+> 0 solo
+0 end ok
+> 1 solo
+1 end ok
+> 2 solo
+2 end ok
+> 3 solo
+3 end ok
+> 4 solo
+4 end ok
+> 5 solo
+5 end ok
+> 6 solo
+6 end ok
+> 7 solo
+7 end ok
+> 8 solo
+8 end ok
+> 9 solo
+9 end ok
 > show
 o 1
 ",

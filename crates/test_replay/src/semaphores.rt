@@ -2,7 +2,7 @@
 
 use crate::schedule::Schedule;
 
-pub const SEMAPHORES: [Schedule; 4] = [
+pub const SEMAPHORES: [Schedule; 5] = [
     // A release owes a wake-up while another thread takes the permit that it gave back.
     Schedule {
         name: "a release owes while another takes its permit",
@@ -143,6 +143,42 @@ s 2 retry=0
 0 end ok
 > show
 s 0 own=0s
+",
+    },
+    Schedule {
+        name: "a waiter gives up and leaves the bit to another",
+        transcript: "> threads 3
+> lock s semaphore 1
+> 0 do try_acquire s
+0 end yes
+> 1 do release s
+1 not now
+> 1 do try_acquire s
+1 end no
+> 1 do acquire s
+1 sleep
+> 2 do acquire_timed s
+2 sleep
+> 1 late
+1 not now
+> 2 late
+2 step
+> 2 solo
+2 end no
+> show
+s 1 own=0s queue=1s
+> 0 do release s
+0 end ok
+> 1 solo
+1 end ok
+> 2 do acquire_timed s
+2 sleep
+> 2 late
+2 step
+> 2 solo
+2 end no
+> show
+s 0 own=1s
 ",
     },
 ];

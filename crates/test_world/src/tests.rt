@@ -1,9 +1,7 @@
 mod condvar;
-mod handed;
+mod filled;
 mod mutex;
-mod once;
 mod scripts;
-mod semaphore;
 mod sizes;
 
 use std::fmt::Debug;

@@ -154,14 +154,14 @@ fn disturbed_mutexes_keep_their_rules(rt: HostRuntime) -> Result<(), Fail> {
 #[test]
 fn disturbed_semaphores_keep_their_rules(rt: HostRuntime) -> Result<(), Fail> {
     let found = all_bear(&rt, rt.alloc(), &SEMAPHORES)?;
-    check_eq(&rt, found, (688, 21148));
+    check_eq(&rt, found, (924, 31314));
     Ok(())
 }
 
 #[test]
 fn disturbed_onces_keep_their_rules(rt: HostRuntime) -> Result<(), Fail> {
     let found = all_bear(&rt, rt.alloc(), &ONCES)?;
-    check_eq(&rt, found, (1374, 39036));
+    check_eq(&rt, found, (3004, 147526));
     Ok(())
 }
 
@@ -175,7 +175,7 @@ fn disturbed_reader_writer_locks_keep_their_rules(rt: HostRuntime) -> Result<(),
 #[test]
 fn disturbed_fair_releases_keep_their_rules(rt: HostRuntime) -> Result<(), Fail> {
     let found = all_bear(&rt, rt.alloc(), &FAIR_RELEASES)?;
-    check_eq(&rt, found, (2330, 85188));
+    check_eq(&rt, found, (2736, 102964));
     Ok(())
 }
 
@@ -189,7 +189,7 @@ fn disturbed_releases_keep_their_rules(rt: HostRuntime) -> Result<(), Fail> {
 #[test]
 fn disturbed_moves_keep_their_rules(rt: HostRuntime) -> Result<(), Fail> {
     let found = all_bear(&rt, rt.alloc(), &MOVES)?;
-    check_eq(&rt, found, (1506, 85494));
+    check_eq(&rt, found, (1968, 119506));
     Ok(())
 }
 

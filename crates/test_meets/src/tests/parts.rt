@@ -6,7 +6,7 @@ ghost use Rattle.parking_lot_core.specs.Tokens.{IsTicketOf};
 
 use super::buckets::wake_moved;
 use super::several::{KEY, sleep_in_line};
-use super::threads::{answer, serve, sleep_briefly, sleep_late, wake_early, wake_until};
+use super::threads::{answer, serve, sleep_briefly, sleep_late, wake_early};
 use super::{Task, seats_of, ticket_of, until_taken};
 use parking_lot_core::{ParkingLot, Ticket, Word};
 use std::alloc::Global;
@@ -23,7 +23,6 @@ pub enum Part {
     SleepLate,
     WakeEarly,
     SleepBriefly,
-    WakeUntilDone,
     WakeMoved,
     Move,
     SleepInLine,
@@ -54,7 +53,6 @@ fn act<R: Wait>(
             (0, 0)
         }
         Part::SleepBriefly => sleep_briefly(rt, lot, &mut token, word, done),
-        Part::WakeUntilDone => (wake_until(rt, lot, &mut token, done), 0),
         Part::WakeMoved => (wake_moved(rt, lot, &mut token, done, true), 0),
         Part::Move => (wake_moved(rt, lot, &mut token, done, false), 0),
         Part::SleepInLine => (sleep_in_line(rt, lot, &mut token, word), 0),

@@ -9,7 +9,7 @@ ghost use Rattle.parking_lot_core.specs.Tokens.{IsTokenOf, IsSameThread};
 
 use super::clocks::told_until;
 use super::parts::{Part, play};
-use super::{Task, check_eq, delay, in_section, sleep, until_taken};
+use super::{Task, check_eq, delay, sleep, until_taken};
 use core_base::TickClock;
 use parking_lot_core::{Key, Keys, Note, ParkingLot, QueuePlace, Right, Token, Want, Word};
 use std::sync::Wait;
@@ -212,28 +212,4 @@ pub fn sleep_briefly<R: Wait>(
     }
     done.store(true, SeqCst);
     (woken, late)
-}
-
-// How many it took.
-pub fn wake_until<R: Wait>(rt: &R, lot: &ParkingLot, token: &mut Token, done: &AtomicBool) -> usize
-    requires { IsTokenOf lot.now token.old }
-{
-    let mut taken = 0usize;
-    for _ in rt.forever() {
-        if done.load(SeqCst) {
-            break;
-        }
-        if in_section(rt, lot, token, KEY, Task::TakeFirst).is_some() {
-            taken = taken.saturating_add(1);
-        }
-        yield_now();
-    }
-    taken
-}
-
-#[test]
-fn a_taken_waiter_is_woken_and_not_late(rt: HostRuntime) {
-    let ((woken, late), taken) = play(&rt, rt.alloc(), (Part::SleepBriefly, Part::WakeUntilDone));
-    let ended = (woken, woken.saturating_add(late));
-    check_eq(&rt, ended, (taken.0, ROUNDS));
 }

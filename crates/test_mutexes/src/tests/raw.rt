@@ -7,6 +7,7 @@ ghost use Rattle.std.specs.Arc.{arc_value};
 ghost use Rattle.parking_lot_core.specs.Tokens.{IsTicketOf, IsTokenOf};
 ghost use Rattle.parking_lot.specs.Names.{lot_of};
 
+use super::fair::{is_waited_for, wait_until};
 use super::{check, check_eq, next_of};
 use moved::{hold_and_move, wait_moved};
 use parking_lot::lock_api::RawMutex as RawLock;
@@ -33,8 +34,6 @@ fn stands<R: Wait + Abort>(
     check_eq(rt, mutex.is_locked(token), locked);
     check_eq(rt, lot.queued(rt, token, mutex.key()), 0);
 }
-
-const TURNS: usize = 1_000_000;
 
 // A mutex of a lot of so many threads and one more, with the token of this one and the tickets of
 // the others. It gives up where memory is refused, so that no test has anything to drop in its
@@ -180,29 +179,6 @@ fn one_of_two_tries_gets_a_free_mutex(rt: HostRuntime) {
     check_eq(&rt, play(&rt, rt.alloc(), Part::Try), 1);
 }
 
-fn await_flag<R: Wait>(rt: &R, flag: &AtomicBool) {
-    for _ in rt.forever() {
-        if flag.load(SeqCst) {
-            break;
-        }
-        yield_now();
-    }
-}
-
-// Whether somebody comes to wait for the mutex.
-fn sees_waiter<R: Wait>(rt: &R, lot: &ParkingLot, token: &mut Token, mutex: &RawMutex) -> bool
-    requires { IsTokenOf lot.now token.old }
-    ensures { IsTokenOf lot.now token.new }
-{
-    for _ in 0..TURNS {
-        if lot.queued(rt, token, mutex.key()) == 1 {
-            return true;
-        }
-        yield_now();
-    }
-    false
-}
-
 // Holds the mutex until somebody waits for it. Whether that was seen.
 fn hold<R: Wait>(
     rt: &R,
@@ -216,7 +192,7 @@ fn hold<R: Wait>(
 {
     let guard = mutex.lock(rt, token);
     held.store(true, SeqCst);
-    let seen = sees_waiter(rt, lot, token, mutex);
+    let seen = is_waited_for(rt, lot, mutex.key(), token);
     mutex.unlock(rt, token, guard);
     seen
 }
@@ -225,7 +201,7 @@ fn lock_held<R: Wait>(rt: &R, mutex: &RawMutex, token: &mut Token, held: &Atomic
     requires { IsTokenOf (lot_of mutex.now) token.old }
     ensures { IsTokenOf (lot_of mutex.now) token.new }
 {
-    await_flag(rt, held);
+    wait_until(rt, held);
     let guard = mutex.lock(rt, token);
     let locked = mutex.is_locked(token);
     mutex.unlock(rt, token, guard);

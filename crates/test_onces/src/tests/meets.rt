@@ -4,7 +4,7 @@ ghost use Rattle.run_signals.specs.OnceUsers.{IsTokenOf, lot_of};
 
 use super::crowds::{Part, Told, play};
 use super::{check_eq, count_run};
-use parking_lot_core::{ParkingLot, Token};
+use parking_lot_core::{Key, ParkingLot, Token};
 use run_signals::{Once, OnceFault, OnceState};
 use std::sync::Wait;
 use std::sync::atomic::AtomicBool;
@@ -57,13 +57,19 @@ pub(super) fn wait_beside<R: Wait>(rt: &R, once: &Once, token: &mut Token, told:
     once.wait(rt, token).is_ok()
 }
 
-// Whether two came to wait for the end of its run.
-fn two_wait<R: Wait>(rt: &R, lot: &ParkingLot, once: &Once, token: &mut Token) -> bool
+// Whether so many came to wait under a key.
+pub(super) fn come_to_wait<R: Wait>(
+    rt: &R,
+    lot: &ParkingLot,
+    token: &mut Token,
+    key: Key,
+    number: usize,
+) -> bool
     requires { IsTokenOf lot.now token.old }
     ensures { IsTokenOf lot.now token.new }
 {
     for _ in 0..TURNS {
-        if lot.queued(rt, token, once.key()) == 2 {
+        if lot.queued(rt, token, key) == number {
             return true;
         }
         yield_now();
@@ -82,7 +88,7 @@ pub(super) fn let_go<R: Wait>(
     requires { IsTokenOf lot.now token.old × (lot_of once.now ≡ lot.now) }
     ensures { IsTokenOf lot.now token.new }
 {
-    let seen = two_wait(rt, lot, once, token);
+    let seen = come_to_wait(rt, lot, token, once.key(), 2);
     told.go.store(true, SeqCst);
     seen
 }

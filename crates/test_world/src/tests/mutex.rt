@@ -1,10 +1,10 @@
 //! Worlds of mutexes.
-use super::scripts::Line::{Calls, GoesOn, IsWaitedFor, Rests, Settles, Shows, Takes};
-use super::scripts::{BARE, DONE, Line, Shown, plays, plays_anew, runs, world_of};
+use super::scripts::Line::{GoesOn, IsWaitedFor, Rests, Settles, Takes};
+use super::scripts::{Line, plays, plays_anew, runs, world_of};
 use super::{check, check_eq};
-use core_base::{ListQueues, Want};
+use core_base::ListQueues;
 use lot_steps::Owners;
-use lot_world::{Answer, Call, Debt, Kind, MutexCall, Outcome, Owner, OwnersOf, Step, Turn, World};
+use lot_world::{Answer, Call, Kind, MutexCall, Outcome, Owner, OwnersOf, Step, Turn, World};
 use std::alloc::Global;
 use std::process::Abort;
 
@@ -22,53 +22,6 @@ const UNLOCK: Call = Call::Mutex {
     lock: 0,
     call: MutexCall::Unlock,
 };
-
-const BUMP: Call = Call::Mutex {
-    lock: 0,
-    call: MutexCall::Bump,
-};
-
-const WAKES_A_WAITER: &[Line] = &[
-    Calls(0, LOCK, DONE),
-    Takes(1, Turn::Begin(LOCK), Outcome::Step),
-    Takes(1, Turn::Go, Outcome::Step),
-    Takes(1, Turn::Go, Outcome::Step),
-    Takes(1, Turn::Spin, Outcome::Step),
-    Takes(1, Turn::Go, Outcome::Step),
-    Takes(1, Turn::Spin, Outcome::NotNow),
-    Takes(1, Turn::Go, Outcome::Step),
-    Takes(1, Turn::Go, Outcome::Step),
-    Takes(1, Turn::Go, Outcome::Sleep),
-    Takes(1, Turn::Go, Outcome::NotNow),
-    IsWaitedFor(0, 0, 1),
-    Takes(1, Turn::Begin(UNLOCK), Outcome::NotNow),
-    Takes(0, Turn::Begin(UNLOCK), Outcome::Step),
-    Takes(0, Turn::Go, Outcome::Step),
-    Shows(
-        0,
-        Shown {
-            word: 2,
-            waiter: Some((1, Want::Exclusive)),
-            debt: Some((Debt::Owes, 0)),
-            ..BARE
-        },
-    ),
-    GoesOn(0, DONE),
-    Shows(
-        0,
-        Shown {
-            debt: Some((Debt::Retries, 1)),
-            ..BARE
-        },
-    ),
-    GoesOn(1, DONE),
-    Rests(0, 1, Some((Owner::Exclusive, 1))),
-];
-
-#[test]
-fn a_waiter_is_woken_by_the_release(rt: HostRuntime) {
-    plays_anew(&rt, rt.alloc(), &[Kind::Mutex], 2, WAKES_A_WAITER);
-}
 
 const SETTLES: &[Line] = &[
     Takes(0, Turn::Begin(LOCK), Outcome::Step),
@@ -107,39 +60,6 @@ fn sharers_are_listed_after_the_owners(rt: HostRuntime) {
         Ok(listed) => check_eq(&rt, listed.as_slice(), LISTED),
         Err(_) => panic!(rt; "no memory"),
     }
-}
-
-const HANDS_OVER: &[Line] = &[
-    Calls(0, LOCK, DONE),
-    Calls(1, LOCK, Outcome::Sleep),
-    Calls(2, LOCK, Outcome::Sleep),
-    // The owner sees a thread that waits, enters the section, takes the first, and stores the word.
-    Takes(0, Turn::Begin(UNLOCK), Outcome::Step),
-    Takes(0, Turn::Go, Outcome::Step),
-    Takes(0, Turn::Go, Outcome::Step),
-    Takes(0, Turn::Go, Outcome::Step),
-    Takes(0, Turn::Go, Outcome::Step),
-    Takes(1, Turn::Go, Outcome::NotNow),
-    Takes(1, Turn::Begin(UNLOCK), Outcome::NotNow),
-    Shows(
-        0,
-        Shown {
-            word: 3,
-            owner: Some((Owner::Exclusive, 1)),
-            waiter: Some((2, Want::Exclusive)),
-            debt: Some((Debt::Owes, 0)),
-        },
-    ),
-    // The one after it is next.
-    Takes(0, Turn::Go, DONE),
-    Takes(1, Turn::Go, DONE),
-    Calls(1, BUMP, Outcome::Sleep),
-    IsWaitedFor(0, 2, 1),
-];
-
-#[test]
-fn a_fair_mutex_is_handed_to_the_first_waiter(rt: HostRuntime) {
-    plays_anew(&rt, rt.alloc(), &[Kind::Fair], 3, HANDS_OVER);
 }
 
 const RUN: &[Step] = &[

@@ -14,16 +14,16 @@ pub const DONE: Outcome = Outcome::End(Answer::Ok);
 
 /// The view of a lock: its word, the first of its owners, of its waiters, and of the threads that owe it a wake
 /// or try it again.
-#[derive(Clone, Copy, Debug, PartialEq, Eq)]
-pub struct Shown {
-    pub word: u64,
-    pub owner: Option<(Owner, usize)>,
-    pub waiter: Option<(usize, Want)>,
-    pub debt: Option<(Debt, usize)>,
+#[derive(Clone, Copy, PartialEq, Eq)]
+struct Shown {
+    word: u64,
+    owner: Option<(Owner, usize)>,
+    waiter: Option<(usize, Want)>,
+    debt: Option<(Debt, usize)>,
 }
 
 /// A lock that nobody owns, waits for or owes anything.
-pub const BARE: Shown = Shown {
+const BARE: Shown = Shown {
     word: 0,
     owner: None,
     waiter: None,
@@ -41,8 +41,6 @@ pub enum Line {
     GoesOn(usize, Outcome),
     /// All threads go on until none can.
     Settles,
-    /// A lock shows this.
-    Shows(usize, Shown),
     /// A mutex has this owner and this first waiter, and no thread owes it a wake.
     IsWaitedFor(usize, usize, usize),
     /// A lock for which nobody waits shows this word and this owner.
@@ -91,7 +89,6 @@ fn goes<Q: Queues + Drop>(world: &mut World<Q>, line: Line) -> (bool, Option<Out
             world.settle();
             return (true, None);
         }
-        Line::Shows(lock, shown) => return (look(world, lock) == Some(shown), None),
         Line::IsWaitedFor(lock, owner, waiter) => {
             return (look(world, lock) == Some(waited_for(owner, waiter)), None);
         }

@@ -4,8 +4,9 @@ ghost use Rattle.parking_lot_core.specs.Tokens.{IsTokenOf};
 ghost use Rattle.parking_lot.specs.Names.{lot_of};
 
 use super::super::check_eq;
+use super::super::fair::{is_waited_for, wait_until};
 use super::timed::give_back;
-use super::{Part, Told, await_flag, play, sees_waiter};
+use super::{Part, Told, play};
 use parking_lot::lock_api::{RawMutex as RawLock, RawMutexTimed as RawTimedLock};
 use parking_lot::{Clock, Key, Keys, Note, ParkingLot, RawMutex, Requeue, Token};
 use std::sync::Wait;
@@ -37,7 +38,7 @@ pub(super) fn wait_moved<R: Wait>(rt: &R, mutex: &RawMutex, token: &mut Token, t
     requires { IsTokenOf (lot_of mutex.now) token.old }
     ensures { IsTokenOf (lot_of mutex.now) token.new }
 {
-    await_flag(rt, &told.held);
+    wait_until(rt, &told.held);
     let taken = mutex.try_lock_until(rt, token, &FlagClock(&told.up), 1);
     let got = give_back(rt, mutex, token, taken);
     told.gone.store(true, SeqCst);
@@ -68,11 +69,11 @@ pub(super) fn hold_and_move<R: Wait>(
 {
     let guard = mutex.lock(rt, token);
     told.held.store(true, SeqCst);
-    let came = sees_waiter(rt, lot, token, mutex);
+    let came = is_waited_for(rt, lot, mutex.key(), token);
     move_away(rt, lot, mutex, token);
     mutex.unlock(rt, token, guard);
     told.up.store(true, SeqCst);
-    await_flag(rt, &told.gone);
+    wait_until(rt, &told.gone);
     came && lot.queued(rt, token, ELSEWHERE) == 0
 }
 

@@ -3,8 +3,9 @@ ghost use Rattle.std.specs.Prelude.{IfSome};
 ghost use Rattle.parking_lot_core.specs.Tokens.{IsTokenOf};
 ghost use Rattle.parking_lot.specs.Names.{lot_of};
 
+use super::super::fair::wait_until;
 use super::super::{check, check_eq};
-use super::{Part, await_flag, play, seats, stands};
+use super::{Part, play, seats, stands};
 use parking_lot::lock_api::{RawMutex as RawLock, RawMutexTimed as RawTimedLock};
 use parking_lot::{RawMutex, TickClock, Token};
 use parking_lot_core::pauses::{SHORT_PAUSE, pause};
@@ -86,7 +87,7 @@ pub(super) fn wait_for_held<R: Wait>(
     requires { IsTokenOf (lot_of mutex.now) token.old }
     ensures { IsTokenOf (lot_of mutex.now) token.new }
 {
-    await_flag(rt, held);
+    wait_until(rt, held);
     let clock = TickClock::new();
     let got = match deadline {
         Some(deadline) => mutex.try_lock_until(rt, token, &clock, deadline),

@@ -2,6 +2,7 @@
 ghost use Rattle.std.specs.Prelude.{◌≡◌, ◌≤◌};
 ghost use Rattle.run_signals.specs.SemaphoreUsers.{IsTicketOf, IsTokenOf, lot_of};
 
+use super::super::meets::come_to_wait;
 use super::super::{check_eq, seats};
 use super::semaphore_of;
 use parking_lot_core::{ParkingLot, TickClock, Ticket, Token};
@@ -130,20 +131,6 @@ fn meet<R: Wait>(
     seen
 }
 
-// Whether one came to wait for a permit.
-fn one_waits<R: Wait>(rt: &R, lot: &ParkingLot, semaphore: &Semaphore, token: &mut Token) -> bool
-    requires { IsTokenOf lot.now token.old }
-    ensures { IsTokenOf lot.now token.new }
-{
-    for _ in 0..TURNS {
-        if lot.queued(rt, token, semaphore.key()) == 1 {
-            return true;
-        }
-        yield_now();
-    }
-    false
-}
-
 // Holds the permit until another waits for it. Whether that was seen.
 fn hold<R: Wait>(
     rt: &R,
@@ -157,7 +144,7 @@ fn hold<R: Wait>(
 {
     let permit = semaphore.acquire(rt, token);
     held.store(true, SeqCst);
-    let seen = one_waits(rt, lot, semaphore, token);
+    let seen = come_to_wait(rt, lot, token, semaphore.key(), 1);
     permit.release(rt, token);
     seen
 }
