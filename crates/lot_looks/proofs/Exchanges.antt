@@ -61,11 +61,10 @@ use Rattle.steps_condvar.specs.declared.places.CondvarPlace.TheVariants as condv
 use Rattle.steps_condvar.specs.declared.wait.WaitAt.TheVariants as wait
 use Rattle.steps_condvar.specs.CondvarCalls.{IsReached}
 use Rattle.steps_condvar.specs.CondvarSteps.{condvar_act, in_lock, move_act}
-use Rattle.lot_steps.specs.declared.places.Place.{Place}
 use Rattle.lot_steps.specs.declared.places.Place.TheVariants.{Idle, Mutex, RwLock, Once, Condvar, Semaphore}
 use Rattle.lot_steps.specs.Steps.{in_condvar, in_mutex, in_once, in_rwlock, in_semaphore}
 use Rattle.lot_looks.specs.Looks.{EachExchangeIsKnown, call_looked, call_tries, condvar_looked, condvar_tries}
-use Rattle.lot_looks.specs.Looks.{is_exchange, freeing, mutex_looked, mutex_tries, once_looked}
+use Rattle.lot_looks.specs.Looks.{is_exchange, mutex_looked, mutex_tries, once_looked}
 use Rattle.lot_looks.specs.Looks.{once_looked_by}
 use Rattle.lot_looks.specs.Looks.{rwlock_looked, rwlock_looked_by, rwlock_tries, semaphore_looked}
 
