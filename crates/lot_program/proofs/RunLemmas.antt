@@ -20,28 +20,32 @@ use Rattle.lot_program.specs.declared.program.Instruction.{Instruction}
 use Rattle.lot_program.specs.declared.program.Instruction.TheVariants as instruction
 use Rattle.lot_program.specs.declared.program.Program.{Program}
 use Rattle.lot_program.specs.Programs.{threads_of, instruction_at}
-use Rattle.lot_program.specs.States.{ProgramState, step_of, turning, turned, with_turn, heard, is_barred}
+use Rattle.lot_program.specs.States.{ProgramState, goes_straight, gone_if, step_of, turning, turned, with_turn, heard}
+use Rattle.lot_program.specs.States.{is_barred}
 use Rattle.lot_program.specs.States.{stepped_by, or_refused, world_move, late_move, closing, performed}
 use Rattle.lot_program.specs.States.{going_on, asserted, is_own, own_move, local_at, thread_move}
 use Rattle.lot_program.specs.States.{program_next}
-use Rattle.lot_program.specs.Runs.{go_steps, turn_steps, steps_by, step_by, own_step, thread_step}
+use Rattle.lot_program.specs.Runs.{more_steps, turn_steps, steps_by, step_by, own_step, thread_step}
 use Rattle.lot_program.specs.Runs.{steps_taken}
-use Rattle.lot_program.proofs.TurnLemmas.{gone_world}
+use Rattle.lot_program.proofs.TurnLemmas.{gone_world, straight_world}
 
 -- the world after a turn
 turned_world : (g : Grain) (o : Outcome) (w : State) (step : Step) (l : Local) → step_outcome w step ≡ o
     → is_barred o ≡ false
     → (turned g o w step l).world ≡ after_steps w (turn_steps g w step)
 turned_world g o w step l told goes =
-    gone_world g 64 step.thread (turning (after w step) (heard o l))
-    ∙ ap (λ b. after_steps (after w step) (if b then [] else go_steps g 64 step.thread (after w step)))
+    let b = goes_straight g w step in
+    let x = turning (after w step) (heard o l) in
+    gone_world g 64 step.thread (gone_if b step.thread x) ∙ straight_world b g step.thread x
+    ∙ ap (λ c. after_steps (after w step) (if c then [] else more_steps b g step.thread (after w step)))
     (sym (ap is_barred told ∙ goes))
 
 -- a turn whose first step isn't possible has only that step
 barred_steps : (g : Grain) (w : State) (step : Step) → step_outcome w step ≡ outcome.NotNow
     → turn_steps g w step ≡ step ∷ []
 barred_steps g w step told =
-    ap (λ b. step ∷ (if b then [] else go_steps g 64 step.thread (after w step))) (ap is_barred told)
+    ap (λ b. step ∷ (if b then [] else more_steps (goes_straight g w step) g step.thread (after w step)))
+    (ap is_barred told)
 
 stepped_world : (g : Grain) (o : Outcome) (s u : ProgramState) (step : Step) (l : Local)
     → step_outcome s.world step ≡ o

@@ -1,5 +1,5 @@
 -- The turn of a thread in a call, as steps of the world.
-use Rattle.std.proofs.Common.{ℕ, zero, suc, ◌≡◌, ◌<◌, ◌+◌, ◌-◌, Bool, true, false, List, [], ◌∷◌, refl, sym}
+use Rattle.std.proofs.Common.{ℕ, zero, suc, ◌≡◌, ◌<◌, ◌+◌, ◌-◌, Bool, true, false, List, [], ◌∷◌, length, refl, sym}
 use Rattle.std.proofs.Common.{ap, subst, ◌∙◌, arith}
 use Rattle.std.specs.Prelude.{if◌then◌else◌, ◌||◌}
 use Rattle.spec_locks.specs.declared.calls.Turn.TheVariants as turn
@@ -10,18 +10,18 @@ use Rattle.spec_locks.specs.declared.outcomes.OnceState.{OnceState}
 use Rattle.steps_base.specs.declared.acts.Act.{Act}
 use Rattle.steps_base.specs.declared.acts.Act.TheVariants as act
 use Rattle.steps_base.specs.Acts.{outcome_of}
-use Rattle.lot_steps.specs.Steps.{act_of}
+use Rattle.lot_steps.specs.Steps.{HasKeys, act_of}
 use Rattle.lot_laws.specs.Refinement.{sleeps}
 use Rattle.lot_laws.specs.SitesOf.{IsWorld}
 use Rattle.lot_laws.proofs.alone.WorldRuns.{world_after}
 use Rattle.lot_machine.specs.Machine.{State, after, after_steps, place_at, runs_closure, step_outcome}
 use Rattle.lot_machine.specs.Fits.{SameSize}
-use Rattle.lot_machine.proofs.Shape.{after_size, size_more}
+use Rattle.lot_machine.proofs.Shape.{after_size, has_keys, size_more}
 use Rattle.lot_program.specs.declared.cuts.Grain.{Grain}
 use Rattle.lot_program.specs.declared.states.Local.{Local}
 use Rattle.lot_program.specs.Cuts.{is_cut}
-use Rattle.lot_program.specs.States.{Turning, turning, is_own, is_barred, turn_ends, gone, gone_on, step_of}
-use Rattle.lot_program.specs.Runs.{go_steps}
+use Rattle.lot_program.specs.States.{Turning, turning, is_own, is_barred, turn_ends, gone, gone_if, gone_on, step_of}
+use Rattle.lot_program.specs.Runs.{go_steps, more_steps}
 
 pub gone_none : (g : Grain) (t : ℕ) (x : Turning) (n : ℕ) → n ≡ 0 → gone_on g n t x ≡ x
 unfolding gone_on
@@ -45,7 +45,7 @@ steps_end g t w zero e = refl
 steps_end g t w (suc n) e =
     ap (λ b. if b then [] else step_of t turn.Go ∷ go_steps g n t (after w (step_of t turn.Go))) e
 
-gone_more : (g : Grain) (t : ℕ) (x : Turning) (n : ℕ) → turn_ends g x.world t ≡ false
+pub gone_more : (g : Grain) (t : ℕ) (x : Turning) (n : ℕ) → turn_ends g x.world t ≡ false
     → gone_on g (suc n) t x ≡ gone_on g n t (gone t x)
 unfolding gone_on
 gone_more g t x n e = ap (λ b. if b then x else gone_on g n t (gone t x)) e
@@ -175,6 +175,38 @@ gone_size g (suc n) t x =
     (record { threads = refl; locks = refl })
     (size_more x.world (after x.world (step_of t turn.Go)) (gone_on g n t (gone t x)).world
     (after_size x.world (step_of t turn.Go)) (gone_size g n t (gone t x)))
+
+-- ---------------------------------------------------------------- a turn that may go straight on
+
+pub straight_world : (b : Bool) (g : Grain) (t : ℕ) (x : Turning)
+    → after_steps (gone_if b t x).world (go_steps g 64 t (gone_if b t x).world)
+    ≡ after_steps x.world (more_steps b g t x.world)
+straight_world true g t x = refl
+straight_world false g t x = refl
+
+pub straight_kept : (b : Bool) (t : ℕ) (x : Turning) → IsWorld x.world → IsWorld (gone_if b t x).world
+straight_kept true t x world = world_after x.world (step_of t turn.Go) world
+straight_kept false t x world = world
+
+straight_size : (b : Bool) (t : ℕ) (x : Turning) → SameSize x.world (gone_if b t x).world
+straight_size true t x = after_size x.world (step_of t turn.Go)
+straight_size false t x = record { threads = refl; locks = refl }
+
+-- where a turn ends, by whether it went straight on
+pub finished_kept : (b : Bool) (g : Grain) (t : ℕ) (x : Turning) → IsWorld x.world
+    → IsWorld (gone_on g 64 t (gone_if b t x)).world
+finished_kept b g t x world = gone_kept g 64 t (gone_if b t x) (straight_kept b t x world)
+
+pub finished_size : (b : Bool) (g : Grain) (t : ℕ) (x : Turning)
+    → SameSize x.world (gone_on g 64 t (gone_if b t x)).world
+finished_size b g t x = size_more x.world (gone_if b t x).world (gone_on g 64 t (gone_if b t x)).world
+    (straight_size b t x) (gone_size g 64 t (gone_if b t x))
+
+-- ---------------------------------------------------------------- places
+
+-- the keys of a place are numbers
+pub keyed : (w : State) (t : ℕ) → IsWorld w → HasKeys (place_at w t)
+keyed w t h = has_keys (length w.locks) (place_at w t) h.well_formed.few (h.well_formed.places t)
 
 -- what is told of a turn that has ended so
 module _ (g : Grain) (t : ℕ) (w v : State) (l k : Local) (e : turning v k ≡ gone_on g 64 t (turning w l))
