@@ -1,18 +1,15 @@
 #!/usr/bin/env python3
 """Checks what a script can of the pages: that each block "```rust PATH" or "```text PATH" shows lines of that file; that
-each clause, test and must-fail edit that a page names is there; that lines keep to the width, and sentences and comments
-to the rules of CONTRIBUTING; that numbers which README takes from SPEED are SPEED's; and that pages written by a script
-are current. Usage: pages.py, at the top of the repository."""
+each clause, test and must-fail edit that a page names is there; that lines keep to the width; that numbers which README
+takes from SPEED are SPEED's; and that pages written by a script are current. Usage: pages.py, at the top of the
+repository."""
 import pathlib
 import re
 import subprocess
 import sys
 
-WRITTEN = {"docs/INDEX.md", "docs/STEPS.md"}
+WRITTEN = {"docs/STEPS.md"}
 WIDTH = 110
-WORDS = 25
-BEGINNINGS = re.compile(r"^(Who|Whom|Whoever|Whose|Of|Behind|What|So|The same)\b")
-BANNED = re.compile(r"\b(whom|whomever|whoever)\b", re.IGNORECASE)
 MARKED = re.compile(r"`([^`]+)`")
 # Rows of README's table of speeds, and those of SPEED's that each sums up.
 ROWS = {
@@ -90,55 +87,11 @@ def paragraphs(page):
             held.append(re.sub(r"^\s*([-*]|\d+\.) ", "", line).strip())
 
 
-def sentences(text):
-    """Returns the sentences of a paragraph, its marked names as one word each."""
-    plain = MARKED.sub(lambda name: re.sub(r"[ .:;!?]", "_", name.group(0)), text)
-    plain = re.sub(r"\[([^\]]*)\]\([^)]*\)", r"\1", plain).replace("**", "")
-    return re.split(r"(?<=[.!?]) (?=[A-Z`])", plain)
-
-
-def wrong_prose():
+def wrong_widths():
     for page in pages():
         for number, line in enumerate(text_of(page).split("\n"), 1):
             if len(line) > WIDTH:
                 yield f"{page}:{number}: {len(line)} columns"
-        for number, text in paragraphs(page):
-            for sentence in sentences(text):
-                if BEGINNINGS.match(sentence) and not sentence.rstrip("* ").endswith("?"):
-                    yield f"{page}:{number}: a sentence begins so: {sentence[:60]}"
-                if BANNED.search(sentence):
-                    yield f"{page}:{number}: {BANNED.search(sentence).group(0)}: {sentence[:60]}"
-                parts = re.split(r"[:;→]", MARKED.sub("", sentence))
-                longest = max(len(re.findall(r"[A-Za-z][\w'-]*", part)) for part in parts)
-                if longest > WORDS + 5:
-                    yield f"{page}:{number}: {longest} words: {sentence[:60]}"
-
-
-# ------------------------------------------------------------------ how comments read
-
-
-def comments(path):
-    """Yields the first line's number and the text of each comment of a source file."""
-    first, held = 0, []
-    for number, line in enumerate(path.read_text().split("\n") + [""], 1):
-        match = re.match(r"^\s*(?://[/!]?|--) ?(.*)$", line)
-        if match:
-            first = first if held else number
-            held.append(match.group(1))
-        elif held:
-            yield first, " ".join(held).strip()
-            held = []
-
-
-def wrong_comments():
-    for path in sorted(path for end in ("src/**/*.rt", "specs/*.antt", "proofs/**/*.antt")
-                       for path in pathlib.Path("crates").glob("*/" + end)):
-        for number, text in comments(path):
-            plain = MARKED.sub("", text)
-            if re.match(r"(Who|Whom|Whose|Of whom|Behind|The same|So|and|or|And|Or)\b", text):
-                yield f"{path}:{number}: a comment begins so: {text[:60]}"
-            if re.search(r"\b(who|whom|whoever|whomever)\b", plain, re.IGNORECASE):
-                yield f"{path}:{number}: a comment says who or whom: {text[:60]}"
 
 
 # ------------------------------------------------------------------ clauses, tests and edits
@@ -228,11 +181,11 @@ def wrong_numbers():
 
 
 def main():
-    wrong = [line for check in (wrong_blocks, wrong_prose, wrong_comments, wrong_clauses, wrong_tests,
+    wrong = [line for check in (wrong_blocks, wrong_widths, wrong_clauses, wrong_tests,
                                   wrong_numbers) for line in check()]
     for line in wrong:
         print(line)
-    current = subprocess.run([sys.executable, "bench/definitions.py", "--check"], check=False).returncode
+    current = subprocess.run([sys.executable, "bench/steps.py", "--check"], check=False).returncode
     count = sum(1 for page in pages() for _ in blocks(page))
     print(f"{len(pages())} pages, {count} blocks, {len(wrong)} wrong")
     return 1 if wrong or current or not count else 0

@@ -20,7 +20,6 @@ pub struct Lap {
 }
 
 /// A run: its turns, its steps, the world to which they lead, and what is wrong there.
-#[derive(Drop)]
 pub struct Finding<'a> {
     pub source: Source<'a>,
     pub wrong: Option<Wrong>,
@@ -28,6 +27,20 @@ pub struct Finding<'a> {
     pub walk: Walk<'a, ListQueues>,
     pub steps: Vec<Step>,
     pub world: World<ListQueues>,
+}
+
+// By hand: a derived drop is written out at each exit of each function that owns one.
+impl<'a> Drop for Finding<'a> {
+    fn drop(self) {
+        let Finding {
+            source: _,
+            wrong: _,
+            lap: _,
+            walk: _,
+            steps: _,
+            world: _,
+        } = self;
+    }
 }
 
 impl<'a> Finding<'a> {

@@ -1,8 +1,8 @@
 //! Programs without the lines that a finding doesn't need.
 use crate::grain::Turns;
+use crate::words::line_of;
 use core_base::ListQueues;
 use lot_explore::{Walk, Wrong, shrink};
-use crate::words::line_of;
 use lot_program::Program;
 use lot_program_text::{ProgramText, parse};
 use state_search::NoRoom;

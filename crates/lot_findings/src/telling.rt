@@ -13,7 +13,6 @@ use std::io;
 use std::io::{ErrorKind, Write};
 
 /// A walk with its world, of which each turn is told.
-#[derive(Drop)]
 pub struct Telling<'a> {
     source: Source<'a>,
     walk: Walk<'a, ListQueues>,
@@ -24,6 +23,20 @@ pub struct Telling<'a> {
     variables: Vec<u32>,
     /// The lines that `show` printed before it.
     shown: Vec<u8>,
+}
+
+// By hand: a derived drop is written out at each exit of each function that owns one.
+impl<'a> Drop for Telling<'a> {
+    fn drop(self) {
+        let Telling {
+            source: _,
+            walk: _,
+            world: _,
+            steps: _,
+            variables: _,
+            shown: _,
+        } = self;
+    }
 }
 
 /// Writes a line for each turn, and after it the lines of locks that it changed.
@@ -99,7 +112,15 @@ impl<'a> Telling<'a> {
 
     /// Returns the walk alone.
     pub fn into_walk(self) -> Walk<'a, ListQueues> {
-        self.walk
+        let Telling {
+            source: _,
+            walk,
+            world: _,
+            steps: _,
+            variables: _,
+            shown: _,
+        } = self;
+        walk
     }
 
     /// Returns the world that the walk has come to.

@@ -1,8 +1,8 @@
 //! Walks by moves that are known.
-use core_base::ListQueues;
-use lot_explore::Walk;
 use crate::finding::Finding;
 use crate::source::Source;
+use core_base::ListQueues;
+use lot_explore::Walk;
 use state_search::NoRoom;
 use std::alloc::Global;
 

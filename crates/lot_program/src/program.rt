@@ -100,7 +100,6 @@ pub enum Property {
 
 /// The locks by their kinds, the first numbers of the variables, and the code of each thread. The turns of
 /// threads are of this grain.
-#[derive(Drop)]
 pub struct Program {
     pub kinds: Vec<Kind>,
     pub variables: Vec<u32>,
@@ -110,6 +109,21 @@ pub struct Program {
     pub properties: Vec<Property>,
     pub grain: Grain,
     pub deadlines: Deadlines,
+}
+
+// By hand: a derived drop is written out at each exit of each function that owns one.
+impl Drop for Program {
+    fn drop(self) {
+        let Program {
+            kinds: _,
+            variables: _,
+            code: _,
+            lines: _,
+            properties: _,
+            grain: _,
+            deadlines: _,
+        } = self;
+    }
 }
 
 impl Instruction {

@@ -31,7 +31,6 @@ pub struct Ending {
 }
 
 /// A program with the names and lines of its text.
-#[derive(Drop)]
 pub struct ProgramText {
     pub program: Program,
     pub locks: Names,
@@ -43,6 +42,21 @@ pub struct ProgramText {
     pub endings: Vec<Ending>,
     /// The lines whose instructions are left out.
     pub left_out: Vec<u32>,
+}
+
+// By hand: a derived drop is written out at each exit of each function that owns one.
+impl Drop for ProgramText {
+    fn drop(self) {
+        let ProgramText {
+            program: _,
+            locks: _,
+            variables: _,
+            header: _,
+            property_lines: _,
+            endings: _,
+            left_out: _,
+        } = self;
+    }
 }
 
 impl ProgramText {
@@ -138,7 +152,6 @@ fn draw_up(code: &mut [Instruction], gone: usize) {
 }
 
 // A text that is read up to a line.
-#[derive(Drop)]
 struct Parser {
     alloc: Global,
     // None before the first line.
@@ -155,6 +168,27 @@ struct Parser {
     properties: Vec<Property>,
     property_lines: Vec<u32>,
     endings: Vec<Ending>,
+}
+
+// By hand: a derived drop is written out at each exit of each function that owns one.
+impl Drop for Parser {
+    fn drop(self) {
+        let Parser {
+            alloc: _,
+            threads: _,
+            locks: _,
+            variables: _,
+            header: _,
+            firsts: _,
+            runners: _,
+            section: _,
+            code: _,
+            lines: _,
+            properties: _,
+            property_lines: _,
+            endings: _,
+        } = self;
+    }
 }
 
 /// Reads a program.

@@ -1,9 +1,13 @@
 //! A schedule on standard input, its picture as SVG or its page as HTML on standard output.
 #![tactic(auto)]
 
+mod options;
+mod start;
+mod values;
+
+use crate::options::{Options, Refused, options_from};
+use crate::start::start;
 use core_queues::BucketQueues;
-use lot_draw::start::start;
-use lot_draw::{Options, Refused, options_from};
 use lot_replay::status;
 use std::io::{BufReader, BufWriter, ErrorKind};
 use std::process::ExitCode;

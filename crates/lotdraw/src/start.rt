@@ -1,7 +1,7 @@
 //! A schedule in, its picture out.
 ghost use Rattle.std.specs.Prelude.{◌≡◌, ◌≢◌, IfErr, true};
 ghost use Rattle.std.specs.Io.KnownBytes.{Keeps};
-ghost use Rattle.lot_draw.specs.Endings.{is_malformed, is_silent};
+ghost use Rattle.lotdraw.specs.Endings.{is_malformed, is_silent};
 
 use crate::options::{Form, Options, Refused};
 use core_base::Queues;
@@ -23,7 +23,7 @@ pub enum Unfit {
 }
 
 impl From<Failure> for Unfit {
-    ghost use Rattle.lot_draw.specs.declared.start.Unfit.TheVariants as unfit;
+    ghost use Rattle.lotdraw.specs.declared.start.Unfit.TheVariants as unfit;
 
     ghost from_gives = { λ failure e. e ≡ unfit.Failed failure };
 

@@ -3,8 +3,8 @@ use Rattle.std.specs.Prelude.{Bool, true, false}
 use Rattle.lot_picture.specs.declared.lines.Failure.{Failure}
 use Rattle.lot_picture.specs.declared.lines.Failure.TheVariants.{Malformed, NoMemory, Unread, Undrawn}
 use Rattle.lot_picture.specs.declared.lines.Failure.TheVariants.{Unwritten}
-use Rattle.lot_draw.specs.declared.start.Unfit.{Unfit}
-use Rattle.lot_draw.specs.declared.start.Unfit as unfit
+use Rattle.lotdraw.specs.declared.start.Unfit.{Unfit}
+use Rattle.lotdraw.specs.declared.start.Unfit as unfit
 
 -- whether a line has another form
 abbrev pub is_malformed : Failure → Bool
