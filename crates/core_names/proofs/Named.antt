@@ -1,5 +1,5 @@
 -- A thread that a count names says it.
-use Rattle.std.proofs.Common.{◌≡◌, ◌≢◌, ◌⊎◌, ⊎_elim, Bool, true, false, ℕ, ◌+◌, ◌/◌, ◌%◌, ◌<◌, ◌≤◌, ◌||◌}
+use Rattle.std.proofs.Common.{◌≡◌, ◌≢◌, Bool, true, false, ℕ, ◌+◌, ◌/◌, ◌%◌, ◌<◌, ◌≤◌, ◌||◌}
 use Rattle.std.proofs.Common.{List, [], ◌∷◌, get_or, set, cond, eqb, sym, refl, ap, ◌∙◌, subst, arith}
 use Rattle.std.proofs.Common.{eq-eqb}
 use mathlib.Core.Logic.{dite}

@@ -1,11 +1,11 @@
 -- Names and shares are split off and taken in: all is named, said and shared as before.
-use Rattle.std.proofs.Common.{◌≡◌, ◌≢◌, ℕ, ◌+◌, ◌-◌, ◌<◌, List, [], ◌∷◌, ◌++◌, cond, eqb, sym, refl, ap}
-use Rattle.std.proofs.Common.{subst, arith, inl, eq-eqb, ne_eqb}
+use Rattle.std.proofs.Common.{◌≡◌, ℕ, ◌+◌, ◌-◌, List, ◌∷◌, cond, eqb, sym, refl, ap}
+use Rattle.std.proofs.Common.{subst, arith, inl}
 use mathlib.Core.Logic.{dite}
 use native.Mathlib.Decide.{ℕ_discrete}
 use Rattle.atomic_table.specs.Table.{Splits, Joins}
 use Rattle.core_words.specs.Rule.{LotRule}
-use Rattle.core_words.specs.Views.{blank, counted, has_number, said_as, shared_as}
+use Rattle.core_words.specs.Views.{blank, has_number, shared_as}
 use Rattle.core_words.specs.declared.views.Counting.{Counting}
 use Rattle.core_words.specs.declared.views.Naming.TheVariants.{Thread, From}
 use Rattle.core_words.specs.declared.views.View.{View}

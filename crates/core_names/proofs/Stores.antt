@@ -1,5 +1,5 @@
 -- A count is stored by the thread that it is to name, and looked at.
-use Rattle.std.proofs.Common.{◌≡◌, ◌≢◌, ◌⊎◌, ⊎_elim, inl, inr, Bool, true, ℕ, ◌+◌, ◌/◌, ◌%◌, ◌<◌, ◌≤◌, List}
+use Rattle.std.proofs.Common.{◌≡◌, ◌≢◌, ◌⊎◌, ⊎_elim, inl, inr, ℕ, ◌+◌, ◌/◌, ◌%◌, ◌<◌, List}
 use Rattle.std.proofs.Common.{[], ◌∷◌, get_or, set, cond, eqb, sym, refl, ap, ◌∙◌, subst, arith}
 use mathlib.Core.Logic.{dite}
 use mathlib.Core.Option.{some, none}
@@ -13,13 +13,12 @@ use Rattle.core_words.specs.Indices.{mutex_of_count, rank, word_index}
 use Rattle.core_words.specs.Permits.{slots_of}
 use Rattle.core_words.specs.Rule.{IsCount, LotRule}
 use Rattle.core_words.specs.Steps.{MayStep}
-use Rattle.core_words.specs.Views.{counted, has_number, owned, owning_with, said_as, shared_as, total}
-use Rattle.core_words.specs.declared.owners.Owner.{Owner}
+use Rattle.core_words.specs.Views.{counted, owning_with, said_as, shared_as, total}
 use Rattle.core_words.specs.declared.owners.Ownership.{Ownership}
 use Rattle.core_words.specs.declared.views.Counting.{Counting}
 use Rattle.core_words.specs.declared.views.Naming.TheVariants.{Thread}
 use Rattle.core_words.specs.declared.views.View.{View}
-use Rattle.core_words.specs.declared.words.WordKind.TheVariants.{Mutex, Count}
+use Rattle.core_words.specs.declared.words.WordKind.TheVariants.{Count}
 use Rattle.core_words.proofs.Keeps.{agreed, steps_more, turned}
 use Rattle.core_words.proofs.Stepping.{silent, steps}
 use Rattle.core_words.proofs.Totals.{total-set, cond_same, cond_other}

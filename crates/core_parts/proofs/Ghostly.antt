@@ -1,6 +1,6 @@
 -- A table's rule and views are changed with no step: its invariant is opened while a share of its lifetime's
 -- token is held. Assumes `Logic`.
-use Rattle.std.proofs.Common.{◌≡◌, ℕ, zero, suc, ◌+◌, ◌*◌, ◌<◌, List, [], ◌∷◌, ◌++◌, length, length-set, set}
+use Rattle.std.proofs.Common.{◌≡◌, ℕ, ◌+◌, ◌<◌, List, [], ◌∷◌, ◌++◌, length, length-set, set}
 use Rattle.std.proofs.Common.{sym, refl, ◌∙◌, subst, arith}
 use mathlib.Core.Option as maybe
 use mathlib.Core.List.{not-mem-nil}
@@ -8,12 +8,12 @@ use lib.ListN.{get_elem?}
 use seplogic.Ra.Ura.{Ura}
 use base.Share.{three_quarters}
 use base.Stored.{Coded}
-use base.Logic.{SProp, ent, sep, wand, ex, all, guard, upd, emp, via, all_e, upd_i, id⊢}
-use base.Fml.{Lft, Share, Fml, ftrue, fsep, fex, fbor, finv, flft, fnamed}
+use base.Logic.{SProp, ent, sep, ex, all, guard, upd, emp, via, all_e, upd_i, id⊢}
+use base.Fml.{Lft, Share, Fml, ftrue, fsep, fex, fbor, flft, fnamed}
 use types.Logic.{Logic, sem}
-use types.Kit.{‵, raw, ◌⊛◌, some, given, ◌$◌, ◌∵◌, !, qed, by, move, keep, drop, split, split3, join, fsplit}
-use types.Kit.{fsplit3, fjoin, fjoin3, fpick, fpack, pick, learn, show, check, frame, each, assume, suffices}
-use types.Kit.{settle, done, use0, use1, use2, use3, rewrite}
+use types.Kit.{‵, raw, ◌⊛◌, some, given, ◌$◌, ◌∵◌, !, qed, by, move, drop, split, join, fsplit}
+use types.Kit.{fsplit3, fjoin, fjoin3, fpick, fpack, pick, learn, show, check, frame, assume, suffices}
+use types.Kit.{settle, done, use0, use1, use2, rewrite}
 use denote.RattleType.{RattleType}
 use denote.RawPtr.{Ptr, block_of, count_of}
 use denote.Steps.{nothing}
@@ -21,7 +21,7 @@ use Rattle.atomic_table.specs.Table.{State, Me, Act, keeps, takes, gives, chain,
 use Rattle.atomic_table.specs.Table.{Valid, Splits, Joins}
 use Rattle.core_parts.specs.Changes.{Stirs}
 use Rattle.atomic_table.specs.Seated.{fact, row, seen, roster, tracked, carried, shelf, TableId, age, place}
-use Rattle.atomic_table.specs.Seated.{names, Placed, standing, inner, common, mine}
+use Rattle.atomic_table.specs.Seated.{names, standing, inner, common, mine}
 use Rattle.atomic_table.proofs.Roster.{Moved, moves, Joined, joins, apart, taken, returned}
 
 module _ {M : Type 1} {𝓤 : Ura M} (𝓛 : Logic 𝓤) (R : RattleType) {V : Type 0} (cv : Coded V)

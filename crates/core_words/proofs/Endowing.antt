@@ -1,7 +1,7 @@
 -- A semaphore's word is drawn with its permits, and these stay as many.
 use Rattle.std.proofs.Common.{◌≡◌, ◌≢◌, ◌⊎◌, ⊎_elim, inl, inr, ℕ, zero, suc, ◌+◌, ◌-◌, ◌/◌, ◌^◌, ◌<◌, ◌≤◌}
-use Rattle.std.proofs.Common.{List, [], ◌∷◌, ◌++◌, map, length, get_or, set, cond, eqb, sym, refl, ap, ◌∙◌}
-use Rattle.std.proofs.Common.{subst, arith, eq-eqb, ne_eqb, length-set, get_or-set_same}
+use Rattle.std.proofs.Common.{List, [], ◌∷◌, ◌++◌, get_or, set, cond, eqb, sym, refl, ap, ◌∙◌}
+use Rattle.std.proofs.Common.{subst, arith, eq-eqb, ne_eqb}
 use mathlib.Core.Logic.{dite}
 use mathlib.Core.Option.{some, none}
 use native.Mathlib.Decide.{ℕ_discrete}
@@ -10,24 +10,23 @@ use prog.Atomic.{either}
 use Rattle.atomic_table.specs.Table.{State, Me, step, keeps, Act, Valid, carried_after, stepped, Allows}
 use Rattle.atomic_table.proofs.Lists.{at_set}
 use Rattle.core_base.specs.declared.ops.Op.TheVariants.{Exchange, Load}
-use Rattle.core_words.specs.Indices.{counter, plain, permits_in, word_index}
+use Rattle.core_words.specs.Indices.{counter, permits_in, word_index}
 use Rattle.core_words.specs.Views.{blank, going_on, with_out, total, total_below, owned, owning, named}
 use Rattle.core_words.specs.Views.{counted, steps_at, outs, drew, drew_permits, granted}
-use Rattle.core_words.specs.Codes.{Codes, IsSemaphoreCode, Shows, everyone, exclusive, shared}
-use Rattle.core_words.specs.Rule.{LotRule, MayBeShown, MayHaveOut}
+use Rattle.core_words.specs.Codes.{Codes, IsSemaphoreCode, everyone, exclusive, shared}
+use Rattle.core_words.specs.Rule.{LotRule, MayHaveOut}
 use Rattle.core_words.specs.RuleLaws.{PermitsAreAllThere}
 use Rattle.core_words.specs.Permits.{slots_of}
 use Rattle.core_words.specs.Steps.{holding, one_more_step, so_many_shared}
 use Rattle.core_words.specs.Plays.{WithinPermits, draws_permits, numbered, sees_free}
 use Rattle.core_words.specs.declared.owners.Owner.{Owner}
-use Rattle.core_words.specs.declared.owners.Owner.TheVariants.{Shared}
 use Rattle.core_words.specs.declared.owners.Ownership.{Ownership}
 use Rattle.core_words.specs.declared.views.View.{View}
 use Rattle.core_words.specs.declared.views.Drawn.{Drawn}
 use Rattle.core_words.specs.declared.words.WordKind.{WordKind}
 use Rattle.core_words.specs.declared.words.WordKind.TheVariants.{Mutex, Condvar, Count, Semaphore}
 use Rattle.core_parts.specs.declared.slot.PermitSlot.{PermitSlot}
-use Rattle.core_words.proofs.Indices.{rank_lt, index-kind, index-number}
+use Rattle.core_words.proofs.Indices.{index-kind}
 use Rattle.core_words.proofs.Keeps.{SameCounts, SameName, at_counter, codes_alike, count_turned}
 use Rattle.core_words.proofs.Keeps.{counts_still, no_permits, permits_of, same_counts, shown_still}
 use Rattle.core_words.proofs.Keeps.{total_below-numbered}

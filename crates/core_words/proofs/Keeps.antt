@@ -14,7 +14,7 @@ use Rattle.core_words.specs.Indices.{rank, plain, permits_in, word_index, counte
 use Rattle.core_words.specs.Views.{view, going_on, with_out, total, total_below, owned, owning, owning_with}
 use Rattle.core_words.specs.Views.{named, counted, has_number, said_as, shared_as, steps_at, outs, drew}
 use Rattle.core_words.specs.Views.{drew_permits, granted}
-use Rattle.core_words.specs.Codes.{Owners, Codes, Shows, IsCountCode, everyone, exclusive, shared}
+use Rattle.core_words.specs.Codes.{Owners, Codes, Shows, everyone, exclusive, shared}
 use Rattle.core_words.specs.Rule.{IsCount, LotRule, MayBeShown, MayHaveOut}
 use Rattle.core_words.specs.Permits.{slot_at}
 use Rattle.core_parts.specs.declared.slot.PermitSlot.{PermitSlot}
@@ -30,7 +30,7 @@ use Rattle.core_words.specs.declared.views.WordStep.{WordStep}
 use Rattle.core_words.specs.declared.views.Naming.{Naming}
 use Rattle.core_words.proofs.Trades.{total-without, traded_here, traded_elsewhere, traded_counts, owned_some}
 use Rattle.core_words.specs.declared.owners.Owner.{Owner}
-use Rattle.core_words.specs.declared.owners.Owner.TheVariants.{Exclusive, Shared}
+use Rattle.core_words.specs.declared.owners.Owner.TheVariants.{Exclusive}
 use Rattle.core_words.specs.declared.views.View.{View}
 use Rattle.core_words.specs.declared.views.Drawn.{Drawn}
 use Rattle.core_words.specs.declared.words.WordKind.{WordKind}

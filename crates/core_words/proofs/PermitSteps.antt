@@ -9,8 +9,8 @@ use lib.ListN.{get_elem?, replicate, length-replicate, get_or-replicate}
 use Rattle.atomic_table.specs.Table.{State, Me, takes, gives, chain, rest, put_back, opening}
 use Rattle.atomic_table.proofs.Lists.{at_set}
 use Rattle.core_words.specs.Indices.{word_index, counter, table_size}
-use Rattle.core_words.specs.Views.{blank, namer, shown, with_out, total, total_below, owned, named, counted}
-use Rattle.core_words.specs.Views.{has_number, steps_at, outs, drew}
+use Rattle.core_words.specs.Views.{blank, namer, shown, with_out, total, total_below, owned, named}
+use Rattle.core_words.specs.Views.{has_number, steps_at, outs}
 use Rattle.core_words.specs.Codes.{Codes, IsMutexCode, exclusive, if_names}
 use Rattle.core_words.specs.Permits.{slot_at, slots_of, laid}
 use Rattle.core_parts.specs.Changes.{Stirs}

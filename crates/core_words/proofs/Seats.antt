@@ -8,7 +8,7 @@ use Rattle.atomic_table.proofs.Lists.{at_set, at_snoc}
 use Rattle.core_words.specs.Indices.{word_index, word_kind_at}
 use Rattle.core_words.specs.Codes.{exclusive}
 use Rattle.core_words.specs.Views.{blank, with_out, total, owned, owning, counted, counts_in, has_number}
-use Rattle.core_words.specs.Views.{said_as, shared_as, steps_at, outs, drew}
+use Rattle.core_words.specs.Views.{said_as, shared_as, steps_at, outs}
 use Rattle.core_words.specs.Plays.{BringsNoName, goes_on_with, left_over, piece, takes_in}
 use Rattle.core_words.specs.Rule.{LotRule, MayHaveOut}
 use Rattle.core_words.specs.Steps.{has, without}

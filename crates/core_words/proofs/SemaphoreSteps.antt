@@ -1,6 +1,6 @@
 -- The kinds of step on a semaphore's word, each an instance of one law.
-use Rattle.std.proofs.Common.{◌≡◌, ◌≢◌, ℕ, zero, suc, ◌+◌, ◌-◌, ◌*◌, ◌/◌, ◌%◌, ◌^◌, ◌<◌, ◌≤◌, List, [], ◌∷◌}
-use Rattle.std.proofs.Common.{◌++◌, ◌∙◌, true, cond, eqb, sym, refl, ap, subst, arith, eq-eqb, ne_eqb}
+use Rattle.std.proofs.Common.{◌≡◌, ℕ, zero, suc, ◌+◌, ◌-◌, ◌*◌, ◌/◌, ◌%◌, ◌^◌, ◌<◌, ◌≤◌, List}
+use Rattle.std.proofs.Common.{◌++◌, ◌∙◌, cond, eqb, sym, refl, ap, subst, arith, eq-eqb, ne_eqb}
 use Rattle.std.proofs.Common.{bit_and}
 use Rattle.std.proofs.lemmas.Nat.{and-not, and_comm}
 use Rattle.std.proofs.lemmas.Nat.Bits.{and_pow}
@@ -10,10 +10,10 @@ use Rattle.core_base.specs.Words.{apply}
 use Rattle.core_base.specs.declared.ops.Op.{Op}
 use Rattle.core_base.specs.declared.ops.Op.TheVariants.{Load, Add, And, Exchange}
 use Rattle.core_words.specs.Views.{total, owned, owning}
-use Rattle.core_words.specs.Codes.{Owners, IsSemaphoreCode, everyone, shared}
-use Rattle.core_words.specs.Steps.{CodesWith, has, HasAll, MayStep, Trade, holding, owns_after}
-use Rattle.core_words.specs.Steps.{owns_after_step, so_many_shared, trading, without, without_all}
-use Rattle.core_words.specs.Laws.{SemaphoreSteps, SemaphoreMaySteps, SemaphoreTrades, SemaphoreTrading}
+use Rattle.core_words.specs.Codes.{everyone, shared}
+use Rattle.core_words.specs.Steps.{has, HasAll, MayStep, holding, owns_after}
+use Rattle.core_words.specs.Steps.{so_many_shared, trading, without, without_all}
+use Rattle.core_words.specs.Laws.{SemaphoreSteps, SemaphoreMaySteps, SemaphoreTrading}
 use Rattle.core_words.specs.declared.owners.Owner.{Owner}
 use Rattle.core_words.specs.declared.owners.Owner.TheVariants.{Shared}
 use Rattle.core_words.specs.declared.owners.Ownership.{Ownership}

@@ -1,23 +1,22 @@
 -- The kinds of step on words that are tied to the word of a mutex.
-use Rattle.std.proofs.Common.{◌≡◌, ◌≢◌, inl, inr, ℕ, ◌+◌, ◌^◌, ◌<◌, List, get_or, true, cond, sym, refl, ap}
-use Rattle.std.proofs.Common.{subst, arith, eq-eqb, ne_eqb}
+use Rattle.std.proofs.Common.{◌≡◌, ◌≢◌, inl, inr, ℕ, ◌+◌, ◌<◌, List, get_or, cond, refl, ap}
+use Rattle.std.proofs.Common.{eq-eqb, ne_eqb}
 use mathlib.Core.Logic.{dite}
 use mathlib.Core.Option.{none}
 use native.Mathlib.Decide.{ℕ_discrete}
 use Rattle.atomic_table.specs.Table.{Me, Allows, step}
 use Rattle.core_base.specs.Words.{apply}
 use Rattle.core_base.specs.declared.ops.Op.{Op}
-use Rattle.core_base.specs.declared.ops.Op.TheVariants.{Load, Store, Add, Sub, Exchange}
-use Rattle.core_words.specs.Indices.{word_index, mutex_of_count}
-use Rattle.core_words.specs.Views.{owning_with}
-use Rattle.core_words.specs.Codes.{IsCountCode, ShowsBeside}
+use Rattle.core_base.specs.declared.ops.Op.TheVariants.{Load, Store, Exchange}
+use Rattle.core_words.specs.Indices.{word_index}
+use Rattle.core_words.specs.Codes.{ShowsBeside}
 use Rattle.core_words.specs.Plays.{sees_shown}
 use Rattle.core_words.specs.Rule.{LotRule, MayBeShown}
-use Rattle.core_words.specs.Steps.{has, MayTie, MayStep}
+use Rattle.core_words.specs.Steps.{MayTie, MayStep}
 use Rattle.core_words.specs.Laws.{CondvarMaySteps, CountMaySteps}
 use Rattle.core_words.specs.declared.owners.Ownership.{Ownership}
 use Rattle.core_words.specs.declared.views.View.{View}
-use Rattle.core_words.specs.declared.words.WordKind.TheVariants.{Mutex, Condvar, Count}
+use Rattle.core_words.specs.declared.words.WordKind.TheVariants.{Condvar}
 use Rattle.core_parts.specs.declared.slot.PermitSlot.{PermitSlot}
 use Rattle.core_words.specs.Permits.{slots_of}
 use Rattle.core_words.proofs.Keeps.{shows_more}

@@ -1,10 +1,8 @@
 -- The effect of a trade on a list of ownerships, by any weight of these.
-use Rattle.std.proofs.Common.{◌≡◌, ◌≢◌, ◌⊎◌, inl, inr, ℕ, ◌+◌, List, [], ◌∷◌, map, Bool, true, false, cond}
-use Rattle.std.proofs.Common.{eqb, ◌&&◌, ◌||◌, refl, sym, ap, ◌∙◌, arith, ◌<◌, eq-eqb, ne_eqb}
-use mathlib.Core.Logic.{dite}
-use native.Mathlib.Decide.{ℕ_discrete}
+use Rattle.std.proofs.Common.{◌≡◌, ◌≢◌, ℕ, ◌+◌, List, [], ◌∷◌, map, Bool, true, false, cond}
+use Rattle.std.proofs.Common.{eqb, ◌&&◌, ◌||◌, refl, sym, ap, ◌∙◌, arith, ◌<◌, eq-eqb}
 use Rattle.std.proofs.lemmas.Bool.{eqb-true, false≢true}
-use Rattle.core_words.specs.Views.{total, owned, owning, owning_with, counted}
+use Rattle.core_words.specs.Views.{total, owned, owning, counted}
 use Rattle.core_words.specs.Steps.{Trade, owner_rank, is_this, has, without, HasAll, without_all, owns_after}
 use Rattle.core_words.specs.declared.owners.Owner.{Owner}
 use Rattle.core_words.specs.declared.owners.Owner.TheVariants.{Exclusive, Pending, Upgrading, Upgradable}

@@ -5,7 +5,6 @@ use Rattle.std.proofs.Common.{get_or-set_same, get_or-set_other, length-set, ne_
 use Rattle.std.proofs.lemmas.Bool.{cases_eq, cases_lt}
 use Rattle.std.proofs.lemmas.List.{drop_more, get_or-drop, get_or_past, get_or-replicate, length-replicate}
 use Rattle.std.proofs.Math.Seq.{drop-nil}
-use Rattle.std.specs.Prelude.{◌&&◌}
 use Rattle.lot_steps.specs.declared.places.Place.{Place}
 use Rattle.lot_steps.specs.declared.places.Place.TheVariants.{Idle}
 use Rattle.lot_machine.specs.declared.debts.Debt.{Debt}

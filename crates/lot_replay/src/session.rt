@@ -25,6 +25,11 @@ pub(crate) struct Session<Q: Queues + Drop> {
 // By hand: a derived drop is written out at each exit of each function that owns one.
 impl<Q: Queues + Drop> Drop for Session<Q> {
     fn drop(self) {
-        let Session { threads: _, names: _, kinds: _, world: _ } = self;
+        let Session {
+            threads: _,
+            names: _,
+            kinds: _,
+            world: _,
+        } = self;
     }
 }

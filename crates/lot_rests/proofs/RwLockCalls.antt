@@ -33,9 +33,9 @@ use Rattle.steps_rwlock_fair.specs.declared.places.RwLockCallPlace.{RwLockCallPl
 use Rattle.steps_rwlock_fair.specs.declared.places.RwLockCallPlace.TheVariants.{Plain, PeekQueue, HandOver}
 use Rattle.steps_rwlock_fair.specs.declared.places.RwLockCallPlace.TheVariants.{Bump}
 use Rattle.steps_rwlock_fair.specs.declared.places.RwLockCallPlace.TheVariants.{Handed}
-use Rattle.steps_rwlock_fair.specs.FairSteps.{accept_act, any_taken, bump_next, call_act, call_next}
-use Rattle.steps_rwlock_fair.specs.FairSteps.{enters_again, exchange_act, freed_next, given, gives_up_at}
-use Rattle.steps_rwlock_fair.specs.FairSteps.{gives_way, hand_over_act, hand_over_next, handed_act, has_room}
+use Rattle.steps_rwlock_fair.specs.FairSteps.{any_taken, bump_next, call_act, call_next}
+use Rattle.steps_rwlock_fair.specs.FairSteps.{enters_again, freed_next, given, gives_up_at}
+use Rattle.steps_rwlock_fair.specs.FairSteps.{gives_way, hand_over_act, handed_act, has_room}
 use Rattle.steps_rwlock_fair.specs.FairSteps.{parked_as, plain_next, released, took, unless_given, with_taken}
 use Rattle.steps_rwlock_fair.specs.FairSteps.{word_without}
 use Rattle.steps_rwlock_fair.specs.FairSteps as fair

@@ -49,7 +49,7 @@ use Rattle.steps_rwlock.proofs.RwLockCodes.{fits_aside, fits_even}
 use Rattle.lot_rests.proofs.Rows.{Goes, SetsBit, clear_by, either_less, exchange_fails, exchanged, is_still}
 use Rattle.lot_rests.proofs.Rows.{nears, one_unless, same}
 use Rattle.lot_rests.proofs.Work.{plain_work, wake_work, work_then}
-use Rattle.lot_rests.proofs.Ways.{checks, decides, leaves, loads, park_ways, parks, rwlock_ways}
+use Rattle.lot_rests.proofs.Ways.{checks, decides, leaves, loads, parks, rwlock_ways}
 use Rattle.lot_rests.proofs.Ways.{waits_in_main, ways_then}
 use Rattle.lot_rests.proofs.Ways as ways
 

@@ -1,8 +1,8 @@
 //! What the program's arguments ask for.
 use clap::error::Error;
 use clap::{Arg, ArgAction, ArgMatches, Command, value_parser};
-use lot_program::Deadlines;
 use lot_findings::{GrainName, Turns};
+use lot_program::Deadlines;
 use state_search::Limits;
 use std::alloc::Global;
 

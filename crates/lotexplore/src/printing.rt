@@ -1,7 +1,9 @@
 //! What was found, as it is asked for.
 use crate::arguments::{Arguments, Form};
 use crate::picture::draw_finding;
-use lot_findings::{Finding, Headline, explain, write_headline, write_json, write_schedule, write_story};
+use lot_findings::{
+    Finding, Headline, explain, write_headline, write_json, write_schedule, write_story,
+};
 use std::io::{BufWriter, Write};
 use std::{fs, io};
 

@@ -1,5 +1,5 @@
 -- The text that went out of a page that was finished.
-use Rattle.std.proofs.Common.{ℕ, Bool, true, false, List, [], ◌++◌, Option, ◌≡◌, ◌⊎◌, inl, inr, subst, sym}
+use Rattle.std.proofs.Common.{ℕ, Bool, true, false, List, [], ◌++◌, Option, ◌≡◌, inl, inr, subst}
 use Rattle.std.proofs.Common.{refl}
 use Rattle.std.proofs.lemmas.List.{append-nil}
 use Rattle.lot_text.specs.Sent.{Held, Puts, PutsWhere, Sends, SendsFront}

@@ -1,5 +1,5 @@
 -- The counts that a thread stores.
-use Rattle.std.proofs.Common.{◌≡◌, ◌⊎◌, inl, inr, ℕ, ◌+◌, ◌-◌, ◌/◌, ◌%◌, ◌<◌, refl, arith}
+use Rattle.std.proofs.Common.{◌≡◌, ◌⊎◌, inr, ℕ, ◌+◌, ◌-◌, ◌/◌, ◌%◌, ◌<◌, arith}
 use Rattle.core_words.specs.Codes.{IsCountCode}
 use Rattle.parking_lot_core.specs.Counts.{Names, first_said}
 

@@ -1,5 +1,5 @@
 -- How a sleep ends.
-use Rattle.std.specs.Prelude.{ℕ, ◌≡◌, List, [], Option, Some, None}
+use Rattle.std.specs.Prelude.{ℕ, ◌≡◌, [], Option, Some, None}
 use Rattle.core_words.specs.RightsOf.{IsRightOf, IsFor}
 use Rattle.core_words.specs.declared.rights.Right.{Right}
 use Rattle.core_words.specs.declared.words.Word.{Word}

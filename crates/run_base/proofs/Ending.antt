@@ -1,6 +1,6 @@
 -- The end of a call.
-use Rattle.std.proofs.Common.{ℕ, ◌≡◌, ◌≢◌, Bool, true, false, List, Option, None, Some, inl, inr, refl, sym}
-use Rattle.std.proofs.Common.{ap, ◌∙◌, subst}
+use Rattle.std.proofs.Common.{ℕ, ◌≡◌, ◌≢◌, Bool, true, false, List, Option, None, Some, inl, inr, refl}
+use Rattle.std.proofs.Common.{ap, subst}
 use Rattle.spec_locks.specs.declared.outcomes.Answer.{Answer}
 use Rattle.spec_locks.specs.declared.outcomes.Answer.TheVariants.{Ok, Yes, No}
 use Rattle.spec_locks.specs.declared.outcomes.OnceState.{OnceState}

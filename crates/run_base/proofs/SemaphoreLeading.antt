@@ -1,7 +1,7 @@
 -- Each act of a semaphore's call is one that the thread may take, and leads to a place that fits.
 use Rattle.std.proofs.Common.{◌++◌, ℕ, ◌≡◌, ◌≢◌, ◌*◌, ◌/◌, ◌-◌, ◌^◌, ◌≤◌, ◌==◌, ◌&&◌, Bool, true, false, List}
-use Rattle.std.proofs.Common.{◌∷◌, Option, Some, None, cond, not, if◌then◌else◌, inl, inr, sym, refl, ap, ◌∙◌}
-use Rattle.std.proofs.Common.{subst, arith, eq-eqb, ne_eqb, bit_and}
+use Rattle.std.proofs.Common.{◌∷◌, Option, Some, None, cond, not, if◌then◌else◌, sym, refl, ap, ◌∙◌}
+use Rattle.std.proofs.Common.{subst, arith, eq-eqb, ne_eqb}
 use Rattle.std.proofs.lemmas.Bool.{false≢true}
 use Rattle.std.proofs.lemmas.Nat.{and-not, and_comm}
 use Rattle.std.proofs.lemmas.Nat.Bits.{and_pow}
@@ -22,8 +22,8 @@ use Rattle.spec_locks.specs.declared.outcomes.Answer.{Answer}
 use Rattle.spec_locks.specs.declared.outcomes.Answer.TheVariants as answers
 use Rattle.spec_locks.specs.declared.outcomes.OnceState.{OnceState}
 use Rattle.steps_semaphore.specs.SemaphoreSteps.{acquire_act, acquired, decided, in_acquire, in_try, is_free}
-use Rattle.steps_semaphore.specs.SemaphoreSteps.{looked, next_acquire, next_try, release_act, semaphore_act}
-use Rattle.steps_semaphore.specs.SemaphoreSteps.{semaphore_looking, try_act}
+use Rattle.steps_semaphore.specs.SemaphoreSteps.{looked, release_act, semaphore_act}
+use Rattle.steps_semaphore.specs.SemaphoreSteps.{try_act}
 use Rattle.steps_semaphore.specs.declared.acquire.AcquireAt.{AcquireAt}
 use Rattle.steps_semaphore.specs.declared.acquire.AcquireAt.TheVariants as acquire
 use Rattle.steps_semaphore.specs.declared.tries.TryAt.{TryAt}
@@ -36,15 +36,13 @@ use Rattle.lot_steps.specs.Steps.{in_semaphore, semaphore_does, semaphore_goes}
 use Rattle.lot_steps.specs.declared.places.Place.{Place}
 use Rattle.lot_steps.specs.declared.places.Place.TheVariants.{Semaphore}
 use Rattle.core_words.specs.Steps.{CodesWith, owns_after, owns_after_step, so_many_shared, trading}
-use Rattle.core_words.specs.Views.{owning}
 use Rattle.core_words.specs.declared.owners.Ownership.{Ownership}
-use Rattle.core_words.specs.declared.views.WordStep.{WordStep}
 use Rattle.core_words.specs.declared.words.WordKind as kinds
 use Rattle.core_words.proofs.SemaphoreSteps.{semaphore_steps, semaphore_trades}
 use Rattle.parking_lot_core.specs.declared.tokens.Did.TheVariants.{TakeFirst}
 use Rattle.run_base.specs.Fitting.{CallPurpose, Fits, LooksLeadOn, Reached, ReachedBy, call_purpose}
 use Rattle.run_base.specs.Fitting.{answer_of, of_semaphore, sleeper_at}
-use Rattle.run_base.specs.MutexFitting.{Outside, Within}
+use Rattle.run_base.specs.MutexFitting.{Outside}
 use Rattle.run_base.specs.SemaphoreFitting.{AcquireAnswer, to_acquire, to_try, FitsAcquire, FitsRelease}
 use Rattle.run_base.specs.SemaphoreFitting.{FitsSemaphore, FitsTry, permit}
 use Rattle.run_base.specs.Paths.{at_semaphore, semaphore_at, semaphores, step}

@@ -1,6 +1,6 @@
 -- The tellings of an act bring its reply.
-use Rattle.std.proofs.Common.{ℕ, suc, ◌≡◌, ◌==◌, ◌+◌, ◌++◌, ◌∷◌, [], not, Bool, true, false, List, Option}
-use Rattle.std.proofs.Common.{Some, None, length, refl, sym, ap, ◌∙◌, subst}
+use Rattle.std.proofs.Common.{ℕ, ◌≡◌, ◌==◌, ◌+◌, ◌++◌, ◌∷◌, [], not, true, false, List, Option}
+use Rattle.std.proofs.Common.{Some, None, length, refl, sym, ap, ◌∙◌}
 use Rattle.std.proofs.lemmas.List.{append-nil, append_assoc}
 use Rattle.core_base.specs.Lines.{threads_of}
 use Rattle.core_base.specs.declared.notes.Note.{Note}
@@ -22,7 +22,7 @@ use Rattle.parking_lot_core.specs.declared.tokens.Did as did
 use Rattle.parking_lot_core.specs.declared.tokens.Token.{Token}
 use Rattle.run_base.specs.Courses.{HasTold, Tells, TellsFound, TellsIn, TellsLate, leaving, moving, taking}
 use Rattle.run_base.specs.Courses.{told_by, told_within}
-use Rattle.run_base.specs.Stages.{ActNeeds, Became, HasKey, SectionView, ThreadState, TookBy, is_there}
+use Rattle.run_base.specs.Stages.{ActNeeds, Became, HasKey, SectionView, TookBy, is_there}
 use Rattle.run_base.specs.Stages.{listed}
 use Rattle.run_base.specs.Stages.{section_view, stage_of, threads_taken, took_as}
 use Rattle.run_base.specs.Telling.{TellsQueues, TellsTake, line_in}

@@ -15,7 +15,7 @@ use Rattle.spec_locks.specs.Locks as locks
 use Rattle.spec_locks.specs.Locks.{LockState, LockCase, Mutex, Queued, Rules, Taken, Needs, Enter, Pend}
 use Rattle.spec_locks.specs.Locks.{Settle, Leave, Convert, Park, Aside, TakeFirst, TakeAside, TakePicked}
 use Rattle.spec_locks.specs.Locks.{Wake, HandOff, Late, Rollback, OfOnce, OfCondvar, SeeOwner, IsLockState}
-use Rattle.spec_locks.specs.Locks.{Owns, after_case, keep_from, left_after, let_go, one_if_some, putting}
+use Rattle.spec_locks.specs.Locks.{after_case, keep_from, left_after, let_go, one_if_some, putting}
 use Rattle.spec_locks.specs.Locks.{standing, taking, times}
 use Rattle.spec_locks.specs.Runs.{LocksState, AreLockStates, Event, Nothing, AtLock, Moves, GoesOn, Does}
 use Rattle.spec_locks.specs.Runs.{MayHappen, Turned, is_among, joined_by, locks_after, rules_at}

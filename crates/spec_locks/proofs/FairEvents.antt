@@ -15,7 +15,7 @@ use Rattle.spec_locks.specs.Locks as locks
 use Rattle.spec_locks.specs.Locks.{LockState, LockCase, Mutex, Queued, Rules, Taken, Needs, Enter, Pend}
 use Rattle.spec_locks.specs.Locks.{Settle, Leave, Convert, Park, Aside, TakeFirst, TakeAside, TakePicked}
 use Rattle.spec_locks.specs.Locks.{Wake, HandOff, Late, Rollback, OfOnce, OfCondvar, SeeOwner, IsLockState}
-use Rattle.spec_locks.specs.Locks.{Owns, after_case, keep_from, left_after, let_go, putting, taking, times}
+use Rattle.spec_locks.specs.Locks.{after_case, keep_from, left_after, let_go, putting, times}
 use Rattle.spec_locks.specs.Purposes.{Purpose, Enters, Releases, Converts, Bumps, CallsOnce, Awaits, Waits}
 use Rattle.spec_locks.specs.Purposes.{Notifies, CondvarMemory, IsMadeOf}
 use Rattle.spec_locks.specs.Runs.{LocksState, AreLockStates, Event, Nothing, AtLock, Moves, Does, GoesOn}

@@ -14,7 +14,7 @@ use Rattle.spec_locks.specs.Locks as locks
 use Rattle.spec_locks.specs.Locks.{LockState, LockCase, Pending, Queued, Rules, Sort, Mutex, Normal}
 use Rattle.spec_locks.specs.Locks.{Recursive, Semaphore, Once, Condvar, Taken, Needs, Enter, Pend, Settle}
 use Rattle.spec_locks.specs.Locks.{Leave, Convert, Park, Aside, TakeFirst, TakeAside, TakePicked, Wake}
-use Rattle.spec_locks.specs.Locks.{HandOff, Late, Rollback, OfOnce, OfCondvar, SeeOwner, Look, Show, Hide}
+use Rattle.spec_locks.specs.Locks.{HandOff, Late, Rollback, OfOnce, OfCondvar, SeeOwner}
 use Rattle.spec_locks.specs.Locks.{IsLockState, Knows, TakesOneAtATime, after_case, converted, falling_back}
 use Rattle.spec_locks.specs.Locks.{first_thread, handed, keep_from, left_after, let_go, pending_for, putting}
 use Rattle.spec_locks.specs.Locks.{succeeding, taking, with_owner, without_owner}

@@ -23,7 +23,7 @@ use Rattle.spec_locks.specs.Locks.{TakeAside, TakePicked, Wake, HandOff, Late, R
 use Rattle.spec_locks.specs.Locks.{SeeOwner, Look, Show, Hide, Taken, readers, has_caller, one_if_some}
 use Rattle.spec_locks.specs.Locks.{one_if_thread, standing, times}
 use Rattle.spec_locks.specs.Locks as locks
-use Rattle.spec_locks.specs.Purposes.{Purpose, Enters, Releases, Converts, Bumps, CallsOnce, Awaits, Waits}
+use Rattle.spec_locks.specs.Purposes.{Purpose}
 use Rattle.spec_locks.specs.Purposes.{Notifies, CondvarMemory, Blank, Saw, SawOwner, HasMoved, WasMoved}
 use Rattle.spec_locks.specs.Purposes.{WasNotified}
 use Rattle.spec_locks.specs.Sites.{Line, Main, Second, counts_some}

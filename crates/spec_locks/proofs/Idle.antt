@@ -15,10 +15,10 @@ use Rattle.spec_locks.specs.Condvars.{moved_of}
 use Rattle.spec_locks.specs.Locks.{LockCase, Wake, HandOff, Late, OfOnce, OfCondvar, Look}
 use Rattle.spec_locks.specs.Purposes.{Purpose, CondvarMemory, Blank, Saw, SawOwner, HasMoved, WasMoved}
 use Rattle.spec_locks.specs.Purposes.{WasNotified}
-use Rattle.spec_locks.specs.Runs.{LocksState, CallState, AreLockStates, Event, Nothing, AtLock, Moves, Does}
-use Rattle.spec_locks.specs.Runs.{GoesOn, MayDo, MayHappen, Stays, Turned, calls_after, gives_up, going_on}
-use Rattle.spec_locks.specs.Runs.{if_moved, is_among, is_taken_by, joined_by, locks_after, new_call, no_call}
-use Rattle.spec_locks.specs.Runs.{purpose_at, rights_in, rules_at, unless_ended, woken}
+use Rattle.spec_locks.specs.Runs.{LocksState, CallState, Event, AtLock, Moves, Does}
+use Rattle.spec_locks.specs.Runs.{GoesOn, MayDo, MayHappen, Stays, Turned, gives_up, going_on}
+use Rattle.spec_locks.specs.Runs.{is_among, is_taken_by, new_call, no_call}
+use Rattle.spec_locks.specs.Runs.{purpose_at, rights_in, unless_ended, woken}
 use Rattle.spec_locks.specs.EachStep.{CallGoesOn, IsUnderWay}
 
 -- ---------------------------------------------------------------- the memory of a call

@@ -1,5 +1,5 @@
 -- A thread leaves a queue as its time is up, as it comes into a hand, or as a notification moves it.
-use Rattle.std.proofs.Common.{ℕ, zero, suc, Bool, true, false, Option, Some, None, if◌then◌else◌, ◌==◌, ◌≡◌}
+use Rattle.std.proofs.Common.{ℕ, Bool, true, false, Option, Some, None, if◌then◌else◌, ◌==◌, ◌≡◌}
 use Rattle.std.proofs.Common.{◌≢◌, ◌≤◌, ◌+◌, ◌⊎◌, inl, inr, List, [], ◌∷◌, ◌++◌, refl, sym, ◌∙◌, ap, subst}
 use Rattle.std.proofs.Common.{arith}
 use Rattle.std.proofs.lemmas.Bool.{cases_eq, cases_lt, eqb-true}
@@ -17,11 +17,11 @@ use Rattle.spec_locks.specs.Locks.{after_case, left_after, putting, taking, time
 use Rattle.spec_locks.specs.Onces.{OnceCase, Start, Finish, Fail, Rest, TakeAll}
 use Rattle.spec_locks.specs.Purposes.{Notifies, Purpose, Waits, WasMoved}
 use Rattle.spec_locks.specs.Runs.{LocksState, CallState, Event, Nothing, AtLock, Moves, Does, GoesOn}
-use Rattle.spec_locks.specs.Runs.{IsNotified, IsTimely, MayDo, MayHappen, Turned, if_moved, is_among}
+use Rattle.spec_locks.specs.Runs.{IsNotified, IsTimely, MayDo, MayHappen, Turned, is_among}
 use Rattle.spec_locks.specs.Runs.{joined_by, locks_after, rules_at}
 use Rattle.spec_locks.proofs.Hands.{taking_others, times_picked}
-use Rattle.spec_locks.proofs.Idle.{differs, other_then, same_number}
-use Rattle.spec_locks.proofs.LockKeeps.{times_append, times_filter}
+use Rattle.spec_locks.proofs.Idle.{other_then}
+use Rattle.spec_locks.proofs.LockKeeps.{times_append}
 use Rattle.spec_locks.proofs.QueueOrder.{converts, disowned, falls, owned, succeeded}
 use Rattle.spec_locks.proofs.Runs.{needs_of}
 

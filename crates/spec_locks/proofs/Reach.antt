@@ -13,17 +13,17 @@ use Rattle.spec_locks.specs.declared.outcomes.Outcome as outcome
 use Rattle.spec_locks.specs.Onces.{Start}
 use Rattle.spec_locks.specs.Condvars.{moved_of}
 use Rattle.spec_locks.specs.Locks as locks
-use Rattle.spec_locks.specs.Locks.{LockState, LockCase, Condvar, Mutex, Enter, Pend, Settle, Leave, Convert}
-use Rattle.spec_locks.specs.Locks.{Park, Aside, TakeFirst, TakeAside, TakePicked, Wake, HandOff, Late}
-use Rattle.spec_locks.specs.Locks.{Rollback, OfOnce, OfCondvar, SeeOwner, Look, Show, Hide, left_after}
+use Rattle.spec_locks.specs.Locks.{LockState, Condvar, Mutex}
+use Rattle.spec_locks.specs.Locks.{Wake, HandOff, Late}
+use Rattle.spec_locks.specs.Locks.{OfOnce, OfCondvar, SeeOwner, Look, left_after}
 use Rattle.spec_locks.specs.Locks.{putting, standing, times}
 use Rattle.spec_locks.specs.Purposes.{MayWait, Purpose, Notifies, CondvarMemory, Blank, Saw, SawOwner}
 use Rattle.spec_locks.specs.Purposes.{HasMoved}
 use Rattle.spec_locks.specs.Purposes.{WasMoved, WasNotified, Waits}
-use Rattle.spec_locks.specs.Runs.{LocksState, CallState, AnswerHolds, Event, Nothing, AtLock, Moves, Does}
+use Rattle.spec_locks.specs.Runs.{LocksState, CallState, AnswerHolds, Event, AtLock, Moves, Does}
 use Rattle.spec_locks.specs.Runs.{GoesOn, IsBeingEmptied, IsStep, MayDo, MayHappen, MovedNobody}
 use Rattle.spec_locks.specs.Runs.{NotifiesAnswer, ShowsWaiters, Stays, Turned, after_wake, gives_up}
-use Rattle.spec_locks.specs.Runs.{going_on, is_among, is_taken_by, joined_by, locks_after, no_call, rules_at}
+use Rattle.spec_locks.specs.Runs.{going_on, is_among, is_taken_by, joined_by, locks_after, rules_at}
 use Rattle.spec_locks.specs.Runs.{unless_ended, woken}
 use Rattle.spec_locks.specs.GuaranteeLaws.{GoesOnSo, IsToBeReached, NotificationsReach}
 use Rattle.spec_locks.proofs.Guarantees.{answered, ended, made_of, recalls}

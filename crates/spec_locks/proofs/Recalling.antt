@@ -8,7 +8,7 @@ use Rattle.spec_locks.specs.declared.calls.Turn as turn
 use Rattle.spec_locks.specs.declared.outcomes.Outcome.{Outcome}
 use Rattle.spec_locks.specs.declared.outcomes.Outcome as outcome
 use Rattle.spec_locks.specs.Condvars.{moved_of}
-use Rattle.spec_locks.specs.Locks.{LockState, LockCase, Queued, Mutex, Condvar, Enter, Pend, Settle, Leave}
+use Rattle.spec_locks.specs.Locks.{LockState, Queued, Mutex, Condvar, Enter, Pend, Settle, Leave}
 use Rattle.spec_locks.specs.Locks.{Convert, Park, Aside, TakeFirst, TakeAside, TakePicked, Wake, HandOff}
 use Rattle.spec_locks.specs.Locks.{Late, Rollback, OfOnce, OfCondvar, SeeOwner, Look, Show, Hide, left_after}
 use Rattle.spec_locks.specs.Locks.{putting}
@@ -18,7 +18,7 @@ use Rattle.spec_locks.specs.Purposes.{Notifies, CondvarMemory, Blank, Saw, SawOw
 use Rattle.spec_locks.specs.Purposes.{WasNotified}
 use Rattle.spec_locks.specs.Purposes.{IsMadeOf}
 use Rattle.spec_locks.specs.Runs.{LocksState, CallState, Event, Nothing, AtLock, Moves, Does, GoesOn, MayDo}
-use Rattle.spec_locks.specs.Runs.{MayHappen, Stays, Turned, after_wake, gives_up, going_on, if_moved}
+use Rattle.spec_locks.specs.Runs.{MayHappen, Stays, Turned, after_wake, gives_up, going_on}
 use Rattle.spec_locks.specs.Runs.{is_among, is_taken_by, joined_by, rules_at, unless_ended, woken}
 use Rattle.spec_locks.specs.EachStep.{RecallsTruly}
 use Rattle.spec_locks.proofs.Idle.{differs, other_then, own_then, same_number, stay_own}

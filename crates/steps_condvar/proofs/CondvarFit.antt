@@ -17,7 +17,7 @@ use Rattle.steps_base.specs.declared.acts.Reply.TheVariants as reply
 use Rattle.steps_base.specs.declared.owners.Owners.{Owners}
 use Rattle.spec_locks.specs.Condvars.{CondvarPhase, NothingToDo, SeesOther, Misses, Sees, Takes, Clears}
 use Rattle.spec_locks.specs.Condvars.{Inside, CondvarSite, IsCondvar, CondvarDeed, Show, SeeOther, SeeAgain}
-use Rattle.spec_locks.specs.Condvars.{MissIt, HideAndTakeAll, MoveFirst, MoveAll, LeaveList, ShowNone}
+use Rattle.spec_locks.specs.Condvars.{MissIt, MoveFirst, MoveAll, LeaveList}
 use Rattle.spec_locks.specs.Condvars.{MayLeaveSection, MayGoOut, IsAsInside, IsInsideAt, IsInsideNot, at}
 use Rattle.spec_locks.specs.Condvars.{condvar_leads, hidden, queued_to_wait}
 use Rattle.spec_locks.specs.Condvars as condvars

@@ -13,7 +13,7 @@ use Rattle.spec_locks.specs.Deeds.{AllNeeded, after_all}
 use Rattle.spec_locks.specs.Locks.{Enter, HandOff as HandsOff, HasTakenNobody, IsSuccessor, Late as GivesUp}
 use Rattle.spec_locks.specs.Locks.{Leave, Mutex, Rules, standing}
 use Rattle.spec_locks.specs.Sites.{Case, Clear, Deed, Role, End, Has, IsSite, Main, Mark, Out, Second, Site}
-use Rattle.spec_locks.specs.Sites.{after_deed, found, idle, is_empty, leaves, seen_main}
+use Rattle.spec_locks.specs.Sites.{after_deed, found, idle, is_empty, seen_main}
 use Rattle.steps_mutex.specs.declared.lock.Entry.{Entry}
 use Rattle.steps_mutex.specs.declared.lock.LockAt.{LockAt}
 use Rattle.steps_mutex.specs.declared.lock.LockAt.TheVariants as lock

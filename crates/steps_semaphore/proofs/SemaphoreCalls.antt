@@ -9,8 +9,8 @@ use Rattle.steps_base.specs.declared.acts.Next.{Next}
 use Rattle.steps_base.specs.declared.acts.Next.TheVariants as next
 use Rattle.steps_base.specs.Calls.{call_by, CallFollows, MayCome, event_at, rights_where}
 use Rattle.spec_locks.specs.Locks.{LockState, LockCase, Semaphore, Rules, Rights, Enter, Leave as GivesBack}
-use Rattle.spec_locks.specs.Locks.{Park, TakeFirst, Owns, IsBlocked, after_case, rights_of, with_right}
-use Rattle.spec_locks.specs.Locks.{with_owner, readers}
+use Rattle.spec_locks.specs.Locks.{Park, Owns, IsBlocked, after_case, rights_of, with_right}
+use Rattle.spec_locks.specs.Locks.{with_owner}
 use Rattle.spec_locks.specs.Locks as locks
 use Rattle.spec_locks.specs.Purposes.{IsMadeOf, Enters, Blank}
 use Rattle.spec_locks.specs.Runs.{LocksState, CallState, AtLock, going_on, AnswerHolds, rights_in}

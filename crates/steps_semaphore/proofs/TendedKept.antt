@@ -7,10 +7,9 @@ use Rattle.std.proofs.lemmas.List.Sums.{sum_by-set}
 use Rattle.std.proofs.lemmas.List.Folds.{sum_by-replicate}
 use Rattle.core_base.specs.declared.wants.Want.{Want}
 use Rattle.core_base.specs.declared.wants.Want.TheVariants.{Shared}
-use Rattle.spec_locks.specs.Locks.{Taken, Sort, Semaphore, Rules, LockCase, OfOnce, Enter, Pend, Settle}
+use Rattle.spec_locks.specs.Locks.{Semaphore, Rules, LockCase, OfOnce, Enter, Pend, Settle}
 use Rattle.spec_locks.specs.Locks.{Leave, Convert, Park, Aside, TakeFirst, TakeAside, TakePicked, Wake}
-use Rattle.spec_locks.specs.Locks.{HandOff, Late, Rollback, Knows, readers, standing, OfCondvar, SeeOwner}
-use Rattle.spec_locks.specs.Locks.{opening_lock}
+use Rattle.spec_locks.specs.Locks.{HandOff, Late, Rollback, readers, OfCondvar, SeeOwner}
 use Rattle.spec_locks.specs.Locks as locks
 use Rattle.spec_locks.specs.Sites.{Main, Second, Site, Begin, End, In, Out, Mark, Clear, FindNobody}
 use Rattle.spec_locks.specs.Sites.{MarkOwned, MarkBrought, Send, LeaveLine, Bring, Case, Deed, Needed}

@@ -4,7 +4,7 @@ use core_base::Want;
 use spec_locks::Kind;
 
 /// A right to a lock, or the run of a `Once`. A permit is a shared right.
-#[derive(Clone, Copy, Debug, PartialEq, Eq)]
+#[derive(Clone, Copy, PartialEq, Eq)]
 pub enum Right {
     Exclusive,
     Pending,
@@ -13,20 +13,20 @@ pub enum Right {
     Shared,
 }
 
-#[derive(Clone, Copy, Debug, PartialEq, Eq)]
+#[derive(Clone, Copy, PartialEq, Eq)]
 pub struct SeenOwner {
     pub right: Right,
     pub thread: usize,
 }
 
-#[derive(Clone, Copy, Debug, PartialEq, Eq)]
+#[derive(Clone, Copy, PartialEq, Eq)]
 pub struct SeenWaiter {
     pub thread: usize,
     pub want: Want,
 }
 
 /// How a thread stands: in no call, in a call and awake, or asleep without a wake note.
-#[derive(Clone, Copy, Debug, PartialEq, Eq)]
+#[derive(Clone, Copy, PartialEq, Eq)]
 pub enum Standing {
     Idle,
     Awake,
@@ -34,7 +34,7 @@ pub enum Standing {
 }
 
 /// A thread, and the one that took it from a queue and has not left that section yet.
-#[derive(Clone, Copy, Debug, PartialEq, Eq)]
+#[derive(Clone, Copy, PartialEq, Eq)]
 pub struct SeenThread {
     pub standing: Standing,
     pub taken_by: Option<usize>,
@@ -42,7 +42,7 @@ pub struct SeenThread {
 
 /// A lock, with its owners, its main queue from the front, the waiters aside, and the threads that
 /// owe a wake on it or were woken and try again.
-#[derive(Debug, PartialEq, Drop)]
+#[derive(PartialEq, Drop)]
 pub struct SeenLock {
     pub kind: Kind,
     pub word: u64,
@@ -55,14 +55,14 @@ pub struct SeenLock {
 }
 
 /// A world at one moment.
-#[derive(Debug, PartialEq, Drop)]
+#[derive(PartialEq, Drop)]
 pub struct Seen {
     pub threads: Vec<SeenThread>,
     pub locks: Vec<SeenLock>,
 }
 
 /// The rights of one thread to one lock, with the number of its shared ones.
-#[derive(Clone, Copy, Debug, PartialEq, Eq)]
+#[derive(Clone, Copy, PartialEq, Eq)]
 pub struct Rights {
     pub is_exclusive: bool,
     pub is_pending: bool,

@@ -1,7 +1,10 @@
 //! Names for what no world may show.
 
+use std::fmt;
+use std::fmt::{Debug, Formatter, Write};
+
 /// Names what no world may show, with the lock or the thread where it stands.
-#[derive(Clone, Copy, Debug, PartialEq, Eq)]
+#[derive(Clone, Copy, PartialEq, Eq)]
 pub enum Violation {
     // In one state.
     /// The owners of the lock don't exclude each other.
@@ -76,4 +79,58 @@ pub enum Violation {
     WrongNumber(usize),
     /// The thread was refused a free lock.
     RefusedFree(usize),
+}
+
+impl Violation {
+    /// Returns its name, and the lock or the thread where it stands.
+    fn told(self) -> (&'static str, Option<usize>) {
+        let (name, place) = match self {
+            Violation::ChangedByNothing => return ("ChangedByNothing", None),
+            Violation::OwnersClash(at) => ("OwnersClash", at),
+            Violation::WrongSort(at) => ("WrongSort", at),
+            Violation::TooMany(at) => ("TooMany", at),
+            Violation::WrongWord(at) => ("WrongWord", at),
+            Violation::UnmarkedWaiter(at) => ("UnmarkedWaiter", at),
+            Violation::WrongAside(at) => ("WrongAside", at),
+            Violation::Forgotten(at) => ("Forgotten", at),
+            Violation::StandsTwice(at) => ("StandsTwice", at),
+            Violation::SleepsNowhere(at) => ("SleepsNowhere", at),
+            Violation::WaitsIdle(at) => ("WaitsIdle", at),
+            Violation::OtherWorld(at) => ("OtherWorld", at),
+            Violation::TouchedWithoutAct(at) => ("TouchedWithoutAct", at),
+            Violation::TwoWords(at) => ("TwoWords", at),
+            Violation::WordAndQueue(at) => ("WordAndQueue", at),
+            Violation::MovedToo(at) => ("MovedToo", at),
+            Violation::WokeByItself(at) => ("WokeByItself", at),
+            Violation::OutOfOrder(at) => ("OutOfOrder", at),
+            Violation::Vanished(at) => ("Vanished", at),
+            Violation::JoinedByOther(at) => ("JoinedByOther", at),
+            Violation::OutOfTurn(at) => ("OutOfTurn", at),
+            Violation::WrongPicks(at) => ("WrongPicks", at),
+            Violation::RightFromNobody(at) => ("RightFromNobody", at),
+            Violation::RightTaken(at) => ("RightTaken", at),
+            Violation::HandedToSome(at) => ("HandedToSome", at),
+            Violation::ReaderPassed(at) => ("ReaderPassed", at),
+            Violation::DebtMoved(at) => ("DebtMoved", at),
+            Violation::Undone(at) => ("Undone", at),
+            Violation::ShowsAnother(at) => ("ShowsAnother", at),
+            Violation::StrangeAnswer(at) => ("StrangeAnswer", at),
+            Violation::ToldWrong(at) => ("ToldWrong", at),
+            Violation::NeverLate(at) => ("NeverLate", at),
+            Violation::NeverNotified(at) => ("NeverNotified", at),
+            Violation::WrongNumber(at) => ("WrongNumber", at),
+            Violation::RefusedFree(at) => ("RefusedFree", at),
+        };
+        (name, Some(place))
+    }
+}
+
+/// Prints a name and a place, as `WrongWord(0)`. By hand: a derived `Debug` is proved variant by variant.
+impl Debug for Violation {
+    fn fmt<W: Write>(&self, f: &mut Formatter<W>) -> fmt::Result {
+        match self.told() {
+            (name, Some(place)) => write!(f, "{name}({place})"),
+            (name, None) => f.write_str(name),
+        }
+    }
 }

@@ -9,7 +9,7 @@ use std::alloc::{AllocError, Global};
 
 /// A call under way: the rights that its thread had as it began, how many waiters it has taken or moved
 /// from a condition variable, and whether it was late, was notified, and whether its closure failed.
-#[derive(Clone, Copy, Debug, PartialEq, Eq)]
+#[derive(Clone, Copy)]
 pub struct Begun {
     pub call: Call,
     pub had: Rights,

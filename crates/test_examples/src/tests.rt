@@ -6,7 +6,6 @@ mod door;
 mod pool;
 mod prices;
 mod rates;
-mod register;
 mod spawned;
 mod visits;
 mod workers;

@@ -1,6 +1,6 @@
 -- Slots of lists, by their numbers.
 use Rattle.std.proofs.Common.{◌≡◌, ℕ, zero, suc, ◌<◌, ◌≤◌, List, [], ◌∷◌, length, get_or, Ok, Err, IsOk, ap}
-use Rattle.std.proofs.Common.{sym, ◌∙◌, refl, arith, subst}
+use Rattle.std.proofs.Common.{sym, ◌∙◌, refl, arith}
 use Rattle.lock_values.specs.Finds.{checked}
 use Rattle.test_mapped.specs.Slots.{slot_found}
 

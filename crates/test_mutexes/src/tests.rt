@@ -5,7 +5,6 @@ mod fair_unlocks;
 mod mutexes;
 mod raw;
 mod refusals;
-mod street;
 mod timed;
 
 ghost use Rattle.std.specs.Prelude.{◌≡◌, ◌<◌, ◌≤◌, All, IfSome};

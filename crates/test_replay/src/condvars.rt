@@ -161,7 +161,7 @@ d 0
     // The mutex that a notification saw is not the one that is shown when it looks again.
     Schedule {
         name: "another mutex is shown at the second look",
-        transcript: "> threads 3
+        transcript: "> threads 4
 > lock a mutex
 > lock b mutex
 > lock c condvar
@@ -173,6 +173,10 @@ d 0
 1 step
 > 1 go
 1 step
+> 3 begin notify_all c
+3 step
+> 3 go
+3 step
 > 0 late
 0 step
 > 0 solo
@@ -183,6 +187,8 @@ d 0
 2 sleep
 > 1 solo
 1 end no
+> 3 solo
+3 end 0
 > show
 a 1 own=0x
 b 0

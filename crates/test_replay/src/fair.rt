@@ -3,7 +3,7 @@
 
 use crate::schedule::Schedule;
 
-pub const FAIR_RELEASES: [Schedule; 11] = [
+pub const FAIR_RELEASES: [Schedule; 15] = [
     Schedule {
         name: "a fair release would pass the limit",
         transcript: "> threads 3
@@ -265,6 +265,173 @@ r 36 own=1u,2s owe=0
 2 end ok
 > show
 r 36 own=1u,2s
+",
+    },
+    // The exclusive right, and then the upgradable one, is let go beside a bit without a waiter.
+    Schedule {
+        name: "a fair release finds a bit without a waiter",
+        transcript: "> threads 2
+> lock r rwlock
+> 0 do write r
+0 end ok
+> 1 begin read r
+1 step
+> 1 go
+1 step
+> 1 go
+1 step
+> show
+r 9 own=0x
+> 0 begin unlock_exclusive_fair r
+0 step
+> 0 go
+0 step
+> 0 go
+0 step
+> 0 go
+0 step
+> 0 go
+0 step
+> show
+r 0 owe=0
+> 0 go
+0 end ok
+> 1 solo
+1 end ok
+> 1 do unlock_shared r
+1 end ok
+> 0 do upgradable r
+0 end ok
+> 1 begin upgradable r
+1 step
+> 1 go
+1 step
+> 1 go
+1 step
+> show
+r 21 own=0u
+> 0 begin unlock_upgradable_fair r
+0 step
+> 0 go
+0 step
+> 0 go
+0 step
+> 0 go
+0 step
+> 0 go
+0 step
+> 0 go
+0 step
+> show
+r 0 owe=0
+> 0 go
+0 end ok
+> 1 solo
+1 end ok
+> show
+r 20 own=1u
+",
+    },
+    Schedule {
+        name: "a reader leaves before a fair release's exchange",
+        transcript: "> threads 3
+> lock r rwlock
+> 0 do upgradable r
+0 end ok
+> 1 do read r
+1 end ok
+> 2 do upgradable r
+2 sleep
+> 0 begin unlock_upgradable_fair r
+0 step
+> 0 go
+0 step
+> 0 go
+0 step
+> 0 go
+0 step
+> 0 go
+0 step
+> show
+r 37 own=0u,1s owe=0
+> 1 do unlock_shared r
+1 end ok
+> 0 go
+0 step
+> show
+r 21 own=0u owe=0
+> 0 go
+0 step
+> show
+r 20 own=2u owe=0
+> 0 go
+0 end ok
+> 2 go
+2 end ok
+",
+    },
+    Schedule {
+        name: "a bump of a shared right gives way to a pending writer alone",
+        transcript: "> threads 4
+> lock r rwlock
+> 0 do read r
+0 end ok
+> 1 do upgradable r
+1 end ok
+> 2 do upgradable r
+2 sleep
+> 0 begin bump_shared r
+0 step
+> 0 go
+0 end ok
+> 1 do unlock_upgradable r
+1 end ok
+> 2 solo
+2 end ok
+> 2 do unlock_upgradable r
+2 end ok
+> 1 do read r
+1 end ok
+> 2 do write r
+2 sleep
+> show
+r 42 own=2p,0s,1s aside=2
+> 0 begin bump_shared r
+0 step
+> 0 go
+0 step
+> 0 go
+0 step
+> show
+r 26 own=2p,1s aside=2
+> 0 solo
+0 sleep
+> show
+r 27 own=2p,1s queue=0s aside=2
+> 1 do unlock_shared r
+1 end ok
+> 2 solo
+2 end ok
+> show
+r 9 own=2x queue=0s
+",
+    },
+    Schedule {
+        name: "a fair release hands over to two readers and an upgradable thread",
+        transcript: "> threads 4
+> lock r rwlock
+> 0 do write r
+0 end ok
+> 1 do read r
+1 sleep
+> 2 do upgradable r
+2 sleep
+> 3 do read r
+3 sleep
+> 0 do unlock_exclusive_fair r
+0 end ok
+> show
+r 52 own=2u,1s,3s
 ",
     },
 ];

@@ -2,7 +2,7 @@
 
 use crate::schedule::Schedule;
 
-pub const MUTEXES: [Schedule; 21] = [
+pub const MUTEXES: [Schedule; 23] = [
     Schedule {
         name: "no line",
         transcript: "",
@@ -403,6 +403,78 @@ exit 2
 > lock m mutex
 >| show
 m 0
+",
+    },
+    Schedule {
+        name: "a fair unlock finds a bit without a waiter",
+        transcript: "> threads 2
+> lock m mutex
+> 0 do lock m
+0 end ok
+> 1 begin unlock_fair m
+1 not now
+> 1 begin bump m
+1 not now
+> 1 begin lock m
+1 step
+> 1 go
+1 step
+> 1 go
+1 step
+> 1 go
+1 step
+> show
+m 3 own=0x
+> 0 begin unlock_fair m
+0 step
+> 0 go
+0 step
+> 0 go
+0 step
+> 0 go
+0 step
+> 0 go
+0 step
+> show
+m 0 owe=0
+> 0 go
+0 end ok
+> show
+m 0
+> 1 solo
+1 end ok
+",
+    },
+    Schedule {
+        name: "a woken thread looks again, until it sees another waiter",
+        transcript: "> threads 4
+> lock m mutex
+> 0 do lock m
+0 end ok
+> 1 do lock m
+1 sleep
+> 0 do unlock m
+0 end ok
+> 2 do lock m
+2 end ok
+> 1 go
+1 step
+> 1 spin
+1 step
+> show
+m 1 own=2x retry=1
+> 3 do lock m
+3 sleep
+> 1 spin
+1 step
+> 1 spin
+1 not now
+> show
+m 3 own=2x queue=3x retry=1
+> 1 solo
+1 sleep
+> show
+m 3 own=2x queue=3x,1x
 ",
     },
 ];

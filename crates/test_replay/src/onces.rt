@@ -2,7 +2,7 @@
 
 use crate::schedule::Schedule;
 
-pub const ONCES: [Schedule; 8] = [
+pub const ONCES: [Schedule; 10] = [
     Schedule {
         name: "a failed run poisons, a forced call mends",
         transcript: "> threads 1
@@ -239,6 +239,87 @@ o 1 owe=0
 0 end ok
 > 1 do wait_timed o
 1 end yes
+",
+    },
+    // A poisoned `Once` ends a wait at once, but not a forced one.
+    Schedule {
+        name: "a forced run that fails poisons again",
+        transcript: "> threads 2
+> lock o once
+> 0 do call_once o
+0 closure New
+> 0 err
+0 end failed
+> 0 do call_once_force o
+0 closure Poisoned
+> show
+o 4 own=0r
+> 0 err
+0 end failed
+> show
+o 2
+> 0 do wait o
+0 end poisoned
+> 1 do wait_timed o
+1 end poisoned
+> 0 do wait_force o
+0 sleep
+> show
+o 10 queue=0w
+> 1 do call_once_force o
+1 closure Poisoned
+> show
+o 12 own=1r queue=0w
+> 1 ok
+1 step
+> 1 solo
+1 end ok
+> 0 solo
+0 end ok
+> show
+o 1
+",
+    },
+    Schedule {
+        name: "a wait looks again before it shows itself to a run",
+        transcript: "> threads 2
+> lock o once
+> 0 begin call_once o
+0 step
+> 0 go
+0 step
+> 0 go
+0 closure New
+> 1 begin wait o
+1 step
+> 1 go
+1 step
+> 1 spin
+1 step
+> show
+o 4 own=0r
+> 1 go
+1 step
+> show
+o 12 own=0r
+> 1 spin
+1 not now
+> 1 go
+1 step
+> 1 go
+1 step
+> 1 go
+1 sleep
+> show
+o 12 own=0r queue=1w
+> 0 ok
+0 step
+> 0 solo
+0 end ok
+> 1 go
+1 end ok
+> show
+o 1
 ",
     },
 ];

@@ -3,7 +3,7 @@
 
 use crate::schedule::Schedule;
 
-pub const RELEASES: [Schedule; 7] = [
+pub const RELEASES: [Schedule; 8] = [
     // A timed waiter that is moved before it has released its mutex takes and wakes itself by that
     // release.
     Schedule {
@@ -388,6 +388,51 @@ m 0 retry=0
 c 0
 > 0 go
 0 end ok
+",
+    },
+    Schedule {
+        name: "a moved waiter takes itself, and another stays",
+        transcript: "> threads 3
+> lock m mutex
+> lock c condvar
+> 0 do lock m
+0 end ok
+> 0 begin wait c m
+0 step
+> 0 go
+0 step
+> 0 go
+0 step
+> 0 go
+0 step
+> 0 go
+0 step
+> 2 do notify_one c
+2 end yes
+> 1 do lock m
+1 sleep
+> show
+m 3 own=0x queue=0x,1x
+c 0
+> 0 go
+0 step
+> show
+m 2 queue=0x,1x owe=0
+c 0
+> 0 go
+0 step
+> 0 go
+0 step
+> 0 go
+0 step
+> show
+m 2 queue=1x retry=0
+c 0
+> 0 solo
+0 end ok
+> show
+m 3 own=0x queue=1x
+c 0
 ",
     },
 ];

@@ -2,7 +2,7 @@
 
 use crate::schedule::Schedule;
 
-pub const RWLOCKS: [Schedule; 15] = [
+pub const RWLOCKS: [Schedule; 18] = [
     // A writer beside a reader is pending, and keeps a further reader out.
     Schedule {
         name: "a pending writer keeps a reader out",
@@ -331,9 +331,28 @@ r 0
         transcript: "> threads 2
 > lock r rwlock
 > lock m mutex
+> lock s semaphore 1
+> lock o once
+> lock c condvar
 > 0 do lock r
 0 not now
 > 0 do read m
+0 not now
+> 0 do acquire m
+0 not now
+> 0 do release r
+0 not now
+> 0 do read s
+0 not now
+> 0 do notify_one s
+0 not now
+> 0 do acquire o
+0 not now
+> 0 do unlock o
+0 not now
+> 0 do read c
+0 not now
+> 0 do acquire c
 0 not now
 > 0 do unlock_shared r
 0 not now
@@ -347,6 +366,12 @@ r 0
 0 not now
 > 0 do downgrade r
 0 not now
+> 1 do bump_shared r
+1 not now
+> 0 do bump_exclusive r
+0 not now
+> 0 do unlock_upgradable_fair r
+0 not now
 > 0 do read r
 0 end ok
 > 0 do unlock_shared r
@@ -358,6 +383,9 @@ r 0
 > show
 r 0
 m 0
+s 2
+o 0
+c 0
 ",
     },
     Schedule {
@@ -405,6 +433,96 @@ b 0
 1 sleep
 > show
 r 26 own=1p,0s aside=1
+",
+    },
+    Schedule {
+        name: "a bit without a waiter keeps no writer out",
+        transcript: "> threads 3
+> lock r rwlock
+> 0 do write r
+0 end ok
+> 1 begin read r
+1 step
+> 1 go
+1 step
+> 1 go
+1 step
+> 0 begin unlock_exclusive r
+0 step
+> 0 go
+0 step
+> show
+r 1 owe=0
+> 2 do try_write r
+2 end no
+> 2 do write r
+2 end ok
+> show
+r 9 own=2x owe=0
+> 0 solo
+0 end ok
+> show
+r 8 own=2x
+> 1 solo
+1 sleep
+> 2 do unlock_exclusive r
+2 end ok
+> 1 solo
+1 end ok
+> show
+r 16 own=1s
+",
+    },
+    Schedule {
+        name: "a pending writer gives up beside a reader alone",
+        transcript: "> threads 2
+> lock r rwlock
+> 0 do read r
+0 end ok
+> 1 do write_timed r
+1 sleep
+> 1 late
+1 step
+> 1 go
+1 step
+> 1 go
+1 step
+> show
+r 24 own=1p,0s owe=1
+> 1 solo
+1 end no
+> show
+r 16 own=0s
+",
+    },
+    Schedule {
+        name: "a downgrade to the upgradable right wakes a reader",
+        transcript: "> threads 3
+> lock r rwlock
+> 0 do write r
+0 end ok
+> 1 do read r
+1 sleep
+> 2 do upgradable r
+2 sleep
+> 0 begin downgrade_to_upgradable r
+0 step
+> 0 go
+0 step
+> show
+r 21 own=0u queue=1s,2u owe=0
+> 0 solo
+0 end ok
+> show
+r 21 own=0u queue=2u retry=1
+> 1 solo
+1 end ok
+> 2 solo
+2 not now
+> 1 do try_read r
+1 end yes
+> show
+r 53 own=0u,1s,1s queue=2u
 ",
     },
 ];

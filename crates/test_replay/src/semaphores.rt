@@ -2,7 +2,7 @@
 
 use crate::schedule::Schedule;
 
-pub const SEMAPHORES: [Schedule; 3] = [
+pub const SEMAPHORES: [Schedule; 4] = [
     // A release owes a wake-up while another thread takes the permit that it gave back.
     Schedule {
         name: "a release owes while another takes its permit",
@@ -111,6 +111,38 @@ s 0 own=0s,0s
 s 4
 > drain
 drain refused
+",
+    },
+    Schedule {
+        name: "a permit is taken between a look and its exchange",
+        transcript: "> threads 2
+> lock s semaphore 1
+> 0 begin acquire s
+0 step
+> 0 go
+0 step
+> 1 do acquire s
+1 end ok
+> 0 go
+0 step
+> show
+s 0 own=1s
+> 0 go
+0 step
+> show
+s 1 own=1s
+> 0 solo
+0 sleep
+> show
+s 1 own=1s queue=0s
+> 1 do release s
+1 end ok
+> show
+s 2 retry=0
+> 0 solo
+0 end ok
+> show
+s 0 own=0s
 ",
     },
 ];

@@ -2,7 +2,6 @@ mod condvar;
 mod handed;
 mod mutex;
 mod once;
-mod rwlock;
 mod scripts;
 mod semaphore;
 mod sizes;

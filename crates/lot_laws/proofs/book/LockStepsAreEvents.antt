@@ -2,8 +2,8 @@
 -- with it.
 -- No sort of lock is named.
 use Rattle.lot_laws.proofs.Names
-use Names.{ℕ, Bool, true, false, Option, Some, None, ◌≡◌, ◌≢◌, ◌<◌, [], length, get_or-set_same, inl, inr}
-use Names.{refl, sym, ◌∙◌, ap, subst, append-nil, OnceState, Act, Next, Reply, outcome_of, Op, Location}
+use Names.{ℕ, true, false, Option, Some, None, ◌≡◌, ◌≢◌, ◌<◌, [], length, get_or-set_same, inl, inr}
+use Names.{refl, sym, ◌∙◌, ap, subst, append-nil, Act, Next, Reply, outcome_of, Op, Location}
 use Names.{row_of, Hand, Profile, hand, IsWaiting, is_acting, ComesTo, MayCome, after_event, case_of}
 use Names.{event_by, LockCase, GoesOn, Role, Runs, Place, Idle, act_of, called_lock, calls, is_lock, next_act}
 use Names.{next_place, profile, State, can_do, place_at, reply_to, state_after_act, IsWellFormed}

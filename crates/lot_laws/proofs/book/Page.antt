@@ -7,7 +7,7 @@ use Names.{CallWaits}
 use Names.{One, shares_then, Profile, hand, RowPromises, OnceState, HasLimit, aside_in, code, parked_in}
 use Names.{AllNeeded, after_all, Rules, Taken, is_recursive, standing, Deed, IsSite, Line, Main, Runs, Second}
 use Names.{Site, has_readers, ClosureAnswers, RestsAfter, TakesAll}
-use Rattle.std.specs.Prelude.{ℕ, Bool, Option, Some, None, true, false, ◌⊎◌, ◌≡◌, ◌≢◌, ◌<◌, ◌≤◌, ◌-◌, ◌^◌}
+use Rattle.std.specs.Prelude.{ℕ, Option, Some, None, true, false, ◌⊎◌, ◌≡◌, ◌≢◌, ◌<◌, ◌≤◌, ◌-◌, ◌^◌}
 use Rattle.std.specs.Prelude.{List, length}
 use Rattle.core_base.specs.Keys.{key_of}
 use Rattle.steps_base.specs.declared.acts.Act.TheVariants as act

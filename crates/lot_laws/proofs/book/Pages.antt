@@ -1,6 +1,6 @@
 -- The page of each place, by its sort of lock: the one file that goes through the sorts.
 use Rattle.lot_laws.proofs.Names
-use Names.{ℕ, Bool, true, false, ◌≡◌, List, [], refl, sym, ◌∙◌, ap, subst, eqb-true, No, blank_row}
+use Names.{ℕ, true, ◌≡◌, [], sym, ◌∙◌, ap, subst, eqb-true, No, blank_row}
 use Names.{SemaphorePlace, Rules, Sort, has_readers, Place, Idle, Mutex, RwLock, Once, Condvar, Semaphore}
 use Names.{calls, State, kind_at, place_at, FitsItsLock, IsInductive, LateIsTimed, rules_in, Admission}
 use Names.{RwLockCallPlace}

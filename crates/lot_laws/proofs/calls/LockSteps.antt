@@ -3,9 +3,9 @@ use Rattle.lot_laws.proofs.Names
 use Names.{ℕ, Bool, true, false, Option, Some, None, if◌then◌else◌, ◌&&◌, ◌≡◌, ◌≢◌, ◌*◌, ◌<◌, ◌↔◌, inl, inr}
 use Names.{length, refl, sym, ◌∙◌, ap, subst, get_or-set_same, length-set, nat_lt, is_some, AtLock, is_marked}
 use Names.{OfOnce, can_close, close_outcome, closed_place, runs_closure, state_after_close, state_after_going}
-use Names.{can_go, run_ending, Closes, Rules, once_promises, Purpose, lock_for, semaphore_promises}
+use Names.{can_go, run_ending, Closes, once_promises, Purpose, lock_for, semaphore_promises}
 use Names.{is_closure, Run, OncePlace, once_profile, SemaphorePlace, Acquire, semaphore_profile, taken_from}
-use Names.{has_readers, ltb-true, lt-ltb, One, Value, Parked, HandedBy, Woken, Turn, Step, lock_in, Outcome}
+use Names.{has_readers, ltb-true, lt-ltb, One, Turn, Step, lock_in, Outcome}
 use Names.{Lock, TryLock, Unlock, UnlockFair, First, Load, Asleep, Place, Idle, Mutex, RwLock, Once, Condvar}
 use Names.{Semaphore, outcome_of, act_of, next_place, next_act, respins_from, late_key, first_place}
 use Names.{rwlock_goes}
@@ -14,8 +14,8 @@ use Names.{state_with_sections, reply_to, can_do, state_after_look, look_outcome
 use Names.{going_outcome, state_after_late_on, is_free_under, can_turn, state_after_turn, turn_outcome}
 use Names.{is_possible, after, step_outcome, IsWellFormed, SameSize, PlaceFits, looking_well_formed}
 use Names.{after_size, both, performed_counts, mutex_looks, AreCondvars, AreCounted, FitsCondvar, IsInductive}
-use Names.{FitsItsLock, rules_in, Main, LockCase, Wake, Leave as GivesBack, HandOff as HandsOff, Rights}
-use Names.{rights_of, standing, GoesOn, KeepsOrder, LocksState, Stays, Looks, IsOfMutex, Does, SectionChanges}
+use Names.{FitsItsLock, rules_in, Main, Rights}
+use Names.{GoesOn, KeepsOrder, LocksState, Stays, Looks, IsOfMutex, Does, SectionChanges}
 use Names.{MayTurn, Turned, taken_at, call_state, locks_of, sleeps, RwLockCallPlace, CallStands, call_profile}
 use Names.{fair_sleepers_hear, MutexPlace, CondvarPlace}
 use Rattle.lot_laws.proofs.calls.Begins.{begin_goes, begin_possible}

@@ -1,12 +1,12 @@
 -- Each step of a wait in the section and the line of its mutex, as it releases it and locks it again: every
 -- lock is a site again.
 use Rattle.lot_laws.proofs.Names
-use Names.{ℕ, Bool, true, false, Some, None, if◌then◌else◌, ◌≡◌, ◌≢◌, ◌*◌, ◌<◌, List, [], ◌∷◌, length, refl}
+use Names.{ℕ, Bool, true, false, None, if◌then◌else◌, ◌≡◌, ◌≢◌, ◌*◌, ◌<◌, length, refl}
 use Names.{sym, ◌∙◌, ap, subst, inl, inr, cases_eq, One, Exclusive, Act, Next, At, Reply, Done, Parked}
-use Names.{Nobody, StepView, Line, Location, location_by, Place, Condvar, condvar_goes, LockAt, UnlockAt}
+use Names.{Nobody, StepView, Location, Condvar, condvar_goes, LockAt, UnlockAt}
 use Names.{still_retries, CondvarPlace, Wait, WaiterFate, WaitAt, condvar_next, in_wait, next_wait, relocked}
 use Names.{wait_act, row_beside, there, MayHearWaiter, WaiterFollows, itself_woken, waiter_deeds, waiter_next}
-use Names.{Park, Rules, keep_from, Case, Deed, Role, End, In, Main, Out, Site, wakened, State, can_do}
+use Names.{Park, Rules, Role, Main, Site, wakened, State, can_do}
 use Names.{place_at, put, reply_to, section_at, state_after_act, word_at, queues_with_last, acts, taken_at}
 use Names.{role_on, location_at, FitsItsLock, Goes, IsInductive, key_of, rules_in, site_of, WordIs, holds}
 use Rattle.steps_base.specs.declared.acts.Act.TheVariants as act
@@ -18,7 +18,6 @@ use Rattle.steps_mutex.specs.MutexSteps.{in_lock}
 use Rattle.steps_condvar.specs.declared.wait.WaitAt.TheVariants as wait
 use Rattle.spec_locks.specs.Deeds as laws
 use Rattle.spec_locks.specs.Locks as locks
-use Rattle.lot_laws.proofs.sites.StandsKept.{AlikeBeside}
 use Rattle.lot_laws.proofs.condvar.Replies as hears
 use Rattle.lot_laws.proofs.condvar.Replies.{taken_by_wait, waiter_hears, none_so}
 use Rattle.lot_laws.proofs.condvar.WaitWords as beside

@@ -6,7 +6,7 @@ use Names.{length, map, drop, get_or, set, refl, sym, ◌∙◌, ap, subst, inl,
 use Names.{get_or-set_other, cases_eq, Waiter, first_of, At, Reply, Took, TakenBy, taken_from, Location}
 use Names.{location_by, Place, Condvar, Idle, next_place, UnlockAt, CondvarPlace, Wait, WaiterFate, WaitAt}
 use Names.{released, in_unlock, row_beside, row_there, there, wait_row, WaiterFollows, waiter_deeds}
-use Names.{TakeFirst, Taken, first_thread, queued_of, Deed, Main, Site, State, is_there, place_at, put}
+use Names.{Taken, first_thread, queued_of, Deed, Main, Site, State, is_there, place_at, put}
 use Names.{queue_at, queues_without_first, state_after_taking, acts, taken_at, role_on, location_at}
 use Names.{FitsItsLock, Goes, IsInductive, key_of, rules_in, site_of}
 use Rattle.steps_mutex.specs.declared.places.MutexPlace.TheVariants as mutex
@@ -15,7 +15,7 @@ use Rattle.steps_condvar.specs.declared.wait.WaiterFate.TheVariants as stands
 use Rattle.steps_condvar.specs.declared.wait.WaitAt.TheVariants as wait
 use Rattle.spec_locks.specs.Locks as locks
 use Rattle.lot_laws.proofs.machine.Parts as glue
-use Rattle.lot_laws.proofs.machine.Parts.{differ, parts_at, same, seen_in}
+use Rattle.lot_laws.proofs.machine.Parts.{differ, same}
 use Rattle.lot_laws.proofs.condvar.TwoParts.{location_beside, taken_beside}
 use Rattle.lot_laws.proofs.condvar.Replies.{waiter_hears}
 use Rattle.lot_laws.proofs.mutex.Acts.{finds_nobody_at}

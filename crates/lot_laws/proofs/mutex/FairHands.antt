@@ -3,8 +3,8 @@
 use Rattle.lot_laws.proofs.Names
 use Names.{ℕ, Bool, true, false, Option, Some, None, if◌then◌else◌, ◌==◌, ◌≡◌, ◌≢◌, ◌≤◌, ◌+◌, ◌⊎◌, inl, inr}
 use Names.{refl, sym, ◌∙◌, ap, subst, arith, cases_lt, eqb-true, Exclusive, Upgradable, Kind, ReleasesFairly}
-use Names.{is_fair, is_plain_mutex, IsSomePending, LockState, Rights, Taken, one_if_some, one_if_thread}
-use Names.{rights_of, standing, rules_of, Has, Role, has_readers, idle, Location, mutex_beside, mutex_profile}
+use Names.{is_fair, is_plain_mutex, IsSomePending, Rights, Taken, one_if_some, one_if_thread}
+use Names.{standing, rules_of, Has, Role, has_readers, idle, Location, mutex_beside, mutex_profile}
 use Names.{MutexPlace, Place, Idle, Mutex, RwLock, Once, Condvar, Semaphore, beside_of, is_lock, State}
 use Names.{kind_at, place_at, location_at, role_on, IsGivenUpFairly, call_state, lock_state, FitsItsLock}
 use Names.{IsWorld, rules_in}

@@ -4,7 +4,7 @@ use Rattle.lot_laws.proofs.Names
 use Names.{ℕ, zero, suc, Bool, true, false, Option, Some, None, if◌then◌else◌, ◌==◌, ◌≡◌, ◌≢◌, ◌≤◌, ◌+◌, ◌⊎◌}
 use Names.{inl, inr, List, [], ◌∷◌, ◌++◌, refl, sym, ◌∙◌, ap, subst, arith, eqb-true, nat_tests, Want}
 use Names.{Exclusive, Upgradable, Shared, Turn, Outcome, ahead, moved_of, IsPartOf, KeepsOrderOf, LockState}
-use Names.{LockCase, Queued, Rules, Taken, Needs, Pend, Settle, Leave, Convert, Park, Aside, TakeFirst}
+use Names.{LockCase, Queued, Rules, Needs, Pend, Settle, Leave, Convert, Park, Aside, TakeFirst}
 use Names.{TakeAside, TakePicked, Wake, HandOff, Rollback, OfOnce, OfCondvar, SeeOwner, IsLockState}
 use Names.{after_case, left_after, putting, LocksState, AreLockStates, Event, Nothing, AtLock, Moves, Does}
 use Names.{GoesOn, MayHappen, Turned, joined_by, locks_after, rules_at, needs_of}

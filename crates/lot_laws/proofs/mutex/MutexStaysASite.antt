@@ -4,7 +4,7 @@ use Names.{append-nil, ◌++◌, ℕ, Bool, true, false, Option, Some, None, if�
 use Names.{◌*◌, ◌<◌, ◌⊎◌, List, [], ◌∷◌, length, inl, inr, refl, sym, ◌∙◌, ap, subst, Normal, Op, Waiter}
 use Names.{Exclusive, first_of, apply, Act, Next, Reply, Value, Took, HandedBy, TakenBy, Late, CallFollows}
 use Names.{inside_of, location_of, location_then, row_of, with_exclusive, Profile, in_hand, Location}
-use Names.{HasTakenNobody, IsLockState, IsSuccessor, Rules, first_thread, let_go, Case, Clear, Deed, End}
+use Names.{IsLockState, IsSuccessor, Rules, let_go, Case, Clear, Deed, End}
 use Names.{Line, Main, Mark, MarkBrought, MarkOwned, Site, aside_in, code, case_of, MutexPlace, mutex_deeds}
 use Names.{take_deeds, HandsOverToHeir, heir, mutex_row, next_row, mutex_late_line, hand_off_word, mutex_act}
 use Names.{mutex_next, mutex_owners, mutex_hand_overs_code, mutex_steps_code, mutex_steps_follow}

@@ -5,7 +5,7 @@ use Names.{inl, inr, ℕ, Bool, true, false, Option, Some, None, ◌≡◌, ◌<
 use Names.{get_or-set_other, refl, sym, ◌∙◌, ap, subst, Next, Reply, Value, outcome_of, row_of, Hand, Of}
 use Names.{Profile, RowPromises, Location, Entry, MutexPlace, Lock, Unlock, mutex_deeds, mutex_row, next_row}
 use Names.{mutex_act, mutex_next, decides, mutex_promises, Place, Idle, Mutex, called_lock, mutex_does}
-use Names.{mutex_goes, next_act, next_place, profile, case_of, event_by, LockCase, Rights, rights_of}
+use Names.{mutex_goes, next_act, next_place, profile, case_of, event_by, LockCase, rights_of}
 use Names.{standing, Line, Main, GoesOn, Nothing, Stays, is_closure, State, can_do, going_outcome, place_at}
 use Names.{reply_to, state_after_act, state_after_going, word_at, IsWellFormed, mutex_runs_none}
 use Names.{performed_counts, call_state, lock_state, locks_of, IsInductive, carried_at, rules_in, location}

@@ -1,7 +1,7 @@
 -- Nobody marks the word of a `Once` that is done.
 use Rattle.lot_laws.proofs.Names
-use Names.{ℕ, Bool, true, false, Option, Some, None, if◌then◌else◌, ◌==◌, ◌≡◌, ◌≢◌, ◌<◌, ◌+◌, ◌*◌, List, []}
-use Names.{◌∷◌, length, length-set, get_or, map, nat_lt, refl, sym, ◌∙◌, ap, subst, arith, eqb-true, ltb-true}
+use Names.{ℕ, Bool, true, false, Option, Some, None, if◌then◌else◌, ◌==◌, ◌≡◌, ◌≢◌, ◌<◌, List, []}
+use Names.{◌∷◌, length, get_or, map, nat_lt, refl, sym, ◌∙◌, ap, subst, eqb-true, ltb-true}
 use Names.{One, Two, first_of, apply, OnceCall, Step, Turn, Kind, Sort, Phase, New, Poisoned, InProgress}
 use Names.{rules_of, has_readers, Act, holds, takes_effect, CondvarPlace, Wait, Look as PeekQueue, Notify}
 use Names.{mutex_act, Course, Ends, Marks, OncePlace, Run, GiveUp, course_act, course_of, is_forced, marked}

@@ -1,6 +1,6 @@
 -- The pages of the places of a `Once`: what its laws say of each, as any sort of lock says it.
 use Rattle.lot_laws.proofs.Names
-use Names.{rules, ℕ, Bool, true, false, Option, Some, None, ◌==◌, ◌≡◌, ◌≢◌, List, [], ◌∷◌, inl, inr, refl}
+use Names.{rules, ℕ, Bool, true, false, Option, Some, None, ◌==◌, ◌≡◌, ◌≢◌, List, inl, inr, refl}
 use Names.{sym, ◌∙◌, ap, subst, Op, OnceCall, WaitTimed, Act, Next, Reply, Done, Value, Parked, Took, Removed}
 use Names.{Late, IsNotLate, row_of, OfOnce, Rules, is_recursive, Deed, Runs as Running, Site, aside_in, code}
 use Names.{is_marked, parked_in, Course, Ends, Marks, OncePlace, Run, GiveUp, OnceSectionsFollow, closes}

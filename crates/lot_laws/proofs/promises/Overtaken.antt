@@ -3,13 +3,12 @@
 use Rattle.lot_laws.proofs.Names
 use Names.{ℕ, zero, suc, true, false, Option, Some, None, ◌≡◌, ◌≢◌, ◌+◌, ◌≤◌, ◌<◌, ◌⊎◌, inl, inr, List, []}
 use Names.{◌∷◌, length, refl, sym, ◌∙◌, ap, subst, arith, cases_lt, Step, IsHandedOn, ahead, in_hands, passed}
-use Names.{turns, LockState, Queued, Taken, one_if_some, standing, MayWait, Line, Main, Second, has_readers}
+use Names.{turns, Taken, one_if_some, standing, MayWait, Line, Main, Second, has_readers}
 use Names.{nobody_overtakes, queues_keep_order, Idle, State, after, after_steps, kind_at, place_at}
 use Names.{step_outcome, after_size, IsKept, WaitsFor, IsInside, call_at, call_state, lock_state, locks_of}
 use Names.{owner_at, taken_at, IsWorld, is_mutex, rules_in, FairlyThroughout, IsGivenUpFairly}
 use Names.{NobodyIsOvertaken, StandsThroughout, new_owners, newly_owned}
 use Rattle.spec_locks.specs.declared.kinds.Kind.TheVariants as kinds
-use Rattle.spec_locks.specs.Locks.{times}
 use Rattle.spec_locks.specs.Locks as locks
 use Rattle.lot_laws.proofs.alone.WorldRuns.{step_is, world_after, world_kept}
 use Rattle.lot_laws.proofs.machine.KindsStay.{after_kinds}

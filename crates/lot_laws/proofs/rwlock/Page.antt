@@ -1,15 +1,15 @@
 -- The pages of the places of a reader-writer lock: what its laws say of each, as any sort of lock says it.
 use Rattle.lot_laws.proofs.Names
-use Names.{ℕ, Bool, true, false, Option, Some, None, ◌≡◌, ◌≢◌, ◌-◌, ◌^◌, ◌<◌, List, [], inl, inr, refl, sym}
-use Names.{◌∙◌, ap, subst, Op, Patience, OnceState, Act, Next, Reply, Done, Value, Parked, Took, Picked}
-use Names.{Removed, Late, TakenBy, Woken, outcome_of, IsNotLate, row_of, Admission, RwLockPlace, RwLockAt}
-use Names.{patience_of, Admits, late_line_at, HasDeadline, MayBeTold, RwLockCallPlace, Plain, PeekQueue}
-use Names.{HandOver, Bump, Handed, CallMayBeTold, CallMayHear, CallStands, CallStandsNext, IsInCall}
-use Names.{call_deeds, call_role, call_role_next, next_rows, CallMoves, call_hears, call_move, call_late_line}
+use Names.{ℕ, true, false, Option, None, ◌≡◌, ◌≢◌, ◌-◌, ◌^◌, ◌<◌, inl, inr, refl, sym}
+use Names.{◌∙◌, ap, subst, Op, Act, Next, Reply, Done, Value, Picked}
+use Names.{Late, outcome_of, IsNotLate, Admission}
+use Names.{Admits, RwLockCallPlace}
+use Names.{HandOver, CallMayBeTold, CallMayHear, CallStands, CallStandsNext, IsInCall}
+use Names.{call_deeds, next_rows, CallMoves, call_hears, call_move}
 use Names.{call_profile, call_act, call_next, fair_acts_move, fair_late_moves, fair_sleepers_move}
 use Names.{fair_sections_tell, fair_steps_tell, fair_steps_code, fair_steps_follow, handed_move}
-use Names.{fair_owners_follow, fair_sections_follow, fair_calls_stand, HasLimit, TellsTrue, code, case_of}
-use Names.{event_by, Rules, Sort, is_recursive, standing, is_closure, IsSite, Line, Site, has_readers, RwLock}
+use Names.{fair_owners_follow, fair_sections_follow, fair_calls_stand, HasLimit, TellsTrue, code}
+use Names.{Rules, is_recursive, standing, is_closure, IsSite, Site, has_readers, RwLock}
 use Names.{owners_after, rwlock_does, rwlock_goes, shares_after, State, reply_to, runs_closure, word_at}
 use Names.{call_runs_none, locks_of, FitsItsLock, IsInductive, rules_in, acts, words_tell_true}
 use Rattle.spec_locks.specs.declared.calls.Patience.TheVariants as patience
@@ -18,7 +18,6 @@ use Rattle.steps_base.specs.declared.acts.Next.TheVariants as next
 use Rattle.steps_base.specs.declared.acts.Whom.TheVariants as whom
 use Rattle.steps_rwlock.specs.declared.places.RwLockAt.TheVariants as at
 use Rattle.steps_rwlock.specs.declared.park.ParkAt.TheVariants as parking
-use Rattle.steps_rwlock.specs.RwLockDeeds.{MayReply}
 use Rattle.spec_locks.specs.Deeds as laws
 use Rattle.spec_locks.specs.Locks as locks
 use Rattle.lot_laws.proofs.book.LockStaysASite.{ComesBy, MayCome, Tied}

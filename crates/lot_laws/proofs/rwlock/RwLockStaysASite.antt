@@ -1,53 +1,43 @@
 -- A thread in a call of a reader-writer lock goes on: every lock is a site again.
 use Rattle.lot_laws.proofs.Names
-use Names.{inl, inr, ℕ, Bool, true, false, Option, Some, None, if◌then◌else◌, ◌==◌, ◌≡◌, ◌≢◌, ◌+◌, ◌*◌, ◌-◌}
-use Names.{◌^◌, ◌≤◌, ◌<◌, List, [], ◌∷◌, length, refl, sym, ◌∙◌, ap, subst, arith, eqb-true, Normal, Op}
-use Names.{apply, Want, IsNotLate, RwLockCall, Kind, Patience, Act, Next, Reply, Done, Value, Took, Picked}
-use Names.{Late, TakenBy, Woken, Wakes, StaysPut, Picks, TakesAside, TellsHanded, takes_aside, row_of}
-use Names.{Profile, hand, in_hand, taken_from, Location, location_by, shares_then, Admission, RwLockPlace}
+use Names.{ℕ, Bool, true, false, Option, Some, None, ◌≡◌, ◌+◌, ◌-◌}
+use Names.{◌^◌, ◌≤◌, ◌<◌, [], ◌∷◌, length, refl, sym, ◌∙◌, ap, subst, arith}
+use Names.{RwLockCall, Kind, Patience, Act, Next, Reply, Done, Value}
+use Names.{Late, takes_aside, row_of}
+use Names.{Profile, Admission, RwLockPlace}
 use Names.{RwLockAt, patience_of, Admits, late_line_at, HasDeadline, MayBeTold, admission_of_kind}
 use Names.{RwLockCallPlace, Plain, PeekQueue, HandOver, Bump, Handed, CallMayBeTold, CallMayHear, CallStands}
-use Names.{CallStandsNext, IsInCall, call_deeds, call_role, call_role_next, CallMoves, call_hears, call_move}
-use Names.{call_late_line, call_profile, fair_acts_move, fair_late_moves, fair_sleepers_move}
-use Names.{fair_sections_tell, fair_steps_tell, fair_steps_code, fair_steps_follow, handed_move}
-use Names.{fair_owners_follow, fair_sections_follow, fair_calls_stand, call_first, call_right, CallOpens}
-use Names.{CallTells, next_rows, call_act, call_next, call_owners, call_shares, calls_open, SemaphorePlace}
-use Names.{Place, Idle, Mutex, RwLock, Once, Condvar, Semaphore as OfSemaphore, MutexPlace, OncePlace}
-use Names.{next_place, profile, calls, rwlock_goes, Rules, Sort, Recursive, count, keep_from, one_if_some}
-use Names.{standing, Site, IsSite, Deed, Line, Main, Second, Begin, Case, has_readers, wakened, HasLimit, bit}
-use Names.{code, code_of, packed, writers, case_of, rules_of, State, place_at, word_at, kind_at, owners_at}
-use Names.{shares_at, share_at, queue_at, section_at, can_do, section_is_free, put, state_after_act}
-use Names.{state_after_late_under, reply_to, IsWellFormed, taken_at, acts, location, role_on, IsInductive}
-use Names.{Goes, FitsItsLock, TakesOne, LimitHasRoom, carried_at, hand_at, is_mutex, rules_in, key_of}
-use Names.{CondvarPlace, is_lock, Hand, mutex_beside}
-use Rattle.core_base.specs.declared.notes.Note.TheVariants.{HandOff}
+use Names.{CallStandsNext, IsInCall, call_deeds, call_role, call_role_next, call_move}
+use Names.{call_late_line, call_profile}
+use Names.{fair_sections_follow, fair_calls_stand, call_first}
+use Names.{CallTells, next_rows, call_next, calls_open, SemaphorePlace}
+use Names.{Place, Mutex, RwLock, Once, Condvar, Semaphore as OfSemaphore, MutexPlace, OncePlace}
+use Names.{next_place, profile, calls, rwlock_goes, Rules, Sort, Recursive, count, one_if_some}
+use Names.{Site, IsSite, Line, has_readers, HasLimit, bit}
+use Names.{code, code_of, packed, writers, case_of, rules_of, State, place_at, kind_at}
+use Names.{put, state_after_act}
+use Names.{reply_to, IsWellFormed, acts, IsInductive}
+use Names.{Goes, FitsItsLock, TakesOne, is_mutex, rules_in}
+use Names.{CondvarPlace, is_lock, mutex_beside}
 use Rattle.spec_locks.specs.declared.kinds.Kind.TheVariants as kinds
 use Rattle.spec_locks.specs.declared.calls.Patience.TheVariants as patience
 use Rattle.steps_base.specs.declared.acts.Act.TheVariants as act
 use Rattle.steps_base.specs.declared.acts.Next.TheVariants as next
 use Rattle.steps_base.specs.declared.acts.Whom as whom
-use Rattle.steps_base.specs.Locations.{nowhere}
-use Rattle.steps_base.specs.Owners.{lock_seen}
 use Rattle.steps_rwlock.specs.declared.places.RwLockAt.TheVariants as at
 use Rattle.steps_rwlock.specs.declared.park.ParkAt.TheVariants as parking
 use Rattle.steps_rwlock.specs.RwLockDeeds.{MayReply}
 use Rattle.spec_locks.specs.Locks.{Normal as NormalSort, Semaphore}
 use Rattle.spec_locks.specs.Locks as locks
 use Rattle.spec_locks.specs.Deeds as laws
-use Rattle.lot_laws.proofs.machine.Parts.{not_beside, condvar_unheld, free_of, IsOf, next_of, parts_at}
-use Rattle.lot_laws.proofs.machine.Parts.{put_here, role_here, location_here, of_single}
-use Rattle.lot_laws.proofs.sites.WakesAt.{IsWokenAt}
-use Rattle.lot_laws.proofs.sites.WakesKept.{woken_of}
+use Rattle.lot_laws.proofs.machine.Parts.{not_beside, IsOf, next_of}
+use Rattle.lot_laws.proofs.machine.Parts.{role_here}
 use Rattle.lot_laws.proofs.sites.StandsMoved.{mutex_rules}
-use Rattle.lot_laws.proofs.sites.ActsKept.{lock_by, place_goes}
-use Rattle.lot_laws.proofs.sites.OneStep.{steps_by}
-use Rattle.lot_laws.proofs.calls.OtherCalls.{IsCalm, WakesOwn}
-use Rattle.lot_laws.proofs.sites.ByAct.{AreCalm, GoesBy, IsBrief, accepted, calm_case, into, left, line_there}
-use Rattle.lot_laws.proofs.sites.ByAct.{none_is, not_late, out_of, parked, section_there, tells_all}
-use Rattle.lot_laws.proofs.sites.ByAct.{word_calm}
-use Rattle.lot_laws.proofs.sites.MovesKept.{picked_hears, picked_deeds, IsFollowed, SleepsIfCalls, IsSleeper}
-use Rattle.lot_laws.proofs.sites.MovesKept.{stays, goes_in, takes_whom_aside, takes_chosen, wakes_one}
-use Rattle.lot_laws.proofs.sites.MovesKept.{nowhere_here}
+use Rattle.lot_laws.proofs.sites.ActsKept.{lock_by}
+use Rattle.lot_laws.proofs.calls.OtherCalls.{WakesOwn}
+use Rattle.lot_laws.proofs.sites.ByAct.{AreCalm}
+use Rattle.lot_laws.proofs.sites.ByAct.{parked}
+use Rattle.lot_laws.proofs.sites.MovesKept.{IsFollowed}
 
 -- ---------------------------------------------------------------- rows
 

@@ -1,9 +1,9 @@
 -- The pages of a semaphore's places: what its laws say of each, as any sort of lock says it.
 use Rattle.lot_laws.proofs.Names
-use Names.{ℕ, Bool, true, false, Option, Some, None, if◌then◌else◌, ◌-◌, ◌==◌, ◌≡◌, ◌≢◌, ◌*◌, ◌≤◌, List, []}
+use Names.{ℕ, Bool, true, false, Option, Some, None, if◌then◌else◌, ◌-◌, ◌==◌, ◌≡◌, ◌≢◌, ◌≤◌, List, []}
 use Names.{◌∷◌, inl, not, refl, sym, ◌∙◌, ap, subst, arith, slice_index, nat_tests, Op, Shared, SemaphoreCall}
 use Names.{Act, Next, Reply, Value, Late, outcome_of, row_of, LockState, Rules, is_recursive, Case, Claim}
-use Names.{Deed, End, Has, HasClaim, Line, Main, Mark, Site, idle, is_closure, aside_in, code, has_parked}
+use Names.{Deed, End, Has, HasClaim, Line, Main, Mark, Site, is_closure, aside_in, code, has_parked}
 use Names.{parked_in, SemaphorePlace, Acquire, Release, semaphore_deeds, LeavesWord, semaphore_role}
 use Names.{semaphore_profile, is_free, semaphore_act, semaphore_first, semaphore_next, semaphore_right}
 use Names.{semaphore_steps_code, semaphore_steps_follow, semaphore_promises, semaphore_steps_tell, Semaphore}

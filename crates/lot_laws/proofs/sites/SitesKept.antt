@@ -6,8 +6,8 @@ use Names.{get_or-set_same, get_or-set_other, Waiter, Owners, Place, Mutex, Mute
 use Names.{is_parked, bit, one_if_some, with_exclusive, next_place, putting, IsLockState, Exclusive, Has}
 use Names.{Role, Site, IsSite, sum, unshared_then, State, hand_over_told, shares_handed_over, unlocked}
 use Names.{place_at, word_at, owners_at, shares_at, kind_at, queue_at, put, section_at, state_after_reply}
-use Names.{state_after_telling, state_after_hand_over, state_after_act, reply_to, lock_state, mutex_role}
-use Names.{mutex_location, acts, queued, location_at, role_on, SameNumbers, TakesOne, rules_in, ActsNeeded}
+use Names.{state_after_telling, state_after_hand_over, state_after_act, reply_to, lock_state}
+use Names.{mutex_location, acts, location_at, role_on, SameNumbers, TakesOne, rules_in, ActsNeeded}
 use Names.{IsInductive, SiteFollows, Goes, FitsItsLock, carried_at, hand_at, after_acts, cases_eq}
 use Names.{locations_of, Hands, is_mutex}
 use Rattle.core_base.specs.declared.ops.Op.TheVariants as op
@@ -18,7 +18,6 @@ use Rattle.steps_base.specs.declared.acts.Act as act
 use Rattle.lot_laws.proofs.sites.ToldAt as told_at
 use Rattle.lot_laws.proofs.sites.ToldAt.{IsToldAt, HeldHere, same_hands}
 use Rattle.lot_laws.proofs.sites.ActsKept.{AlikeAt, follows_by, lock_by}
-use Rattle.lot_laws.specs.ThreadDeeds.{mutex_deeds}
 use Rattle.lot_laws.specs.Locations.{Location, hand}
 use Rattle.lot_laws.specs.ThreadDeeds as deeds
 use Rattle.lot_laws.proofs.machine.Parts.{base_at, seen, goes_from, put_places, put_other, IsOf, own_stance}

@@ -1,20 +1,7 @@
-//! Deadlines at their bounds, and the clock of the system.
+//! The clock of the system, and one of ticks.
 use super::{check, check_eq};
-use core_base::{Clock, SystemClock, TickClock, to_deadline};
+use core_base::{Clock, SystemClock, TickClock};
 use std::process::Abort;
-use std::time::Duration;
-
-#[test]
-fn deadlines_are_sums(rt: HostRuntime) {
-    check_eq(&rt, to_deadline(5, Duration::from_micros(2)), Some(2_005));
-    check_eq(
-        &rt,
-        to_deadline(0, Duration::from_nanos(u64::MAX)),
-        Some(u64::MAX),
-    );
-    check_eq(&rt, to_deadline(1, Duration::from_nanos(u64::MAX)), None);
-    check_eq(&rt, to_deadline(0, Duration::from_secs(u64::MAX)), None);
-}
 
 #[test]
 fn the_system_clock_goes_on(rt: HostRuntime) {

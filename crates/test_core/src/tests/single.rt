@@ -21,24 +21,6 @@ use std::process::Abort;
 use std::sync::Wait;
 use std::test::Fail;
 
-const SIZES: &[(usize, usize, bool)] = &[
-    (1, 1, true),
-    (1 << 20, 1024, true),
-    (0, 1, false),
-    (1, 0, false),
-    ((1 << 20) + 1, 1, false),
-    (1, 1025, false),
-];
-
-#[test]
-fn sizes_fit_or_not(rt: HostRuntime) {
-    for row in SIZES {
-        let (words, seats, _) = *row;
-        let found = ParkingLot::fits(words, seats);
-        check_eq(&rt, (words, seats, found), *row);
-    }
-}
-
 // Whether a thread has its number, and has left no section.
 fn is_new(ticket: Ticket, number: usize) -> bool {
     let token = ticket.enter();

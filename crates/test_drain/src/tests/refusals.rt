@@ -1,4 +1,4 @@
-//! Memory that is refused: `bench/each_refusal.py` refuses each allocation of these tests in turn.
+//! Memory that is refused: `trials/each_refusal.py` refuses each allocation of these tests in turn.
 //! In a run where none is refused, they try what is answered then.
 
 use super::check_eq;

@@ -106,6 +106,8 @@ fn a_cache(rt: HostRuntime) -> Result<(), Fail> {
     let cache = RwLock::new(team.lot(), &mut token, Vec::new(rt.alloc())).map_err(Fault::from)?;
     let found = team.run(&rt, &|token: &mut Token| look_up_all(&rt, &cache, token))?;
     check(&rt, all_are(&found, &Ok(2794)));
+    // The second look of `fill_in` finds what is there.
+    check_eq(&rt, fill_in(&rt, &cache, &mut token, 1000), Ok(1190));
     check_eq(&rt, cache.into_inner().len(), 4);
     Ok(())
 }

@@ -1,8 +1,8 @@
-//! A wait that ends in time, and sizes that no lot has.
+//! A wait that ends in time.
 ghost use Rattle.parking_lot.specs.Names.{IsTokenOf, lot_of};
 
 use super::{check, check_eq};
-use parking_lot::{Fault, Monitor, ParkingLot, Team, TickClock, Token};
+use parking_lot::{Monitor, Team, TickClock, Token};
 use std::sync::Wait;
 use std::test::Fail;
 
@@ -36,16 +36,5 @@ fn a_wait_of_a_monitor_ends_in_time(rt: HostRuntime) -> Result<(), Fail> {
     check(&rt, !monitor.notify_one(&rt, &mut token, 0));
     check_eq(&rt, monitor.notify_all(&rt, &mut token, 0), 0);
     check_eq(&rt, monitor.into_inner(), 0);
-    Ok(())
-}
-
-#[test]
-fn a_lot_refuses_its_sizes(rt: HostRuntime) -> Result<(), Fail> {
-    let refused = Some(Fault::SizesOutOfRange);
-    check_eq(&rt, Team::new(rt.alloc(), 1024).err(), refused);
-    check_eq(&rt, Team::with_words(rt.alloc(), 0, 1).err(), refused);
-    check_eq(&rt, ParkingLot::for_threads(rt.alloc(), 0).err(), refused);
-    let (_lot, tickets) = ParkingLot::try_new(rt.alloc(), 1, 1024)?;
-    check_eq(&rt, tickets.len(), 1024);
     Ok(())
 }

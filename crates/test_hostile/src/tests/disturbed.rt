@@ -147,42 +147,42 @@ fn disturbed_scenes_keep_their_rules(rt: HostRuntime) -> Result<(), Fail> {
 #[test]
 fn disturbed_mutexes_keep_their_rules(rt: HostRuntime) -> Result<(), Fail> {
     let found = all_bear(&rt, rt.alloc(), &MUTEXES)?;
-    check_eq(&rt, found, (1442, 34426));
+    check_eq(&rt, found, (1852, 46864));
     Ok(())
 }
 
 #[test]
 fn disturbed_semaphores_keep_their_rules(rt: HostRuntime) -> Result<(), Fail> {
     let found = all_bear(&rt, rt.alloc(), &SEMAPHORES)?;
-    check_eq(&rt, found, (588, 19078));
+    check_eq(&rt, found, (688, 21148));
     Ok(())
 }
 
 #[test]
 fn disturbed_onces_keep_their_rules(rt: HostRuntime) -> Result<(), Fail> {
     let found = all_bear(&rt, rt.alloc(), &ONCES)?;
-    check_eq(&rt, found, (1074, 32028));
+    check_eq(&rt, found, (1374, 39036));
     Ok(())
 }
 
 #[test]
 fn disturbed_reader_writer_locks_keep_their_rules(rt: HostRuntime) -> Result<(), Fail> {
     let found = all_bear(&rt, rt.alloc(), &RWLOCKS)?;
-    check_eq(&rt, found, (1932, 57100));
+    check_eq(&rt, found, (2508, 76730));
     Ok(())
 }
 
 #[test]
 fn disturbed_fair_releases_keep_their_rules(rt: HostRuntime) -> Result<(), Fail> {
     let found = all_bear(&rt, rt.alloc(), &FAIR_RELEASES)?;
-    check_eq(&rt, found, (1310, 43616));
+    check_eq(&rt, found, (2330, 85188));
     Ok(())
 }
 
 #[test]
 fn disturbed_releases_keep_their_rules(rt: HostRuntime) -> Result<(), Fail> {
     let found = all_bear(&rt, rt.alloc(), &RELEASES)?;
-    check_eq(&rt, found, (1502, 50490));
+    check_eq(&rt, found, (1722, 57702));
     Ok(())
 }
 
@@ -203,7 +203,7 @@ fn disturbed_notifications_keep_their_rules(rt: HostRuntime) -> Result<(), Fail>
 #[test]
 fn disturbed_shown_mutexes_keep_their_rules(rt: HostRuntime) -> Result<(), Fail> {
     let found = all_bear(&rt, rt.alloc(), &SHOWN_MUTEXES)?;
-    check_eq(&rt, found, (862, 48182));
+    check_eq(&rt, found, (980, 53360));
     Ok(())
 }
 

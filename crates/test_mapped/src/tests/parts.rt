@@ -6,7 +6,7 @@ ghost use Rattle.parking_lot.specs.Names.{lot_of};
 use super::{check_eq, mutex_alone, rwlock_alone};
 use crate::{Entry, Slot};
 use indexmap::IndexMap;
-use lock_values::{Mapped, Shows, ShowsMut};
+use lock_values::{Mapped, Shows};
 use parking_lot::lock_api_rw::{RawRwLockFair, RwLock};
 use parking_lot::{Mutex, Project, Token};
 use std::alloc::{AllocError, Global};
@@ -89,12 +89,6 @@ impl<T> Shows for Whole<T> {
     }
 }
 
-impl<T> ShowsMut for Whole<T> {
-    fn show_mut(&mut self) -> &mut T {
-        &mut self.value
-    }
-}
-
 type Words = IndexMap<&'static str, &'static str>;
 
 fn words(alloc: Global) -> Result<Words, AllocError> {
@@ -137,23 +131,6 @@ fn a_refusal_gives_the_guard_back(rt: HostRuntime) -> Result<(), AllocError> {
     let guard = looked(&rt, guard, &"hello2", Err(12345));
     check_eq(&rt, guard.show().get(&"hello").copied(), Some("world"));
     drop(looked(&rt, guard, &"hello", Ok("world")));
-    Ok(())
-}
-
-#[test]
-fn a_write_is_seen_through_the_whole(rt: HostRuntime) -> Result<(), AllocError> {
-    let guard = Whole {
-        value: words(rt.alloc())?,
-    };
-    let there = Entry {
-        key: &"hello",
-        missing: 12345,
-    };
-    if let Ok(mut mapped) = Mapped::try_new(guard, there) {
-        *mapped = "moon";
-        let guard = mapped.into_guard();
-        check_eq(&rt, guard.show().get(&"hello").copied(), Some("moon"));
-    }
     Ok(())
 }
 

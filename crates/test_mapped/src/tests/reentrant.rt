@@ -7,9 +7,7 @@ ghost use Rattle.parking_lot.specs.Names.{lot_of, thread_of};
 use super::check_eq;
 use super::parts::{Point, TheX};
 use super::texts::text_of;
-use parking_lot::{
-    Fault, ParkingLot, ReentrantMutex, ReentrantMutexGuard, Ticket, Token, advance_count,
-};
+use parking_lot::{ParkingLot, ReentrantMutex, ReentrantMutexGuard, Ticket, Token};
 use std::alloc::Global;
 use std::process::Abort;
 use std::sync::atomic::Ordering::SeqCst;
@@ -254,15 +252,6 @@ fn bumped<R: Wait + Abort>(rt: &R, mutex: &ReentrantMutex<u64>, token: &mut Toke
 fn a_bump_keeps_the_mutex_where_nobody_waits(rt: HostRuntime) {
     let (mutex, mut token, _others) = reentrant(&rt, rt.alloc(), 3);
     check_eq(&rt, bumped(&rt, &mutex, &mut token), true);
-}
-
-#[test]
-fn counts_name_their_thread_up_to_the_limit(rt: HostRuntime) {
-    check_eq(&rt, advance_count(0, 0), Ok(4294967297));
-    check_eq(&rt, advance_count(0, 2), Ok(12884901889));
-    check_eq(&rt, advance_count(4294967297, 0), Ok(4294967298));
-    check_eq(&rt, advance_count(8589934590, 0), Ok(8589934591));
-    check_eq(&rt, advance_count(8589934591, 0), Err(Fault::LockCountFull));
 }
 
 // What the mutex shows to a thread.

@@ -1,4 +1,4 @@
-//! Memory that is refused: `bench/each_refusal.py` refuses each allocation of this test in turn.
+//! Memory that is refused: `trials/each_refusal.py` refuses each allocation of this test in turn.
 ghost use Rattle.std.specs.Prelude.{All};
 ghost use Rattle.std.specs.Arc.{arc_value};
 ghost use Rattle.parking_lot_core.specs.Tokens.{IsTicketOf, IsTokenOf};

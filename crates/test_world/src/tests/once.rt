@@ -1,12 +1,10 @@
 //! Worlds of a `Once`.
 use super::scripts::Line::{Calls, GoesOn, Rests, Shows, Takes};
 use super::scripts::{BARE, DONE, Line, Shown, plays_anew};
-use super::{check, check_eq};
-use core_base::{Note, Want};
-use lot_steps::{Answer, Call, Kind, Place, Reply};
+use core_base::Want;
+use lot_steps::{Answer, Call, Kind};
 use lot_world::{Debt, Outcome, Owner, Turn};
 use spec_locks::{OnceCall, OnceState};
-use steps_once::{LookAt, OncePlace};
 
 const RUN: Call = Call::Once {
     lock: 0,
@@ -38,23 +36,6 @@ const POISONED: Outcome = Outcome::End(Answer::Poisoned);
 const RUNS_NEW: Outcome = Outcome::Closure(OnceState::New);
 
 const RUNS_POISONED: Outcome = Outcome::Closure(OnceState::Poisoned);
-
-#[test]
-fn a_waiter_of_a_run_tries_again_when_woken(rt: HostRuntime) {
-    let taken = Place::Once {
-        lock: 3,
-        at: OncePlace::Look {
-            call: OnceCall::Wait { forced: false },
-            retries: false,
-            at: LookAt::Taken { by: 2 },
-        },
-    };
-    check_eq(&rt, taken.taker(), Some(2));
-    check_eq(&rt, taken.wants(), Some(Want::Wait));
-    check(&rt, taken.late_key().is_none());
-    let again = taken.next_place(Reply::Woken(Note::Normal));
-    check(&rt, again.retries_on(3) && again.respins_from().is_none());
-}
 
 const POISONS: &[Line] = &[
     Calls(0, RUN, RUNS_NEW),

@@ -1,7 +1,7 @@
 -- `join_views` is a ghost update: one seat takes in another's view.
 use Rattle.atomic_table.proofs.Names.{◌≡◌, ℕ, List, [], ◌∷◌, sym, refl, a_type, dcons, dnil, named, Val}
-use Rattle.atomic_table.proofs.Names.{vunit, vptr, inst_fn, SProp, ent, sep, emp, Lft, Fml, ftrue, fsep, flft}
-use Rattle.atomic_table.proofs.Names.{sem, ‵, raw, ◌⊛◌, given, later, await, ◌$◌, ◌∵◌, !, qed, by, move, keep}
+use Rattle.atomic_table.proofs.Names.{vunit, vptr, inst_fn, SProp, emp, Lft, Fml, ftrue, fsep, flft}
+use Rattle.atomic_table.proofs.Names.{‵, raw, ◌⊛◌, given, later, await, ◌$◌, ◌∵◌, !, qed, by, move, keep}
 use Rattle.atomic_table.proofs.Names.{drop, split, split3, join, fsplit, fsplit3, fjoin, fjoin3, learn, use0}
 use Rattle.atomic_table.proofs.Names.{use1, use3, rewrite, feq_i, unit_lit, of_opd, returns, enter, alloc_all}
 use Rattle.atomic_table.proofs.Names.{pass_all, free_all, look_at, sets, tables, yes, RattleType, owns}

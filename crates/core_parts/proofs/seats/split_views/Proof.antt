@@ -1,7 +1,7 @@
 -- `split_views` is a ghost update that cuts a seat's view in two.
 use Rattle.atomic_table.proofs.Names.{◌≡◌, ℕ, List, [], ◌∷◌, sym, refl, a_type, dcons, dnil, named, Val}
-use Rattle.atomic_table.proofs.Names.{vunit, vptr, inst_fn, SProp, ent, sep, emp, Lft, Fml, ftrue, fsep, flft}
-use Rattle.atomic_table.proofs.Names.{sem, ‵, raw, ◌⊛◌, given, later, await, ◌$◌, ◌∵◌, !, qed, by, move, keep}
+use Rattle.atomic_table.proofs.Names.{vunit, vptr, inst_fn, SProp, emp, Lft, Fml, ftrue, fsep, flft}
+use Rattle.atomic_table.proofs.Names.{‵, raw, ◌⊛◌, given, later, await, ◌$◌, ◌∵◌, !, qed, by, move, keep}
 use Rattle.atomic_table.proofs.Names.{drop, split, split3, join, fsplit, fsplit3, fpick, fjoin, fjoin3, learn}
 use Rattle.atomic_table.proofs.Names.{use0, use1, use3, rewrite, feq_i, unit_lit, of_opd, returns, enter}
 use Rattle.atomic_table.proofs.Names.{alloc_all, pass_all, free_all, look_at, sets, tables, yes, RattleType}

@@ -1,7 +1,6 @@
 use Rattle.std.proofs.Common.{◌≡◌, ◌∷◌, ◌∙◌, ap, subst, sym}
 use Rattle.atomic_table.specs.Table.{Splits}
 use Rattle.core_words.specs.Rule.{LotRule}
-use Rattle.core_names.specs.Names.{count_at}
 use Rattle.core_names.specs.Shares.{share_view, sharing, without_first_share}
 use Rattle.core_names.proofs.Parts.{gives_share}
 use Rattle.core_names.proofs.name.Name.give_picked.Goals as goal

@@ -1,9 +1,7 @@
-use Rattle.std.proofs.Common.{◌≡◌, ◌<◌, ◌≤◌, ◌∙◌, ℕ, List, ap, subst, sym, inr}
+use Rattle.std.proofs.Common.{◌≡◌, ◌<◌, ℕ, subst, sym}
 use mathlib.Core.Option.{none}
-use Rattle.atomic_table.specs.Table.{Allows, Me, step}
-use Rattle.core_parts.specs.declared.slot.PermitSlot.{PermitSlot}
+use Rattle.atomic_table.specs.Table.{Allows, step}
 use Rattle.core_words.specs.Rule.{LotRule}
-use Rattle.core_words.specs.declared.views.View.{View}
 use Rattle.core_names.specs.Shares.{stores_more}
 use Rattle.core_names.proofs.AtCount.{below, here, near}
 use Rattle.core_names.proofs.Stores.{more_allowed}

@@ -1,4 +1,4 @@
-use Rattle.std.proofs.Common.{ℕ, ◌+◌, [], ◌∷◌, ◌++◌, ◌∙◌, ap, arith, length, sym, subst}
+use Rattle.std.proofs.Common.{ℕ, ◌+◌, [], ◌∷◌, ◌++◌, ◌∙◌, ap, arith, sym}
 use Rattle.core_base.specs.declared.ops.Op.TheVariants.{Exchange, Load}
 use Rattle.core_words.specs.Indices.{counter, word_index}
 use Rattle.core_words.specs.Permits.{slots_of}

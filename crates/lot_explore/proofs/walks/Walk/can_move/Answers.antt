@@ -1,4 +1,4 @@
-use Rattle.std.proofs.Common.{◌≡◌, Bool, subst}
+use Rattle.std.proofs.Common.{◌≡◌, subst}
 use Rattle.std.specs.Prelude.{is_some}
 use Rattle.lot_program.specs.States.{program_next}
 use Rattle.lot_explore.specs.Walks.{Way}

@@ -1,7 +1,7 @@
 -- The list of another is added.
 use Rattle.atomic_table.proofs.Names.{◌≡◌, ℕ, List, [], ◌∷◌, ◌++◌, refl, named, Val, vunit, vptr, SProp, emp}
-use Rattle.atomic_table.proofs.Names.{Lft, ftrue, flft, ‵, raw, ◌⊛◌, ◌$◌, ◌∵◌, !, qed, by, move, keep, split}
-use Rattle.atomic_table.proofs.Names.{split3, join, fsplit, fsplit3, fjoin, fjoin3, use0, feq_i, unit_lit}
+use Rattle.atomic_table.proofs.Names.{ftrue, flft, ‵, raw, ◌⊛◌, ◌$◌, ◌∵◌, !, qed, by, move, keep, split}
+use Rattle.atomic_table.proofs.Names.{split3, join, fsplit3, fjoin, fjoin3, use0, feq_i, unit_lit}
 use Rattle.atomic_table.proofs.Names.{of_opd, returns, enter, alloc_all, pass_all, free_all, look_at, sets}
 use Rattle.atomic_table.proofs.Names.{tables, yes, RattleType, owns, types_at, plain, nothing, Stays}
 use Rattle.atomic_table.proofs.Names.{stay_dropped, stay_ref, walk_of, Goes-dropped, Goes-ref, fact, fact_i}

@@ -1,4 +1,4 @@
-use Rattle.std.proofs.Common.{rules, ◌≡◌, ◌+◌, ◌<◌}
+use Rattle.std.proofs.Common.{rules, ◌+◌, ◌<◌}
 use Rattle.lock_raw.specs.Counts.{Names, times_in}
 use Rattle.raw_mutexes.specs.Counting.{IsShareOf, SawCount, StoredCount}
 use Rattle.raw_mutexes.specs.Words.{lot_of}

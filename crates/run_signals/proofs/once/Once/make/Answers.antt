@@ -1,5 +1,4 @@
-use Rattle.std.proofs.Common.{◌∙◌, true, Ok, Err, inr, sym, subst}
-use Rattle.spec_locks.specs.declared.calls.OnceCall.TheVariants.{CallOnce}
+use Rattle.std.proofs.Common.{◌∙◌}
 use Rattle.run_base.specs.Telling.{owns_of}
 use Rattle.run_signals.proofs.Knowing.{by_result}
 use Rattle.run_signals.proofs.once.Once.make.Goals as goal

@@ -1,5 +1,0 @@
-use Rattle.parking_lot_core.specs.Tokens.{IsTokenOf}
-use Rattle.test_mutexes.proofs.tests.street.add_often.Given as goal
-
-abbrev pub invariant-loop : goal.invariant-loop
-invariant-loop g l = IsTokenOf l.lot l.token
