@@ -1,7 +1,7 @@
 -- The turn of a thread in a call, as steps of the world.
 use Rattle.std.proofs.Common.{ℕ, zero, suc, ◌≡◌, ◌<◌, ◌+◌, ◌-◌, Bool, true, false, List, [], ◌∷◌, length, refl, sym}
-use Rattle.std.proofs.Common.{ap, subst, ◌∙◌, arith}
-use Rattle.std.specs.Prelude.{if◌then◌else◌, ◌||◌}
+use Rattle.std.proofs.Common.{ap, append_assoc, subst, ◌∙◌, arith}
+use Rattle.std.specs.Prelude.{if◌then◌else◌, ◌&&◌, ◌||◌, ◌++◌}
 use Rattle.spec_locks.specs.declared.calls.Turn.TheVariants as turn
 use Rattle.spec_locks.specs.declared.calls.Step.{Step}
 use Rattle.spec_locks.specs.declared.outcomes.Outcome.{Outcome}
@@ -19,9 +19,10 @@ use Rattle.lot_machine.specs.Fits.{SameSize}
 use Rattle.lot_machine.proofs.Shape.{after_size, has_keys, size_more}
 use Rattle.lot_program.specs.declared.cuts.Grain.{Grain}
 use Rattle.lot_program.specs.declared.states.Local.{Local}
-use Rattle.lot_program.specs.Cuts.{is_cut}
-use Rattle.lot_program.specs.States.{Turning, turning, is_own, is_barred, turn_ends, gone, gone_if, gone_on, step_of}
-use Rattle.lot_program.specs.Runs.{go_steps, more_steps}
+use Rattle.lot_turns.specs.Turns.{is_ready}
+use Rattle.lot_program.specs.Cuts.{is_cut, may_go_straight}
+use Rattle.lot_program.specs.States.{Turning, goes_straight, turning, is_own, is_barred, turn_ends, gone, gone_if, gone_on, step_of}
+use Rattle.lot_program.specs.Runs.{go_steps, more_steps, turn_steps}
 
 pub gone_none : (g : Grain) (t : ℕ) (x : Turning) (n : ℕ) → n ≡ 0 → gone_on g n t x ≡ x
 unfolding gone_on
@@ -113,7 +114,20 @@ quiet_act act.Accept f h = (refl, refl)
 quiet_act (act.Closure x) f h = absurd (h x refl)
 quiet_act (act.End a) f h = (refl, refl)
 
-told_barred : (o : Outcome) → (o ≡ outcome.NotNow → ⊥) → is_barred o ≡ false
+-- an act that is told to run a closure does, and one that is told to sleep does
+pub closes_told : (a : Act) (x : OnceState) → outcome_of a ≡ outcome.Closure x → runs_closure a ≡ true
+closes_told (act.Closure y) x e = refl
+closes_told act.Sleep x e = absurd cc
+closes_told (act.End answer) x e = absurd cc
+closes_told a x e = absurd cc
+
+pub sleeps_told : (a : Act) → outcome_of a ≡ outcome.Sleep → sleeps a ≡ true
+sleeps_told act.Sleep e = refl
+sleeps_told (act.Closure y) e = absurd cc
+sleeps_told (act.End answer) e = absurd cc
+sleeps_told a e = absurd cc
+
+pub told_barred : (o : Outcome) → (o ≡ outcome.NotNow → ⊥) → is_barred o ≡ false
 told_barred outcome.NotNow h = absurd (h refl)
 told_barred outcome.Step h = refl
 told_barred outcome.Sleep h = refl
@@ -201,6 +215,22 @@ pub finished_size : (b : Bool) (g : Grain) (t : ℕ) (x : Turning)
     → SameSize x.world (gone_on g 64 t (gone_if b t x)).world
 finished_size b g t x = size_more x.world (gone_if b t x).world (gone_on g 64 t (gone_if b t x)).world
     (straight_size b t x) (gone_size g 64 t (gone_if b t x))
+
+-- the steps of a turn are pushed one after another
+pub pushed : (g : Grain) (w v : State) (step : Step) (b : Bool) (olds mids news : List Step) → v ≡ after w step
+    → b ≡ may_go_straight g (place_at w step.thread) step.turn → (step_outcome w step ≡ outcome.NotNow → ⊥)
+    → mids ≡ olds ++ step ∷ []
+    → news ≡ mids ++ more_steps (b && is_ready (place_at v step.thread)) g step.thread v
+    → news ≡ olds ++ turn_steps g w step
+pushed g w v step b olds mids news led may possible mid new =
+    let straight = goes_straight g w step in
+    let more = more_steps straight g step.thread (after w step) in
+    new
+    ∙ ap (λ x. mids ++ more_steps (b && is_ready (place_at x step.thread)) g step.thread x) led
+    ∙ ap (λ c. mids ++ more_steps (c && is_ready (place_at (after w step) step.thread)) g step.thread (after w step))
+    may
+    ∙ ap (λ ss. ss ++ more) mid ∙ append_assoc olds (step ∷ []) more
+    ∙ ap (λ c. olds ++ step ∷ (if c then [] else more)) (sym (told_barred (step_outcome w step) possible))
 
 -- ---------------------------------------------------------------- places
 
