@@ -4,3 +4,4 @@ pub mod Counting
 pub mod Walking
 pub mod Sharing
 pub mod Judging
+pub mod Stepping

@@ -4,3 +4,4 @@ pub mod Replays
 pub mod Deadlocks
 pub mod Walks
 pub mod Wrongs
+pub mod Steps

@@ -7,6 +7,7 @@ use std::alloc::Global;
 #[derive(Clone, Copy, Debug, PartialEq, Eq)]
 pub enum GrainName {
     Step,
+    Turns,
     Call,
     Auto,
 }
@@ -23,6 +24,7 @@ impl GrainName {
     pub fn word(self) -> &'static str {
         match self {
             GrainName::Step => "step",
+            GrainName::Turns => "turns",
             GrainName::Call => "call",
             GrainName::Auto => "auto",
         }
@@ -32,6 +34,7 @@ impl GrainName {
     pub fn of_word(word: &str) -> GrainName {
         match word {
             "step" => GrainName::Step,
+            "turns" => GrainName::Turns,
             "call" => GrainName::Call,
             _ => GrainName::Auto,
         }
@@ -48,6 +51,10 @@ impl Turns {
         program.deadlines = self.deadlines;
         match self.grain {
             GrainName::Step => Ok(()),
+            GrainName::Turns => {
+                program.by_turns();
+                Ok(())
+            }
             GrainName::Call => {
                 program.by_calls(alloc);
                 Ok(())

@@ -51,7 +51,8 @@ use Rattle.lot_machine.specs.Machine.{spin_outcome, step_outcome, turn_outcome, 
 use Rattle.lot_machine.proofs.Closures.{RunsOne, runs_one}
 use Rattle.lot_laws.specs.SitesOf.{IsWorld}
 use Rattle.lot_laws.proofs.alone.WorldRuns.{world_after}
-use Rattle.lot_looks.specs.Looks.{GoesWithoutMiss, LooksFor, LooksForExchanges, NoMissIsNeeded, before_looks}
+use Rattle.lot_looks.specs.Looks.{FollowedBy, GoesWithoutMiss, LooksAtOnce, LooksFor, LooksForExchanges}
+use Rattle.lot_looks.specs.Looks.{NoMissIsNeeded, before_looks}
 use Rattle.lot_looks.specs.Looks.{looked_from, misses, news, news_of, or_here, unlooked}
 use Rattle.lot_looks.proofs.Acted.{AllSane, can_so, idle_so, place_so, put_so, set_sane, shares_so}
 use Rattle.lot_looks.proofs.Places.{GoesBy, GoesByLook, GoesByNoLook, IsSane, Tells, goes_so, stays_sane}
@@ -380,16 +381,45 @@ hits_both : (xs ys : List Step) (w : State) → GoesWithoutMiss w xs → GoesWit
 hits_both [] ys w first second = second
 hits_both (x ∷ xs) ys w first second = (first.0, first.1, hits_both xs ys (after w x) first.2 second)
 
+followed_both : (o : Option Place) (t : ℕ) (xs ys : List Step) → FollowedBy o t xs → FollowedBy o t (xs ++ ys)
+followed_both None t xs ys h = tt
+followed_both (Some q) t [] ys h = absurd h
+followed_both (Some q) t (x ∷ xs) ys h = h
+
+looks_both : (xs ys : List Step) (w : State) → LooksAtOnce w xs → LooksAtOnce (after_steps w xs) ys
+    → LooksAtOnce w (xs ++ ys)
+looks_both [] ys w first second = second
+looks_both (x ∷ xs) ys w first second = (
+  followed_both (looked_from (place_at (after w x) x.thread)) x.thread xs ys first.0,
+  looks_both xs ys (after w x) first.1 second,
+)
+
+-- where no thread has looked, none has
+free_there : (p : Place) → IsSane p → looked_from (unlooked p) ≡ None
+free_there p sane = by_place (looked_from p) refl (goes_so p sane)
+  where
+    by_place : (o : Option Place) → looked_from p ≡ o → GoesBy p o → looked_from (or_here o p) ≡ None
+    by_place None e by = e
+    by_place (Some q) e by = by.unlooked
+
 record ComesAll (w : State) (ss : List Step) : Type 0 where
   steps : List Step
   hits : GoesWithoutMiss (before_looks w) steps
+  at_once : LooksAtOnce (before_looks w) steps
   leads : after_steps (before_looks w) steps ≡ before_looks (after_steps w ss)
   tells : news (before_looks w) steps ≡ news w ss
   sane : AllSane (after_steps w ss).places
 
 goes_all : (ss : List Step) (w : State) → IsWorld w → AllSane w.places → LooksForExchanges w ss
     → ComesAll w ss
-goes_all [] w h all for_all = record { steps = []; hits = tt; leads = refl; tells = refl; sane = all }
+goes_all [] w h all for_all = record {
+  steps = [];
+  hits = tt;
+  at_once = tt;
+  leads = refl;
+  tells = refl;
+  sane = all;
+}
 goes_all (s ∷ ss) w h all for_all =
     let one = stepped w h all s for_all.0 in
     let rest = goes_all ss (after w s) (world_after w s h) one.sane for_all.1 in
@@ -397,6 +427,10 @@ goes_all (s ∷ ss) w h all for_all =
       steps = one.comes.steps ++ rest.steps;
       hits = hits_both one.comes.steps rest.steps (before_looks w) one.comes.hits
           (subst (λ x. GoesWithoutMiss x rest.steps) (sym one.comes.leads) rest.hits);
+      at_once = looks_both one.comes.steps rest.steps (before_looks w)
+          (one.comes.at_once (ap looked_from (place_so (after w s) one.sane s.thread)
+          ∙ free_there (place_at (after w s) s.thread) (one.sane s.thread)))
+          (subst (λ x. LooksAtOnce x rest.steps) (sym one.comes.leads) rest.at_once);
       leads = after_both one.comes.steps rest.steps (before_looks w) ∙ ap (λ x. after_steps x rest.steps)
           one.comes.leads ∙ rest.leads;
       tells = news_both one.comes.steps rest.steps (before_looks w)
@@ -455,6 +489,7 @@ no_miss_is_needed kinds threads h ss for_all =
     record {
       steps = one.steps;
       hits = subst (λ x. GoesWithoutMiss x one.steps) same one.hits;
+      at_once = subst (λ x. LooksAtOnce x one.steps) same one.at_once;
       leads = ap (λ x. after_steps x one.steps) (sym same) ∙ one.leads;
       tells = ap (λ x. news x one.steps) (sym same) ∙ one.tells;
       rests = λ still. ap (λ x. after_steps x one.steps) (sym same) ∙ one.leads

@@ -44,7 +44,8 @@ use Rattle.lot_machine.specs.Machine.{shares_at, shares_with, state_after_act, s
 use Rattle.lot_machine.specs.Machine.{state_after_going, state_after_hand_over, state_after_hand_over_by}
 use Rattle.lot_machine.specs.Machine.{state_after_operation, state_after_telling, state_after_turn}
 use Rattle.lot_machine.specs.Machine.{step_outcome, turn_outcome, unlocked, with_word, word_at}
-use Rattle.lot_looks.specs.Looks.{GoesWithoutMiss, before_looks, finds_another, looked_from, misses, news}
+use Rattle.lot_looks.specs.Looks.{FollowedBy, GoesWithoutMiss, LooksAtOnce, before_looks, finds_another}
+use Rattle.lot_looks.specs.Looks.{looked_from, misses, news}
 use Rattle.lot_looks.specs.Looks.{news_of, or_here, unlooked}
 use Rattle.lot_looks.proofs.Acted.{AllSane, acted_sane, acted_so, set_sane, shares_so, given_so, helds_so}
 use Rattle.lot_looks.proofs.Acted.{operation_so, place_so, put_so, successor_so}
@@ -159,25 +160,45 @@ operation_put w t p q l f = ap
 pub record Comes (w v : State) (t : ℕ) (told : Outcome) : Type 0 where
   pub steps : List Step
   pub hits : GoesWithoutMiss (before_looks w) steps
+  -- each look among them is followed at once by its exchange
+  pub at_once : looked_from (place_at (before_looks v) t) ≡ None → LooksAtOnce (before_looks w) steps
   pub leads : after_steps (before_looks w) steps ≡ before_looks v
   pub tells : news (before_looks w) steps ≡ news_of t told
 
 -- no turn is taken
 pub waits : (w v : State) (t : ℕ) (told : Outcome) → before_looks w ≡ before_looks v → news_of t told ≡ []
     → Comes w v t told
-waits w v t told same none = record { steps = []; hits = tt; leads = same; tells = sym none }
+waits w v t told same none = record {
+  steps = [];
+  hits = tt;
+  at_once = λ free. tt;
+  leads = same;
+  tells = sym none;
+}
+
+-- nothing follows where it has not looked
+none_follows : (x v : State) (t : ℕ) → x ≡ before_looks v → looked_from (place_at (before_looks v) t) ≡ None
+    → FollowedBy (looked_from (place_at x t)) t []
+none_follows x v t led free = subst (λ o. FollowedBy o t []) (sym (ap (λ y. looked_from (place_at y t)) led ∙ free))
+    tt
+
+go_follows : (o : Option Place) (t : ℕ) (ss : List Step) → FollowedBy o t (go_of t ∷ ss)
+go_follows None t ss = tt
+go_follows (Some q) t ss = refl
 
 -- one turn is
 pub one_turn : (w v : State) (told : Outcome) (s : Step) → is_possible (before_looks w) s ≡ true
     → misses (before_looks w) s ≡ false
     → state_after_turn (before_looks w) s.thread s.turn ≡ before_looks v
     → turn_outcome (before_looks w) s.thread s.turn ≡ told → Comes w v s.thread told
-one_turn w v told s possible hit leads tells = record {
-  steps = s ∷ [];
-  hits = (possible, hit, tt);
-  leads = rw possible leads;
-  tells = rw possible (ap (λ o. news_of s.thread o ++ []) tells ∙ append-nil (news_of s.thread told));
-}
+one_turn w v told s possible hit leads tells = let led : after (before_looks w) s ≡ before_looks v =
+    rw possible leads in record {
+      steps = s ∷ [];
+      hits = (possible, hit, tt);
+      at_once = λ free. (none_follows (after (before_looks w) s) v s.thread led free, tt);
+      leads = led;
+      tells = rw possible (ap (λ o. news_of s.thread o ++ []) tells ∙ append-nil (news_of s.thread told));
+    }
 
 pub go_possible : (w : State) (t : ℕ) → t < length w.places → can_do w (act_of (place_at w t)) ≡ true
     → is_possible w (go_of t) ≡ true
@@ -236,6 +257,8 @@ pub moved : (w w2 v v2 : State) (t : ℕ) (told told2 : Outcome) → before_look
 moved w w2 v v2 t told told2 from to same comes = record {
   steps = comes.steps;
   hits = subst (λ x. GoesWithoutMiss x comes.steps) from comes.hits;
+  at_once = λ free. subst (λ x. LooksAtOnce x comes.steps) from
+      (comes.at_once (ap (λ x. looked_from (place_at (before_looks x) t)) to ∙ free));
   leads = ap (λ x. after_steps x comes.steps) (sym from) ∙ comes.leads ∙ ap before_looks to;
   tells = ap (λ x. news x comes.steps) (sym from) ∙ comes.tells ∙ ap (news_of t) same;
 }
@@ -533,6 +556,11 @@ module _ (w : State) (t : ℕ) (p q : Place) (all : AllSane w.places) (noted : A
         first_hits,
         subst (λ y. GoesWithoutMiss y (go_of t ∷ [])) (sym after_first)
             (second_possible, second_hits, tt),
+      );
+      at_once = λ free. (
+        go_follows (looked_from (place_at (after (before_looks w) (go_of t)) t)) t [],
+        subst (λ y. LooksAtOnce y (go_of t ∷ [])) (sym after_first)
+            (none_follows (after x (go_of t)) (state_after_go w t) t last_leads free, tt),
       );
       leads = ap (λ y. after y (go_of t)) after_first ∙ last_leads;
       tells = ap (λ o. news_of t o ++ news (after (before_looks w) (go_of t)) (go_of t ∷ [])) first_outcome

@@ -240,6 +240,18 @@ abbrev pub LooksForExchanges : State → List Step → Type 0
 LooksForExchanges w [] = Unit {0}
 LooksForExchanges w (s ∷ ss) = LooksFor w s.thread s.turn × LooksForExchanges (after w s) ss
 
+-- a thread that has looked goes on at once
+abbrev pub FollowedBy : Option Place → ℕ → List Step → Type 0
+FollowedBy None t ss = Unit {0}
+FollowedBy (Some q) t [] = ⊥
+FollowedBy (Some q) t (s ∷ ss) = s ≡ go_of t
+
+-- so each look for an exchange is followed at once by that
+abbrev pub LooksAtOnce : State → List Step → Type 0
+LooksAtOnce w [] = Unit {0}
+LooksAtOnce w (s ∷ ss) =
+    FollowedBy (looked_from (place_at (after w s) s.thread)) s.thread ss × LooksAtOnce (after w s) ss
+
 -- ---------------------------------------------------------------- the same course of a run
 
 abbrev pub or_here : Option Place → Place → Place
@@ -274,6 +286,7 @@ news w (s ∷ ss) = news_of s.thread (step_outcome w s) ++ news (after w s) ss
 pub record IsUnmissed (w : State) (ss : List Step) : Type 0 where
   pub steps : List Step
   pub hits : GoesWithoutMiss w steps
+  pub at_once : LooksAtOnce w steps
   pub leads : after_steps w steps ≡ before_looks (after_steps w ss)
   pub tells : news w steps ≡ news w ss
   -- where no thread goes on, the states are one

@@ -1,13 +1,13 @@
 -- Each move of a program is a step of the world, or leaves it as it is.
 use Rattle.std.proofs.Common.{ℕ, zero, suc, ◌≡◌, ◌/◌, ◌%◌, Bool, true, false, Option, Some, None, [], ◌∷◌}
 use Rattle.std.proofs.Common.{refl, sym, ap, subst, ◌∙◌}
-use Rattle.std.specs.Prelude.{if◌then◌else◌, nat_lt}
+use Rattle.std.specs.Prelude.{if◌then◌else◌, ◌&&◌, nat_lt, slice_set}
 use Rattle.spec_locks.specs.declared.calls.Turn.TheVariants as turn
 use Rattle.spec_locks.specs.declared.calls.Turn.{Turn}
 use Rattle.spec_locks.specs.declared.calls.Step.{Step}
 use Rattle.spec_locks.specs.declared.outcomes.Outcome.{Outcome}
 use Rattle.spec_locks.specs.declared.outcomes.Outcome.TheVariants as outcome
-use Rattle.lot_machine.specs.Machine.{State, after, after_steps, step_outcome}
+use Rattle.lot_machine.specs.Machine.{State, after, after_steps, place_at, step_outcome}
 use Rattle.lot_laws.specs.SitesOf.{IsWorld}
 use Rattle.lot_laws.proofs.alone.AloneSteps.{after_stuck}
 use Rattle.lot_laws.proofs.promises.Overtaken.{world_steps}
@@ -20,28 +20,71 @@ use Rattle.lot_program.specs.declared.program.Instruction.{Instruction}
 use Rattle.lot_program.specs.declared.program.Instruction.TheVariants as instruction
 use Rattle.lot_program.specs.declared.program.Program.{Program}
 use Rattle.lot_program.specs.Programs.{threads_of, instruction_at}
-use Rattle.lot_program.specs.States.{ProgramState, step_of, turning, turned, with_turn, heard, is_barred}
+use Rattle.lot_turns.specs.Turns.{is_ready}
+use Rattle.lot_program.specs.Cuts.{may_go_straight}
+use Rattle.lot_program.specs.States.{ProgramState, Turning, goes_straight, gone_if, gone_on, step_of, turning, turned, with_turn, heard}
+use Rattle.lot_program.specs.States.{is_barred}
 use Rattle.lot_program.specs.States.{stepped_by, or_refused, world_move, late_move, closing, performed}
 use Rattle.lot_program.specs.States.{going_on, asserted, is_own, own_move, local_at, thread_move}
 use Rattle.lot_program.specs.States.{program_next}
-use Rattle.lot_program.specs.Runs.{go_steps, turn_steps, steps_by, step_by, own_step, thread_step}
+use Rattle.lot_program.specs.Runs.{more_steps, turn_steps, steps_by, step_by, own_step, thread_step}
 use Rattle.lot_program.specs.Runs.{steps_taken}
-use Rattle.lot_program.proofs.TurnLemmas.{gone_world}
+use Rattle.lot_program.proofs.TurnLemmas.{gone_world, straight_world}
+
+-- a turn whose first step is possible leads somewhere
+stepped_on : (g : Grain) (o : Outcome) (s : ProgramState) (step : Step) (l : Local) → (o ≡ outcome.NotNow → ⊥)
+    → Some (with_turn s step.thread (turned g o s.world step l)) ≡ stepped_by o g s step l
+stepped_on g outcome.NotNow s step l goes = absurd (goes refl)
+stepped_on g outcome.Step s step l goes = refl
+stepped_on g outcome.Sleep s step l goes = refl
+stepped_on g (outcome.Closure x) s step l goes = refl
+stepped_on g (outcome.End a) s step l goes = refl
+
+-- where the parts of a turn lead, the turn does
+module _ (g : Grain) (s : ProgramState) (step : Step) (l : Local) (v u : State) (b : Bool) (o : Outcome)
+    (first last : Local) (out : ProgramState) (led : v ≡ after s.world step)
+    (may : b ≡ may_go_straight g (place_at s.world step.thread) step.turn) (told : o ≡ step_outcome s.world step)
+    (goes : o ≡ outcome.NotNow → ⊥) (hears : first ≡ heard o l)
+    (world : u ≡ (gone_on g 64 step.thread (gone_if (b && is_ready (place_at v step.thread)) step.thread
+    (turning v first))).world)
+    (local : last ≡ (gone_on g 64 step.thread (gone_if (b && is_ready (place_at v step.thread)) step.thread
+    (turning v first))).local)
+    (leads : out ≡ record s { world = u; locals = slice_set s.locals step.thread last }) where
+  whole : gone_on g 64 step.thread (gone_if (b && is_ready (place_at v step.thread)) step.thread (turning v first))
+      ≡ turned g o s.world step l
+  whole = ap (λ x. gone_on g 64 step.thread (gone_if (b && is_ready (place_at x step.thread)) step.thread
+      (turning x first))) led
+      ∙ ap (λ c. gone_on g 64 step.thread (gone_if (c && is_ready (place_at (after s.world step) step.thread))
+      step.thread (turning (after s.world step) first))) may
+      ∙ ap (λ m. gone_on g 64 step.thread (gone_if (goes_straight g s.world step) step.thread
+      (turning (after s.world step) m))) hears
+
+  pub turn_leads : Some out ≡ stepped_by (step_outcome s.world step) g s step l
+  turn_leads =
+      ap Some (leads
+      ∙ ap (λ w. record s { world = w; locals = slice_set s.locals step.thread last })
+      (world ∙ ap (λ (x : Turning). x.world) whole)
+      ∙ ap (λ m. record s { world = (turned g o s.world step l).world; locals = slice_set s.locals step.thread m })
+      (local ∙ ap (λ (x : Turning). x.local) whole))
+      ∙ stepped_on g o s step l goes ∙ ap (λ c. stepped_by c g s step l) told
 
 -- the world after a turn
 turned_world : (g : Grain) (o : Outcome) (w : State) (step : Step) (l : Local) → step_outcome w step ≡ o
     → is_barred o ≡ false
     → (turned g o w step l).world ≡ after_steps w (turn_steps g w step)
 turned_world g o w step l told goes =
-    gone_world g 64 step.thread (turning (after w step) (heard o l))
-    ∙ ap (λ b. after_steps (after w step) (if b then [] else go_steps g 64 step.thread (after w step)))
+    let b = goes_straight g w step in
+    let x = turning (after w step) (heard o l) in
+    gone_world g 64 step.thread (gone_if b step.thread x) ∙ straight_world b g step.thread x
+    ∙ ap (λ c. after_steps (after w step) (if c then [] else more_steps b g step.thread (after w step)))
     (sym (ap is_barred told ∙ goes))
 
 -- a turn whose first step isn't possible has only that step
 barred_steps : (g : Grain) (w : State) (step : Step) → step_outcome w step ≡ outcome.NotNow
     → turn_steps g w step ≡ step ∷ []
 barred_steps g w step told =
-    ap (λ b. step ∷ (if b then [] else go_steps g 64 step.thread (after w step))) (ap is_barred told)
+    ap (λ b. step ∷ (if b then [] else more_steps (goes_straight g w step) g step.thread (after w step)))
+    (ap is_barred told)
 
 stepped_world : (g : Grain) (o : Outcome) (s u : ProgramState) (step : Step) (l : Local)
     → step_outcome s.world step ≡ o

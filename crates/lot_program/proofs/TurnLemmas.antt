@@ -1,7 +1,7 @@
 -- The turn of a thread in a call, as steps of the world.
-use Rattle.std.proofs.Common.{ℕ, zero, suc, ◌≡◌, ◌<◌, ◌+◌, ◌-◌, Bool, true, false, List, [], ◌∷◌, refl, sym}
-use Rattle.std.proofs.Common.{ap, subst, ◌∙◌, arith}
-use Rattle.std.specs.Prelude.{if◌then◌else◌, ◌||◌}
+use Rattle.std.proofs.Common.{ℕ, zero, suc, ◌≡◌, ◌<◌, ◌+◌, ◌-◌, Bool, true, false, List, [], ◌∷◌, length, refl, sym}
+use Rattle.std.proofs.Common.{ap, append_assoc, subst, ◌∙◌, arith}
+use Rattle.std.specs.Prelude.{if◌then◌else◌, ◌&&◌, ◌||◌, ◌++◌}
 use Rattle.spec_locks.specs.declared.calls.Turn.TheVariants as turn
 use Rattle.spec_locks.specs.declared.calls.Step.{Step}
 use Rattle.spec_locks.specs.declared.outcomes.Outcome.{Outcome}
@@ -10,18 +10,19 @@ use Rattle.spec_locks.specs.declared.outcomes.OnceState.{OnceState}
 use Rattle.steps_base.specs.declared.acts.Act.{Act}
 use Rattle.steps_base.specs.declared.acts.Act.TheVariants as act
 use Rattle.steps_base.specs.Acts.{outcome_of}
-use Rattle.lot_steps.specs.Steps.{act_of}
+use Rattle.lot_steps.specs.Steps.{HasKeys, act_of}
 use Rattle.lot_laws.specs.Refinement.{sleeps}
 use Rattle.lot_laws.specs.SitesOf.{IsWorld}
 use Rattle.lot_laws.proofs.alone.WorldRuns.{world_after}
 use Rattle.lot_machine.specs.Machine.{State, after, after_steps, place_at, runs_closure, step_outcome}
 use Rattle.lot_machine.specs.Fits.{SameSize}
-use Rattle.lot_machine.proofs.Shape.{after_size, size_more}
+use Rattle.lot_machine.proofs.Shape.{after_size, has_keys, size_more}
 use Rattle.lot_program.specs.declared.cuts.Grain.{Grain}
 use Rattle.lot_program.specs.declared.states.Local.{Local}
-use Rattle.lot_program.specs.Cuts.{is_cut}
-use Rattle.lot_program.specs.States.{Turning, turning, is_own, is_barred, turn_ends, gone, gone_on, step_of}
-use Rattle.lot_program.specs.Runs.{go_steps}
+use Rattle.lot_turns.specs.Turns.{is_ready}
+use Rattle.lot_program.specs.Cuts.{is_cut, may_go_straight}
+use Rattle.lot_program.specs.States.{Turning, goes_straight, turning, is_own, is_barred, turn_ends, gone, gone_if, gone_on, step_of}
+use Rattle.lot_program.specs.Runs.{go_steps, more_steps, turn_steps}
 
 pub gone_none : (g : Grain) (t : ℕ) (x : Turning) (n : ℕ) → n ≡ 0 → gone_on g n t x ≡ x
 unfolding gone_on
@@ -45,7 +46,7 @@ steps_end g t w zero e = refl
 steps_end g t w (suc n) e =
     ap (λ b. if b then [] else step_of t turn.Go ∷ go_steps g n t (after w (step_of t turn.Go))) e
 
-gone_more : (g : Grain) (t : ℕ) (x : Turning) (n : ℕ) → turn_ends g x.world t ≡ false
+pub gone_more : (g : Grain) (t : ℕ) (x : Turning) (n : ℕ) → turn_ends g x.world t ≡ false
     → gone_on g (suc n) t x ≡ gone_on g n t (gone t x)
 unfolding gone_on
 gone_more g t x n e = ap (λ b. if b then x else gone_on g n t (gone t x)) e
@@ -113,7 +114,20 @@ quiet_act act.Accept f h = (refl, refl)
 quiet_act (act.Closure x) f h = absurd (h x refl)
 quiet_act (act.End a) f h = (refl, refl)
 
-told_barred : (o : Outcome) → (o ≡ outcome.NotNow → ⊥) → is_barred o ≡ false
+-- an act that is told to run a closure does, and one that is told to sleep does
+pub closes_told : (a : Act) (x : OnceState) → outcome_of a ≡ outcome.Closure x → runs_closure a ≡ true
+closes_told (act.Closure y) x e = refl
+closes_told act.Sleep x e = absurd cc
+closes_told (act.End answer) x e = absurd cc
+closes_told a x e = absurd cc
+
+pub sleeps_told : (a : Act) → outcome_of a ≡ outcome.Sleep → sleeps a ≡ true
+sleeps_told act.Sleep e = refl
+sleeps_told (act.Closure y) e = absurd cc
+sleeps_told (act.End answer) e = absurd cc
+sleeps_told a e = absurd cc
+
+pub told_barred : (o : Outcome) → (o ≡ outcome.NotNow → ⊥) → is_barred o ≡ false
 told_barred outcome.NotNow h = absurd (h refl)
 told_barred outcome.Step h = refl
 told_barred outcome.Sleep h = refl
@@ -175,6 +189,54 @@ gone_size g (suc n) t x =
     (record { threads = refl; locks = refl })
     (size_more x.world (after x.world (step_of t turn.Go)) (gone_on g n t (gone t x)).world
     (after_size x.world (step_of t turn.Go)) (gone_size g n t (gone t x)))
+
+-- ---------------------------------------------------------------- a turn that may go straight on
+
+pub straight_world : (b : Bool) (g : Grain) (t : ℕ) (x : Turning)
+    → after_steps (gone_if b t x).world (go_steps g 64 t (gone_if b t x).world)
+    ≡ after_steps x.world (more_steps b g t x.world)
+straight_world true g t x = refl
+straight_world false g t x = refl
+
+pub straight_kept : (b : Bool) (t : ℕ) (x : Turning) → IsWorld x.world → IsWorld (gone_if b t x).world
+straight_kept true t x world = world_after x.world (step_of t turn.Go) world
+straight_kept false t x world = world
+
+straight_size : (b : Bool) (t : ℕ) (x : Turning) → SameSize x.world (gone_if b t x).world
+straight_size true t x = after_size x.world (step_of t turn.Go)
+straight_size false t x = record { threads = refl; locks = refl }
+
+-- where a turn ends, by whether it went straight on
+pub finished_kept : (b : Bool) (g : Grain) (t : ℕ) (x : Turning) → IsWorld x.world
+    → IsWorld (gone_on g 64 t (gone_if b t x)).world
+finished_kept b g t x world = gone_kept g 64 t (gone_if b t x) (straight_kept b t x world)
+
+pub finished_size : (b : Bool) (g : Grain) (t : ℕ) (x : Turning)
+    → SameSize x.world (gone_on g 64 t (gone_if b t x)).world
+finished_size b g t x = size_more x.world (gone_if b t x).world (gone_on g 64 t (gone_if b t x)).world
+    (straight_size b t x) (gone_size g 64 t (gone_if b t x))
+
+-- the steps of a turn are pushed one after another
+pub pushed : (g : Grain) (w v : State) (step : Step) (b : Bool) (olds mids news : List Step) → v ≡ after w step
+    → b ≡ may_go_straight g (place_at w step.thread) step.turn → (step_outcome w step ≡ outcome.NotNow → ⊥)
+    → mids ≡ olds ++ step ∷ []
+    → news ≡ mids ++ more_steps (b && is_ready (place_at v step.thread)) g step.thread v
+    → news ≡ olds ++ turn_steps g w step
+pushed g w v step b olds mids news led may possible mid new =
+    let straight = goes_straight g w step in
+    let more = more_steps straight g step.thread (after w step) in
+    new
+    ∙ ap (λ x. mids ++ more_steps (b && is_ready (place_at x step.thread)) g step.thread x) led
+    ∙ ap (λ c. mids ++ more_steps (c && is_ready (place_at (after w step) step.thread)) g step.thread (after w step))
+    may
+    ∙ ap (λ ss. ss ++ more) mid ∙ append_assoc olds (step ∷ []) more
+    ∙ ap (λ c. olds ++ step ∷ (if c then [] else more)) (sym (told_barred (step_outcome w step) possible))
+
+-- ---------------------------------------------------------------- places
+
+-- the keys of a place are numbers
+pub keyed : (w : State) (t : ℕ) → IsWorld w → HasKeys (place_at w t)
+keyed w t h = has_keys (length w.locks) (place_at w t) h.well_formed.few (h.well_formed.places t)
 
 -- what is told of a turn that has ended so
 module _ (g : Grain) (t : ℕ) (w v : State) (l k : Local) (e : turning v k ≡ gone_on g 64 t (turning w l))

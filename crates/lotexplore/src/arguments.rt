@@ -13,7 +13,7 @@ const MOST_STATES: &str = "2000000";
 pub const MOST_TURNS: u32 = 10000;
 
 /// The words for each grain.
-static GRAINS: [&str; 3] = ["step", "call", "auto"];
+static GRAINS: [&str; 4] = ["step", "turns", "call", "auto"];
 
 /// In what form is printed what was found.
 #[derive(Clone, Copy, Debug, PartialEq, Eq)]

@@ -61,6 +61,7 @@ fn check_eq<T: PartialEq + Debug + Drop>(rt: &impl Abort, found: T, wanted: T) {
 #[derive(Clone, Copy)]
 enum Turns {
     Steps,
+    Whole,
     Calls,
     CutCalls,
 }
@@ -84,6 +85,7 @@ fn search_by<Q: Queues + Drop>(
     parsed.program.deadlines = deadlines;
     match turns {
         Turns::Steps => {}
+        Turns::Whole => parsed.program.by_turns(),
         Turns::Calls => parsed.program.by_calls(alloc),
         Turns::CutCalls => {
             if parsed.program.by_cut_calls(alloc).is_err() {

@@ -17,12 +17,13 @@ const ROOM: Limits = Limits {
     bytes: None,
 };
 
-/// What is found of a program by calls, by calls that are cut where one of its calls can see that, and by
-/// steps.
+/// What is found of a program by calls, by calls that are cut where one of its calls can see that, by whole turns
+/// and by steps.
 struct Grained {
     text: &'static str,
     calls: Found,
     cut_calls: Found,
+    turns: Found,
     steps: Found,
 }
 
@@ -35,6 +36,7 @@ const PROGRAMS: &[Grained] = &[
                thread 2\nlock a\nlock c\nunlock c\nunlock a\n",
         calls: Found::Nothing(152),
         cut_calls: Found::Nothing(152),
+        turns: Found::Nothing(2073),
         steps: Found::Nothing(8200),
     },
     Grained {
@@ -43,6 +45,7 @@ const PROGRAMS: &[Grained] = &[
                thread 1\nread r\nupgradable r\nunlock_upgradable r\nunlock_shared r\n",
         calls: Found::Deadlock(4),
         cut_calls: Found::Deadlock(4),
+        turns: Found::Deadlock(11),
         steps: Found::Deadlock(19),
     },
     Grained {
@@ -51,6 +54,7 @@ const PROGRAMS: &[Grained] = &[
                thread 1\nlock m\nnotify_one c\nunlock m\n",
         calls: Found::Deadlock(5),
         cut_calls: Found::Deadlock(6),
+        turns: Found::Deadlock(8),
         steps: Found::Deadlock(14),
     },
     // A notification with its variable.
@@ -60,6 +64,7 @@ const PROGRAMS: &[Grained] = &[
                thread 1\nlock m\nset ready 1\nnotify_one c\nunlock m\n",
         calls: Found::Nothing(23),
         cut_calls: Found::Nothing(44),
+        turns: Found::Nothing(170),
         steps: Found::Nothing(314),
     },
     // One condition variable for two conditions, with the wrong notification and with the right one.
@@ -71,6 +76,7 @@ const PROGRAMS: &[Grained] = &[
                set full 0\nnotify_one c\nunlock m\nfinally full = 0\n",
         calls: Found::Deadlock(24),
         cut_calls: Found::Deadlock(28),
+        turns: Found::Deadlock(50),
         steps: Found::Deadlock(72),
     },
     Grained {
@@ -81,6 +87,7 @@ const PROGRAMS: &[Grained] = &[
                set full 0\nnotify_all c\nunlock m\nfinally full = 0\n",
         calls: Found::Nothing(566),
         cut_calls: Found::Nothing(2440),
+        turns: Found::Nothing(21617),
         steps: Found::Nothing(44202),
     },
     // Two upgrades, of which one at a time is upgradable.
@@ -88,6 +95,7 @@ const PROGRAMS: &[Grained] = &[
         text: "threads 2\nlock r rwlock\nthread 0 1\nupgradable r\nupgrade r\nunlock_exclusive r\n",
         calls: Found::Nothing(18),
         cut_calls: Found::Nothing(18),
+        turns: Found::Nothing(90),
         steps: Found::Nothing(209),
     },
     // Two readers that want to write.
@@ -95,6 +103,7 @@ const PROGRAMS: &[Grained] = &[
         text: "threads 2\nlock r rwlock\nthread 0 1\nread r\nwrite r\n",
         calls: Found::Deadlock(3),
         cut_calls: Found::Deadlock(3),
+        turns: Found::Deadlock(11),
         steps: Found::Deadlock(18),
     },
     // Two orders of locks, without a gate and with one.
@@ -104,6 +113,7 @@ const PROGRAMS: &[Grained] = &[
                thread 1\nlock b\nlock a\nunlock a\nunlock b\n",
         calls: Found::Deadlock(4),
         cut_calls: Found::Deadlock(4),
+        turns: Found::Deadlock(10),
         steps: Found::Deadlock(18),
     },
     Grained {
@@ -112,6 +122,7 @@ const PROGRAMS: &[Grained] = &[
                thread 1\nlock g\nlock b\nlock a\nunlock a\nunlock b\nunlock g\n",
         calls: Found::Nothing(36),
         cut_calls: Found::Nothing(36),
+        turns: Found::Nothing(123),
         steps: Found::Nothing(342),
     },
     // Two orders with deadlines.
@@ -119,6 +130,7 @@ const PROGRAMS: &[Grained] = &[
         text: TIMED,
         calls: Found::Nothing(58),
         cut_calls: Found::Nothing(58),
+        turns: Found::Nothing(291),
         steps: Found::Nothing(673),
     },
     // Readers that pass a pending writer for ever are no deadlock.
@@ -127,6 +139,7 @@ const PROGRAMS: &[Grained] = &[
                thread 2\nwrite r\nunlock_exclusive r\n",
         calls: Found::Nothing(81),
         cut_calls: Found::Nothing(81),
+        turns: Found::Nothing(1701),
         steps: Found::Nothing(4626),
     },
     // A reader's try fails while a timed writer has given up and not gone yet.
@@ -139,6 +152,7 @@ const PROGRAMS: &[Grained] = &[
                if no\nlock b\nlock a\nunlock a\nunlock b\nend\n",
         calls: Found::Nothing(105),
         cut_calls: Found::Deadlock(14),
+        turns: Found::Deadlock(28),
         steps: Found::Deadlock(43),
     },
     // A try to write fails by the bit of a queue in which nobody stands.
@@ -150,6 +164,7 @@ const PROGRAMS: &[Grained] = &[
                if yes\nunlock_exclusive r\nend\nif no\nlock a\nlock a\nend\nend\n",
         calls: Found::Nothing(30),
         cut_calls: Found::Deadlock(14),
+        turns: Found::Deadlock(21),
         steps: Found::Deadlock(35),
     },
     // A notification finds a waiter that owns its mutex yet.
@@ -160,6 +175,7 @@ const PROGRAMS: &[Grained] = &[
                if no\nlock m\nlock g\nunlock g\nunlock m\nend\nend\n",
         calls: Found::Nothing(60),
         cut_calls: Found::Deadlock(14),
+        turns: Found::Deadlock(29),
         steps: Found::Deadlock(43),
     },
     // A bump gives way to a thread that isn't in the queue yet.
@@ -170,6 +186,7 @@ const PROGRAMS: &[Grained] = &[
                if no\ntry_lock f\nif yes\nlock a\nunlock a\nunlock f\nend\nend\n",
         calls: Found::Nothing(65),
         cut_calls: Found::Deadlock(14),
+        turns: Found::Deadlock(24),
         steps: Found::Deadlock(39),
     },
 ];
@@ -182,6 +199,7 @@ fn calls_are_cut_where_a_call_of_the_program_sees_it(rt: HostRuntime) {
         };
         check_eq(&rt, found(Turns::Calls), program.calls);
         check_eq(&rt, found(Turns::CutCalls), program.cut_calls);
+        check_eq(&rt, found(Turns::Whole), program.turns);
         check_eq(&rt, found(Turns::Steps), program.steps);
     }
 }
