@@ -3,7 +3,7 @@
 property is broken. Besides, each state in which all threads are through is compared by properties of its variables, which
 tell what threads were told. `rt run` has built the program before.
 
-python3 bench/turns.py [PROGRAMS] [SEED], else 1000 programs from seed 1 on. The status is 1 where two searches differ.
+python3 tools/turns.py [PROGRAMS] [SEED], else 1000 programs from seed 1 on. The status is 1 where two searches differ.
 """
 import pathlib
 import random
