@@ -1,9 +1,8 @@
 #!/usr/bin/env python3
-"""Compares searches of random programs by whole turns with searches by single steps: what is wrong, if anything is, and which
-property is broken. Besides, each state in which all threads are through is compared by properties of its variables, which
-tell what threads were told. `rt run` has built the program before.
+"""Compares searches of random programs by whole turns with searches by single steps: whether anything is found. `rt run` has
+built the program before.
 
-python3 tools/turns.py [PROGRAMS] [SEED], else 1000 programs from seed 1 on. The status is 1 where two searches differ.
+python3 trials/turns.py [PROGRAMS] [SEED], else 1000 programs from seed 1 on. The status is 1 where two searches differ.
 """
 import pathlib
 import random
