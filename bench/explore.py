@@ -2,9 +2,10 @@
 """Times searches of `lotexplore`: states, seconds of the processors and of the clock, and the most memory that a run took.
 
 In each program all threads lock and unlock one mutex so often, or two mutexes in one order. `rt run` has built the program
-before. By turns with `lotexplore` other tools search models of the same steps of one mutex, where they and `gcc` are
-installed: SPIN `mutex.pml`, and rumur `mutex.m`. The script fails where one counts other states, but for SPIN's partial
-order reduction, which is there to leave states out.
+before. It searches by single steps, and by whole turns, which leave states out and miss nothing. In the same run other tools
+search models of the same steps of one mutex, where they and `gcc` are installed: SPIN `mutex.pml`, and rumur `mutex.m`. The
+script fails where one counts other states, but for turns and for SPIN's partial order reduction, which are there to leave
+states out.
 
 python3 bench/explore.py [RUNS], else three runs a program
 """
@@ -131,9 +132,16 @@ def row(tool, program, found):
 def tools_for(folder, program, installed):
     threads, locks, times = program
     text = text_of(threads, locks, times)
-    plain = [PROGRAM, "--grain", "step", "--states", MOST]
-    ours = Tool("lotexplore", [*plain, "--jobs", "1"], OURS, text)
-    tools = [ours, Tool(f"lotexplore, {JOBS} threads", [*plain, "--jobs", str(JOBS)], OURS, text)]
+    searches = {
+        (grain, jobs): [PROGRAM, "--grain", grain, "--states", MOST, "--jobs", str(jobs)]
+        for grain in ("step", "turns")
+        for jobs in (1, JOBS)
+    }
+    tools = [
+        Tool(f"lotexplore, {grain}, {jobs} threads", command, OURS, text, grain == "step")
+        for (grain, jobs), command in searches.items()
+    ]
+    ours = tools[0]
     if locks == 1 and "spin" in installed:
         tools += spin_tools(folder, threads, times, timed(ours).states.bit_length() + 1)
     if locks == 1 and "rumur" in installed:

@@ -24,7 +24,7 @@ CRATES = os.path.join(HERE, "..", "crates")
 LOTBENCH = os.path.join(CRATES, "lotbench", "out", "lotbench")
 LOTEXPLORE = os.path.join(CRATES, "lotexplore", "out", "lotexplore")
 NO_ROOM = re.compile(
-    r"no memory\n|nothing found in \d+ states, complete to depth \d+, grain auto; memory was refused\n", re.ASCII
+    r"no memory\n|nothing found in \d+ states, complete to depth \d+, grain (?:call|turns); memory was refused\n", re.ASCII
 )
 NO_SCHEDULE = re.compile(r"wrong after \d+ turns; no memory for the schedule\n", re.ASCII)
 NO_ARGUMENTS = "error: out of memory\n"

@@ -1,6 +1,6 @@
 #!/usr/bin/env python3
-"""Compares searches of random programs by whole turns with searches by single steps: whether anything is found. `rt run` has
-built the program before.
+"""Compares searches of random programs by whole turns with searches by single steps: whether anything is found, and where
+nothing is, what the variables have in any state, and at the end, each and two together. `rt run` has built the program before.
 
 python3 trials/turns.py [PROGRAMS] [SEED], else 1000 programs from seed 1 on. The status is 1 where two searches differ.
 """
@@ -43,6 +43,8 @@ class Maker:
         return [f"{call} {name}", "if yes", *lines, *tail, "end"]
 
     def mutex(self, name, thread, deep):
+        if self.random.random() < 0.02:
+            return [f"unlock {name}"]
         call = self.random.choice(["lock", "lock", "lock", "try_lock", "lock_timed"])
         release = f"{self.random.choice(['unlock', 'unlock', 'unlock_fair'])} {name}"
         body = self.body(name, thread, deep)
@@ -101,6 +103,14 @@ class Maker:
         ways = {"mutex": self.mutex, "fair": self.mutex, "semaphore": self.semaphore}
         return ways.get(sort, self.rwlock)(name, thread, deep)
 
+    def chosen(self, thread):
+        """Returns the lines of a section, or of a choice between one and something else."""
+        lines = self.section(*self.random.choice(self.locks), thread, True)
+        if self.random.random() > 0.25:
+            return lines
+        other = self.random.choice([[], self.note(thread), self.section(*self.random.choice(self.locks), thread, False)])
+        return ["either", *lines, "or", *other, "end"]
+
     def program(self):
         """Returns the text of a program."""
         self.locks = [(self.random.choice(KINDS), name) for name in self.random.choice(["a", "a", "ab"])]
@@ -112,9 +122,10 @@ class Maker:
         for thread in range(threads):
             lines.append(f"thread {thread}")
             for _ in range(self.random.choice([1, 1, 2]) if threads == 2 else 1):
-                lines += self.section(*self.random.choice(self.locks), thread, True)
+                lines += self.chosen(thread)
         number = self.random.randint(0, 3)
-        lines += self.random.choice([[], [f"always w /= {number + 1}"], [f"finally w /= {number}"], ["finally v0 = v1"]])
+        lines += self.random.choice([[], [f"always w /= {number + 1}"], [f"finally w /= {number}"], ["finally v0 = v1"],
+                                     [f"always w < {number} or v0 = v1 and v0 < 3"]])
         return "\n".join([*lines, ""])
 
 
@@ -125,10 +136,29 @@ def found(text, grain):
     return (ran.stdout.splitlines() or [ran.stderr])[0]
 
 
+def claims(text):
+    """Returns lines which say that a variable never has a number, and that two together don't end with two numbers."""
+    names = re.findall(r"^var (\w+)", text, re.MULTILINE)
+    numbers = range(4)
+    alone = [f"{when} {name} /= {number}" for when in ("always", "finally") for name in names for number in numbers]
+    pairs = [(one, other) for at, one in enumerate(names) for other in names[at + 1 :]]
+    return alone + [f"finally {one} /= {a} or {other} /= {b}" for one, other in pairs for a in numbers for b in numbers]
+
+
+def broken(text, grain, lines):
+    """Returns which of some lines a search finds broken that goes on after each of them."""
+    whole = text + "".join(f"{line}\n" for line in lines)
+    command = [str(PROGRAM), "--grain", grain, "--states", str(MOST), "--jobs", "1", "--all"]
+    ran = subprocess.run(command, input=whole, capture_output=True, text=True, check=False)
+    numbers = [int(number) for number in re.findall(r"^without line (\d+):", ran.stdout, re.MULTILINE)]
+    every = whole.splitlines()
+    return {every[number - 1] for number in numbers}
+
+
 def main():
     programs = int(sys.argv[1]) if len(sys.argv) > 1 else 1000
     first = int(sys.argv[2]) if len(sys.argv) > 2 else 1
-    states, differ, told = {"step": 0, "turns": 0}, 0, {}
+    states, differ, values, told = {"step": 0, "turns": 0}, 0, 0, {}
     for seed in range(first, first + programs):
         text = Maker(seed).program()
         lines = {grain: found(text, grain) for grain in states}
@@ -138,10 +168,16 @@ def main():
         if all(both):
             for grain, line in lines.items():
                 states[grain] += int(NOTHING.match(line).group(1))
+            sets = {grain: broken(text, grain, claims(text)) for grain in states}
+            values += len(sets["step"])
+            if sets["step"] != sets["turns"]:
+                differ += 1
+                print(f"seed {seed} differs: {sets['step'] ^ sets['turns']}\n{text}")
         elif (NOTHING.match(lines["step"]) is None) != (NOTHING.match(lines["turns"]) is None):
             differ += 1
             print(f"seed {seed} differs: {lines}\n{text}")
     print(f"{programs} programs, {differ} differ; {states['step']} states by step, {states['turns']} by turns; {told}")
+    print(f"{values} values of variables, the same by both")
     sys.exit(1 if differ else 0)
 
 

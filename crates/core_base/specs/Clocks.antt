@@ -3,11 +3,11 @@
 use Rattle.std.specs.Prelude.{ℕ, ◌+◌, ◌≤◌, Option, Some, None}
 use denote.Ref.{Bor}
 
--- it told a time at or past the deadline
+-- a clock with these tellings has reported a time at or past the deadline
 abbrev pub HasPassed : (ℕ → Type 0) → ℕ → Type 0
 HasPassed tells deadline = (time : ℕ) × tells time × (deadline ≤ time)
 
--- it told a time, and one that is so many nanoseconds later or more
+-- a clock has reported a time, and one that is so many nanoseconds later or more
 abbrev pub HasElapsed : (ℕ → Type 0) → ℕ → Type 0
 HasElapsed tells nanos = (start : ℕ) × tells start × HasPassed tells (start + nanos)
 

@@ -1,16 +1,20 @@
 //! Clocks, and deadlines on them.
+//!
+//! `Clock::tells` says of a clock and a time that the clock has reported it. Generic code knows of a
+//! clock only what a look ensures, so that no thread is called late by a clock at which nobody looked.
+//! A clock that can't be read reports the last of all times, so that a timed sleeper ends.
 ghost use Rattle.std.specs.Prelude.{◌≡◌, ℕ, ◌+◌, ◌≤◌, ◌^◌, MatchOption};
 ghost use Rattle.std.specs.Duration.{as_nanos};
 
 use std::time::Duration;
 
-/// A clock, which tells the time to a sleeper with a deadline.
+/// A clock, which reports the time to a sleeper with a deadline.
 pub trait Clock {
-    /// Says that the clock told this time. Code that knows nothing else of a clock learns it only
-    /// by a look at the clock.
+    /// Says that the clock reported this time. Code that knows nothing else of a clock learns that
+    /// only by a look at the clock.
     ghost tells: { Self → ℕ → Type 0 };
 
-    /// Nanoseconds since some start. It doesn't go back.
+    /// Returns nanoseconds since some start, which don't go back.
     fn now(&self) -> u64
         ensures { tells self.now result };
 
@@ -19,8 +23,8 @@ pub trait Clock {
     fn pause(&self, left: u64);
 }
 
-/// The time, in nanoseconds, that is this much later. None where no `u64` tells it, which stands
-/// for no limit.
+/// Returns the time, in nanoseconds, that is this much later. None where no `u64` holds it, which
+/// stands for no limit.
 pub fn to_deadline(now: u64, timeout: Duration) -> Option<u64>
     ensures { MatchOption result (2 ^ 64 ≤ now + as_nanos timeout)
         (λ deadline. deadline ≡ now + as_nanos timeout) }

@@ -1,4 +1,7 @@
 //! The keys under which threads wait.
+//!
+//! A key is a number that the numbers of words fix. `main_key` and `second_key` are the only ways by
+//! which this repository makes one.
 ghost use Rattle.std.specs.Prelude.{◌≡◌, ◌+◌, ◌*◌, ◌<◌, ◌^◌};
 ghost use Rattle.core_base.specs.Keys.{key_of};
 
@@ -21,7 +24,7 @@ pub enum Line {
 }
 
 impl Line {
-    /// The key of this queue of a word.
+    /// Returns the key of this queue of a word.
     pub fn key(self, word: usize) -> Key
         requires { 2 * word + 1 < 2 ^ 64 }
         ensures { result ≡ key_of word self }
@@ -33,7 +36,7 @@ impl Line {
     }
 }
 
-/// The key of a word's main queue.
+/// Returns the key of a word's main queue.
 pub fn main_key(word: usize) -> Key
     requires { 2 * word + 1 < 2 ^ 64 }
     ensures { result ≡ 2 * word }
@@ -41,7 +44,7 @@ pub fn main_key(word: usize) -> Key
     word * 2
 }
 
-/// The key of the queue of the writer that waits for the last readers.
+/// Returns the key of the queue of the writer that waits for the last readers.
 pub fn second_key(word: usize) -> Key
     requires { 2 * word + 1 < 2 ^ 64 }
     ensures { result ≡ 2 * word + 1 }

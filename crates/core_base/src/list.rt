@@ -1,4 +1,7 @@
 //! One list of all waiters.
+//!
+//! Each call walks the list of all waiters once or twice, and no threads beside them. This is the plain
+//! kind of queues, easy to trust.
 ghost use Rattle.std.specs.Prelude.{◌≡◌, ◌≢◌, ◌+◌, ◌≤◌, ◌++◌, length, drop, if◌then◌else◌};
 ghost use Rattle.std.specs.Vec.{vec_len, vec_capacity};
 ghost use Rattle.core_base.specs.Lines.{line, line-from_first, without, without_first, without_key};

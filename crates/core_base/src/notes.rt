@@ -3,8 +3,8 @@
 /// The wake note of a waiter that was taken from its queue.
 #[derive(Clone, Copy, Debug, PartialEq, Eq)]
 pub enum Note {
-    /// It is to try again.
+    /// The thread that is woken tries again.
     Normal,
-    /// It owns already what it waited for.
+    /// The thread that is woken owns already what it waited for.
     HandOff,
 }

@@ -1,4 +1,8 @@
 //! Pickers, which choose the waiters that are taken of a queue.
+//!
+//! A picker is a value with two ghost functions: its answer to a want, and the picker that it is from
+//! then on. `take_by` thereby has one exact clause for all pickers, which a closure with a changing
+//! state could not have.
 ghost use Rattle.std.specs.Prelude.{◌≡◌};
 ghost use Rattle.core_base.specs.declared.wants.Want.{Want};
 ghost use Rattle.core_base.specs.declared.picks.Pick.{Pick};

@@ -1,4 +1,12 @@
 //! The queues of all keys.
+//!
+//! The meaning of `Queues` is one list of keys, threads and wants, but its clauses speak of the line of
+//! each key: two lists with the same line under each key can't be told apart, so a kind that keeps
+//! waiters in buckets meets the same contract.
+//!
+//! `find` takes no memory: it returns the first waiter from a place of the queues on, and the place
+//! after that. `with_capacity` is a call of the trait, since `World::new` makes the queues of any kind
+//! itself.
 ghost use Rattle.std.specs.Prelude.{◌≡◌, ◌≢◌, ℕ, ◌+◌, ◌<◌, ◌≤◌, List, ◌∷◌, ◌++◌, [], IfOk, IfErr, IfSome};
 ghost use Rattle.std.specs.Prelude.{MatchOption, length, vec_len, vec_capacity};
 ghost use Rattle.core_base.specs.declared.wants.Waiter.{Waiter};
@@ -68,8 +76,7 @@ pub trait Queues {
         ensures capacity { capacity self.new ≡ capacity self.old };
 
     /// Moves waiters from under a key after the last under another. Those that are moved want to
-    /// own alone from then on. It answers the thread that was taken, if any, and how many were
-    /// moved.
+    /// own alone from then on. Returns the thread that was taken, if any, and how many were moved.
     fn requeue(&mut self, from: Key, to: Key, op: Requeue) -> (Option<usize>, usize)
         requires { from ≢ to }
         ensures taken { result.0 ≡ taken_by op (line from (waiting self.old)) }
@@ -84,16 +91,16 @@ pub trait Queues {
         ensures lines { lines (waiting self.new) ≡ lines (without thread (waiting self.old)) }
         ensures capacity { capacity self.new ≡ capacity self.old };
 
-    /// How many stand under a key.
+    /// Returns how many stand under a key.
     fn count(&self, key: Key) -> usize
         ensures { result ≡ length (line key (waiting self.now)) };
 
-    /// The key under which a thread stands.
+    /// Returns the key under which a thread stands.
     fn key_of(&self, thread: usize) -> Option<Key>
         ensures { result ≡ queued_under thread (waiting self.now) };
 
-    /// The first that stands under a key from a place of the queues on, and the place after it.
-    /// The first place is 0.
+    /// Returns the first that stands under a key from a place of the queues on, and the place after
+    /// it. The first place is 0.
     fn find(&self, key: Key, place: usize) -> Option<(Waiter, usize)>
         ensures few { length (line key (waiting self.now)) ≤ capacity self.now }
         ensures found { MatchOption result (rest self.now key place ≡ [])

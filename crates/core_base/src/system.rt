@@ -30,7 +30,7 @@ impl<R: SystemTimes> SystemClock<R> {
         }
     }
 
-    // The next slice. It begins anew where more is left than before, as at another sleep.
+    // Returns the next slice. It begins anew where more is left than before, as at another sleep.
     fn next_slice(&self, left: u64) -> u64
         ensures { result ≤ 1000000 }
     {
@@ -46,6 +46,7 @@ impl<R: SystemTimes> SystemClock<R> {
 }
 
 impl<R: SystemTimes> Clock for SystemClock<R> {
+    // Any time counts as reported, so that clauses on what this clock reported are empty.
     ghost tells = { λ _ _. Unit {0} };
 
     fn now(&self) -> u64 {

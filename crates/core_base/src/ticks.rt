@@ -17,12 +17,13 @@ pub struct TickClock {
 }
 
 impl TickClock {
-    /// A clock at 0.
+    /// Makes a clock at 0.
     pub fn new() -> TickClock {
         TickClock::starting_at(0)
     }
 
-    /// A clock at a time. Far from 0, a deadline that leaves out the time of its call is long over.
+    /// Makes a clock at a time. Far from 0, a deadline that leaves out the time of its call is long
+    /// over.
     pub fn starting_at(start: u64) -> TickClock {
         TickClock {
             start,
@@ -37,6 +38,7 @@ impl TickClock {
 }
 
 impl Clock for TickClock {
+    // Any time counts as reported, so that clauses on what this clock reported are empty.
     ghost tells = { λ _ _. Unit {0} };
 
     fn now(&self) -> u64 {

@@ -17,7 +17,7 @@ abbrev pub IsNamer : LotWords → ℕ → Seat PermitSlot View → Type 0
 IsNamer lot thread seat = (seat.table_id ≡ lot.table.shared.table_id)
     × (seat.me ≡ (namer_from thread, []))
 
--- it has the number of this thread, and has passed its steps on
+-- a name's view has the number of this thread, and has passed its steps on
 abbrev pub IsNameView : ℕ → View → Type 0
 IsNameView thread v = (v.steps ≡ []) × (v.out ≡ []) × (v.naming ≡ Thread thread)
 
@@ -30,7 +30,7 @@ IsNameOf lot thread name = (name.seat.table_id ≡ lot.table.shared.table_id) ×
 abbrev pub count_at : ℕ → ℕ
 count_at number = word_index number Count
 
--- it says this of the count word of this number, and owns the mutex before it
+-- a name says this of the count word of this number, and owns the mutex before it
 abbrev pub Says : ℕ → ℕ → Name → Type 0
 Says number count name = SaysAt (count_at number) count name.seat.me.0
 

@@ -74,7 +74,7 @@ without_steps v = with_these v [] v.owns v.shares
 abbrev pub steps_alone : View → View
 steps_alone v = view v.steps [] [] 0
 
--- it owns the mutex of the count at an index, and says this of that
+-- a view owns the mutex of the count at an index, and says this of that
 abbrev pub SaysAt : ℕ → ℕ → View → Type 0
 SaysAt at count v = has (owning_with (mutex_of_count at) count) v.owns ≡ true
 

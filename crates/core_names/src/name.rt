@@ -1,4 +1,8 @@
 //! Names and shares.
+//!
+//! A token's own view has no number, so that no step on another word has to keep it. A step on a count
+//! is the name's, which passes it on to the token's list. A store on a count brings a share or takes
+//! one, so the calls here alone store counts.
 ghost use Rattle.std.specs.Prelude.{◌≡◌, ◌⊎◌, ℕ, List, ◌+◌, ◌/◌, ◌%◌, ◌<◌, [], ◌∷◌};
 ghost use Rattle.core_base.specs.declared.ops.Op.TheVariants.{Load, Store};
 ghost use Rattle.core_words.specs.Codes.{IsCountCode};

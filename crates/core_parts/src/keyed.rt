@@ -69,7 +69,7 @@ pub struct Held<K, T> {
 }
 
 impl<K, T: Keyed<K> + Drop> KeyedLocks<K, T> {
-    /// A lock for each value. It takes all memory that the row needs.
+    /// Makes a lock for each value. It takes all memory that the row needs.
     pub fn new(
         alloc: Global,
         values: Vec<Option<T>>,
@@ -164,8 +164,8 @@ impl<K, T: Keyed<K> + Drop> KeyedLocks<K, T> {
         unreachable!()
     }
 
-    /// Whether the value was marked as it was given back last. It takes nothing, and may have
-    /// changed by the time that it is told.
+    /// Returns whether the value was marked as it was given back last. It takes nothing, and may
+    /// have changed by the time that it is told.
     #[inline]
     pub fn is_marked(&self, at: usize) -> bool
         requires { at < self.now.count }

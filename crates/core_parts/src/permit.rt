@@ -28,7 +28,7 @@ impl Permits {
         Permits {}
     }
 
-    /// The next permit. No other has its number.
+    /// Returns the next permit. No other has its number.
     #[inline]
     pub fn draw(&mut self) -> Permit
         ensures permits { (self.new.family ≡ self.old.family)
@@ -60,7 +60,7 @@ impl Model for Permit {
 }
 
 impl Permit {
-    /// A slot in which this permit lies.
+    /// Returns a slot in which this permit lies.
     #[inline]
     pub fn into_slot(self) -> PermitSlot
         ensures { result.holds ≡ self.id ∷ [] }

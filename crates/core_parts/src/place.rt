@@ -39,7 +39,7 @@ impl<'a, T> Model for Open<'a, T> {
 }
 
 impl<T> Place<T> {
-    /// A place that the permit opens which `of` names.
+    /// Makes a place that the permit opens which `of` names.
     #[inline]
     pub fn new<N: NamesPermit>(value: T, of: &N) -> Place<T>
         ensures { result ≡ N.permit of.now }

@@ -23,7 +23,7 @@ impl PermitSlot {
         PermitSlot {}
     }
 
-    /// The permit that lies here.
+    /// Returns the permit that lies here.
     #[inline]
     pub fn into_permit(self) -> Permit
         requires { (id : PermitId) × (self.holds ≡ id ∷ []) }

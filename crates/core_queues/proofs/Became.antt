@@ -73,7 +73,7 @@ first_taken q q' key thread hashed hashed' bits fits first is =
     (first_leaves key thread (chain q (bucket_of q.bits key)) (hashed.seated (bucket_of q.bits key)).once
     first))
 
--- the same by the bucket that was told
+-- the first of a line, by the bucket that was returned
 pub under_first : (q : Chained) (key bucket : ℕ) (x : Waiter) (xs : List Waiter) → IsHashed q
     → bucket ≡ bucket_of q.bits key → line key (chain q bucket) ≡ x ∷ xs → Some x.thread ≡ first_of
     (line key (joined q.chains))

@@ -294,7 +294,7 @@ rest_of_line : (from : ℕ) (xs xs' : List Waiter) → lines xs' ≡ lines (with
     → line from xs' ≡ drop 1 (line from xs)
 rest_of_line from xs xs' taken = same_line xs' (without_first from xs) from taken ∙ line_without_first from xs
 
--- those that are left stay apart once the first was taken
+-- the waiters that are left stay apart once the first was taken
 pub apart_taken : (from : ℕ) (xs ys xs' : List Waiter) → lines xs' ≡ lines (without_first from xs)
     → AreApart from xs ys → AreApart from xs' ys
 apart_taken from xs ys xs' taken apart t stands =
@@ -322,7 +322,7 @@ apart_moved from to thread xs ys xs' ys' once first taken come apart t stands =
 
 -- ---------------------------------------------------------------- the test that they are apart
 
--- those under the key from a place on are yet to be asked for
+-- the waiters under the key from a place on are yet to be asked for
 abbrev pub AreAsked : ℕ → List Waiter → List Waiter → List Waiter → Type 0
 AreAsked key xs rest ys = (thread : ℕ) → 1 ≤ times thread (line key xs) → (1 ≤ times thread rest)
     ⊎ (times thread ys ≡ 0)

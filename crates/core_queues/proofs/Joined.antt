@@ -170,7 +170,7 @@ lines_come q q' key thread wanted hashed hashed' bits fits is =
     ∙ ap (λ (l : List Waiter). line k (joined q.chains) ++ l) (one_line k key thread wanted
     (λ (e : k ≡ key). differ (ap (bucket_of q.bits) e))) ∙ append-nil (line k (joined q.chains)))))
 
--- those that a picker picks have left
+-- the waiters that a picker picks have left
 pub lines_picked : {P : Type 0} (answer : P → Want → Pick) (next : P → Want → P) (picker : P) (q q' : Chained)
     (key : ℕ) → IsHashed q → IsHashed q' → q'.bits ≡ q.bits → bucket_of q.bits key < length q.chains
     → q'.chains ≡ slice_set q.chains (bucket_of q.bits key) (without_picked answer next picker key

@@ -115,7 +115,7 @@ gone_from records before buckets bits chains thread linked =
     (as_shown (unlinked_records records before thread) buckets bits chains linked)
     ∙ ap key_of_record (gone records before thread)
 
--- the same by what the calls answer that do it
+-- a thread that leaves has gone, by what the calls return that do it
 pub left_now : (records others : List (Option Record)) (buckets : List (Option Ends)) (bits b : ℕ)
     (had new : Option Ends) (before next : Option ℕ) (thread : ℕ) → IsLinked records buckets bits
     (chains_of records buckets) → b < length (chains_of records buckets) → had ≡ slice_index_or buckets b had

@@ -3,7 +3,7 @@ use Rattle.std.specs.Prelude.{ℕ, ◌≡◌, ◌≢◌}
 use Rattle.core_queues.specs.Buckets.{AreApart}
 use Rattle.core_queues.specs.declared.section_queues.SectionQueues.{SectionQueues}
 
--- the same bucket of the same lot
+-- two are of one bucket of one lot
 abbrev pub IsSameBucket : SectionQueues → SectionQueues → Type 0
 IsSameBucket old new = (new.seats ≡ old.seats) × (new.number ≡ old.number) × (new.bits ≡ old.bits)
 

@@ -1,4 +1,14 @@
 //! Hashed buckets, each a chain of records.
+//!
+//! There is a record for each thread, of 40 bytes, and `2^k` buckets, of 24 bytes, where `2^k` is the
+//! least power of two that is at least the number of threads. The bucket of a key is the highest `k`
+//! bits of the key times 2^64 divided by the golden ratio. Keys that share a bucket share its chain,
+//! each in its own order.
+//!
+//! A chain leads one way: a thread joins after the last, and leaves where a walk from the first finds
+//! it. Chains are short where there are as many buckets as threads, and a link back would be one more
+//! fact of every record to keep. `chains_of` follows each bucket's first record. A place of a line is
+//! 0, or a thread and 1, so that `find` goes on after a thread at once.
 ghost use Rattle.std.specs.Prelude.{◌≡◌, ◌≢◌, ◌<◌, ◌≤◌, ◌++◌, ◌∷◌, [], Some, None, IfSome, IfOk, IfErr};
 ghost use Rattle.std.specs.Prelude.{MatchOption, length, slice_set, ◌^◌};
 ghost use Rattle.core_queues.specs.Chains.{bucket_of, chain, joined, rest_after, IsHashed, IsLeast};

@@ -16,7 +16,7 @@ use core_base::{Key, Queues, Requeue, Want};
 impl SectionQueues {
     ghost use Rattle.core_queues.specs.Places.{AreTwo, IsSameBucket, KeepApart, TookSame};
 
-    /// Whether a key has this bucket.
+    /// Returns whether a key has this bucket.
     pub fn holds(&self, key: Key) -> bool
         requires { self.now.bits < 64 }
         ensures { IsTrue result ↔ bucket_of self.now.bits key ≡ self.now.number }
@@ -75,7 +75,7 @@ impl SectionQueues {
         other.remove(thread);
     }
 
-    /// How many stand under a key of one of the buckets.
+    /// Returns how many stand under a key of one of the buckets.
     pub fn count_beside(&self, other: &SectionQueues, key: Key) -> usize
         requires two { AreTwo self.now other.now × (self.now.bits < 64) }
         requires key { bucket_of self.now.bits key ≢ self.now.number
@@ -90,7 +90,7 @@ impl SectionQueues {
         }
     }
 
-    /// The key under which a thread stands in the buckets.
+    /// Returns the key under which a thread stands in the buckets.
     pub fn key_beside(&self, other: &SectionQueues, thread: usize) -> Option<Key>
         ensures { result
             ≡ queued_under thread (self.now.queues.waiters ++ other.now.queues.waiters) }

@@ -24,7 +24,7 @@ pub struct SectionQueues {
     taken: Vec<usize>,
     // The want of each of them.
     wants: Vec<Want>,
-    // Those of them that have not been given a right.
+    // The threads among them that have not been given a right.
     rightless: Vec<usize>,
     seats: usize,
     number: usize,
@@ -216,8 +216,8 @@ impl SectionQueues {
         drop_thread(&mut self.rightless, thread);
     }
 
-    /// Which bucket it is, the power of two that all buckets are, and for how many threads there is
-    /// room.
+    /// Returns which bucket it is, the power of two that all buckets are, and for how many threads
+    /// there is room.
     pub fn place(&self) -> (usize, u32, usize)
         ensures { (result.0 ≡ self.now.number) × (result.1 ≡ self.now.bits)
             × (result.2 ≡ self.now.seats) }
@@ -239,7 +239,7 @@ impl SectionQueues {
         self.wants.as_slice()
     }
 
-    /// Those of them that have no right yet, in order.
+    /// Returns the taken threads that have no right yet, in order.
     pub fn rightless(&self) -> &[usize]
         ensures { result.now ≡ self.now.rightless.items }
     {
@@ -267,14 +267,14 @@ impl SectionQueues {
         self.queues.remove(thread);
     }
 
-    /// How many stand under a key.
+    /// Returns how many stand under a key.
     pub fn count(&self, key: Key) -> usize
         ensures { result ≡ length (line key self.now.queues.waiters) }
     {
         self.queues.count(key)
     }
 
-    /// The key under which a thread stands.
+    /// Returns the key under which a thread stands.
     pub fn key_of(&self, thread: usize) -> Option<Key>
         ensures { result ≡ queued_under thread self.now.queues.waiters }
     {

@@ -1,4 +1,8 @@
 //! Under which key each thread stands.
+//!
+//! A requeue writes the key of all waiters under the new key; for those that stood there before it is
+//! that key already, so that the requeue need not know which were moved. A thread that is found in two
+//! buckets is taken out of the one that it joined first.
 
 use core_base::Key;
 use std::alloc::{AllocError, Global};

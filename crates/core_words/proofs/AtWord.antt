@@ -105,7 +105,7 @@ AllowedAt lot seat i change then = (seat.table_id ≡ lot.table.shared.table_id)
     × Allows (LotRule lot.table.shared.key.0 lot.table.shared.key.1.family) lot.table.shared.table_id.slots
     seat.id seat.me i change then
 
--- the same with no step
+-- a change of a view without a step is allowed to a seat that goes on by this
 abbrev pub StirsAt : LotWords → Seat PermitSlot View → (Me PermitSlot View → Type 0) → Type 0
 StirsAt lot seat then = (seat.table_id ≡ lot.table.shared.table_id)
     × Stirs (LotRule lot.table.shared.key.0 lot.table.shared.key.1.family) lot.table.shared.table_id.slots

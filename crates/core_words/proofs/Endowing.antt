@@ -370,7 +370,7 @@ sees_free_allowed words family slots id me number below held s o wide at fits = 
     ) in
     (t.0, t.1, t.2, t.3, (t.4, within))
 
--- the same, by the number of permits that was picked
+-- a draw of so many permits is allowed, by the number of permits that was picked
 pub draw_permits_of : (words family slots id : ℕ) (me : Me PermitSlot View) (permits many seen : ℕ)
     → many ≡ permits → permits ≤ 2 ^ 62 → me.0.saw ≡ seen → seen + 1 ≤ words
     → Allows (LotRule words family) slots id me counter (λ n. either (eqb n seen) (seen + 1) n)

@@ -787,7 +787,7 @@ draw words family slots id me kinds seen bare saw room s o wide at fits =
       ((λ e. absurd (ne e)), λ _. (omega (arith, o.saw id me.0 at), refl)),
     ))
 
--- the same, by the count of words that was computed
+-- a draw of words of these kinds is allowed, by the count of words that was computed
 pub draw_so_many : (words family slots id : ℕ) (me : Me PermitSlot View) (kinds : List WordKind)
     (seen needed : ℕ) → NoPermits kinds → length kinds ≡ needed → me.0.saw ≡ seen → seen + needed ≤ words
     → Allows (LotRule words family) slots id me counter (λ n. either (eqb n seen) (seen + needed) n)

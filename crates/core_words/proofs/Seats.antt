@@ -336,7 +336,7 @@ goes_on words family id v other w none nothing nameless = joins words family id 
           nameless r exclusive,
     )) c)
 
--- the same, and the seat goes on as that other one, whose permit stays out
+-- a blank seat takes in another view, and goes on as that other one, whose permit stays out
 pub goes_on_as : (words family id : ℕ) (w : View) (other : ℕ) (v : View) → w.drawn ≡ [] → v.out ≡ [] →
     BringsNoName w → Joins (LotRule words family) id w other v (with_out w.out (goes_on_with v w)) blank
 goes_on_as words family id w other v none nothing nameless = joins words family id w other v (with_out

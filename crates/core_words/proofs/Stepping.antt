@@ -187,7 +187,7 @@ module _ (words family id : ℕ) (me : Me PermitSlot View) (number : ℕ) (op : 
       (λ e. absurd (omega (arith, ap rank e)))
   by_kind Count fits may = stays Count fits may refl (λ e. absurd (omega (arith, ap rank e)))
 
-  -- the same, as of the plain kind
+  -- a step on a word of this kind, taken for one of the plain kind
   abbrev GoesAs : WordKind → WordKind → List (ℕ × PermitSlot) → Type 0
   GoesAs kind k c = (w : View) × (a : Act PermitSlot) × Valid s.homes c a × LotRule words family
       (stepped s (word_index number kind) (apply op (found kind)) id c w a)
@@ -216,7 +216,7 @@ steps words family slots id me number kind op below held may s o wide at fits =
     (plainly words family id me number op below s o at kind (slots_of family me.0.out)
     (by_kind words family id me number op below s o at kind fits may)))
 
--- the same, by the index that was computed and the operation that was matched
+-- a step that may be taken is allowed, by the index that was computed and the operation that was matched
 pub steps_at_word : (words family slots id : ℕ) (me : Me PermitSlot View) (number : ℕ) (kind : WordKind)
     (at : ℕ) (op op' : Op) → op ≡ op' → at ≡ word_index number kind → number < words
     → me.1 ≡ slots_of family me.0.out → MayStep kind (word_index number kind) op me.0.owns

@@ -28,7 +28,7 @@ IsRightOf lot right = IsSeatOf lot right.seat × IsWordOf lot right.word
 abbrev pub IsSame : Word → Word → Type 0
 IsSame word other = (word.number ≡ other.number) × (word.kind ≡ other.kind)
 
--- it names a word, and an owner that a want may be handed
+-- a right names a word, and an owner that a want may be handed
 abbrev pub IsFor : Word → Want → Right → Type 0
 IsFor word want right = IsSame right.word word × MayHand word.kind want right.owner
 
@@ -36,7 +36,7 @@ IsFor word want right = IsSame right.word word × MayHand word.kind want right.o
 abbrev pub IsOwnerOf : LotWords → Word → Seat PermitSlot View → Type 0
 IsOwnerOf lot word seat = IsSeatOf lot seat × (seat.me.0 ≡ with_permit word)
 
--- the same whose permit has been taken out of that slot
+-- the seat of a mutex's owner, with the permit taken out of the mutex's slot
 abbrev pub IsOpenOf : LotWords → Word → OpenHeld → Type 0
 IsOpenOf lot word opened =
     (opened.seat.table_id ≡ lot.table.shared.table_id)

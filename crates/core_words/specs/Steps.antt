@@ -84,7 +84,7 @@ abbrev pub so_many_shared : ℕ → List Owner
 so_many_shared zero = []
 so_many_shared (suc n) = Shared ∷ so_many_shared n
 
--- so many permits of the word at an index
+-- the ownerships of so many permits of the word at an index
 abbrev pub holding : ℕ → ℕ → List Ownership
 holding at permits = map (owning at) (so_many_shared permits)
 

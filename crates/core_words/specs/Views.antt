@@ -30,7 +30,7 @@ view steps owns drawn saw = record {
   shares = [];
 }
 
--- the same with the numbers and the shares of another view
+-- a view with these steps, owners and draws, and the numbers and shares of another view
 abbrev pub going_on : View → List WordStep → List Ownership → List Drawn → ℕ → View
 going_on v steps owns drawn saw = record {
   steps = steps;
@@ -96,7 +96,7 @@ owning_with at count = record { at = at; owner = Exclusive; count = count }
 abbrev pub owned : ℕ → (Owner → ℕ) → List Ownership → ℕ
 owned at weight owns = total (λ (x : Ownership). cond (x.at == at) (weight x.owner) 0) owns
 
--- the same, of all views together
+-- the weight of the owners of a word in all views together
 abbrev pub named : ℕ → (Owner → ℕ) → List View → ℕ
 named at weight views = total (λ (v : View). owned at weight v.owns) views
 
@@ -104,7 +104,7 @@ named at weight views = total (λ (v : View). owned at weight v.owns) views
 abbrev pub counted : ℕ → List Ownership → ℕ
 counted at owns = total (λ (x : Ownership). cond (x.at == at) x.count 0) owns
 
--- the same, of a view that has the number of this thread, and else 0
+-- the count of a mutex as this view says it, where it has the number of this thread, and else 0
 abbrev pub said_as : ℕ → ℕ → View → ℕ
 said_as thread at v = cond (has_number thread v.naming == 0) 0 (counted at v.owns)
 

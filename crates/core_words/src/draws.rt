@@ -41,8 +41,8 @@ impl LotWords {
         None
     }
 
-    /// The next word, of this kind. It is refused, by `LotFull`, only where a step saw no word
-    /// left.
+    /// Returns the next word, of this kind. It is refused, by `LotFull`, only where a step saw no
+    /// word left.
     pub fn new_word(&self, seat: &mut Seat, kind: WordKind) -> Result<Word, Fault>
         requires own { IsSeatOf self.now seat.old }
         requires bare { permits_in kind ≡ 0 }
@@ -113,8 +113,8 @@ impl LotWords {
         None
     }
 
-    /// The next word, of a semaphore of so many permits. The seat holds them all, and the word is 0
-    /// until it gives them back.
+    /// Returns the next word, of a semaphore of so many permits. The seat holds them all, and the
+    /// word is 0 until it gives them back.
     pub fn new_semaphore(&self, seat: &mut Seat, permits: u64) -> Result<Word, Fault>
         requires own { IsSeatOf self.now seat.old }
         requires few { permits ≤ 2 ^ 62 }

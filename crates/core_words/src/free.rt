@@ -1,4 +1,9 @@
 //! How many permits of a semaphore are free.
+//!
+//! The number of permits with which a semaphore was drawn is known to the thread that drew it. Any
+//! other thread knows by `look_free` that the free ones and its own are no more than those of the draw.
+//! A second word, a table for each semaphore, a count within each ownership and a seat inside the
+//! semaphore were tried on paper: none can be tied to the rule of the table.
 ghost use Rattle.std.specs.Prelude.{◌≡◌};
 ghost use Rattle.core_base.specs.declared.ops.Op.TheVariants.{Load};
 ghost use Rattle.core_words.specs.Indices.{plain, word_index};
@@ -31,9 +36,9 @@ impl LotWords {
             .load::<SeesFree<N, P>>(seat, semaphore.index())
     }
 
-    /// The word of a semaphore, by one load. The permits that are free by it, with those that the
-    /// seat names, are no more than those with which it was drawn, which are known to the thread
-    /// that drew it.
+    /// Returns the word of a semaphore, by one load. The permits that are free by it, with those
+    /// that the seat names, are no more than those with which it was drawn, which are known to the
+    /// thread that drew it.
     #[inline]
     pub fn look_free(&self, seat: &mut Seat, semaphore: Word) -> u64
         requires { IsSeatOf self.now seat.old × IsWordOf self.now semaphore

@@ -1,4 +1,8 @@
 //! The ways in which a word can be owned.
+//!
+//! What an owner says of the count of a reentrant mutex is a field of the ownership, so that a step on
+//! the mutex needs no knowledge of the count, and a step on the count none of other views. A mutex is
+//! given up or handed over by an ownership that says 0, so a counted mutex is not.
 ghost use Rattle.std.specs.Prelude.{◌≡◌, ◌↔◌, IsTrue};
 
 use crate::words::WordKind;
@@ -26,7 +30,7 @@ pub enum Owner {
 impl Owner {
     ghost use Rattle.core_words.specs.Rights.{MayHand, owner_for, owner_given, takes_permit, want_of};
 
-    /// How a thread that has what was wanted owns the word.
+    /// Returns how a thread that has what was wanted owns the word.
     #[inline]
     pub fn of_want(want: Want) -> Owner
         ensures { result ≡ owner_for want }
@@ -40,9 +44,9 @@ impl Owner {
         }
     }
 
-    /// How a thread that is handed a lock owns it, whose word is left at this value: a mutex alone,
-    /// and a reader-writer lock by what it wants, where a writer waits for the readers that are
-    /// left.
+    /// Returns how a thread that is handed a lock owns it, whose word is left at this value: a
+    /// mutex alone, and a reader-writer lock by what it wants, where a writer waits for the readers
+    /// that are left.
     pub fn given(kind: WordKind, left: u64, want: Want) -> Owner
         ensures { result ≡ owner_given kind left want }
     {
@@ -70,7 +74,7 @@ impl Owner {
         }
     }
 
-    /// Whether the permit of a value goes along where a word of this kind is owned so.
+    /// Returns whether the permit of a value goes along where a word of this kind is owned so.
     #[inline]
     pub(crate) fn takes_permit(self, kind: WordKind) -> bool
         ensures { result ≡ takes_permit kind self }
@@ -81,7 +85,7 @@ impl Owner {
         }
     }
 
-    /// Whether a thread that waits for a word of this kind may be handed it so.
+    /// Returns whether a thread that waits for a word of this kind may be handed it so.
     pub fn suits(self, kind: WordKind, want: Want) -> bool
         ensures { IsTrue result ↔ MayHand kind want self }
     {

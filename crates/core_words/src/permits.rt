@@ -1,5 +1,14 @@
 //! The permits of the values that mutexes guard: each lies beside the word of its mutex while that
 //! is unlocked, and is out with a thread that owns it.
+//!
+//! One permit is out with a seat at most. A guard has a seat of its own, so that a step which locks
+//! another mutex lays the first one's permit back; no call of the locks leads there, which is read off
+//! the code. The guard's seat takes the step that leaves, and its thread goes on with a seat that was
+//! split off it.
+//!
+//! The or of a try is a load where the mutex is locked, and else an exchange: a thread that comes
+//! second writes nothing. An exchange that finds the mutex unlocked with another parked bit is no step
+//! of a call, and an or is taken after it, so that a try ends.
 ghost use Rattle.std.specs.Prelude.{IsTrue, ◌↔◌, ◌≡◌, ◌≢◌, ◌⊎◌, ◌%◌, ◌<◌, ◌≤◌, [], ◌∷◌, true, IfOk};
 ghost use Rattle.std.specs.Prelude.{MatchOption, MatchResult};
 ghost use Rattle.core_base.specs.declared.ops.Op.TheVariants.{Exchange, Or, Sub};
@@ -51,6 +60,7 @@ impl LotWords {
         ensures out { seat.new.me.0
             ≡ with_out (word_index word.number word.kind ∷ []) seat.old.me.0 }
     {
+        // The clauses name the word; no code needs it.
         let _mutex = word;
         change_view::<PermitSlot, View, (usize, Permits), OwnershipRule, TakesOut<P>>(
             &self.table.shared,
@@ -71,7 +81,7 @@ impl LotWords {
         );
     }
 
-    // The seat of a mutex's owner, split off one with which the mutex's permit is out.
+    // Returns the seat of a mutex's owner, split off one with which the mutex's permit is out.
     #[inline]
     fn keep<P: PermitPick>(&self, seat: &mut Seat, word: Word) -> Seat
         requires pick { P.at ≡ word_index word.number word.kind }
@@ -81,6 +91,7 @@ impl LotWords {
         ensures own { IsSeatOf self.now seat.new × IsOwnerOf self.now word result }
         ensures left { seat.new.me.0 ≡ left_over (named_by word Exclusive) seat.old.me.0 }
     {
+        // The clauses name the word; no code needs it.
         let _mutex = word;
         let next = split_seat::<PermitSlot, View, (usize, Permits), OwnershipRule, KeepsOwner<P>>(
             &self.table.shared,
@@ -124,7 +135,7 @@ impl LotWords {
         (OpenHeld { seat: owner }, slot.into_permit())
     }
 
-    // It lies in its slot again.
+    // Lays the permit in its slot again.
     #[inline]
     fn close(&self, word: Word, opened: OpenHeld, permit: Permit) -> Seat
         requires { IsWordOf self.now word × IsOpenOf self.now word opened
@@ -306,9 +317,13 @@ impl LotWords {
             .compare_exchange::<LeavesAlone<P>>(owner, word.index(), locked, 0)
     }
 
-    /// Takes a mutex that nobody has, and the permit of its value with the same step. Else it
-    /// answers what the step saw. It expects 0 of such a mutex's word, or a number above 3, which no
-    /// mutex's word is: then it is no step, and answers what is there.
+    /// Takes a mutex that nobody has, and the permit of its value with the same step. The step
+    /// expects 0 of such a mutex's word, or a number above 3, which no mutex's word is: then the
+    /// attempt is no step.
+    ///
+    /// # Errors
+    ///
+    /// What the word was, where the step did not take the mutex.
     #[inline]
     pub fn enter_open(
         &self,
@@ -334,8 +349,8 @@ impl LotWords {
         self.enter_picked::<Brand>(seat, word, unlocked)
     }
 
-    /// Locks where others may wait. It answers what the step saw, and writes nothing to a mutex
-    /// that it sees locked.
+    /// Locks where others may wait. Returns what the step saw, and writes nothing to a mutex that
+    /// it sees locked.
     #[inline]
     pub fn try_enter_open(&self, seat: &mut Seat, word: Word) -> (u64, Option<(OpenHeld, Permit)>)
         requires own { IsSeatOf self.now seat.old × IsWordOf self.now word × (word.kind ≡ Mutex) }
@@ -351,7 +366,7 @@ impl LotWords {
         self.try_enter_picked::<Brand>(seat, word)
     }
 
-    /// Gives a mutex up, and lays the permit of its value back with the same step. It answers the
+    /// Gives a mutex up, and lays the permit of its value back with the same step. Returns the
     /// value before. It takes 1 from the mutex's word, or 0: then it is no step, and gives the
     /// mutex back.
     #[inline]
@@ -374,7 +389,7 @@ impl LotWords {
             × IsOpenOf self.now word kept.0 × (kept.1.id ≡ permit_of self.now word)) }
     {
         let mut owner = self.close(word, opened, permit);
-        // It is asked for nothing else, so that the flags of the subtraction answer it.
+        // The subtraction is asked for nothing else, so that its flags answer the comparison.
         if self.leave_picked::<Brand>(&mut owner, word, locked) == locked {
             self.go_on(seat, owner);
             return Ok(LOCKED);

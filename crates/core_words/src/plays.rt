@@ -18,7 +18,7 @@ use std::marker::{Brand, PhantomData};
 
 pub struct OwnershipRule;
 
-// It goes by how many words there are, and by where the permits of values come from.
+// The key of the rule is how many words there are, and where the permits of values come from.
 impl TableRule<PermitSlot, View, (usize, Permits)> for OwnershipRule {
     ghost holds = { λ key. LotRule key.0 key.1.family };
 

@@ -1,4 +1,8 @@
 //! Ownerships that are split off a seat.
+//!
+//! A `Right` keeps its word and its owner, since the thread that finds one in its record has to see
+//! whether it waits for that. A `Held` keeps nothing: its word is the lock's, and the guard's type says
+//! how the word is owned.
 ghost use Rattle.std.specs.Prelude.{◌≡◌, ◌≢◌, ◌↔◌, IsTrue, true};
 ghost use Rattle.core_words.specs.Rights.{handed_view, named_by, piece_of, takes_permit, want_of};
 ghost use Rattle.core_words.specs.Views.{shown, with_out};
@@ -18,13 +22,13 @@ use std::marker::Brand;
 /// An ownership, split off the view of a seat, as a thread that knows its word keeps it. It borrows
 /// nothing, and takes no memory.
 ///
-/// It has to be given back, or the word stays owned.
+/// A `Held` has to be given back, or the word stays owned.
 pub struct Held {
     pub(crate) seat: Seat,
 }
 
 impl Held {
-    /// Its seat, which stays a right to what its view names.
+    /// Returns the seat, which stays a right to what its view names.
     #[inline]
     pub fn into_seat(self) -> Seat
         ensures { (result.table_id ≡ self.seat.table_id) × (result.me ≡ self.seat.me) }
@@ -75,7 +79,7 @@ impl Right {
         self.owner.want()
     }
 
-    /// Whether it is what a thread waits for.
+    /// Returns whether it is what a thread waits for.
     pub fn is_for(&self, word: Word, want: Want) -> bool
         ensures { IsTrue result ↔ IsFor word want self.now }
     {
@@ -99,7 +103,7 @@ impl LotWords {
     ghost use Rattle.core_words.specs.Plays.{left_over, piece, takes_in};
     ghost use Rattle.core_words.specs.Steps.{has};
 
-    // The seat of what is split off, and whose permit stays where it is.
+    // Returns the seat of what is split off, and whose permit stays where it is.
     #[inline]
     fn split_off<P: Piece>(&self, seat: &mut Seat, word: Word, owner: Owner) -> Seat
         requires own { IsSeatOf self.now seat.old }

@@ -1,4 +1,9 @@
 //! The mutexes that condition variables show.
+//!
+//! A condition variable shows nothing, or a mutex of its lot with another number than its own
+//! (`MayBeShown`). The thread that makes it show one owns that mutex, and each owned word is a word of
+//! the lot; that the numbers differ is asked where it is made to show (`MayTie`). A notification that
+//! saw anything but 0 saw a mutex.
 ghost use Rattle.std.specs.Prelude.{◌≡◌, ◌≢◌, ◌+◌, ◌≤◌};
 ghost use Rattle.core_base.specs.declared.ops.Op.TheVariants.{Load};
 ghost use Rattle.core_words.specs.Codes.{ShowsBeside};

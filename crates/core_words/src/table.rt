@@ -65,7 +65,7 @@ impl LotWords {
         }
     }
 
-    /// The table, whose rule holds whatever thread steps on it.
+    /// Returns the table, whose rule holds whatever thread steps on it.
     #[inline]
     pub fn seats(&self) -> &Shared<PermitSlot, View, (usize, Permits), OwnershipRule>
         ensures { result.now ≡ self.now.table.shared }
@@ -73,7 +73,7 @@ impl LotWords {
         &self.table.shared
     }
 
-    /// A seat for one more thread.
+    /// Returns a seat for one more thread.
     pub fn another(&self, seat: &mut Seat) -> Seat
         requires { IsSeatOf self.now seat.old }
         ensures same { (seat.new.table_id ≡ seat.old.table_id) × (seat.new.me ≡ seat.old.me) }

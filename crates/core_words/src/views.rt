@@ -1,4 +1,9 @@
 //! The knowledge of a lot's seat. No value of it is made.
+//!
+//! A view has the list of its steps, its owners and its draws. The owners in all views are counted by
+//! weights: `named place weight views` adds up any weight of owners, so that one equation serves every
+//! sort of owner. The rule says that a word on which no thread has stepped is 0; a word comes from a
+//! draw, or from a look at a condition variable that shows it.
 ghost use Rattle.std.specs.Prelude.{ℕ, List};
 ghost use Rattle.std.specs.Borrow.{ftrue};
 ghost use Rattle.core_words.specs.declared.owners.Ownership.{Ownership};
@@ -40,7 +45,7 @@ pub struct Counting {
 
 /// A seat's view: what the seat has done, what it owns, and what it saw.
 pub struct View {
-    // Its steps, the first at the front.
+    // The steps of the seat, the first at the front.
     pub ghost steps: { List WordStep },
     pub ghost owns: { List Ownership },
     // The words that it drew, the last at the front.

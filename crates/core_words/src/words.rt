@@ -1,4 +1,12 @@
 //! The words of a lot, by number and kind.
+//!
+//! The counter is at place 0 of the table, and the word of number `n` and kind `k` at
+//! `8 * (n + 1) + k`: a seat's permission to step rests on its own view alone, and can't rest on the
+//! thread that drew a word. The eight places of a number are 64 bytes, so that the words of two locks
+//! don't share a cache line. A `Word` keeps its index, so that no step computes it.
+//!
+//! Words have no `==`: an equality of words of two lots would make the prover take the lots for one.
+//! `Word::is_same` compares number and kind, which within one lot are the word.
 ghost use Rattle.std.specs.Prelude.{IsTrue, ◌≡◌, ◌<◌, ◌↔◌};
 ghost use Rattle.core_words.specs.Indices.{rank, word_index, most_words};
 
@@ -17,7 +25,7 @@ pub enum WordKind {
 }
 
 impl WordKind {
-    // Which of the eight indices of a number the word has.
+    // Returns which of the eight indices of a number the word has.
     #[inline]
     pub(crate) fn rank(self) -> usize
         ensures { result ≡ rank self }
@@ -89,7 +97,7 @@ impl Word {
         self.number == other.number && self.kind == other.kind
     }
 
-    /// Its index in the table.
+    /// Returns the word's index in the table.
     #[inline]
     pub fn index(self) -> usize
         ensures { result ≡ word_index self.number self.kind }

@@ -30,6 +30,6 @@ WaitsInTime {Token = Token} waited (Ok ended) old new = (last : Token)
 WaitsInTime {Token = Token} waited (Err refused) old new = (last : Token)
     × WaitsAnyTimes (waited answers.Notified) old last × waited answers.TwoMutexes last new
 
--- its clock told a time from which so many nanoseconds end past all that a u64 tells
+-- a clock told a time from which this many nanoseconds end past all that a u64 tells
 abbrev pub NeverEnds : (ℕ → Type 0) → ℕ → Type 0
 NeverEnds tells nanos = (now : ℕ) × tells now × (2 ^ 64 ≤ now + nanos)

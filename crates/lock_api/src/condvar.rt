@@ -24,12 +24,12 @@ pub type Waited<'a, R, T> = Result<
     (Fault, MutexGuard<'a, <R as RawCondvar>::RawMutex, T>),
 >;
 
-/// Where a thread that has a guard gives its mutex up and waits, until another thread notifies it.
-/// It has the guard again then.
+/// A condition variable: a thread that has a guard releases its mutex and waits until another thread
+/// notifies it, and then has the guard again.
 ///
 /// Nobody wakes by itself: a wait ends with a notification, or, where it has a limit, with its
-/// time. A notification tells exactly how many it woke. Those whose mutex is locked then wait for
-/// that next, and come in turn.
+/// time. A notification returns exactly how many waiters it moved. Those whose mutex is locked wait
+/// for that next, and come in turn.
 #[derive(Drop)]
 pub struct Condvar<R: RawCondvar> {
     raw: R,
@@ -45,7 +45,7 @@ impl<R: RawCondvar> Model for Condvar<R> {
 }
 
 impl<R: RawCondvar> Condvar<R> {
-    /// A condition variable on which nobody waits.
+    /// Makes a condition variable on which nobody waits.
     ///
     /// # Errors
     ///
@@ -95,7 +95,8 @@ impl<R: RawCondvar> Condvar<R> {
         }
     }
 
-    /// Notifies the first that waits. Whether anybody did.
+    /// Notifies the first waiter, and returns whether there was one. False also where all wait with
+    /// another mutex than the one that it saw first, or another notification is about to move them.
     #[inline]
     pub fn notify_one<W: Wait>(&self, rt: &W, token: &mut TokenOf<R>) -> bool
         requires { R.RawMutex.is_token_of (R.lot_of self.now) token.old }
@@ -129,7 +130,7 @@ impl<R: RawCondvar> Condvar<R> {
         self.raw.notify_all_slow(rt, token, seen)
     }
 
-    /// The raw condition variable.
+    /// Returns the raw condition variable.
     #[inline]
     pub fn raw(&self) -> &R
         ensures { result.now ≡ self.now }

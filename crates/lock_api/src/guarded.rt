@@ -1,4 +1,7 @@
 //! A value under a lock that is taken, of whatever sort.
+//!
+//! `Guarded` keeps the fact that the value is open by the permit of the lock that is taken, whatever is
+//! written (`stays_open` of `Shows`).
 ghost use Rattle.std.specs.Prelude.{◌≡◌};
 
 use crate::shows::{Keeps, Shows, ShowsMut};

@@ -16,7 +16,7 @@ use std::sync::Wait;
 pub type MutexGuard<'a, R, T> = Guarded<Taken<'a, R, T>, Open<'a, T>>;
 
 impl<'a, R: RawMutex, T> Guarded<Taken<'a, R, T>, Open<'a, T>> {
-    // The guard of a thread that has taken the mutex, and has opened its value.
+    // Returns the guard of a thread that has taken the mutex, and has opened its value.
     #[inline]
     pub(crate) fn new(
         mutex: &'a Mutex<R, T>,

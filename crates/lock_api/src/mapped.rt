@@ -82,7 +82,11 @@ impl<'a, R: RawMutex, T> Guarded<Taken<'a, R, T>, Open<'a, T>> {
         Mapped::new(self, by)
     }
 
-    /// Maps the guard where the part is there, and else gives it back, with the reason.
+    /// Maps the guard where the part is there.
+    ///
+    /// # Errors
+    ///
+    /// The guard and the projection's reason, where the part is not there.
     #[inline]
     pub fn try_map_or_err<P: Project<T>>(
         self,

@@ -1,4 +1,8 @@
 //! The mutex with its value.
+//!
+//! In a clause a mutex is its raw mutex, since the value changes behind a shared reference. A guard
+//! keeps the lot at hand from the step that took the mutex, so that the step that gives it up finds its
+//! word by one load less. There is no `update`, whose closure would be that of `with`.
 ghost use Rattle.std.specs.Prelude.{◌≡◌, IfNone, IfOk, IfSome, MatchOption, MatchResult};
 ghost use Rattle.std.specs.Fn.{FnOnceReturnsAtMut};
 ghost use Rattle.std.specs.Arc.{arc_value};
@@ -56,7 +60,7 @@ impl<R: RawMutex, T> Model for Mutex<R, T> {
 }
 
 impl<R: RawMutex, T> Mutex<R, T> {
-    /// A mutex that nobody has, with its value.
+    /// Makes a mutex that nobody has, with its value.
     ///
     /// # Errors
     ///
@@ -98,7 +102,7 @@ impl<R: RawMutex, T> Mutex<R, T> {
         self.open(lot, raw)
     }
 
-    // The guard of a thread that has the raw one.
+    // Returns the guard of a thread that has the raw one.
     #[inline]
     pub(crate) fn open<'a>(&'a self, lot: &'a R::Lot, raw: R::Guard) -> MutexGuard<'a, R, T>
         requires { R.is_guard_of self.now raw × (lot.now ≡ R.lot_of self.now) }
@@ -121,7 +125,7 @@ impl<R: RawMutex, T> Mutex<R, T> {
         Some(self.open(lot, raw))
     }
 
-    /// Whether somebody has the mutex.
+    /// Returns whether somebody has the mutex.
     #[inline]
     pub fn is_locked(&self, token: &mut R::Token) -> bool
         requires { R.is_token_of (R.lot_of self.now) token.old }
@@ -222,7 +226,7 @@ impl<R: RawMutexTimed, T> Mutex<R, T> {
 }
 
 impl<R: RawMutex, T> Mutex<R, T> {
-    /// The raw mutex.
+    /// Returns the raw mutex.
     #[inline]
     pub fn raw(&self) -> &R
         ensures { result.now ≡ self.now }
@@ -232,7 +236,7 @@ impl<R: RawMutex, T> Mutex<R, T> {
 }
 
 impl<R: RawMutex + Drop, T> Mutex<R, T> {
-    /// The value of a mutex that nobody has. It takes no step.
+    /// Returns the value of a mutex that nobody has. It takes no step.
     #[inline]
     pub fn into_inner(self) -> T {
         let Mutex { raw: _, place } = self;

@@ -7,8 +7,8 @@ use crate::mutex::Mutex;
 use lock_raw::RawMutex;
 
 impl<R: RawMutex, T> Mutex<R, T> {
-    /// The value, of a mutex that nobody else can use meanwhile. It takes no step, and the mutex is
-    /// the same after it.
+    /// Returns the value, of a mutex that nobody else can use meanwhile. It takes no step, and the
+    /// mutex is the same after it.
     #[inline]
     pub fn get_mut(&mut self) -> &mut T
         ensures* same { sem 𝓛

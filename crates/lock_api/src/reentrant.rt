@@ -1,4 +1,7 @@
 //! Mutexes that their owner may lock again.
+//!
+//! The value is a plain field, in no place: guards only read it. `GetThreadId` has the raw mutex as its
+//! parameter, and its contract ties its answer to the token's number, by which threads are told apart.
 ghost use Rattle.std.specs.Prelude.{◌≡◌, ◌+◌, Err, IfOk, IfSome, IsOk, MatchOption, MatchResult};
 ghost use Rattle.std.specs.Arc.{arc_value};
 ghost use Rattle.lock_raw.specs.Answers.{IsRefusal};
@@ -49,7 +52,7 @@ pub struct ReentrantMutexGuard<'a, R: RawMutexCounted, G, T> {
 }
 
 impl<R: RawMutexCounted, G: GetThreadId<R>, T> ReentrantMutex<R, G, T> {
-    /// A mutex that nobody has, with its value. It takes two words of the lot.
+    /// Makes a mutex that nobody has, with its value. It takes two words of the lot.
     ///
     /// # Errors
     ///
@@ -175,7 +178,7 @@ impl<R: RawMutexCounted + Drop, G: Drop, T> ReentrantMutex<R, G, T>
 where
     R::Count: Drop,
 {
-    /// The value of a mutex that nobody has. It takes no step.
+    /// Returns the value of a mutex that nobody has. It takes no step.
     pub fn into_inner(self) -> T
         ensures { result ≡ self.1 }
     {
@@ -190,7 +193,7 @@ where
 }
 
 impl<R: RawMutexCounted, G, T> ReentrantMutex<R, G, T> {
-    /// The raw mutex.
+    /// Returns the raw mutex.
     #[inline]
     pub fn raw(&self) -> &R
         ensures { result.now ≡ self.now.0 }
@@ -412,7 +415,11 @@ impl<'a, R: RawMutexCounted, G, T> ReentrantMutexGuard<'a, R, G, T> {
         Mapped::new(self, by)
     }
 
-    /// Maps the guard where the part is there, and else gives it back, with the reason.
+    /// Maps the guard where the part is there.
+    ///
+    /// # Errors
+    ///
+    /// The guard and the projection's reason, where the part is not there.
     #[inline]
     pub fn try_map_or_err<P: Project<T>>(
         self,

@@ -11,8 +11,8 @@ use std::marker::Model;
 /// value that is closed then.
 pub struct Taken<'a, R: RawMutex, T> {
     mutex: &'a Mutex<R, T>,
-    // That of the mutex. It is kept, so that the atomic step which gives the mutex up doesn't wait
-    // until it is found.
+    // The lot of the mutex, kept so that the atomic step which releases the mutex doesn't wait until
+    // the lot is found.
     lot: &'a R::Lot,
     opened: R::Opened,
     ghost met: { lot.now ≡ R.lot_of mutex.now },

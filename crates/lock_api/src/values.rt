@@ -1,4 +1,7 @@
 //! Calls that copy a mutex's value or put another in its place.
+//!
+//! `get`, `set` and `replace` can be done by `with` too. They read better at the call, and prove as
+//! fast.
 ghost use Rattle.lock_api.specs.Visits.{CameAndWent};
 ghost use Rattle.spec_locks.specs.declared.calls.MutexCall.TheVariants.{Lock, Unlock};
 ghost use Rattle.spec_locks.specs.declared.outcomes.Answer.TheVariants as answers;

@@ -1,4 +1,7 @@
 //! Waits of condition variables that end with a condition, or in time.
+//!
+//! A wait up to a deadline asks its condition once more after a wait whose time was up, and reports
+//! whether that last call still held.
 ghost use Rattle.std.specs.Prelude.{◌≡◌, ◌⊎◌, ◌*◌, false, true};
 ghost use Rattle.std.specs.Duration.{as_nanos};
 ghost use Rattle.std.specs.Iterator.Runs.{CallKeepsClosure};
@@ -34,7 +37,7 @@ impl Model for WaitTimeoutResult {
 }
 
 impl WaitTimeoutResult {
-    /// Whether its time was up.
+    /// Returns whether its time was up.
     pub fn timed_out(self) -> bool
         ensures { result ≡ self }
     {

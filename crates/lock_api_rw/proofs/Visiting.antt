@@ -11,7 +11,7 @@ use Rattle.spec_locks.specs.declared.outcomes.Answer.TheVariants as answers
 
 module _ {Raw Token : Type 0} (took_steps : Raw → RwLockCall → Answer → Token → Token → Type 0)
     (woke_waiters : Raw → RwLockCall → Token → Token → Type 0) where
-  -- it came in with a guard, and released that
+  -- the thread came in with a guard, and released that
   pub came_and_went : (held lock : Raw) (entry : RwLockCall) (answer : Answer) (release : RwLockCall)
       (old inside new : Token) → held ≡ lock → took_steps lock entry answer old inside
       → took_steps held release answers.Ok inside new → woke_waiters held release inside new
@@ -23,7 +23,7 @@ module _ {Raw Token : Type 0} (took_steps : Raw → RwLockCall → Answer → To
     subst (λ l. woke_waiters l release inside new) of woken,
   )
 
-  -- it came in with a guard, upgraded that, and released the other
+  -- the thread came in with a guard, upgraded that, and released the other
   pub came_up_and_went : (held alone lock : Raw) (old inside owned new : Token) → held ≡ lock → alone ≡ held
       → took_steps lock (Enter access.Upgradable Patient) answers.Ok old inside
       → took_steps held (Upgrade Patient) answers.Ok inside owned

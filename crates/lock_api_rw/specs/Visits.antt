@@ -6,8 +6,8 @@ use Rattle.spec_locks.specs.declared.calls.RwLockCall.TheVariants.{Enter, Releas
 use Rattle.spec_locks.specs.declared.outcomes.Answer.{Answer}
 use Rattle.spec_locks.specs.declared.outcomes.Answer.TheVariants as answers
 
--- it came in with the upgradable right, turned that into the exclusive one, and gave this up, which
--- has woken the threads that it lets in
+-- a thread came in with the upgradable right, turned that into the exclusive one, and gave this up, which has
+-- woken the threads that it lets in
 abbrev pub CameUpAndWent : {Token : Type 0} → (RwLockCall → Answer → Token → Token → Type 0)
     → (RwLockCall → Token → Token → Type 0) → Token → Token → Type 0
 CameUpAndWent {Token = Token} took_steps woke_waiters old new = (inside : Token) × (alone : Token)

@@ -50,7 +50,8 @@ impl<R: RawRwLockTimed, T> RwLock<R, T> {
         }
     }
 
-    /// Reads, or gives up at a deadline. None only where the clock had come to it.
+    /// Reads, or gives up at a deadline, in nanoseconds of the clock. None only where the clock had
+    /// come to it.
     ///
     /// # Errors
     ///
@@ -107,7 +108,8 @@ impl<R: RawRwLockTimed, T> RwLock<R, T> {
         Some(self.open_exclusive(raw))
     }
 
-    /// Writes, or gives up at a deadline. None only where the clock had come to it.
+    /// Writes, or gives up at a deadline, in nanoseconds of the clock. None only where the clock had
+    /// come to it.
     #[inline]
     pub fn try_write_until<W: Wait, C: Clock>(
         &self,
@@ -171,7 +173,8 @@ impl<R: RawRwLockUpgradeTimed, T> RwLock<R, T> {
         }
     }
 
-    /// Reads upgradably, or gives up at a deadline. None only where the clock had come to it.
+    /// Reads upgradably, or gives up at a deadline, in nanoseconds of the clock. None only where the
+    /// clock had come to it.
     ///
     /// # Errors
     ///

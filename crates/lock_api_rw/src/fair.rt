@@ -31,8 +31,8 @@ impl<'a, R: RawRwLockFair, T> Held<Reading<'a, R, T>, Seen<'a, T>> {
         lock.raw().unlock_shared_fair(rt, token, raw);
     }
 
-    /// Lets a writer in that waits for the last readers, and waits to read again. Where none does,
-    /// keeps the right.
+    /// Lets a writer in that waits for the last readers, and waits to read again. Keeps the right
+    /// where no writer does, and on a recursive lock where others read too.
     ///
     /// # Errors
     ///

@@ -175,7 +175,7 @@ impl<'a, R: RawRwLockUpgradeTimed, T> Held<Upgrading<'a, R, T>, Seen<'a, T>> {
         }
     }
 
-    /// Upgrades, or gives up at a deadline.
+    /// Upgrades, or gives up at a deadline, in nanoseconds of the clock.
     ///
     /// # Errors
     ///

@@ -86,7 +86,11 @@ impl<'a, R: RawRwLock, T> Held<Reading<'a, R, T>, Seen<'a, T>> {
         Mapped::new(self, by)
     }
 
-    /// Maps the guard where the part is there, and else gives it back, with the reason.
+    /// Maps the guard where the part is there.
+    ///
+    /// # Errors
+    ///
+    /// The guard and the projection's reason, where the part is not there.
     #[inline]
     pub fn try_map_or_err<P: Project<T>>(
         self,
@@ -139,7 +143,11 @@ impl<'a, R: RawRwLock, T> Held<Writing<'a, R, T>, Open<'a, T>> {
         Mapped::new(self, by)
     }
 
-    /// Maps the guard where the part is there, and else gives it back, with the reason.
+    /// Maps the guard where the part is there.
+    ///
+    /// # Errors
+    ///
+    /// The guard and the projection's reason, where the part is not there.
     #[inline]
     pub fn try_map_or_err<P: Project<T>>(
         self,

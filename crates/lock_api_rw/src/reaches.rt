@@ -7,8 +7,8 @@ use crate::rwlock::RwLock;
 use lock_raw::RawRwLock;
 
 impl<R: RawRwLock, T> RwLock<R, T> {
-    /// The value, of a lock that nobody else can use meanwhile. It takes no step, and the lock is
-    /// the same after it.
+    /// Returns the value, of a lock that nobody else can use meanwhile. It takes no step, and the
+    /// lock is the same after it.
     #[inline]
     pub fn get_mut(&mut self) -> &mut T
         ensures* same { sem 𝓛

@@ -47,7 +47,7 @@ impl<R: RawRwLock, T> Model for RwLock<R, T> {
 }
 
 impl<R: RawRwLock, T> RwLock<R, T> {
-    /// A lock that nobody has, with its value.
+    /// Makes a lock that nobody has, with its value, which up to 2^60 - 2 threads may share.
     ///
     /// # Errors
     ///
@@ -76,8 +76,9 @@ impl<R: RawRwLock, T> RwLock<R, T> {
         }
     }
 
-    /// Makes a lock that nobody has and so many may share, with its value: at least as many as the
-    /// lot has threads, so that a hand-over to all that wait never passes the limit.
+    /// Makes a lock that nobody has and so many threads may share, with its value: at least as many
+    /// as the lot has threads, and at most 2^60 - 2. An exclusive owner's hand-over to all that wait
+    /// thereby never passes the limit.
     ///
     /// # Errors
     ///
@@ -109,7 +110,7 @@ impl<R: RawRwLock, T> RwLock<R, T> {
         }
     }
 
-    // The guard of a thread that has the raw one.
+    // Returns the guard of a thread that has the raw one.
     #[inline]
     pub(crate) fn open_shared(&self, raw: R::SharedGuard) -> RwLockReadGuard<'_, R, T>
         requires { R.is_shared_of self.now raw }
@@ -201,7 +202,8 @@ impl<R: RawRwLock, T> RwLock<R, T> {
         self.open_exclusive(raw)
     }
 
-    /// Takes the lock where nobody has it, and nobody waits.
+    /// Takes the lock where its word is 0. None where somebody has it or waits, or where a waiter
+    /// that has gone left its bit.
     #[inline]
     pub fn try_write(&self, token: &mut R::Token) -> Option<RwLockWriteGuard<'_, R, T>>
         requires { R.is_token_of (R.lot_of self.now) token.old }
@@ -214,7 +216,7 @@ impl<R: RawRwLock, T> RwLock<R, T> {
         Some(self.open_exclusive(raw))
     }
 
-    /// Whether somebody has the lock, or a writer waits for its last readers.
+    /// Returns whether somebody has the lock, or a writer waits for its last readers.
     #[inline]
     pub fn is_locked(&self, token: &mut R::Token) -> bool
         requires { R.is_token_of (R.lot_of self.now) token.old }
@@ -224,7 +226,7 @@ impl<R: RawRwLock, T> RwLock<R, T> {
         self.raw.is_locked(token)
     }
 
-    /// Whether somebody has the lock alone.
+    /// Returns whether somebody has the lock alone.
     #[inline]
     pub fn is_locked_exclusive(&self, token: &mut R::Token) -> bool
         requires { R.is_token_of (R.lot_of self.now) token.old }
@@ -308,7 +310,7 @@ impl<R: RawRwLockUpgrade, T> RwLock<R, T> {
 }
 
 impl<R: RawRwLock, T> RwLock<R, T> {
-    /// The raw lock.
+    /// Returns the raw lock.
     #[inline]
     pub fn raw(&self) -> &R
         ensures { result.now ≡ self.now }
@@ -318,7 +320,7 @@ impl<R: RawRwLock, T> RwLock<R, T> {
 }
 
 impl<R: RawRwLock + Drop, T> RwLock<R, T> {
-    /// The value of a lock that nobody has. It takes no step.
+    /// Returns the value of a lock that nobody has. It takes no step.
     #[inline]
     pub fn into_inner(self) -> T {
         let RwLock { raw: _, place } = self;

@@ -116,8 +116,9 @@ impl<R: RawRwLock, T> RwLock<R, T> {
         }
     }
 
-    /// Takes the lock where nobody has it and nobody waits, runs a closure on the value, and gives
-    /// the lock up. None only where somebody does, and the closure was not run.
+    /// Takes the lock where its word is 0, runs a closure on the value, and releases the lock. None
+    /// where somebody has it or waits, or where a waiter that has gone left its bit; the closure was
+    /// not run then.
     pub fn try_with_write<W: Wait, U, F: FnOnce(&mut T) -> U + Drop>(
         &self,
         rt: &W,

@@ -8,12 +8,12 @@ use Rattle.parking_lot_core.specs.declared.lot.ParkingLot.{ParkingLot}
 use Rattle.parking_lot_core.specs.declared.tokens.Ticket.{Ticket}
 use Rattle.parking_lot_core.specs.declared.tokens.Token.{Token}
 
--- it may be called with any token of the lot
+-- a closure may be called with any token of the lot
 abbrev pub MayRun : {F U : Type 0} → Shared F (MutBor Token × Unit {0}) (U × (MutBor Token × Unit {0}))
     → F → ParkingLot → Type 0
 MayRun g f lot = (token : MutBor Token) → IsTokenOf lot token.now → g.pre f (token, tt)
 
--- it gives one back that is of the lot still
+-- a closure gives a token back that is of the lot still
 abbrev pub GivesTokenBack : {F U : Type 0}
     → Shared F (MutBor Token × Unit {0}) (U × (MutBor Token × Unit {0}))
     → F → ParkingLot → Type 0
@@ -35,7 +35,7 @@ abbrev pub Called : {F U : Type 0} → Shared F (MutBor Token × Unit {0}) (U ×
 Called {U = U} g f old new = (entered : MutBor Token) × (left : MutBor Token) × (answer : U)
     × (entered.now ≡ old) × (left.now ≡ new) × g.post f (entered, tt) (answer, (left, tt))
 
--- so many calls, each with the token as the one before left it
+-- this many calls, each with the token as the one before left it
 abbrev pub CalledTimes : {F U : Type 0}
     → Shared F (MutBor Token × Unit {0}) (U × (MutBor Token × Unit {0}))
     → F → ℕ → Token → Token → Type 0
@@ -49,7 +49,7 @@ abbrev pub HasRun : {F U : Type 0} → Shared F (MutBor Token × Unit {0}) (U ×
 HasRun g f lot times ticket = (entered : Token) × (left : Token) × IsTokenOf lot entered
     × CalledTimes g f times entered left × IsIn ticket left
 
--- so did the threads of all tickets but one
+-- the threads of all tickets but one have called so many times and left
 abbrev pub EachHasRun : {F U : Type 0} → Shared F (MutBor Token × Unit {0}) (U × (MutBor Token × Unit {0}))
     → F → ParkingLot → ℕ → Type 0
 EachHasRun g f lot times = (tickets : List Ticket) × (length tickets + 1 ≡ lot.records.count)

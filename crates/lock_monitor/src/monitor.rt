@@ -1,4 +1,8 @@
 //! The mutex with its condition variables.
+//!
+//! A refused wait is begun again: the condition variables are used with the monitor's own mutex alone,
+//! so none is refused, but no contract knows that. The condition variables have numbers and no types,
+//! since a struct of a user's own can't be one of the fields of a library's.
 ghost use Rattle.std.specs.Prelude.{◌≡◌, ◌<◌, All, IfErr, IfOk, MatchResult, false, length, slice_index_or};
 ghost use Rattle.std.specs.Prelude.{true};
 ghost use Rattle.std.specs.Arc.{arc_value};

@@ -1,4 +1,9 @@
 //! A lot with a ticket for each of its threads.
+//!
+//! The lot of a team is known by its type's ghost field, and a closure's contract is inferred.
+//! `run_times` has the loop, since a loop of a user's own needs an invariant. `run` spends the team and
+//! asks nothing of the tokens that closures leave; `run_times` gives the team back, and asks that they
+//! are of the lot still.
 ghost use Rattle.std.specs.Prelude.{◌≡◌, ◌⊎◌, ◌↔◌, ◌+◌, All, IfErr, IfOk, IsErrOf, length};
 ghost use Rattle.std.specs.Arc.{arc_value};
 ghost use Rattle.parking_lot_core.specs.Team.{AreSizes};

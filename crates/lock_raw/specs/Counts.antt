@@ -9,7 +9,7 @@ abbrev pub advanced : ℕ → ℕ → Result ℕ Fault
 advanced word number = cond (word == 0) (Ok ((number + 1) * 4294967296 + 1))
     (cond (word % 4294967296 == 4294967295) (Err LockCountFull) (Ok (word + 1)))
 
--- it names the thread of this number
+-- a count names the thread of this number
 abbrev pub Names : ℕ → ℕ → Type 0
 Names number word = word / 4294967296 ≡ number + 1
 
@@ -33,19 +33,19 @@ Stores Token = ℕ → ℕ → Token → Token → Type 0
 abbrev pub SawOthers : {Token : Type 0} → CountRelation Token → ℕ → Token → Token → Type 0
 SawOthers saw number old new = (word : ℕ) × saw word old new × (Names number word → ⊥)
 
--- it saw itself named, with a count below the greatest, and counted once more
+-- a thread saw itself named, with a count below the greatest, and counted once more
 abbrev pub CountedAgain : {Token : Type 0} → CountRelation Token → Stores Token → ℕ → Token → Token
     → Type 0
 CountedAgain {Token} saw stored number old new = (word : ℕ) × (looked : Token)
     × saw word old looked × Names number word × (times_in word < 4294967295)
     × stored word (word + 1) looked new
 
--- it found itself named, with a count below the greatest, and counted once more by one step
+-- a thread found itself named, with a count below the greatest, and counted once more by one step
 abbrev pub CountedMore : {Token : Type 0} → Stores Token → ℕ → Token → Token → Type 0
 CountedMore stored number old new = (word : ℕ) × Names number word × (times_in word < 4294967295)
     × stored word (word + 1) old new
 
--- it saw itself named with the greatest count
+-- a thread saw itself named with the greatest count
 abbrev pub SawFull : {Token : Type 0} → CountRelation Token → ℕ → Token → Token → Type 0
 SawFull saw number old new = (word : ℕ) × saw word old new × Names number word
     × (times_in word ≡ 4294967295)
@@ -58,12 +58,12 @@ CountedLess stored old new = (word : ℕ) × (1 < times_in word) × stored word 
 abbrev pub CountedOut : {Token : Type 0} → Stores Token → Token → Token → Type 0
 CountedOut stored old new = (word : ℕ) × (times_in word ≡ 1) × stored word 0 old new
 
--- it saw the count at 1, and counted out
+-- a thread saw the count at 1, and counted out
 abbrev pub CountedOutAlone : {Token : Type 0} → CountRelation Token → Stores Token → Token → Token
     → Type 0
 CountedOutAlone {Token} saw stored old new = (word : ℕ) × (looked : Token)
     × saw word old looked × (times_in word ≡ 1) × stored word 0 looked new
 
--- it saw another count
+-- a thread saw another count
 abbrev pub SawMore : {Token : Type 0} → CountRelation Token → Token → Token → Type 0
 SawMore saw old new = (word : ℕ) × saw word old new × (times_in word ≢ 1)

@@ -40,7 +40,7 @@ pub trait RawCondvar {
     // nobody, and it saw that no mutex is shown, or another value than at first.
     ghost moved: { Self → Bool → ℕ → Self.RawMutex.Token → Self.RawMutex.Token → Type 0 };
 
-    /// A condition variable on which nobody waits.
+    /// Makes a condition variable on which nobody waits.
     ///
     /// # Errors
     ///
@@ -78,8 +78,8 @@ pub trait RawCondvar {
         ensures path { waited self.now mutex.now false
             (waiting_answer result) token.old token.new };
 
-    /// The first step of a notification, of one or of all. It answers what it sees of the condition
-    /// variable: where that is 0, nobody waits, and the notification is over.
+    /// Takes the first step of a notification, of one or of all. Returns what it sees of the
+    /// condition variable: where that is 0, nobody waits, and the notification is over.
     fn notify_fast(&self, token: &mut <Self::RawMutex as RawMutex>::Token) -> u64
         requires { Self.RawMutex.is_token_of (lot_of self.now) token.old }
         ensures token { Self.RawMutex.is_token_of (lot_of self.now) token.new
@@ -91,7 +91,7 @@ pub trait RawCondvar {
         ensures all { result ≡ 0 → notified self.now true (Number 0) token.old token.new
             × moved self.now true 0 token.old token.new };
 
-    /// The rest of a notification of the first that waits, whose first step saw this. Whether
+    /// Does the rest of a notification of the first that waits, whose first step saw this. Whether
     /// anybody did.
     fn notify_one_slow<R: Wait>(
         &self,
@@ -108,7 +108,7 @@ pub trait RawCondvar {
             → notified self.now false (notifying_answer result) before token.new
             × moved self.now false (moved_first result) before token.new };
 
-    /// The rest of a notification of all that wait, whose first step saw this. How many did.
+    /// Does the rest of a notification of all that wait, whose first step saw this. How many did.
     fn notify_all_slow<R: Wait>(
         &self,
         rt: &R,
@@ -159,8 +159,8 @@ pub trait RawCondvar {
 
 /// A condition variable whose waiters may give up.
 pub trait RawCondvarTimed: RawCondvar {
-    /// The time, in nanoseconds, that is this much later. None where no `u64` tells it, which
-    /// stands for no limit.
+    /// Returns the time, in nanoseconds, that is this much later. None where no `u64` tells it,
+    /// which stands for no limit.
     fn checked_duration_to_instant(now: u64, timeout: Duration) -> Option<u64>
         ensures { MatchOption result (2 ^ 64 ≤ now + as_nanos timeout)
             (λ deadline. deadline ≡ now + as_nanos timeout) }

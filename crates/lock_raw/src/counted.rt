@@ -12,9 +12,10 @@ use std::sync::Arc;
 
 /// Names the threads of a raw mutex's lot by their numbers.
 pub trait GetThreadId<R: RawMutexCounted> {
+    /// Makes the value that names threads.
     fn new() -> Self;
 
-    /// One more than the thread's number in its lot.
+    /// Returns one more than the thread's number in its lot.
     fn nonzero_thread_id(&self, token: &R::Token) -> usize
         requires { (lot : R.Lot) × R.is_token_of lot token.now }
         ensures { result ≡ R.number_of token.now + 1 };
@@ -50,7 +51,7 @@ pub trait RawMutexCounted: RawMutex {
     // Between them it stored a count: the one that it found, and the one that it left.
     ghost stored_count: { Self → ℕ → ℕ → Self.Token → Self.Token → Type 0 };
 
-    /// A mutex that nobody has, and the word that counts.
+    /// Makes a mutex that nobody has, and the word that counts.
     ///
     /// # Errors
     ///
@@ -162,8 +163,11 @@ pub trait RawMutexCounted: RawMutex {
             (λ guard. Self.is_guard_of self.now guard
             × CountedOut (stored_count self.now) token.old token.new) };
 
-    /// Counts the only share of the thread off, and gives the guard. Where there are others it
-    /// gives the share back, and does no more than look.
+    /// Counts the only share of the thread off, and returns the guard.
+    ///
+    /// # Errors
+    ///
+    /// The share, where the thread has others: the call does no more than look then.
     fn count_off_only(
         &self,
         token: &mut Self::Token,

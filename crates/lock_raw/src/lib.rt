@@ -1,4 +1,10 @@
 //! Raw locks, as generic code sees them.
+//!
+//! The traits name lots by equality and tokens by a relation to a lot, so that each fact about a token
+//! holds for every lock of its lot. That a guard fits its mutex has one proof at most (`guard_once`),
+//! so a struct may keep that fact. `RawMutex` has a fast half and a slow half of `lock` and of
+//! `unlock`, and between them `begun` says what the thread saw and owns: the fast half takes one step
+//! and no `Wait`, so that after it no flag is tested.
 #![tactic(auto)]
 
 pub mod condvar;
@@ -49,7 +55,7 @@ pub trait RawMutex {
     ghost lot_of: { Self → Self.Lot };
     // A thread belongs to a lot.
     ghost is_token_of: { Self.Lot → Self.Token → Type 0 };
-    // It is the same thread, and owns what it did.
+    // Two tokens are of one thread, which owns what it did.
     ghost keeps_rights: { Self.Token → Self.Token → Type 0 };
     // What stays through each of two calls stays through both.
     ghost keeps_rights_on: { (first next last : Self.Token) → keeps_rights first next → keeps_rights next last
@@ -86,7 +92,7 @@ pub trait RawMutex {
     // Between them it took one step, which saw the mutex locked or not.
     ghost looked: { Self → Bool → Self.Token → Self.Token → Type 0 };
 
-    /// A mutex that nobody has.
+    /// Makes a mutex that nobody has.
     ///
     /// # Errors
     ///
@@ -120,7 +126,7 @@ pub trait RawMutex {
         ensures path { took_steps self.now Unlock answers.Ok token.old token.new }
         ensures record { released self.now Unlock token.old token.new };
 
-    /// Whether somebody has the mutex.
+    /// Returns whether somebody has the mutex.
     fn is_locked(&self, token: &mut Self::Token) -> bool
         requires { is_token_of (lot_of self.now) token.old }
         ensures token { is_token_of (lot_of self.now) token.new × keeps_rights token.old token.new }
@@ -136,7 +142,8 @@ pub trait RawMutex {
         requires { is_opened_of self.now opened × (permit.id ≡ permit_of self.now) }
         ensures { is_guard_of self.now result };
 
-    /// The first step of `lock`, with which a mutex that nobody has is taken: then that was all.
+    /// Takes the first step of `lock`, with which a mutex that nobody has is taken: then that was
+    /// all.
     ///
     /// # Errors
     ///
@@ -151,7 +158,7 @@ pub trait RawMutex {
             × is_guard_of self.now guard) }
         ensures begun { IfErr result (λ seen. begun self.now Lock seen token.old token.new) };
 
-    /// The rest of a `lock` whose first step saw this.
+    /// Does the rest of a `lock` whose first step saw this.
     fn lock_slow<R: Wait>(&self, rt: &R, token: &mut Self::Token, seen: u64) -> Self::Guard
         requires token { is_token_of (lot_of self.now) token.old }
         requires begun { (before : Self.Token) × begun self.now Lock seen before token.old }
@@ -160,11 +167,11 @@ pub trait RawMutex {
         ensures over { (before : Self.Token) → begun self.now Lock seen before token.old
             → keeps_rights before token.new × took_steps self.now Lock answers.Ok before token.new };
 
-    /// The lot of the mutex.
+    /// Returns the lot of the mutex.
     fn lot(&self) -> &Self::Lot
         ensures { result.now ≡ lot_of self.now };
 
-    /// The first step of `unlock`, which spends the guard. It answers what it saw where the call
+    /// Takes the first step of `unlock`, which spends the guard. Returns what it saw where the call
     /// has more to do, which is `unlock_slow`.
     ///
     /// The lot is that of the mutex: a thread that has kept it since the mutex was taken needn't
@@ -225,7 +232,8 @@ pub trait RawMutexFair: RawMutex {
 
 /// A mutex whose waiters may give up.
 pub trait RawMutexTimed: RawMutex {
-    // It gave up: the last section that it left was that of the mutex's queue, where it took nobody.
+    // The thread gave up: the last section that it left was that of the mutex's queue, where it
+    // took nobody.
     ghost gave_up: { Self → Self.Token → Type 0 };
 
     /// Waits until nobody has the mutex, and takes it. None only where so much time, in nanoseconds

@@ -41,7 +41,7 @@ pub trait RawRwLock: RawRwLockHalves {
     // which it took those that it had kept out, or that of the main queue, where it took nobody.
     ghost gave_up: { Self → RwLockCall → Self.Token → Type 0 };
 
-    /// A lock that nobody has, and that as many may share as there can be.
+    /// Makes a lock that nobody has, and that as many may share as there can be.
     ///
     /// # Errors
     ///
@@ -55,8 +55,9 @@ pub trait RawRwLock: RawRwLockHalves {
             (IsRefusal (found_full (arc_value lot.now)) token.old token.new) }
         ensures drawn { IfOk result (λ lock. drew lock token.old token.new) };
 
-    /// Makes a lock that nobody has, and that so many may share: at least as many as the lot has
-    /// threads, so that a hand-over to all that wait never passes the limit.
+    /// Makes a lock that nobody has, and that so many threads may share: at least as many as the lot
+    /// has threads, and at most 2^60 - 2. An exclusive owner's hand-over to all that wait thereby
+    /// never passes the limit.
     ///
     /// # Errors
     ///
@@ -150,14 +151,14 @@ pub trait RawRwLock: RawRwLockHalves {
         ensures path { Self.took_steps self.now (Release access.Exclusive) answers.Ok token.old token.new }
         ensures record { Self.woke_waiters self.now (Release access.Exclusive) token.old token.new };
 
-    /// Whether somebody has the lock, or a writer waits for its last readers.
+    /// Returns whether somebody has the lock, or a writer waits for its last readers.
     fn is_locked(&self, token: &mut Self::Token) -> bool
         requires { Self.is_token_of (Self.lot_of self.now) token.old }
         ensures token { Self.is_token_of (Self.lot_of self.now) token.new
             × Self.keeps_rights token.old token.new }
         ensures seen { looked self.now result token.old token.new };
 
-    /// Whether somebody has the lock alone.
+    /// Returns whether somebody has the lock alone.
     fn is_locked_exclusive(&self, token: &mut Self::Token) -> bool
         requires { Self.is_token_of (Self.lot_of self.now) token.old }
         ensures token { Self.is_token_of (Self.lot_of self.now) token.new
@@ -217,7 +218,8 @@ pub trait RawRwLockTimed: RawRwLock {
         ensures late { IfOk result
             (λ entered. IfNone entered (HasElapsed (C.tells clock.now) (as_nanos timeout))) };
 
-    /// Shares the lock, or gives up at a deadline. None only where the clock had come to it.
+    /// Shares the lock, or gives up at a deadline, in nanoseconds of the clock. None only where the
+    /// clock had come to it.
     ///
     /// # Errors
     ///
@@ -264,7 +266,8 @@ pub trait RawRwLockTimed: RawRwLock {
             (Self.RawRwLock.gave_up self.now (Enter access.Exclusive Timed) token.new) }
         ensures late { IfNone result (HasElapsed (C.tells clock.now) (as_nanos timeout)) };
 
-    /// Locks exclusively, or gives up at a deadline. None only where the clock had come to it.
+    /// Locks exclusively, or gives up at a deadline, in nanoseconds of the clock. None only where the
+    /// clock had come to it.
     fn try_lock_exclusive_until<R: Wait, C: Clock>(
         &self,
         rt: &R,

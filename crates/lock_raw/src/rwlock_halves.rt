@@ -34,7 +34,7 @@ pub trait RawRwLockHalves {
     ghost lot_of: { Self → Self.Lot };
     // A thread belongs to a lot.
     ghost is_token_of: { Self.Lot → Self.Token → Type 0 };
-    // It is the same thread, and owns what it did.
+    // Two tokens are of one thread, which owns what it did.
     ghost keeps_rights: { Self.Token → Self.Token → Type 0 };
     // What stays through each of two calls stays through both.
     ghost keeps_rights_on: { (first next last : Self.Token) → keeps_rights first next → keeps_rights next last

@@ -297,7 +297,8 @@ pub trait RawRwLockUpgradeTimed: RawRwLockUpgrade {
         ensures late { IfOk result
             (λ entered. IfNone entered (HasElapsed (C.tells clock.now) (as_nanos timeout))) };
 
-    /// Locks upgradably, or gives up at a deadline. None only where the clock had come to it.
+    /// Locks upgradably, or gives up at a deadline, in nanoseconds of the clock. None only where the
+    /// clock had come to it.
     ///
     /// # Errors
     ///
@@ -349,7 +350,7 @@ pub trait RawRwLockUpgradeTimed: RawRwLockUpgrade {
             (λ _. Self.RawRwLock.gave_up self.now (Upgrade Timed) token.new) }
         ensures late { IfErr result (λ _. HasElapsed (C.tells clock.now) (as_nanos timeout)) };
 
-    /// Upgrades, or gives up at a deadline.
+    /// Upgrades, or gives up at a deadline, in nanoseconds of the clock.
     ///
     /// # Errors
     ///

@@ -59,7 +59,7 @@ shared_owns at = inl (omega (arith, same_index at 1))
 pub upgradable_owns : (at : ℕ) → among at (piece (owning at Upgradable))
 upgradable_owns at = inr (omega (arith, same_index at 1))
 
--- the same, as the words of a lot say it
+-- an exclusive owner of a reader-writer lock has no other beside it, as the words of a lot say
 pub excluded_at : (key words family number at : ℕ) (kind : WordKind) → key ≡ words → number < words
     → kind ≡ RwLock → at ≡ word_index number kind → Excluded (LotRule key family) (alone at) (among at)
 excluded_at key words family number at kind same below is here =

@@ -52,7 +52,7 @@ impl<T> Deref for Seen<'_, T> {
 }
 
 impl<T> Place<T> {
-    /// The value, of a place that nobody else can open meanwhile. The same permit opens it
+    /// Returns the value, of a place that nobody else can open meanwhile. The same permit opens it
     /// afterwards.
     #[inline]
     pub fn get_mut(&mut self) -> &mut T

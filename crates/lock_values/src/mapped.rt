@@ -62,7 +62,11 @@ impl<G: Shows, P: Project<G::Value>> Mapped<G, P> {
         Mapped { guard, by }
     }
 
-    /// Maps a guard where the part is there, and else gives it back, with the reason.
+    /// Maps a guard where the part is there.
+    ///
+    /// # Errors
+    ///
+    /// The guard and the projection's reason, where the part is not there.
     #[inline]
     pub fn try_new(guard: G, by: P) -> Result<Mapped<G, P>, (G, P::Error)>
         ensures { MatchResult result
@@ -90,8 +94,11 @@ impl<G: Shows, P: Project<G::Value>> Mapped<G, P> {
         }
     }
 
-    /// Maps on where that part is there, and else gives the mapped guard back as it was, with the
-    /// reason.
+    /// Maps on where that part is there.
+    ///
+    /// # Errors
+    ///
+    /// The mapped guard as it was and the projection's reason, where the part is not there.
     #[inline]
     pub fn try_map_or_err<Q: Project<P::Target>>(
         self,

@@ -1,4 +1,7 @@
 //! A value in the open, and the threads that may touch it.
+//!
+//! The seat that stands for a right lies in the place while the value is open, and comes out of it as
+//! the place is shut: nothing is counted or asked, and no instruction is spent.
 ghost use Rattle.std.specs.Prelude.{◌≡◌, [], ◌∷◌};
 ghost use Rattle.lock_values.specs.Owning.{alone, among};
 ghost use Rattle.core_words.specs.declared.views.View.{View};
@@ -65,7 +68,7 @@ impl<'a, T> Model for Open<'a, T> {
 }
 
 impl<T> Place<T> {
-    /// A place that is guarded by the word which `of` names.
+    /// Makes a place that is guarded by the word which `of` names.
     #[inline]
     pub fn new<N: NamesPlace>(value: T, of: &N) -> Place<T>
         ensures { result ≡ N.place of.now }

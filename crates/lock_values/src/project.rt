@@ -1,4 +1,8 @@
 //! Projections: how a part of a value is found.
+//!
+//! A closure's contract can't say what a write to the part makes of the whole, so a part is found by a
+//! type. `get_mut` takes the value first, so that the borrow checker sees whose loan it gives. A map of
+//! std can't be projected, since its `get_mut` promises a relation and no value.
 ghost use Rattle.std.specs.Prelude.{◌≡◌, Result, Ok, IsOk};
 ghost use Rattle.std.specs.Borrow.{Lends, sem};
 ghost use Rattle.lock_values.specs.Finds.{checked};
@@ -19,7 +23,11 @@ pub trait Project<T>: Copy {
     ghost finds_written: { (by : Self) (value : T) (found next : Self.Target)
         → finds by value ≡ Ok found → finds by (written by value next) ≡ Ok next };
 
-    /// Checks whether the part is there, or tells why it is not.
+    /// Checks whether the part is there.
+    ///
+    /// # Errors
+    ///
+    /// Why the part is not there.
     fn check(self, value: &T) -> Result<(), Self::Error>
         ensures { result ≡ checked (finds self value.now) };
 

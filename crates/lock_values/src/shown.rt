@@ -1,4 +1,7 @@
 //! The value of a lock, in print.
+//!
+//! A lock that as many read as may, or that a thread writes, is shown as `<locked>`, and so is a
+//! reentrant mutex whose count is at its limit: `show` returns no fault.
 ghost use Rattle.std.specs.Prelude.{◌≡◌, MatchOption};
 ghost use Rattle.lock_values.specs.Shown.{Closed, MayClose};
 
@@ -24,6 +27,7 @@ pub struct Shown<G> {
 }
 
 impl<G> Shown<G> {
+    /// Makes a value to print, of a guard or of a try that failed.
     pub fn new(name: LockName, guard: Option<G>) -> Shown<G>
         ensures { result.guard ≡ guard }
     {

@@ -25,7 +25,7 @@ Replies input told old new written status =
     × Delivers old new written (drop told text) ending status)
     ⊎ DeliversNothing old new written status
 
--- the same of a reader's bytes, where they are known
+-- the reply to a reader's bytes, where they are known
 abbrev pub RepliesTo : Option (List ℕ) → ℕ → List ℕ → List ℕ → ℕ → ℕ → Type 0
 RepliesTo None told old new written status = ⊤
 RepliesTo (Some input) told old new written status = Replies input told old new written status

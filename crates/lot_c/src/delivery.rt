@@ -1,4 +1,7 @@
 //! A text for the buffer of a caller.
+//!
+//! A text is made whole before it goes to the buffer, so that its length is known; one that does not
+//! fit is not written, since a caller could not tell its beginning from a whole text.
 ghost use Rattle.std.specs.Prelude.{◌≡◌, drop};
 ghost use Rattle.lot_c.specs.Replies.{Delivers};
 

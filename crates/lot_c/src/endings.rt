@@ -1,18 +1,19 @@
 //! Threads that are said to come to their end.
 use crate::found::{print_finding, print_no_schedule};
-use crate::status::{GRAIN, NOT_ALL, NOTHING};
+use crate::status::{NOT_ALL, NOTHING};
 use core_base::ListQueues;
 use lot_explore::Walk;
-use lot_findings::{Ended, Headline, Source, finding_of_loop, look_for_loops, write_looks};
+use lot_findings::{GrainName, Headline, Source, walk_by};
 use lot_loops::FairLoop;
 use lot_program_text::Ending;
+use lot_story::{Coverage, Ended, Look, Remarks, by_single_steps, finding_of_loop, look_for_loops};
 use state_search::{Limits, NoRoom, Unobserved};
 use std::alloc::Global;
 use std::io;
-use std::io::Write;
+use std::io::{ErrorKind, Write};
 
-/// Looks for loops after a search that found nothing. Prints the first loop, or what the search has found and
-/// how far each look went. Returns the status.
+/// Looks for loops after a search that found nothing, by single steps. Prints the first loop, or what the
+/// search has found, how far each look went, and what no schedule has come to. Returns the status.
 ///
 /// # Errors
 ///
@@ -25,18 +26,49 @@ pub fn look_on(
     headline: Headline<'_>,
     limits: Limits,
 ) -> io::Result<u8> {
-    let most = limits.states as usize;
-    match look_for_loops(alloc, source, walk, most, &mut Unobserved)? {
-        Ended::Endless { ending, found } => print_loop(alloc, out, source, walk, ending, &found),
-        Ended::Without { looks } => {
-            writeln!(out, "{headline}")?;
-            write_looks(out, looks.as_slice())?;
-            Ok(match headline {
-                Headline::Nothing { .. } => NOTHING,
-                _ => NOT_ALL,
-            })
-        }
+    if source.parsed.endings.is_empty() {
+        return tell(alloc, out, source, walk, headline, limits, Vec::new(alloc));
     }
+    let refused = |_| io::Error::from(ErrorKind::OutOfMemory);
+    let program = by_single_steps(alloc, source, walk).map_err(refused)?;
+    let by_steps = Source {
+        parsed: &program.parsed,
+        ..source
+    };
+    let stepped = walk_by(alloc, by_steps, program.moves.as_slice()).map_err(refused)?;
+    match look_for_loops(alloc, by_steps, &stepped, limits, &mut Unobserved)? {
+        Ended::Endless { ending, found } => {
+            print_loop(alloc, out, by_steps, &stepped, ending, &found)
+        }
+        Ended::Without { looks } => tell(alloc, out, source, walk, headline, limits, looks),
+    }
+}
+
+// Prints what a search has found, how far looks went, and what no schedule has come to.
+fn tell(
+    alloc: Global,
+    out: &mut Vec<u8>,
+    source: Source<'_>,
+    walk: &Walk<'_, ListQueues>,
+    headline: Headline<'_>,
+    limits: Limits,
+    looks: Vec<Look>,
+) -> io::Result<u8> {
+    let coverage = match Coverage::is_due(walk, headline, false) {
+        Ok(()) => Coverage::of(alloc, source, walk, limits, &mut Unobserved),
+        Err(none) => none,
+    };
+    let remarks = Remarks {
+        looks,
+        coverage,
+        stopped: "",
+    };
+    writeln!(out, "{headline}")?;
+    remarks.write(out, source)?;
+    Ok(match headline {
+        Headline::Nothing { .. } if remarks.looks.iter().all(|look| look.cut.is_none()) => NOTHING,
+        _ => NOT_ALL,
+    })
 }
 
 // Prints the turns to a loop and those of one lap.
@@ -54,7 +86,7 @@ fn print_loop(
             let headline = Headline::Endless {
                 turns,
                 lap: found.lap.len(),
-                grain: GRAIN,
+                grain: GrainName::Step,
             };
             print_finding(alloc, out, headline, &finding)
         }

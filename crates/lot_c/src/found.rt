@@ -1,12 +1,14 @@
 //! What was found, as `lotexplore` prints it.
-use crate::status::{FOUND, GRAIN};
-use lot_findings::{Finding, Headline, write_schedule, write_story};
+use crate::status::FOUND;
+use lot_findings::{Finding, GrainName, Headline, write_schedule};
+use lot_story::write_story;
 use state_search::NoRoom;
 use std::alloc::Global;
 use std::io;
 use std::io::Write;
 
-/// Prints the schedule that was found, or that there is no memory for it. Returns the status.
+/// Prints the schedule of turns of a grain that was found, or that there is no memory for it. Returns the
+/// status.
 ///
 /// # Errors
 ///
@@ -16,13 +18,14 @@ pub fn print_found(
     out: &mut Vec<u8>,
     found: Result<Finding<'_>, NoRoom>,
     turns: usize,
+    grain: GrainName,
 ) -> io::Result<u8> {
     match found {
         Ok(finding) => {
             let headline = Headline::Wrong {
                 word: finding.word(),
                 turns,
-                grain: GRAIN,
+                grain,
                 seed: None,
             };
             print_finding(alloc, out, headline, &finding)

@@ -1,4 +1,5 @@
-//! Replays and searches for programs in C and Rust: bytes in, bytes out. `include/lot.h` declares the functions.
+//! Replays and searches for programs in C and Rust: bytes in, bytes out. `include/lot.h` declares the
+//! functions.
 #![tactic(auto)]
 
 ghost use Rattle.std.specs.Prelude.{◌++◌};

@@ -1,4 +1,4 @@
-//! How a call ends, and the word for how long a turn goes on.
+//! How a call ends.
 
 /// All schedules were searched, and nothing was found.
 pub const NOTHING: u8 = 0;
@@ -17,6 +17,3 @@ pub const BROKEN: u8 = 4;
 
 /// The caller's buffer is too short for the text.
 pub const NO_ROOM: u32 = 5;
-
-/// The word for turns that end where a call of the program could see one half done.
-pub const GRAIN: &str = "auto";

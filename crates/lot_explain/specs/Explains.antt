@@ -26,7 +26,7 @@ TellsLong number (Answered answer note) = ⊥
 TellsLong number (Refused answer note) = answer.items ≡ malformed_line number
 TellsLong number End = ⊥
 
--- the same of the next line of a reader's bytes, or there is none
+-- the answer to the next line of a reader's bytes, or there is none
 abbrev pub ComesTo : Option (List ℕ) → Option (List ℕ) → ℕ → ReplayStage → ReplayStage → Told
     → Type 0
 ComesTo before after number old new (Answered answer note) =

@@ -45,7 +45,7 @@ impl Before {
     }
 }
 
-// Whether a thread is in no call at a stage.
+// Returns whether a thread is in no call at a stage.
 fn was_idle<Q: Queues + Drop>(stage: Stage<'_, Q>, thread: usize) -> bool {
     match stage {
         Stage::Running { names: _, world } => is_idle(world, thread),
@@ -53,7 +53,7 @@ fn was_idle<Q: Queues + Drop>(stage: Stage<'_, Q>, thread: usize) -> bool {
     }
 }
 
-/// Whether a thread of a world is in no call.
+/// Returns whether a thread of a world is in no call.
 pub(crate) fn is_idle<Q: Queues + Drop>(world: &World<Q>, thread: usize) -> bool {
     thread >= world.threads() || world.place(thread).is_idle()
 }
@@ -93,7 +93,7 @@ fn first_lines<Q: Queues + Drop>(
     }
 }
 
-// Whether locks of these kinds fit so many threads.
+// Returns whether locks of these kinds fit so many threads.
 fn are_fit(kinds: &[Kind], threads: usize) -> bool
     ensures { result ≡ true → All (λ kind. fits kind threads ≡ true) kinds.now }
 {

@@ -1,4 +1,6 @@
 //! A replay, with what is to be said of its lines.
+//!
+//! The replay's own state makes the answers, and no word of an explanation can change them.
 ghost use Rattle.std.specs.Prelude.{◌≡◌, [], ◌++◌, IfOk};
 ghost use Rattle.lot_replay.specs.Stages.{nothing};
 ghost use Rattle.lot_replay.specs.Sessions.{replay_stage_of};
@@ -27,7 +29,7 @@ impl Explanation {
     ///
     /// # Errors
     ///
-    /// Those of the writer.
+    /// The errors of the writer.
     pub fn write<W: Write>(&self, out: &mut W) -> io::Result<()> {
         self.notes.write(out, self.answers.as_slice())
     }

@@ -1,4 +1,7 @@
 //! Why a line has no meaning.
+//!
+//! Whether a word is good is asked of `meaning`, in a short line that has it: there is no table of
+//! words here.
 use arrayvec::ArrayVec;
 use lot_text::{LINE_LEN, Name, meaning};
 use std::fmt;
@@ -6,19 +9,19 @@ use std::fmt;
 /// Why a line has no meaning.
 #[derive(Clone, Copy, Debug, PartialEq, Eq)]
 pub enum FormCause {
-    /// It has more bytes than a line may have.
+    /// The line has more bytes than a line may have.
     TooLong,
-    /// Its bytes are no text.
+    /// The bytes of the line are no text.
     NotText,
-    /// It is empty, or two spaces are together, or one begins or ends it.
+    /// The line is empty, or two spaces are together, or one begins or ends it.
     Spaces,
     /// No line begins with this word.
     FirstWord,
     /// A word is no number.
     Number,
-    /// It ends where a word is wanted.
+    /// The line ends where a word is wanted.
     Short,
-    /// It goes on after its last word.
+    /// The line goes on after its last word.
     TooMany,
     /// A word is no name.
     Name,
@@ -117,7 +120,7 @@ fn word_at(text: &str, at: usize) -> &str {
     text.split(' ').nth(at).unwrap_or("")
 }
 
-// Whether a line of these words has a meaning.
+// Returns whether a line of these words has a meaning.
 fn has_meaning(words: &[&str]) -> bool {
     let mut line = ArrayVec::<u8, LINE_LEN>::new();
     for word in words {
@@ -139,7 +142,7 @@ fn is_name(word: &str) -> bool {
     Name::from_word(word.as_bytes()).is_some()
 }
 
-// What is wrong with a line that begins with `threads`.
+// Returns what is wrong with a line that begins with `threads`.
 fn count_flaw(text: &str) -> FormFlaw<'_> {
     let (count, more) = (word_at(text, 1), word_at(text, 2));
     if count.is_empty() {
@@ -151,7 +154,7 @@ fn count_flaw(text: &str) -> FormFlaw<'_> {
     }
 }
 
-// What is wrong with a line that begins with `lock`.
+// Returns what is wrong with a line that begins with `lock`.
 fn lock_flaw(text: &str) -> FormFlaw<'_> {
     let (name, kind) = (word_at(text, 1), word_at(text, 2));
     let (limit, more) = (word_at(text, 3), word_at(text, 4));
@@ -178,7 +181,7 @@ fn lock_flaw(text: &str) -> FormFlaw<'_> {
     }
 }
 
-// What is wrong with a line that begins with a number.
+// Returns what is wrong with a line that begins with a number.
 fn turn_flaw(text: &str) -> FormFlaw<'_> {
     let (turn, call) = (word_at(text, 1), word_at(text, 2));
     if turn == "begin" || turn == "do" {
@@ -193,7 +196,7 @@ fn turn_flaw(text: &str) -> FormFlaw<'_> {
     }
 }
 
-// What is wrong with a line of a call.
+// Returns what is wrong with a line of a call.
 fn call_flaw(text: &str) -> FormFlaw<'_> {
     let (call, name) = (word_at(text, 2), word_at(text, 3));
     let (mutex, more) = (word_at(text, 4), word_at(text, 5));

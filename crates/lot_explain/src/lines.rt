@@ -19,9 +19,9 @@ use std::io::BufRead;
 /// What comes of the next line: what a replay writes, and what is said under it.
 #[derive(Drop)]
 pub enum Told {
-    /// It is answered.
+    /// The line is answered.
     Answered { answer: Vec<u8>, note: Vec<u8> },
-    /// It is malformed, and no line comes after it.
+    /// The line is malformed, and no line comes after it.
     Refused { answer: Vec<u8>, note: Vec<u8> },
     /// There is no line.
     End,

@@ -21,7 +21,7 @@ pub enum StageCause {
     LockCount,
     /// A lock has this name.
     NameTaken { name: Name },
-    /// Its readers or permits don't fit the threads.
+    /// The readers or permits of the lock don't fit the threads.
     Limit,
     /// No lock has this name.
     NoLock { name: Name },
@@ -106,7 +106,7 @@ fn turn_cause(names: &[Name], on_condvar: bool, turn: &NamedTurn) -> StageCause 
     }
 }
 
-// Whether a turn calls a condition variable, where the locks have these kinds.
+// Returns whether a turn calls a condition variable, where the locks have these kinds.
 fn is_declared_condvar(names: &[Name], kinds: &[Kind], turn: &NamedTurn) -> bool {
     match lock_called(names, turn) {
         Some(lock) if lock < kinds.len() => kinds[lock].is_condvar(),
@@ -114,7 +114,7 @@ fn is_declared_condvar(names: &[Name], kinds: &[Kind], turn: &NamedTurn) -> bool
     }
 }
 
-// Whether a turn calls a condition variable of a world.
+// Returns whether a turn calls a condition variable of a world.
 fn is_condvar_of<Q: Queues + Drop>(names: &[Name], world: &World<Q>, turn: &NamedTurn) -> bool {
     match lock_called(names, turn) {
         Some(lock) if lock < world.locks() => world.kind(lock).is_condvar(),

@@ -11,21 +11,21 @@ pub enum Obstacle {
     NoThread,
     /// The thread is in a call, and begins none.
     InCall,
-    /// It is in no call.
+    /// The thread is in no call.
     InNoCall,
-    /// It sleeps.
+    /// The thread sleeps.
     Asleep,
-    /// It doesn't sleep.
+    /// The thread doesn't sleep.
     Awake,
-    /// It sleeps without a deadline.
+    /// The thread sleeps without a deadline.
     NoDeadline,
     /// Another thread has taken it off the queue in which it slept.
     Taken,
-    /// Its closure has not answered yet.
+    /// The thread's closure has not answered yet.
     InClosure,
-    /// It is in no closure.
+    /// The thread is in no closure.
     InNoClosure,
-    /// It has no word to look at once more.
+    /// The thread has no word to look at once more.
     NoLook,
     /// Another thread is inside the section of a queue that it enters.
     SectionTaken,
@@ -124,7 +124,7 @@ fn late_obstacle<Q: Queues + Drop>(world: &World<Q>, thread: usize, place: &Plac
     }
 }
 
-// Whether a thread is in a queue.
+// Returns whether a thread is in a queue.
 fn is_queued<Q: Queues + Drop>(world: &World<Q>, thread: usize) -> bool {
     for lock in 0..world.locks() {
         if world.queue(lock).any(|waiter| waiter.thread == thread) {
@@ -134,7 +134,7 @@ fn is_queued<Q: Queues + Drop>(world: &World<Q>, thread: usize) -> bool {
     false
 }
 
-// Whether a thread that is in a queue at a place has a deadline.
+// Returns whether a thread that is in a queue at a place has a deadline.
 fn is_timed(place: &Place) -> bool {
     match *place {
         Place::Idle => false,
@@ -153,9 +153,9 @@ fn is_timed(place: &Place) -> bool {
 /// Why a world may not be drained.
 #[derive(Clone, Copy, Debug, PartialEq, Eq)]
 pub enum DrainObstacle {
-    /// It has no lock, or more than one.
+    /// The world has no lock, or more than one.
     LockCount,
-    /// Its lock has no owners.
+    /// The lock has no owners.
     NoOwners,
     /// A thread has another right than the one that its call leaves it, or readers were as many as the
     /// limit.

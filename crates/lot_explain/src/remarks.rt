@@ -17,9 +17,9 @@ use std::io::Write;
 /// Why a line that was answered did nothing, where that is so.
 #[derive(Clone, Copy, Debug, PartialEq, Eq)]
 enum Hindrance {
-    /// It did something.
+    /// The line did something.
     Nothing,
-    /// Its step is not possible now.
+    /// The step of the line is not possible now.
     NotNow(Obstacle),
     /// The world may not be drained.
     Refused(DrainObstacle),

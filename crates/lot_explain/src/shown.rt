@@ -34,7 +34,7 @@ pub fn lock_lines<Q: Queues + Drop>(
 ///
 /// # Errors
 ///
-/// Those of the writer.
+/// The errors of the writer.
 pub fn write_changes<W: Write>(out: &mut W, before: &[u8], now: &[u8]) -> io::Result<()> {
     let before = std::str::from_utf8(before).unwrap_or("");
     let now = std::str::from_utf8(now).unwrap_or("");

@@ -1,4 +1,8 @@
 //! Walks whose moves a generator draws.
+//!
+//! Each walk has a seed of its own, the first seed and its number added, so that a failed walk is
+//! repeated by its seed alone. Moves are drawn evenly among all numbers, and one that is impossible is
+//! drawn again.
 ghost use Rattle.std.specs.Prelude.{◌≡◌, IfOk, IfSome, true};
 ghost use Rattle.state_search.specs.Rules.{IsWrong};
 ghost use Rattle.lot_program.specs.Programs.{IsFit};
@@ -15,8 +19,9 @@ use std::alloc::Global;
 /// How many moves are drawn before the possible ones are looked for in their order.
 const DRAWS: usize = 64;
 
-/// Walks from the start of a program, by moves that a generator of this seed draws, till something is wrong, no
-/// move is possible, or so many moves were taken. For one seed the walk is the same on any machine.
+/// Walks from the start of a program, by moves that a generator of this seed draws, till something is
+/// wrong, no move is possible, or so many moves were taken. For one seed the walk is the same on any
+/// machine.
 ///
 /// # Errors
 ///

@@ -28,9 +28,9 @@ impl Omitted {
     }
 }
 
-/// Leaves out moves of a walk that goes wrong, as long as it goes wrong in the same way: first those of whole
-/// threads, then half of all at once, then a quarter, and at last single ones. A walk that is fine stays as it
-/// is, and so does one for which memory is refused.
+/// Leaves out moves of a walk that goes wrong, as long as it goes wrong in the same way: first those of
+/// whole threads, then half of all at once, then a quarter, and at last single ones. A walk that is fine
+/// stays as it is, and so does one for which memory is refused.
 pub fn shrink<'a, Q: Queues + Drop>(alloc: Global, mut walk: Walk<'a, Q>) -> Walk<'a, Q> {
     let Ok(Some(wrong)) = walk.wrong() else {
         return walk;
@@ -157,8 +157,8 @@ fn leave_out_blocks<Q: Queues + Drop>(
     moves
 }
 
-/// Takes moves but for some, and passes over those that are impossible then. It answers which were taken, where
-/// they go wrong in the same way and are fewer.
+/// Takes moves but for some, and passes over those that are impossible then. It answers which were taken,
+/// where they go wrong in the same way and are fewer.
 fn moves_without<Q: Queues + Drop>(
     alloc: Global,
     program: &Program,

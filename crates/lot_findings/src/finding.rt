@@ -84,7 +84,16 @@ impl<'a> Finding<'a> {
         match self.wrong {
             Some(Wrong::Failed { thread }) => Some(line_of(&self.walk, thread)),
             Some(Wrong::Broken { .. }) => self.property_line(),
-            Some(Wrong::Deadlock | Wrong::Refused { .. }) | None => None,
+            Some(Wrong::Deadlock | Wrong::Refused { .. }) => None,
+            None => self.property_line(),
+        }
+    }
+
+    /// Returns the thread whose assertion fails, or whose call is refused.
+    pub fn faulty_thread(&self) -> Option<usize> {
+        match self.wrong {
+            Some(Wrong::Failed { thread } | Wrong::Refused { thread }) => Some(thread),
+            Some(Wrong::Deadlock | Wrong::Broken { .. }) | None => None,
         }
     }
 

@@ -1,7 +1,6 @@
 //! How long a turn of a thread goes on.
-use lot_program::{Deadlines, Program};
-use state_search::NoRoom;
-use std::alloc::Global;
+use lot_program::{Deadlines, Grain, Program};
+use std::fmt;
 
 /// How long a turn of a thread goes on.
 #[derive(Clone, Copy, Debug, PartialEq, Eq)]
@@ -9,7 +8,6 @@ pub enum GrainName {
     Step,
     Turns,
     Call,
-    Auto,
 }
 
 /// How threads take turns: how long one goes on, and whether deadlines pass.
@@ -26,40 +24,52 @@ impl GrainName {
             GrainName::Step => "step",
             GrainName::Turns => "turns",
             GrainName::Call => "call",
-            GrainName::Auto => "auto",
         }
     }
 
-    /// Returns the grain that a word asks for, `Auto` where it asks for none.
-    pub fn of_word(word: &str) -> GrainName {
+    /// Returns the grain that a word asks for, or none.
+    pub fn of_word(word: &str) -> Option<GrainName> {
         match word {
-            "step" => GrainName::Step,
-            "turns" => GrainName::Turns,
-            "call" => GrainName::Call,
-            _ => GrainName::Auto,
+            "step" => Some(GrainName::Step),
+            "turns" => Some(GrainName::Turns),
+            "call" => Some(GrainName::Call),
+            _ => None,
+        }
+    }
+
+    /// Returns what its turns are.
+    pub fn plural(self) -> &'static str {
+        match self {
+            GrainName::Step => "steps",
+            GrainName::Turns => "turns",
+            GrainName::Call => "calls",
+        }
+    }
+
+    /// Returns of which turns a search by this grain speaks: whole turns miss nothing that single steps
+    /// lead to.
+    pub fn reach(self) -> &'static str {
+        match self {
+            GrainName::Step | GrainName::Turns => "single steps",
+            GrainName::Call => "whole calls",
         }
     }
 }
 
 impl Turns {
     /// Lets the threads of a program take their turns so.
-    ///
-    /// # Errors
-    ///
-    /// `NoRoom`, where memory was refused.
-    pub fn set(self, alloc: Global, program: &mut Program) -> Result<(), NoRoom> {
+    pub fn set(self, program: &mut Program) {
         program.deadlines = self.deadlines;
-        match self.grain {
-            GrainName::Step => Ok(()),
-            GrainName::Turns => {
-                program.by_turns();
-                Ok(())
-            }
-            GrainName::Call => {
-                program.by_calls(alloc);
-                Ok(())
-            }
-            GrainName::Auto => program.by_cut_calls(alloc),
-        }
+        program.grain = match self.grain {
+            GrainName::Step => Grain::Steps,
+            GrainName::Turns => Grain::Turns,
+            GrainName::Call => Grain::Calls,
+        };
+    }
+}
+
+impl fmt::Display for GrainName {
+    fn fmt<W: fmt::Write>(&self, f: &mut fmt::Formatter<W>) -> fmt::Result {
+        f.write_str(self.word())
     }
 }

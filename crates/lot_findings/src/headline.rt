@@ -1,6 +1,36 @@
 //! The first line of what is printed, whose words don't change.
+use crate::grain::GrainName;
 use state_search::Verdict;
 use std::fmt;
+
+/// Where schedules begin that a search tries.
+#[derive(Clone, Copy, Debug, PartialEq, Eq)]
+pub enum Start {
+    /// At the start of the program.
+    Program,
+    /// After the turns of a schedule that is given.
+    Schedule,
+}
+
+impl Start {
+    /// Returns where schedules begin that go on after some moves.
+    pub fn of_moves(moves: &[usize]) -> Start {
+        if moves.is_empty() {
+            Start::Program
+        } else {
+            Start::Schedule
+        }
+    }
+}
+
+/// Which schedules a search tries.
+#[derive(Clone, Copy, Debug, PartialEq, Eq)]
+pub struct Scope {
+    pub grain: GrainName,
+    pub start: Start,
+    /// How many states a search by calls has seen before, where it found nothing and saw all.
+    pub calls: Option<usize>,
+}
 
 /// What a search has found, in one line.
 #[derive(Clone, Copy, Drop)]
@@ -8,13 +38,13 @@ pub enum Headline<'a> {
     /// All states were searched.
     Nothing {
         states: usize,
-        grain: &'a str,
+        scope: Scope,
     },
     /// Not all states were searched, for a reason.
     NotAll {
         states: usize,
         depth: usize,
-        grain: &'a str,
+        scope: Scope,
         why: &'a str,
     },
     /// Walks at random found nothing: how many, and from which seed on.
@@ -22,13 +52,13 @@ pub enum Headline<'a> {
         walks: u64,
         turns: usize,
         seed: u64,
-        grain: &'a str,
+        grain: GrainName,
     },
     /// A schedule of so many turns goes wrong.
     Wrong {
         word: &'a str,
         turns: usize,
-        grain: &'a str,
+        grain: GrainName,
         /// That of the walk that found it.
         seed: Option<u64>,
     },
@@ -36,7 +66,7 @@ pub enum Headline<'a> {
     Endless {
         turns: usize,
         lap: usize,
-        grain: &'a str,
+        grain: GrainName,
     },
     /// One goes wrong, and there is no memory to print it.
     NoSchedule {
@@ -45,7 +75,7 @@ pub enum Headline<'a> {
     /// After so many turns no thread in a call can go on.
     Rests {
         turns: usize,
-        grain: &'a str,
+        grain: GrainName,
     },
 }
 
@@ -54,10 +84,10 @@ impl<'a> Headline<'a> {
     ///
     /// # Errors
     ///
-    /// Those moves.
+    /// The moves of the schedule, where the verdict has found one.
     pub fn of_verdict<'v>(
         verdict: &'v Verdict,
-        grain: &'a str,
+        scope: Scope,
         stopped: &'a str,
     ) -> Result<Headline<'a>, &'v [usize]> {
         let (states, depth, why) = match verdict {
@@ -65,7 +95,7 @@ impl<'a> Headline<'a> {
             Verdict::Holds { states, depth: _ } => {
                 return Ok(Headline::Nothing {
                     states: *states,
-                    grain,
+                    scope,
                 });
             }
             Verdict::Limited { states, depth } => (*states, *depth, "the limit is reached"),
@@ -75,7 +105,7 @@ impl<'a> Headline<'a> {
         Ok(Headline::NotAll {
             states,
             depth,
-            grain,
+            scope,
             why,
         })
     }
@@ -84,23 +114,23 @@ impl<'a> Headline<'a> {
 impl fmt::Display for Headline<'_> {
     fn fmt<W: fmt::Write>(&self, f: &mut fmt::Formatter<W>) -> fmt::Result {
         match *self {
-            Headline::Nothing { states, grain } => {
-                write!(
-                    f,
-                    "nothing found: {states} states, all of them, grain {grain}"
-                )
-            }
+            Headline::Nothing { states, scope } => write_nothing(f, states, scope),
             Headline::NotAll {
                 states,
                 depth,
-                grain,
+                scope,
                 why,
             } => {
+                let grain = scope.grain;
                 write!(
                     f,
                     "nothing found in {states} states, complete to depth {depth}, "
                 )?;
-                write!(f, "grain {grain}; {why}")
+                write!(f, "grain {grain}; {why}")?;
+                match scope.calls {
+                    Some(_) => write!(f, "; no schedule of whole calls goes wrong"),
+                    None => Ok(()),
+                }
             }
             Headline::Walked {
                 walks,
@@ -137,5 +167,22 @@ impl fmt::Display for Headline<'_> {
                 write!(f, "at rest after {turns} turns, grain {grain}")
             }
         }
+    }
+}
+
+fn write_nothing<W: fmt::Write>(
+    f: &mut fmt::Formatter<W>,
+    states: usize,
+    scope: Scope,
+) -> fmt::Result {
+    let turns = scope.grain.plural();
+    let reach = scope.grain.reach();
+    write!(
+        f,
+        "nothing found: {states} states by {turns}; no schedule of {reach} goes wrong"
+    )?;
+    match scope.start {
+        Start::Program => Ok(()),
+        Start::Schedule => write!(f, " after the given one"),
     }
 }

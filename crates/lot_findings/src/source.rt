@@ -1,7 +1,7 @@
 //! A program with its text.
 use lot_explore::Wrong;
 use lot_program::Property;
-use lot_program_text::ProgramText;
+use lot_program_text::{ProgramText, ThreadName};
 use lot_text::Name;
 
 /// A program with its text.
@@ -9,6 +9,8 @@ use lot_text::Name;
 pub struct Source<'a> {
     pub parsed: &'a ProgramText,
     pub text: &'a str,
+    /// The lines of the text that this one was made from, and hasn't got, by their numbers there.
+    pub left_out: &'a [u32],
 }
 
 impl<'a> Source<'a> {
@@ -47,9 +49,22 @@ impl<'a> Source<'a> {
         }
     }
 
-    /// Returns the name of a variable.
+    /// Returns the name of a variable. Those of single threads may have one name.
     pub fn variable_name(&self, variable: usize) -> &'a str {
-        text_of(self.parsed.variables.as_slice(), variable)
+        match self.parsed.variables.get(variable) {
+            Some(variable) => std::str::from_utf8(variable.name.text()).unwrap_or(""),
+            None => "",
+        }
+    }
+
+    /// Returns the thread whose own a variable is, if it is not shared.
+    pub fn owner(&self, variable: usize) -> Option<usize> {
+        self.parsed.variables.get(variable)?.owner
+    }
+
+    /// Returns what a thread is called.
+    pub fn thread_name(&self, thread: usize) -> ThreadName<'a> {
+        self.parsed.thread_name(thread)
     }
 }
 

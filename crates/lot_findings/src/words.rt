@@ -1,8 +1,11 @@
 //! What became of a thread, in words.
+use crate::readings::test_of_turn;
 use core_base::ListQueues;
+use lot_explain::{Obstacle, obstacle_of};
 use lot_explore::Walk;
-use lot_program::{Fault, Instruction, Told};
-use lot_world::Outcome;
+use lot_program::{Fault, Instruction};
+use lot_program_text::answer_words;
+use lot_world::{Outcome, World};
 
 /// Returns the number of the instruction at which a thread is: in a call that of the call, else its next.
 pub fn instruction_of(walk: &Walk<'_, ListQueues>, thread: usize) -> usize {
@@ -33,24 +36,55 @@ pub fn end_of(walk: &Walk<'_, ListQueues>, thread: usize, instruction: usize) ->
         _ if !calls => "",
         (Fault::Nothing, Outcome::Sleep) => "sleeps",
         (Fault::Nothing, Outcome::Closure(_)) => "runs its closure",
-        _ if walk.scene().is_idle(thread) => told_words(local.told),
+        _ if walk.scene().is_idle(thread) => answer_words(local.told),
         _ => "goes on",
     }
 }
 
-/// Returns a call's answer.
-pub fn told_words(told: Told) -> &'static str {
-    match told {
-        Told::Nothing => "nothing",
-        Told::Ok => "ok",
-        Told::Yes => "yes",
-        Told::No => "no",
-        Told::ReadersFull => "readers full",
-        Told::Notified => "notified",
-        Told::TimedOut => "timed out",
-        Told::TwoMutexes => "two mutexes",
-        Told::Poisoned => "poisoned",
-        Told::Failed => "failed",
-        Told::Number => "so many waiters",
+/// Returns what a thread does by a turn that comes next in a walk, but where it goes on.
+pub fn sort_words(walk: &Walk<'_, ListQueues>, by: usize) -> &'static str {
+    let thread = by / 3;
+    let branches = walk
+        .program()
+        .branch(thread, instruction_of(walk, thread))
+        .is_some();
+    match by % 3 {
+        0 if branches => "takes this branch",
+        1 if branches => "takes another branch",
+        1 => "looks once more",
+        2 => "its time is up",
+        _ => "",
     }
+}
+
+/// Returns whether a test holds that a turn makes which comes next in a walk: nothing, where it makes none.
+pub fn test_words(walk: &Walk<'_, ListQueues>, by: usize) -> &'static str {
+    let thread = by / 3;
+    let holds = match test_of_turn(walk, by) {
+        Some(test) => test.holds(walk.scene().variables()),
+        None => match walk
+            .program()
+            .instruction(thread, instruction_of(walk, thread))
+        {
+            Some(Instruction::JumpUnlessTold { told, target: _ }) => {
+                walk.scene().local(thread).told == told
+            }
+            _ => return "",
+        },
+    };
+    if holds { "holds" } else { "fails" }
+}
+
+/// Returns why the call of a thread was refused, where it was.
+pub fn cause_of(
+    walk: &Walk<'_, ListQueues>,
+    world: &World<ListQueues>,
+    thread: usize,
+) -> Option<Obstacle> {
+    let local = walk.scene().local(thread);
+    if local.fault != Fault::Refused {
+        return None;
+    }
+    let step = walk.program().instruction(thread, local.at)?.step(thread)?;
+    Some(obstacle_of(world, step))
 }

@@ -21,7 +21,7 @@ OwnerReleasesFairly w t l =
     IsFairRelease (call_at w t).purpose l × Owns (lock_state w l) t Exclusive
     × (is_mutex (kind_at w l) ≡ true)
 
--- it owns the mutex still
+-- the releasing thread owns the mutex still
 abbrev pub OwnsOn : State → ℕ → ℕ → Type 0
 OwnsOn v t l = Owns (lock_state v l) t Exclusive × (is_locked (word_at v l) ≡ true)
 

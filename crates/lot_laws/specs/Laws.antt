@@ -52,7 +52,7 @@ row_told = told.Step ∷ told.End answer.Ok
     ∷ told.Step ∷ told.Step ∷ told.Step ∷ told.Step ∷ told.Step ∷ told.Sleep
     ∷ told.Step ∷ told.Step ∷ told.Step ∷ told.Step ∷ told.Step ∷ told.End answer.Ok ∷ []
 
--- it is a run of the abstract locks, and in the end thread 1 owns the mutex and thread 2 waits
+-- the run is one of the abstract locks, and in the end thread 1 owns the mutex and thread 2 waits
 pub record FairUnlockHandsOver : Type 0 where
   pub run : IsRun (locks_of three) row row_told (locks_of (after_steps three row))
   pub owner : (lock_state (after_steps three row) 0).exclusive ≡ Some 1

@@ -6,7 +6,7 @@ pub use Rattle.steps_base.specs.Profiles.{Hand, Of, hand, hand_owner, in_hand}
 pub use Rattle.steps_base.specs.Locations.{Location, location_by, nowhere}
 use Rattle.spec_locks.specs.Sites.{Role, idle}
 
--- its deeds at the lock l
+-- the deeds of a place at the lock l
 abbrev pub role_on : Place → ℕ → Role
 role_on p l = if calls p l then (profile p).role else if is_lock l (beside_of p)
     then (profile_beside p).role else idle

@@ -28,7 +28,7 @@ WakesOne (Some (Waits k m timed)) recalls l = m ≡ l
 WakesOne (Some (Notifies k all)) recalls l = mutex_seen recalls ≡ Some l
 WakesOne purpose recalls l = ⊥
 
--- its call is a wait that has released the mutex
+-- the call of a thread is a wait that has released the mutex
 abbrev pub HasReleasedIt : State → ℕ → ℕ → Type 0
 HasReleasedIt w t l = WaitHasReleased (call_at w t).purpose (call_at w t).released l Main
 

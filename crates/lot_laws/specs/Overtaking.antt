@@ -30,7 +30,7 @@ pub record IsGivenUpFairly (w : State) (l : ℕ) : Type 0 where
   pub calls : AllReleaseFairly (locks_of w) l
   pub apart : (t : ℕ) → beside_of (place_at w t) ≢ Some l
 
--- so it is before each of these steps
+-- the mutex is given up fairly before each of these steps
 abbrev pub FairlyThroughout : State → List Step → ℕ → Type 0
 FairlyThroughout w [] l = Unit {0}
 FairlyThroughout w (s ∷ ss) l = IsGivenUpFairly w l × FairlyThroughout (after w s) ss l

@@ -27,7 +27,7 @@ sort_at w l = (rules_in w l).sort
 abbrev pub Owes : State → ℕ → ℕ → Line → Type 0
 Owes w t l m = line_owed (place_at w t) l ≡ Some m
 
--- it is inside the section of the line
+-- a thread is inside the section of the line
 abbrev pub IsInside : State → ℕ → ℕ → Line → Type 0
 IsInside w t l m = section_at w (key_of l m) ≡ Some t
 
@@ -36,15 +36,15 @@ abbrev pub IsWait : Option Purpose → Type 0
 IsWait (Some (Waits l m timed)) = Unit {0}
 IsWait purpose = ⊥
 
--- its call releases the lock
+-- the call of a thread releases the lock
 abbrev pub ReleasesLock : State → ℕ → ℕ → Type 0
 ReleasesLock w t l = IsReleasing (call_at w t).purpose (call_at w t).released l
 
--- it has given up to wait for the lock, and is inside none of its sections
+-- a thread has given up to wait for the lock, and is inside none of its sections
 abbrev pub HasGivenUp : State → ℕ → ℕ → Type 0
 HasGivenUp w t l = ((call_at w t).gave_up ≡ Some l) × ((m : Line) → IsInside w t l m → ⊥)
 
--- its call lets others in: it releases the lock, or, where that is shared, turns its right into a
+-- a thread's call lets others in: it releases the lock, or, where that is shared, turns its right into a
 -- lesser one or has given up
 abbrev pub LetsOthersIn : State → ℕ → ℕ → Type 0
 LetsOthersIn w t l =
@@ -89,7 +89,7 @@ SeesWaiters w t l m o v =
     × (OnlyLooks v t l → act_of (place_at v t) ≡ Enter (One (key_of l m)))
     × (IsWait (call_at w t).purpose → (call_at v t).released ≡ true)
 
--- it is a downgrade, or has given up
+-- a thread's call is a downgrade, or has given up
 abbrev pub LetsMoreIn : State → ℕ → ℕ → Type 0
 LetsMoreIn w t l = (has_readers (sort_at w l) ≡ true)
     × (IsDowngrade (call_at w t).purpose l ⊎ HasGivenUp w t l)

@@ -76,9 +76,9 @@ GoesToWake w t l m =
     ⊎ (WakesAside (call_at w t).purpose l m
     ⊎ WaitHasReleased (call_at w t).purpose (call_at w t).released l m))
 
--- it owes a wake on the main line, and its call wakes the threads that it takes; or it was woken, is about to
--- try again, and wants what passes the turn on (of a mutex anything, of a reader-writer lock more than to
--- share)
+-- a thread owes a wake on the main line, and its call wakes the threads that it takes; or it was woken, is
+-- about to try again, and wants what passes the turn on (of a mutex anything, of a reader-writer lock more
+-- than to share)
 abbrev pub IsDebtorOf : State → ℕ → ℕ → Line → Type 0
 IsDebtorOf w t l Main =
     (Owes w t l Main × WakesWaiters (sort_at w l) (call_at w t).purpose (call_at w t).gave_up
@@ -131,8 +131,8 @@ pub record IsOwedWake (w : State) (l : ℕ) : Type 0 where
 abbrev pub IsAsleepNowhere : State → ℕ → Type 0
 IsAsleepNowhere w t = (act_of (place_at w t) ≡ Sleep) × ((l : ℕ) → standing t (lock_state w l) ≡ 0)
 
--- it has what it waited for, and the thread inside the section has it in its hand, and wakes all that it has
--- there as it leaves
+-- a thread has what it waited for, and the thread inside the section has it in its hand, and wakes all that
+-- it has there as it leaves
 pub record IsHandedOverIn (w : State) (t : ℕ) : Type 0 where
   pub lock : ℕ
   pub by : ℕ
@@ -244,12 +244,12 @@ pub record IsKept (w : State) : Type 0 where
       → ((locks_of w).stances t).may_spin ≡ true
   -- a thread that is inside a section goes on freely: it is awake, and enters no other
   pub inside_goes : (t l : ℕ) (m : Line) → IsInside w t l m → GoesFreely ((locks_of w).stances t)
-  -- so does a try, wherever it is
+  -- a thread in a try goes on freely, wherever the try is
   pub tries : (t : ℕ) → IsTry (call_at w t).purpose → GoesFreely ((locks_of w).stances t)
   -- a sleeper that stands nowhere was handed the lock that it waited for, by a thread that is inside the
   -- section and wakes it
   pub handing : (t : ℕ) → IsAsleepNowhere w t → IsHandedOverIn w t
-  -- so each sleeper stands somewhere, or was handed its lock
+  -- each sleeper is in a queue, aside or in a hand, or was handed its lock
   pub sleeping : (t : ℕ) → act_of (place_at w t) ≡ Sleep
       → ((l : ℕ) × (1 ≤ standing t (lock_state w l))) ⊎ IsHandedOverIn w t
   -- a waiter implies the parked bit while nobody is inside the section: else the thread inside has

@@ -52,7 +52,7 @@ mutex_to_come w p = None
 abbrev pub MayEnterOf : State → Place → ℕ → Type 0
 MayEnterOf w p l = (called_lock p ≡ Some l) ⊎ ((beside_of p ≡ Some l) ⊎ (mutex_to_come w p ≡ Some l))
 
--- it is this thread, if anybody
+-- the thread is this one, if anybody
 abbrev pub IsOnly : ℕ → Option ℕ → Type 0
 IsOnly t who = (u : ℕ) → who ≡ Some u → u ≡ t
 
@@ -109,9 +109,8 @@ abbrev pub entered_answer : Patience → Answer
 entered_answer Patient = answer.TheVariants.Ok
 entered_answer how = answer.TheVariants.Yes
 
--- it may have its right at once: nobody shares where it is to own alone; and a writer's try at a
--- lock that is shared finds a word that is clear, since a parked bit may stand where a waiter was
--- and is gone
+-- a call may have its right at once: nobody shares where it is to own alone; and a writer's try at a lock
+-- that is shared finds a word that is clear, since a parked bit may stand where a waiter was and is gone
 abbrev pub MayEnterAtOnce : Type 0 → Rules → LockState → Want → Patience → Type 0
 MayEnterAtOnce clear r s Exclusive Try =
     MayEnter r s Exclusive × (has_readers r.sort ≡ true → clear)
@@ -208,7 +207,7 @@ pub record BumpsShared (unparked : Type 0) (later : ℕ → LocksState) (w : Loc
   pub stays : NeedsNoWay unparked (rules_at w l) (w.locks l) x
       → (o ≡ outcome.TheVariants.End answer.TheVariants.Ok) × Owns (v.locks l) t x
 
--- its closure begins, told what the run found
+-- the closure of the call begins, told what the run found
 abbrev pub RunsAlone : OnceState → ℕ → Outcome → LockState → Type 0
 RunsAlone found t o s2 = (o ≡ outcome.TheVariants.Closure found) × (s2.phase ≡ InProgress t)
 

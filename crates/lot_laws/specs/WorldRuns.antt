@@ -67,9 +67,9 @@ LooksNoMore w t v = (l seen now : ℕ) → ((locks_of w).stances t).may_spin ≡
 
 -- a step of the world, from w to v
 pub record IsWorldStep (w : State) (s : Step) (o : Outcome) (v : State) : Type 0 where
-  -- it is a step of the abstract locks
+  -- the step is one of the abstract locks
   pub refines : IsStep (locks_of w) s o (locks_of v)
-  -- it changes one word at most, or queues inside whose sections its thread is
+  -- the step changes one word at most, or queues inside whose sections its thread is
   pub one_thing : ChangesOneThing w s.thread v
   pub touches : TouchesOnlyByGoing w s.turn v
   -- a lock is filled where it was before, or where as many share it now as its limit allows
@@ -77,7 +77,7 @@ pub record IsWorldStep (w : State) (s : Step) (o : Outcome) (v : State) : Type 0
   pub sleepers : SleepersStay w s.thread v
   pub tries : s.turn ≡ turn.TheVariants.Go → TriesAtOnce w s.thread o
   pub looks_no_more : s.turn ≡ turn.TheVariants.Go → LooksNoMore w s.thread v
-  -- its thread begins and ends to owe a wake by what it sees and where it is
+  -- the thread of the step begins and ends to owe a wake by what it sees and where it is
   pub owing : OwesSince w s.thread o v
   -- a fair release gives to those that it has taken in one step: of a mutex to the first waiter, of
   -- a lock that is shared to all of them, where the limit allows

@@ -104,7 +104,7 @@ module _ (l : ℕ) where
     befell is (Woken note.HandOff) h = is
     befell is r h = absurd h
 
-    -- it takes an unlocked mutex
+    -- the thread takes an unlocked mutex
     takes : is_locked seen ≡ false → HasLooked (mutex_table l) p q
     takes free = record {
       lock = l;
@@ -132,7 +132,7 @@ module _ (l : ℕ) where
       alike_beside = record { hand = refl; wants = refl; late = refl; late_too = refl };
     }
 
-  -- it tells the owner that it waits
+  -- the thread tells the owner that it waits
   marks : (e : Entry) (again : Bool) → HasLooked (mutex_table l) (Lock e again (lock.Decide 1))
       (Lock e again lock.Load)
   marks e again = record {
@@ -154,7 +154,7 @@ module _ (l : ℕ) where
     alike_beside = record { hand = refl; wants = refl; late = refl; late_too = refl };
   }
 
-  -- it enters the queue
+  -- the thread enters the queue
   enters : (e : Entry) (again : Bool) (seen : ℕ) → is_locked seen ≡ true → (seen == 1) ≡ false
       → HasNotLooked (mutex_table l) (Lock e again (lock.Decide seen))
   enters e again seen f g = record {

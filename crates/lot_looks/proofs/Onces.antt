@@ -129,7 +129,7 @@ module _ (l : ℕ) where
     same : (seen == seen) ≡ true
     same = grind (arith, nat_tests)
 
-    -- its run begins
+    -- the run of the thread begins
     runs_it : course_of c seen ≡ Runs → HasLooked (once_table l) p q
     runs_it is = record {
       lock = l;
@@ -157,7 +157,7 @@ module _ (l : ℕ) where
       alike_beside = record { hand = refl; wants = refl; late = refl; late_too = refl };
     }
 
-    -- it tells that it waits
+    -- the thread tells that it waits
     marks_it : course_of c seen ≡ Marks → HasLooked (once_table l) p q
     marks_it is = record {
       lock = l;
@@ -185,7 +185,7 @@ module _ (l : ℕ) where
       alike_beside = record { hand = refl; wants = refl; late = refl; late_too = refl };
     }
 
-    -- it enters the queue
+    -- the thread enters the queue
     enters : course_of c seen ≡ Parks → HasNotLooked (once_table l) p
     enters is = record {
       acts = λ v of. absurd (let enters : once_act l p ≡ act.Enter (One (2 * l)) = rw is refl

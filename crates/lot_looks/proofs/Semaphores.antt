@@ -88,7 +88,7 @@ module _ (l : ℕ) where
     befell is (Woken note.HandOff) h = is again
     befell is r h = absurd h
 
-    -- it takes a free permit
+    -- the thread takes a free permit
     takes : is_free seen ≡ true → HasLooked (semaphore_table l) p q
     takes free = record {
       lock = l;
@@ -116,7 +116,7 @@ module _ (l : ℕ) where
       alike_beside = record { hand = refl; wants = refl; late = refl; late_too = refl };
     }
 
-  -- it tells that it waits
+  -- the thread tells that it waits
   marks : (timed again : Bool) → HasLooked (semaphore_table l) (Acquire timed again (acquire.Decide 0))
       (Acquire timed again acquire.Load)
   marks timed again = record {
@@ -138,7 +138,7 @@ module _ (l : ℕ) where
     alike_beside = record { hand = refl; wants = refl; late = refl; late_too = refl };
   }
 
-  -- it enters the queue
+  -- the thread enters the queue
   enters : (timed again : Bool) (seen : ℕ) → is_free seen ≡ false → (seen == 0) ≡ false
       → HasNotLooked (semaphore_table l) (Acquire timed again (acquire.Decide seen))
   enters timed again seen f g = record {

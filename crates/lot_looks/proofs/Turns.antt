@@ -251,7 +251,7 @@ look_goes w t q l all noted there is free load sane leads = by_lead leads
         (ap (news_of t) (told_by_word w t q is l Load load ∙ looked_goes_on q q (Value (word_at w l)) sane
         look.again))
 
--- the same turns, from what is the same where no thread has looked
+-- turns lead on alike from states that are the same where no thread has looked
 pub moved : (w w2 v v2 : State) (t : ℕ) (told told2 : Outcome) → before_looks w2 ≡ before_looks w → v2 ≡ v
     → told2 ≡ told → Comes w2 v2 t told2 → Comes w v t told
 moved w w2 v v2 t told told2 from to same comes = record {
@@ -280,7 +280,7 @@ module _ (w : State) (t : ℕ) (p q : Place) (all : AllSane w.places) (noted : A
   here : place_at (before_looks w) t ≡ q
   here = place_so w all t ∙ ap unlooked is ∙ ap (λ o. or_here o p) looked
 
-  -- it stands where it looked
+  -- the thread stands where it looked
   pub back : before_looks (put w t q) ≡ before_looks w
   back = sym (put_so w all t q) ∙ ap (λ o. put (before_looks w) t (or_here o q)) h.unlooked
       ∙ put_here (before_looks w) t q here

@@ -100,7 +100,7 @@ other_semaphore l None q e k a c is = absurd cc
 other_semaphore l (Some at) q e k a c is = let here : Semaphore l at ≡ q = cc in let both : Semaphore l at
     ≡ RwLock k a c = here ∙ is in absurd cc
 
--- so where it looks
+-- a thread that looks is told the value of the word, for every sort of lock
 look_tells : (w : State) → IsInductive w → (p q : Place) → FitsItsLock w p → looked_from p ≡ Some q → (k : ℕ)
     → act_of q ≡ act.Word k Load → Tells q (Value (word_at w k))
 look_tells w inductive p q fits looked k load = by_place p q fits looked load
@@ -140,7 +140,7 @@ look_tells w inductive p q fits looked k load = by_place p q fits looked load
 
 -- ---------------------------------------------------------------- where a thread stands once it has acted
 
--- it does what it did, and has looked for nothing
+-- the thread does what it did, and has looked for nothing
 record StaysSo (p o : Place) : Type 0 where
   none : looked_from p ≡ None → looked_from o ≡ None
   does : act_of o ≡ act_of p
@@ -258,7 +258,7 @@ module _ (w : State) (h : IsWorld w) (all : AllSane w.places) (t : ℕ) (there :
   next_sane = stays_sane then_own told
       (own_stays.tells told (tells_own w t h.inductive (place_at w t) (h.inductive.stands.calls t))) own_sane
 
-  -- its thread has not looked
+  -- the thread of the turn has not looked
   module _ (free : looked_from (place_at w t) ≡ None) (can : can_do w (act_of (place_at w t)) ≡ true) where
     own_by : GoesByNoLook then_own
     own_by = subst (GoesBy then_own) (own_stays.none free) (goes_so then_own own_sane)
@@ -294,7 +294,7 @@ module _ (w : State) (h : IsWorld w) (all : AllSane w.places) (t : ℕ) (there :
         by_lead v is (inl none) = plainly (ap (λ x. looked_from (next_place then_own x)) is ∙ none)
         by_lead v is (inr look) = looks_on v is look
 
-  -- its thread has looked
+  -- the thread of the turn has looked
   module _ (q : Place) (looked : looked_from (place_at w t) ≡ Some q) where
     by_look : GoesByLook (place_at w t) q
     by_look = subst (GoesBy (place_at w t)) looked (goes_so (place_at w t) (all t))

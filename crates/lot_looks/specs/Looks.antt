@@ -67,7 +67,7 @@ mutex_looked (mutex.Lock e retries (lock.Decide seen)) =
     else if seen == 1 then Some (mutex.Lock e retries lock.Load) else None
 mutex_looked at = None
 
--- so for a permit, where one is free or no thread waits
+-- a thread that goes for a permit has looked, where one is free or no thread waits
 abbrev pub semaphore_looked : SemaphorePlace → Option SemaphorePlace
 semaphore_looked (semaphore.Acquire timed retries (acquire.Decide seen)) =
     if is_free seen then Some (semaphore.Acquire timed retries acquire.Load)
@@ -75,7 +75,7 @@ semaphore_looked (semaphore.Acquire timed retries (acquire.Decide seen)) =
 semaphore_looked (semaphore.Try (tries.Decide seen)) = Some (semaphore.Try tries.Load)
 semaphore_looked at = None
 
--- so for the run of a `Once`, or before it waits for one
+-- a thread that goes for the run of a `Once`, or is about to wait for one, has looked
 abbrev pub once_looked_by : OnceCall → Bool → Course → Option OncePlace
 once_looked_by c retries (course.Ends answer) = None
 once_looked_by c retries course.Runs = Some (once.Look c retries look.Load)
@@ -86,7 +86,8 @@ abbrev pub once_looked : OncePlace → Option OncePlace
 once_looked (once.Look c retries (look.Decide seen)) = once_looked_by c retries (course_of c seen)
 once_looked at = None
 
--- so for a right of a reader-writer lock, and a pending writer for its bit
+-- the place of the look by which a thread exchanges the word for a right of a reader-writer lock, or as a
+-- pending writer for its bit
 abbrev pub rwlock_looked_by : Decision → Option RwLockAt
 rwlock_looked_by decisions.Take = Some at.Load
 rwlock_looked_by decisions.Mark = Some at.Load
@@ -162,7 +163,7 @@ mutex_tries (mutex.Lock e retries lock.First) = true
 mutex_tries mutex.UnlockFair = true
 mutex_tries at = false
 
--- so a writer, as its call begins
+-- a writer tries by an exchange before it looks, as its call begins
 abbrev pub rwlock_tries : RwLockAt → Bool
 rwlock_tries at.First = true
 rwlock_tries to = false
@@ -246,7 +247,7 @@ FollowedBy None t ss = Unit {0}
 FollowedBy (Some q) t [] = ⊥
 FollowedBy (Some q) t (s ∷ ss) = s ≡ go_of t
 
--- so each look for an exchange is followed at once by that
+-- each look for an exchange is followed at once by that exchange
 abbrev pub LooksAtOnce : State → List Step → Type 0
 LooksAtOnce w [] = Unit {0}
 LooksAtOnce w (s ∷ ss) =
@@ -262,7 +263,7 @@ or_here (Some q) p = q
 abbrev pub unlooked : Place → Place
 unlooked p = or_here (looked_from p) p
 
--- the same locks, rights, sections and queues, where no thread has looked for its exchange yet
+-- the locks, rights, sections and queues of a state in which no thread has looked for its exchange yet
 abbrev pub before_looks : State → State
 before_looks w = record w { places = map unlooked w.places }
 

@@ -218,7 +218,7 @@ condvar_runs_none l (Notify false m (notify.Move true)) = refl
 condvar_runs_none l (Notify false m (notify.Move false)) = refl
 condvar_runs_none l (Notify all m at) = refl
 
--- it is in a call of a `Once`, and its run is on
+-- a thread that runs a closure is in a call of a `Once`, whose run is on
 pub runs_one : (p : Place) → runs_closure (act_of p) ≡ true → RunsOne p
 runs_one Idle h = absurd cc
 runs_one (Mutex l m) h = absurd (let e : false ≡ true = sym (mutex_runs_none l m) ∙ h in cc)

@@ -16,7 +16,7 @@ use Rattle.lot_machine.specs.Views.{debtors, has_debt}
 
 -- ---------------------------------------------------------------- skipped lines
 
--- so many places without the debt at the head of a list
+-- this many places without the debt are at the head of a list
 skips_front : (debt : Debt) (l : ℕ) (ps : List Place) (n k : ℕ)
     → ((i : ℕ) → i < k → has_debt (place_of_thread ps i) debt l ≡ false) → debtors debt l n ps
     ≡ debtors debt l (n + k) (drop k ps)
@@ -35,7 +35,7 @@ drop_on (suc n) k [] = drop-nil k ∙ sym (drop-nil (suc n + k))
 drop_on (suc n) k (p ∷ ps) = let same : suc (n + k) ≡ suc n + k = omega arith in drop_on n k ps
     ∙ ap (λ m. drop m (p ∷ ps)) same
 
--- those that are skipped have no debt, so the list is that from after them
+-- places that are skipped have no debt, so the list is that from after them
 pub skips_debtors : (places : List Place) (debt : Debt) (l from to : ℕ) → from ≤ to → Skips places l from to
     → debtors debt l from (drop from places) ≡ debtors debt l to (drop to places)
 skips_debtors places debt l from to le none =

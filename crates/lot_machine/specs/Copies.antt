@@ -12,7 +12,7 @@ pub record StandOnce (w : State) : Type 0 where
   pub nowhere_else : (t key other : ℕ) → 1 ≤ times t (queue_at w key) → other ≢ key
       → times t (queue_at w other) ≡ 0
 
--- those that stand in a line stand there once, and in none of these
+-- the threads of a line stand there once, and in none of these
 abbrev pub StandApart : List Waiter → List (List Waiter) → Type 0
 StandApart line queues = (t : ℕ) → (times t line ≤ 1)
     × (1 ≤ times t line → All (λ queue. times t queue ≡ 0) queues)

@@ -127,7 +127,7 @@ pub record IsWellFormed (w : State) : Type 0 where
       → ShowsPlainMutex (length w.locks) (kind_at w) (word_at w l)
   pub waiting : (key : ℕ) → AllBelow (length w.places) (queue_at w key)
 
--- the same numbers of threads and of locks
+-- two states have as many threads, and as many locks
 pub record SameSize (w v : State) : Type 0 where
   pub threads : length v.places ≡ length w.places
   pub locks : length v.locks ≡ length w.locks

@@ -234,7 +234,7 @@ shares_in_hand t (Some h) = (h.by == t) && wants_shared h.want
 abbrev pub sharers_in_hand : ℕ → List Place → ℕ
 sharers_in_hand t ps = length (filter (λ (p : Place). shares_in_hand t (held p)) ps)
 
--- its want, where t has it in hand and it wants more than to share
+-- the want of a taken thread, where t has it in hand and it wants more than to share
 abbrev pub wants_more_in_hand : ℕ → Option Taken → Option Want
 wants_more_in_hand t None = None
 wants_more_in_hand t (Some h) =
@@ -302,7 +302,7 @@ state_after_hand_over w t p l op =
       shares = slice_set w.shares l (shares_handed_over w t l);
     }
 
--- those in hand are told so, and whether nobody shares the lock then
+-- the threads in hand are told that they were handed the lock, and whether nobody shares it then
 abbrev pub hand_over_told : State → ℕ → ℕ → Reply
 hand_over_told w t l = HandedBy t (unshared_then w t l)
 
@@ -385,7 +385,7 @@ can_do w (Closure state) = false
 can_do w (End answer) = false
 can_do w act = true
 
--- its effect
+-- the state after an act of a thread at a place
 abbrev pub state_after_act : State → ℕ → Place → Act → State
 state_after_act w t p (Word l op) = state_after_operation w t p l op
 state_after_act w t p (HandOver l op) =
@@ -493,7 +493,7 @@ state_after_begin w t call = put w t (first_place (kind_at w (lock_in call)) cal
 abbrev pub can_spin : State → ℕ → Bool
 can_spin w t = is_some (respins_from (place_at w t))
 
--- it goes on from where it looks
+-- the thread goes on from where it looks
 abbrev pub state_after_look : State → ℕ → Option Place → State
 state_after_look w t None = w
 state_after_look w t (Some p) = state_after_go (put w t p) t
@@ -516,7 +516,7 @@ is_free_under w (Some key) = section_is_free w key
 abbrev pub can_be_late : State → ℕ → Bool
 can_be_late w t = is_free_under w (late_key (place_at w t))
 
--- it enters that section
+-- the thread enters that section
 abbrev pub state_after_late_under : State → ℕ → ℕ → State
 state_after_late_under w t key =
     state_after_reply (state_with_sections w (keys.TheVariants.One key) (Some t)) t Late

@@ -14,7 +14,7 @@ new_site kind threads = record (opening_site threads) {
   aside_parked = aside_in (rules_of kind).sort (first_word kind);
 }
 
--- its word is the one of such a lock: of a semaphore each permit is free
+-- the word of a new lock is the one of such a lock: of a semaphore each permit is free
 abbrev pub NewWordsAreTrue : Type 0
 NewWordsAreTrue = (kind : Kind) (threads n : ℕ) → fits kind threads ≡ true
     → code (rules_of kind) (new_site kind n) ≡ first_word kind

@@ -54,7 +54,7 @@ impl<Q: Queues + Drop> Machine<Q> {
         };
     }
 
-    /// One operation on one word. It answers the value before.
+    /// Does one operation on one word. Returns the value before.
     fn operate(&mut self, thread: usize, lock: usize, op: Op) -> u64
         requires thread { thread < length self.old.places }
         requires lock { lock < length self.old.locks }
@@ -82,8 +82,8 @@ impl<Q: Queues + Drop> Machine<Q> {
         }
     }
 
-    /// One operation on one word. Where it takes effect, all that the thread has taken own, each by
-    /// what it wants. It answers the value before.
+    /// Does one operation on one word. Where it takes effect, all that the thread has taken own,
+    /// each by what it wants. Returns the value before.
     fn hand_over(&mut self, thread: usize, lock: usize, op: Op) -> u64
         requires thread { thread < length self.old.places }
         requires lock { lock < length self.old.locks }
@@ -134,7 +134,7 @@ impl<Q: Queues + Drop> Machine<Q> {
         tell_taken(self.places.as_mut_slice(), thread, reply);
     }
 
-    /// Whether nobody is inside a section.
+    /// Returns whether nobody is inside a section.
     pub(crate) fn is_free(&self, key: Key) -> bool
         requires { key < length self.now.sections }
         ensures { result ≡ section_is_free self.now key }
@@ -142,7 +142,7 @@ impl<Q: Queues + Drop> Machine<Q> {
         self.sections[key].is_none()
     }
 
-    /// Whether nobody is inside any of the sections.
+    /// Returns whether nobody is inside any of the sections.
     fn are_free(&self, keys: Keys) -> bool
         requires { KeysFit (length self.now.sections) keys }
         ensures { result ≡ are_free self.now keys }
@@ -218,7 +218,7 @@ impl<Q: Queues + Drop> Machine<Q> {
         self.queues.take_first(key)
     }
 
-    /// Whether nobody stands in a queue.
+    /// Returns whether nobody stands in a queue.
     fn is_empty(&self, key: Key) -> bool
         requires { key < length self.now.sections }
         ensures { result ≡ (length (queue_at self.now key) == 0) }

@@ -1,4 +1,8 @@
 //! The debts on a lock: which threads owe a wake, and which try again.
+//!
+//! `show` asks each place once for the lock on which it has a debt, and links the place before the
+//! later ones of that lock, so that a lock goes through its own chain alone. The links lie in the book,
+//! for the 1,024 threads and 256 locks of the greatest world, so that it takes no memory.
 ghost use Rattle.std.specs.Prelude.{◌≡◌, ◌<◌, ◌≤◌, ◌+◌, ◌++◌, ◌∷◌, [], MatchOption, length, drop};
 ghost use Rattle.std.specs.Iterator.{YieldsFirst, item_count};
 ghost use Rattle.lot_machine.specs.Views.{debtors, has_debt};
@@ -10,9 +14,9 @@ use std::marker::Model;
 /// Names a task that a thread still has for a lock's waiters.
 #[derive(Clone, Copy, Debug, PartialEq, Eq)]
 pub enum Debt {
-    /// It owes a wake.
+    /// The thread owes a wake.
     Owes,
-    /// It was woken, and tries again.
+    /// The thread was woken, and tries again.
     Retries,
 }
 
@@ -81,7 +85,7 @@ impl<'a> DebtBook<'a> {
         }
     }
 
-    // The first thread that may have debts on a lock.
+    // Returns the first thread that may have debts on a lock.
     #[inline]
     fn first_on(&self, lock: usize) -> usize
         ensures { Skips self.now lock 0 result }
@@ -92,7 +96,8 @@ impl<'a> DebtBook<'a> {
         0
     }
 
-    /// The threads that owe a wake on a lock, then those that try again, each by their numbers.
+    /// Returns the threads that owe a wake on a lock, then those that try again, each by their
+    /// numbers.
     pub fn on(&self, lock: usize) -> Debts<'_>
         ensures { result
             ≡ debtors Debt.Owes lock 0 self.now ++ debtors Debt.Retries lock 0 self.now }
@@ -108,7 +113,7 @@ impl<'a> DebtBook<'a> {
     }
 }
 
-/// How many of so many threads a book links: all, or none.
+/// Returns how many of so many threads a book links: all, or none.
 fn linked_of(threads: usize) -> usize
     ensures { (result ≤ threads) × (0 < result → (result ≡ threads) × (threads ≤ 1024)) }
 {
@@ -136,7 +141,7 @@ fn put_before(places: &[Place], links: &mut [Link; LINKED], first: &mut [u16; LO
     }
 }
 
-/// The tag of a thread at this place.
+/// Returns the tag of a thread at this place.
 fn tag_of(place: &Place) -> Tag
     ensures { TagCovers result place.now }
 {
@@ -150,7 +155,7 @@ fn tag_of(place: &Place) -> Tag
     }
 }
 
-/// The tag of a thread that has no debts but on this lock.
+/// Returns the tag of a thread that has no debts but on this lock.
 fn tag_at(place: &Place, lock: usize) -> Tag
     requires { HasDebtsOnlyOn lock place.now }
     ensures { TagCovers result place.now }
@@ -202,8 +207,8 @@ impl<'a> Debts<'a> {
     }
 }
 
-/// Whether a thread at this place has the debt. A place is looked at where it stands, and not
-/// copied.
+/// Returns whether a thread at this place has the debt. A place is looked at where it stands, and
+/// not copied.
 #[inline]
 fn has_debt(place: &Place, debt: Debt, lock: usize) -> bool
     ensures { result ≡ has_debt place.now debt lock }
@@ -214,7 +219,7 @@ fn has_debt(place: &Place, debt: Debt, lock: usize) -> bool
     }
 }
 
-/// The next thread that may have a debt on the lock.
+/// Returns the next thread that may have a debt on the lock.
 #[inline]
 fn next_on(places: &[Place], links: &[Link], thread: usize, lock: usize) -> usize
     requires there { thread < length places.now }
@@ -234,7 +239,7 @@ fn next_on(places: &[Place], links: &[Link], thread: usize, lock: usize) -> usiz
     thread + 1
 }
 
-/// The first thread from one on that has the debt, and from where to look for the next one.
+/// Returns the first thread from one on that has the debt, and from where to look for the next one.
 fn find_debtor(
     places: &[Place],
     links: &[Link],

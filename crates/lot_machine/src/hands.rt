@@ -78,14 +78,14 @@ pub(crate) fn keep_moved(whom: &mut Vec<usize>, how: Requeue)
     }
 }
 
-/// Whether a thread has this one in hand, and it wants to share.
+/// Returns whether a thread has this one in hand, and it wants to share.
 pub(crate) fn shares_in_hand(thread: usize, place: &Place) -> bool
     ensures { result ≡ shares_in_hand thread (held place.now) }
 {
     place.taker() == Some(thread) && place.wants() == Some(Want::Shared)
 }
 
-/// How many a thread has in hand that want to share.
+/// Returns how many a thread has in hand that want to share.
 pub(crate) fn sharers(thread: usize, places: &[Place]) -> usize
     ensures { result ≡ sharers_in_hand thread places.now }
 {
@@ -106,7 +106,7 @@ pub(crate) fn wants_more_in_hand(thread: usize, place: &Place) -> Option<Want>
     }
 }
 
-/// The first that a thread has in hand and that wants more than to share.
+/// Returns the first that a thread has in hand and that wants more than to share.
 pub(crate) fn find_successor(places: &[Place], thread: usize) -> Option<Successor>
     ensures { result ≡ successor_from thread 0 places.now }
 {

@@ -37,7 +37,7 @@ impl Lock {
     }
 }
 
-/// The word of a new lock: 0, or 2 for each permit of a semaphore.
+/// Returns the word of a new lock: 0, or 2 for each permit of a semaphore.
 fn first_word(kind: Kind) -> u64
     ensures { result ≡ first_word kind }
 {
@@ -49,7 +49,7 @@ fn first_word(kind: Kind) -> u64
     }
 }
 
-/// Whether the word of a lock has as many readers as its limit allows.
+/// Returns whether the word of a lock has as many readers as its limit allows.
 pub(crate) fn is_full(kind: Kind, word: u64) -> bool
     ensures { result ≡ fills (rules_of kind) word }
 {

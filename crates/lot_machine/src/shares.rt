@@ -1,4 +1,7 @@
 //! The shared rights of threads, and the owners to which a lock is handed over.
+//!
+//! Numbers of shared rights wrap at 64 bits in a hand-over, as the word does. That they stay below the
+//! limit is a fact of the locks, and not of the machine.
 ghost use Rattle.std.specs.Prelude.{ℕ, ◌≡◌, ◌==◌, IfOk, map, sum, slice_set, slice_index_or, replicate};
 ghost use Rattle.lot_machine.specs.Machine.{shares_given, with_share, held, shares_in_hand};
 ghost use Rattle.lot_machine.specs.Machine.{owners_of_successor};
@@ -8,7 +11,7 @@ use core_base::Want;
 use lot_steps::{Fallback, Owners, Pending, Place};
 use std::alloc::{AllocError, Global};
 
-/// A thread's number of rights; one that isn't there has none.
+/// Returns a thread's number of rights; one that isn't there has none.
 pub(crate) fn share_in(shares: &[usize], thread: usize) -> usize
     ensures { result ≡ slice_index_or shares.now thread 0 }
 {
@@ -27,7 +30,7 @@ pub(crate) fn set_share_in(shares: &mut [usize], thread: usize, number: usize)
     }
 }
 
-/// Whether nobody shares, by each thread's number of rights.
+/// Returns whether nobody shares, by each thread's number of rights.
 pub(crate) fn nobody_shares(shares: &[usize]) -> bool
     ensures { result ≡ (sum shares.now == 0) }
 {

@@ -1,4 +1,8 @@
 //! Turns of the machine: a thread begins a call, or its call goes on.
+//!
+//! A thread goes on from the place at which its own act has left it: an act may befall its own thread,
+//! as a notification moves a wait to the mutex's queue, which that wait may then take from and wake
+//! itself.
 ghost use Rattle.std.specs.Prelude.{◌≡◌, ◌<◌, ◌+◌, IfSome, length, if◌then◌else◌};
 ghost use Rattle.steps_base.specs.Acts.{outcome_of};
 ghost use Rattle.lot_steps.specs.Steps.{HasKeys, act_of, next_place, next_act, late_key};
@@ -106,7 +110,7 @@ impl<Q: Queues + Drop> Machine<Q> {
         Outcome::Step
     }
 
-    /// Whether a thread may begin a call.
+    /// Returns whether a thread may begin a call.
     pub fn can_begin(&self, thread: usize, call: Call) -> bool
         requires { thread < length self.now.places }
         ensures { result ≡ can_begin self.now thread call }
@@ -114,7 +118,8 @@ impl<Q: Queues + Drop> Machine<Q> {
         self.places[thread].is_idle() && self.is_open_to(thread, call)
     }
 
-    /// Whether the lock is there, has the call, and the thread has the right that the call needs.
+    /// Returns whether the lock is there, has the call, and the thread has the right that the call
+    /// needs.
     fn is_open_to(&self, thread: usize, call: Call) -> bool
         ensures { result ≡ is_open_to self.now thread call }
     {
@@ -131,14 +136,14 @@ impl<Q: Queues + Drop> Machine<Q> {
         }
     }
 
-    /// Whether a mutex is there that condition variables work with.
+    /// Returns whether a mutex is there that condition variables work with.
     fn is_mutex(&self, lock: usize) -> bool
         ensures { result ≡ names_mutex_there self.now (Some lock) }
     {
         lock < self.locks.len() && self.locks[lock].kind.is_plain_mutex()
     }
 
-    /// Whether the thread has the right that the call needs, to this lock.
+    /// Returns whether the thread has the right that the call needs, to this lock.
     fn holds_right(&self, thread: usize, call: Call, lock: usize) -> bool
         requires { (lock < length self.now.locks) × (lock ≡ lock_of_right call) }
         ensures { result ≡ holds_right self.now thread call }
@@ -198,7 +203,7 @@ impl<Q: Queues + Drop> Machine<Q> {
         Outcome::Step
     }
 
-    /// One turn of a thread, where it is possible.
+    /// Takes one turn of a thread, where it is possible.
     pub fn turn(&mut self, step: Step) -> Outcome
         requires { IsWellFormed self.old }
         ensures state { self.new ≡ after self.old step }

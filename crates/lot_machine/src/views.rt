@@ -45,7 +45,7 @@ impl<'a> OwnersOf<'a> {
     }
 }
 
-/// The first thread from one on that shares a lock, by each thread's number of rights.
+/// Returns the first thread from one on that shares a lock, by each thread's number of rights.
 fn find_sharer(shares: &[usize], from: usize) -> Option<usize>
     ensures within { IfSome result
         (λ thread. (thread < length shares.now) × (0 < slice_index_or shares.now thread 0)) }

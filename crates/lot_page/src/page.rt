@@ -1,9 +1,12 @@
 //! The page: the picture, its controls, and a section for each column.
+//!
+//! A page has no library and asks for nothing. Without its script it shows all lines, and on paper the
+//! line that is shown. The number of the line is in its address.
 
 use crate::script::{SCRIPT, STYLE};
 use crate::steps::put_step;
-use lot_picture::Recording;
-use lot_sheet::title_of;
+use lot_picture::{ColumnKind, Recording};
+use lot_sheet::{title_of, unit_word};
 use lot_svg::{Drawing, draw, put_text};
 use std::alloc::Global;
 use std::io;
@@ -13,7 +16,7 @@ use std::io::Write;
 ///
 /// # Errors
 ///
-/// Those of the writer, and `OutOfMemory`.
+/// The errors of the writer, and `OutOfMemory`.
 pub fn draw_page<W: Write>(
     alloc: Global,
     out: &mut W,
@@ -29,13 +32,15 @@ pub fn draw_page<W: Write>(
     put_text(out, title.as_bytes())?;
     out.write_all(b"</title>\n")?;
     out.write_all(STYLE.as_bytes())?;
-    out.write_all(b"</head>\n<body>\n<div id=\"picture\" tabindex=\"0\">\n")?;
+    out.write_all(b"</head>\n")?;
+    out.write_all(body_of(recording.kind))?;
+    out.write_all(b"<div id=\"picture\" tabindex=\"0\">\n")?;
     draw(
         alloc,
         out,
         recording,
         Drawing {
-            names_columns: true,
+            is_for_page: true,
             ..drawing
         },
     )?;
@@ -46,15 +51,25 @@ pub fn draw_page<W: Write>(
     out.write_all(b"</body>\n</html>\n")
 }
 
+/// Returns the tag that begins the body. A page of turns opens at the last one, where the program has gone
+/// wrong.
+fn body_of(kind: ColumnKind) -> &'static [u8] {
+    match kind {
+        ColumnKind::Line => b"<body>\n",
+        ColumnKind::Turn => b"<body data-opens=\"last\">\n",
+    }
+}
+
 /// Writes the slider and the buttons, which wait for the script.
 fn put_controls<W: Write>(out: &mut W, recording: &Recording) -> io::Result<()> {
     let last = recording.columns.len().saturating_sub(1);
+    let unit = unit_word(recording.kind);
     writeln!(
         out,
         "<form id=\"controls\" hidden>
-<button type=\"button\" id=\"back\" aria-label=\"the line before\">&#9664;</button>
-<input type=\"range\" id=\"slider\" min=\"0\" max=\"{last}\" value=\"0\" aria-label=\"line of the schedule\">
-<button type=\"button\" id=\"on\" aria-label=\"the next line\">&#9654;</button>
+<button type=\"button\" id=\"back\" aria-label=\"the {unit} before\">&#9664;</button>
+<input type=\"range\" id=\"slider\" min=\"0\" max=\"{last}\" value=\"0\" aria-label=\"{unit}\">
+<button type=\"button\" id=\"on\" aria-label=\"the next {unit}\">&#9654;</button>
 <output id=\"place\"></output>
 </form>"
     )

@@ -21,12 +21,12 @@ fn put_about<W: Write>(
 
 /// Writes what a line did to another thread.
 pub fn put_event<W: Write>(out: &mut W, recording: &Recording, event: Event) -> io::Result<()> {
-    let thread = event.thread;
+    let thread = recording.thread_label(event.thread);
     match event.effect {
-        Effect::HandsOver => write!(out, "thread {thread} is handed ")?,
-        Effect::Wakes => write!(out, "thread {thread} is woken on ")?,
-        Effect::Moves => write!(out, "thread {thread} is moved to the queue of ")?,
-        Effect::Takes => write!(out, "thread {thread} is taken off the queue of ")?,
+        Effect::HandsOver => write!(out, "{thread} is handed ")?,
+        Effect::Wakes => write!(out, "{thread} is woken on ")?,
+        Effect::Moves => write!(out, "{thread} is moved to the queue of ")?,
+        Effect::Takes => write!(out, "{thread} is taken off the queue of ")?,
     }
     put_text(out, recording.name_of(event.lock))
 }
@@ -105,8 +105,8 @@ fn put_waiters<W: Write>(
         return Ok(());
     };
     for (place, waiter) in queue.iter().enumerate() {
-        let (mark, thread) = (if place == 0 { ": to" } else { "," }, waiter.thread);
-        write!(out, "{mark} thread {thread}")?;
+        let mark = if place == 0 { ": to" } else { "," };
+        write!(out, "{mark} {}", recording.thread_label(waiter.thread))?;
     }
     Ok(())
 }
@@ -125,8 +125,8 @@ fn put_waiting<W: Write>(
     let mut number = 0usize;
     for other in recording.lanes.iter() {
         if has_right(other, lane.lock, at) {
-            let (mark, thread) = (if number == 0 { ", of" } else { "," }, other.thread);
-            write!(out, "{mark} thread {thread}")?;
+            let mark = if number == 0 { ", of" } else { "," };
+            write!(out, "{mark} {}", recording.thread_label(other.thread))?;
             number = number.saturating_add(1);
         }
     }

@@ -3,8 +3,9 @@
 /// The rules of style. On paper there are no controls, and the picture is as wide as the page.
 pub const STYLE: &str = "<style>
 body{margin:0;font:16px/1.4 system-ui,Helvetica,Arial,sans-serif;color:#111;background:#fff}
-#picture{overflow:auto;max-height:58vh;border-bottom:1px solid #bbb}
-#picture svg{display:block}
+#picture{display:grid;overflow:auto;max-height:58vh;border-bottom:1px solid #bbb}
+#picture>svg{display:block;grid-area:1/1}
+#names{position:sticky;left:0;pointer-events:none}
 #controls{display:flex;gap:8px;align-items:center;padding:8px 12px;border-bottom:1px solid #bbb}
 #controls[hidden]{display:none}
 #controls button{font-size:18px;min-width:44px;min-height:44px}
@@ -17,18 +18,19 @@ ul{margin:8px 0;padding-left:20px}
 pre{font:14px/1.4 Menlo,Consolas,'DejaVu Sans Mono',monospace;overflow:auto;background:#f4f4f4;padding:8px}
 svg.lots .column{cursor:pointer}
 svg.lots .column.now{fill:#ffe600;fill-opacity:.28;stroke:#000;stroke-width:1.4}
-@media (min-width:1000px){#picture svg{zoom:1.4}}
+@media (min-width:1000px){#picture>svg{zoom:1.4}}
 @media print{
 #controls{display:none}
 #picture{overflow:visible;max-height:none;border:0}
-#picture svg{max-width:100%;height:auto;zoom:1}
+#picture>svg{max-width:100%;height:auto;zoom:1}
+#names{display:none}
 pre{white-space:pre-wrap}
 }
 </style>
 ";
 
-/// The script: the slider, the buttons, the arrow keys, `Home` and `End`, and a tap on a column show a
-/// line. Without it the page shows all lines.
+/// The script: the slider, the buttons, the arrow keys, `Home` and `End`, and a tap on a column show a line
+/// or a turn. Without it the page shows all.
 pub const SCRIPT: &str = "<script>
 (function () {
   var steps = Array.prototype.slice.call(document.querySelectorAll('section'));
@@ -68,7 +70,7 @@ pub const SCRIPT: &str = "<script>
     for (var at = 0; at < steps.length; at += 1) {
       if (steps[at].getAttribute('data-line') === line) { show(at); return; }
     }
-    show(0);
+    show(document.body.getAttribute('data-opens') === 'last' ? steps.length - 1 : 0);
   }
   steps.forEach(function (step, at) {
     step.hidden = true;

@@ -1,8 +1,8 @@
 //! The section of a column: its line, what each thread is and waits for, and what `show` prints.
 
 use crate::phrases::{put_deed, put_event, put_right};
-use lot_picture::{Cell, Column, Lane, Recording};
-use lot_sheet::heading_of;
+use lot_picture::{Cell, Column, ColumnKind, Lane, Recording};
+use lot_sheet::{heading_of, unit_word};
 use lot_svg::put_text;
 use std::alloc::Global;
 use std::io;
@@ -17,15 +17,20 @@ pub fn put_step<W: Write>(
     at: usize,
 ) -> io::Result<()> {
     let number = column.number;
+    let unit = unit_word(recording.kind);
     write!(
         out,
-        "<section data-line=\"{number}\">\n<h2>line {number}: <code>"
+        "<section data-line=\"{number}\">\n<h2>{unit} {number}: "
     )?;
+    put_thread_of(out, recording, column)?;
+    out.write_all(b"<code>")?;
     put_text(out, column.line.as_slice())?;
     out.write_all(b"</code>")?;
     put_said(out, column)?;
     out.write_all(b"</h2>\n<p>")?;
-    put_text(out, heading_of(alloc, recording, column)?.as_bytes())?;
+    if recording.kind == ColumnKind::Line {
+        put_text(out, heading_of(alloc, recording, column)?.as_bytes())?;
+    }
     put_events(out, recording, column)?;
     out.write_all(b"</p>\n<ul>\n")?;
     for thread in recording.actors.iter() {
@@ -36,6 +41,16 @@ pub fn put_step<W: Write>(
     out.write_all(b"</pre>\n</section>\n")
 }
 
+/// Writes which thread takes a turn. A line of a schedule says that itself.
+fn put_thread_of<W: Write>(out: &mut W, recording: &Recording, column: &Column) -> io::Result<()> {
+    match (recording.kind, column.thread) {
+        (ColumnKind::Turn, Some(thread)) => {
+            write!(out, "{}, line ", recording.thread_label(thread))
+        }
+        _ => Ok(()),
+    }
+}
+
 fn put_said<W: Write>(out: &mut W, column: &Column) -> io::Result<()> {
     if column.said.is_empty() {
         return Ok(());
@@ -44,11 +59,16 @@ fn put_said<W: Write>(out: &mut W, column: &Column) -> io::Result<()> {
     put_text(out, column.said.as_slice())
 }
 
-/// Writes what a line did to other threads.
+/// Writes what a line or a turn did to other threads, after what a line did itself.
 fn put_events<W: Write>(out: &mut W, recording: &Recording, column: &Column) -> io::Result<()> {
+    let mut mark = match recording.kind {
+        ColumnKind::Line => "; ",
+        ColumnKind::Turn => "",
+    };
     for event in column.events.iter() {
-        out.write_all(b"; ")?;
+        out.write_all(mark.as_bytes())?;
         put_event(out, recording, *event)?;
+        mark = "; ";
     }
     Ok(())
 }
@@ -60,7 +80,7 @@ fn put_thread<W: Write>(
     thread: usize,
     at: usize,
 ) -> io::Result<()> {
-    write!(out, "<li>thread {thread}")?;
+    write!(out, "<li>{}", recording.thread_label(thread))?;
     let mut number = 0usize;
     for lane in recording.lanes_of(thread) {
         let mark = if number == 0 { " " } else { "; " };

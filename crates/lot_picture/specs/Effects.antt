@@ -49,7 +49,7 @@ is_retrying (Some Retries) = true
 is_retrying (Some Taken) = false
 is_retrying (Some Calls) = false
 
--- it tries again and did not before, or it was asleep with the lock handed to it and is so no more
+-- the thread tries again and did not before, or it was asleep with the lock handed to it and is so no more
 abbrev pub is_woken : Cell → Cell → Bool
 is_woken before now =
     if is_retrying now.deed then not (is_retrying before.deed)

@@ -1,4 +1,8 @@
 //! What a step does to another thread, by what that thread was to a lock before and after it.
+//!
+//! An arrow begins at the thread that takes the step, also for a move. A thread that is taken off a
+//! queue has none: its cell changes, and the heading names it. A `drain` has none, since many threads
+//! take its steps.
 ghost use Rattle.std.specs.Prelude.{◌≡◌};
 ghost use Rattle.lot_picture.specs.Effects.{strength, is_queued, is_taken_off, is_retrying, is_woken};
 ghost use Rattle.lot_picture.specs.Effects.{effect_between};
@@ -11,11 +15,11 @@ use lot_world::Owner;
 pub enum Effect {
     /// The other thread has a greater right than before.
     HandsOver,
-    /// It was taken off a queue before, and is awake now.
+    /// The thread was taken off a queue before, and is awake now.
     Wakes,
-    /// It waits in the queue of this lock now, and did not before.
+    /// The thread waits in the queue of this lock now, and did not before.
     Moves,
-    /// It was taken off the queue, and is asleep.
+    /// The thread was taken off the queue, and is asleep.
     Takes,
 }
 

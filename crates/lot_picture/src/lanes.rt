@@ -1,4 +1,7 @@
 //! What a thread is to a lock, column by column.
+//!
+//! A thread has a lane for each lock that its lines name, since it may own one lock while it waits for
+//! another. A notifier has one for the mutex, too, once it is inside the mutex's section.
 ghost use Rattle.std.specs.Prelude.{◌≡◌, ◌<◌, ◌++◌, ◌∷◌, [], IfOk, length};
 ghost use Rattle.lot_picture.specs.Cells.{cell_at};
 

@@ -1,11 +1,12 @@
-//! A schedule as it is replayed: its columns, the lanes of its threads, and the rows of its locks.
+//! What a picture shows: its columns, the lanes of threads, and the rows of locks and variables.
 
 use crate::cells::{Cell, cell_of};
 use crate::dues::{Due, due_of};
 use crate::effects::{Effect, effect_between};
+use crate::labels::ThreadLabel;
 use crate::lanes::Lane;
 use crate::lines::{Failure, Lines};
-use crate::rows::LockRow;
+use crate::rows::{LockRow, VariableRow};
 use core_base::Queues;
 use lot_replay::show::show_locks;
 use lot_text::{Command, Name, NamedCall, NamedTurn, Page, meaning};
@@ -38,13 +39,22 @@ pub struct Event {
     pub lock: usize,
 }
 
-/// A line that takes steps.
+/// What each column of a picture is.
+#[derive(Clone, Copy, Debug, PartialEq, Eq)]
+pub enum ColumnKind {
+    /// A line of a schedule that takes steps.
+    Line,
+    /// A turn of a thread of a program.
+    Turn,
+}
+
+/// A line that takes steps, or a turn.
 #[derive(Drop)]
 pub struct Column {
-    /// Its number among those lines, from 1.
+    /// Its number among those lines or turns, from 1.
     pub number: u64,
     pub line: Vec<u8>,
-    /// The line's answer, or nothing where it says no more than that a step was taken.
+    /// The answer, or nothing where it says no more than that a step was taken.
     pub said: Vec<u8>,
     /// The thread that takes the steps, where the line names one that is there.
     pub thread: Option<usize>,
@@ -52,8 +62,16 @@ pub struct Column {
     /// What the thread was about to do, where the line is `go`.
     pub due: Option<Due>,
     pub events: Vec<Event>,
-    /// What `show` prints after the line.
+    /// What `show` prints after the line, and after a turn what each variable has.
     pub shown: Vec<u8>,
+}
+
+/// The text of a column.
+#[derive(Clone, Copy)]
+pub(crate) struct ColumnText<'a> {
+    pub line: &'a [u8],
+    pub said: &'a [u8],
+    pub is_taken: bool,
 }
 
 /// Holds all that a picture shows.
@@ -62,7 +80,7 @@ pub struct Recording {
     pub threads: usize,
     /// The names of its locks, by their numbers.
     pub names: Vec<Name>,
-    /// How many lines take steps.
+    /// How many lines take steps, or how many turns there are.
     pub lines: u64,
     pub columns: Vec<Column>,
     /// The threads that take steps, by their numbers.
@@ -71,6 +89,13 @@ pub struct Recording {
     pub lanes: Vec<Lane>,
     /// By their numbers.
     pub rows: Vec<LockRow>,
+    /// What the threads of a program are called, by their numbers; none of a schedule.
+    pub thread_names: Vec<String>,
+    /// The variables of a program, none of a schedule.
+    pub variables: Vec<VariableRow>,
+    pub kind: ColumnKind,
+    /// The number of the first of the columns that come again and again, where they do.
+    pub again: Option<u64>,
     span: Span,
     /// What the thread of the line that is read is about to do, where that is `go`.
     due: Option<Due>,
@@ -87,6 +112,10 @@ impl Drop for Recording {
             actors: _,
             lanes: _,
             rows: _,
+            thread_names: _,
+            variables: _,
+            kind: _,
+            again: _,
             span: _,
             due: _,
         } = self;
@@ -100,7 +129,7 @@ pub fn record_schedule<Q: Queues + Drop, R: BufRead>(
     span: Span,
 ) -> Result<Recording, Failure> {
     let mut lines = Lines::<Q>::new(alloc);
-    let mut recording = Recording::new(alloc, span);
+    let mut recording = Recording::new(alloc, ColumnKind::Line, span);
     for _ in 0..u64::MAX {
         let Some(command) = lines.read(reader)? else {
             return Ok(recording);
@@ -117,7 +146,7 @@ pub fn record_schedule<Q: Queues + Drop, R: BufRead>(
 }
 
 impl Recording {
-    fn new(alloc: Global, span: Span) -> Recording {
+    pub(crate) fn new(alloc: Global, kind: ColumnKind, span: Span) -> Recording {
         Recording {
             threads: 0,
             names: Vec::new(alloc),
@@ -126,6 +155,10 @@ impl Recording {
             actors: Vec::new(alloc),
             lanes: Vec::new(alloc),
             rows: Vec::new(alloc),
+            thread_names: Vec::new(alloc),
+            variables: Vec::new(alloc),
+            kind,
+            again: None,
             span,
             due: None,
         }
@@ -139,12 +172,28 @@ impl Recording {
         }
     }
 
+    /// Returns what a thread is called.
+    pub fn thread_label(&self, thread: usize) -> ThreadLabel<'_> {
+        ThreadLabel {
+            name: match self.thread_names.get(thread) {
+                Some(name) => Some(name.as_str()),
+                None => None,
+            },
+            thread,
+        }
+    }
+
     /// Returns the lanes of a thread.
     pub fn lanes_of(&self, thread: usize) -> &[Lane] {
         let lanes = self.lanes.as_slice();
         let from = lanes.partition_point(|lane| lane.thread < thread);
         let after = &lanes[from..];
         &after[..after.partition_point(|lane| lane.thread == thread)]
+    }
+
+    /// Tells whether the column of this number comes again and again.
+    pub fn comes_again(&self, number: u64) -> bool {
+        self.again.is_some_and(|first| first <= number)
     }
 
     /// Leaves out all but some threads.
@@ -204,7 +253,12 @@ impl Recording {
         }
         let thread = self.add_actor_of(alloc, world, names, command)?;
         if self.span.from <= self.lines {
-            return self.add_column(alloc, world, names, thread, lines);
+            let text = ColumnText {
+                line: lines.text(),
+                said: lines.outcome(),
+                is_taken: lines.is_taken(),
+            };
+            return self.add_column(alloc, world, thread, text);
         }
         self.pass(world);
         Ok(())
@@ -229,7 +283,7 @@ impl Recording {
     }
 
     /// Tells whether there are as many columns as a picture may have.
-    fn is_full(&self) -> bool {
+    pub(crate) fn is_full(&self) -> bool {
         self.columns.len() >= MOST_COLUMNS
     }
 
@@ -247,13 +301,13 @@ impl Recording {
         Ok(())
     }
 
-    fn add_column<Q: Queues + Drop>(
+    /// Adds a column, whose thread took steps that led to a world.
+    pub(crate) fn add_column<Q: Queues + Drop>(
         &mut self,
         alloc: Global,
         world: &World<Q>,
-        names: &[Name],
         thread: Option<usize>,
-        lines: &Lines<Q>,
+        text: ColumnText<'_>,
     ) -> Result<(), AllocError> {
         let events = self.add_cells(alloc, world, thread)?;
         for row in self.rows.iter_mut() {
@@ -261,13 +315,13 @@ impl Recording {
         }
         self.columns.push(Column {
             number: self.lines,
-            line: Vec::from_slice(alloc, lines.text())?,
-            said: Vec::from_slice(alloc, lines.outcome())?,
+            line: Vec::from_slice(alloc, text.line)?,
+            said: Vec::from_slice(alloc, text.said)?,
             thread,
-            is_taken: lines.is_taken(),
-            due: if lines.is_taken() { self.due } else { None },
+            is_taken: text.is_taken,
+            due: if text.is_taken { self.due } else { None },
             events,
-            shown: lines_shown(alloc, names, world),
+            shown: lines_shown(alloc, self.names.as_slice(), world),
         })?;
         Ok(())
     }
@@ -311,15 +365,27 @@ impl Recording {
         self.add_actor(thread)?;
         for name in named(turn) {
             if let Some((lock, name)) = lock_named(names, name) {
-                self.add_lane(alloc, thread, lock)?;
-                self.add_row(alloc, world, lock, name)?;
+                self.add_part(alloc, world, thread, lock, name)?;
             }
         }
         Ok(())
     }
 
+    /// Adds the lane of a thread and a lock, and the row of the lock, where they are new.
+    pub(crate) fn add_part<Q: Queues + Drop>(
+        &mut self,
+        alloc: Global,
+        world: &World<Q>,
+        thread: usize,
+        lock: usize,
+        name: Name,
+    ) -> Result<(), AllocError> {
+        self.add_lane(alloc, thread, lock)?;
+        self.add_row(alloc, world, lock, name)
+    }
+
     /// Adds a lane for each lock with a row to which a thread is something.
-    fn add_lanes_found<Q: Queues + Drop>(
+    pub(crate) fn add_lanes_found<Q: Queues + Drop>(
         &mut self,
         alloc: Global,
         world: &World<Q>,
@@ -337,7 +403,8 @@ impl Recording {
         Ok(())
     }
 
-    fn add_actor(&mut self, thread: usize) -> Result<(), AllocError> {
+    /// Adds a thread that takes steps, where it is new.
+    pub(crate) fn add_actor(&mut self, thread: usize) -> Result<(), AllocError> {
         let at = self.actors.partition_point(|other| *other < thread);
         if self.actors.get(at) != Some(&thread) {
             self.actors.insert(at, thread)?;

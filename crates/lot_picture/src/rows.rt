@@ -1,4 +1,4 @@
-//! The words and the queues of locks, column by column.
+//! The words and the queues of locks, and the numbers of variables, column by column.
 ghost use Rattle.std.specs.Prelude.{◌≡◌, ◌<◌, ◌++◌, ◌∷◌, [], IfOk, length, map};
 ghost use Rattle.lot_machine.specs.Machine.{word_at};
 ghost use Rattle.lot_machine.specs.Views.{queue_of};
@@ -17,6 +17,15 @@ pub struct LockRow {
     pub words: Vec<u64>,
     /// The main queue from the front, then the waiter aside.
     pub queues: Vec<Vec<Waiter>>,
+}
+
+/// A variable of a program, with its number after each column.
+#[derive(Drop)]
+pub struct VariableRow {
+    pub name: Name,
+    /// The thread whose own it is, or none where all threads share it.
+    pub owner: Option<usize>,
+    pub numbers: Vec<u32>,
 }
 
 impl LockRow {

@@ -12,20 +12,20 @@ use Rattle.lot_laws.specs.SitesOf.{IsWorld}
 use Rattle.lot_laws.proofs.alone.AloneSteps.{after_stuck}
 use Rattle.lot_laws.proofs.promises.Overtaken.{world_steps}
 use Rattle.state_search.proofs.Lists.{none_some, some_same}
-use Rattle.lot_program.specs.declared.cuts.Grain.{Grain}
+use Rattle.lot_program.specs.declared.grains.Grain.{Grain}
 use Rattle.lot_program.specs.declared.states.Local.{Local}
 use Rattle.lot_program.specs.declared.program.Deadlines.{Deadlines}
 use Rattle.lot_program.specs.declared.program.Deadlines.TheVariants.{Pass, Never}
 use Rattle.lot_program.specs.declared.program.Instruction.{Instruction}
 use Rattle.lot_program.specs.declared.program.Instruction.TheVariants as instruction
 use Rattle.lot_program.specs.declared.program.Program.{Program}
-use Rattle.lot_program.specs.Programs.{threads_of, instruction_at}
+use Rattle.lot_program.specs.Programs.{threads_of, instruction_at, branch_at}
 use Rattle.lot_turns.specs.Turns.{is_ready}
-use Rattle.lot_program.specs.Cuts.{may_go_straight}
+use Rattle.lot_program.specs.Grains.{may_go_straight}
 use Rattle.lot_program.specs.States.{ProgramState, Turning, goes_straight, gone_if, gone_on, step_of, turning, turned, with_turn, heard}
 use Rattle.lot_program.specs.States.{is_barred}
 use Rattle.lot_program.specs.States.{stepped_by, or_refused, world_move, late_move, closing, performed}
-use Rattle.lot_program.specs.States.{going_on, asserted, is_own, own_move, local_at, thread_move}
+use Rattle.lot_program.specs.States.{going_on, asserted, at_target, is_own, own_move, branch_move, local_at, thread_move}
 use Rattle.lot_program.specs.States.{program_next}
 use Rattle.lot_program.specs.Runs.{more_steps, turn_steps, steps_by, step_by, own_step, thread_step}
 use Rattle.lot_program.specs.Runs.{steps_taken}
@@ -138,6 +138,7 @@ performed_world (instruction.Jump n) g s t = refl
 performed_world (instruction.JumpUnless test n) g s t = gone_world_same s t _ n
 performed_world (instruction.JumpUnlessTold x n) g s t = gone_world_same s t _ n
 performed_world (instruction.JumpUnlessRunning n) g s t = gone_world_same s t _ n
+performed_world (instruction.Either n) g s t = refl
 performed_world (instruction.Assert test) g s t = asserted_world s t _
 
 own_world : (g : Grain) (s u : ProgramState) (t : ℕ) (i : Option Instruction) → own_move g s t i ≡ Some u
@@ -145,6 +146,10 @@ own_world : (g : Grain) (s u : ProgramState) (t : ℕ) (i : Option Instruction) 
 own_world g s u t None e = absurd (none_some u e)
 own_world g s u t (Some i) e =
     ap (λ (v : ProgramState). v.world) (sym (some_same (performed i g s t) u e)) ∙ performed_world i g s t
+
+branch_world : (s u : ProgramState) (t : ℕ) (o : Option ℕ) → branch_move s t o ≡ Some u → u.world ≡ s.world
+branch_world s u t None e = absurd (none_some u e)
+branch_world s u t (Some n) e = ap (λ (v : ProgramState). v.world) (sym (some_same (at_target s t n) u e))
 
 -- a move that is a turn in a call
 went_world : (g : Grain) (s u : ProgramState) (t : ℕ) (x : Turn) → world_move g s t x (local_at s t) ≡ Some u
@@ -167,7 +172,12 @@ thread_world p s u t zero e = by (is_own s.world t) e where
       (if b then own_step (instruction_at p t (local_at s t).at) t else Some (step_of t turn.Go)))
   by true f = own_world p.grain s u t (instruction_at p t (local_at s t).at) f
   by false f = went_world p.grain s u t turn.Go f
-thread_world p s u t (suc zero) e = went_world p.grain s u t turn.Spin e
+thread_world p s u t (suc zero) e = by (is_own s.world t) e where
+  by : (b : Bool) → (if b then branch_move s t (branch_at p t (local_at s t).at) else world_move
+      p.grain s t turn.Spin (local_at s t)) ≡ Some u
+      → u.world ≡ after_steps s.world (steps_by p.grain s.world (if b then None else Some (step_of t turn.Spin)))
+  by true f = branch_world s u t (branch_at p t (local_at s t).at) f
+  by false f = went_world p.grain s u t turn.Spin f
 thread_world p s u t (suc (suc n)) e = late_world p s u t p.deadlines e
 
 pub next_world : (p : Program) (s u : ProgramState) (k : ℕ) → program_next p s k ≡ Some u
@@ -178,7 +188,7 @@ next_world p s u k e = by (nat_lt (k / 3) (threads_of p)) e where
   by true f = thread_world p s u (k / 3) (k % 3) f
   by false f = absurd (none_some u f)
 
--- so it stays a world
+-- a move leaves a world of a world
 pub next_stays : (p : Program) (s u : ProgramState) (k : ℕ) → program_next p s k ≡ Some u → IsWorld s.world
     → IsWorld u.world
 next_stays p s u k e world =

@@ -17,10 +17,10 @@ use Rattle.lot_laws.proofs.alone.WorldRuns.{world_after}
 use Rattle.lot_machine.specs.Machine.{State, after, after_steps, place_at, runs_closure, step_outcome}
 use Rattle.lot_machine.specs.Fits.{SameSize}
 use Rattle.lot_machine.proofs.Shape.{after_size, has_keys, size_more}
-use Rattle.lot_program.specs.declared.cuts.Grain.{Grain}
+use Rattle.lot_program.specs.declared.grains.Grain.{Grain}
 use Rattle.lot_program.specs.declared.states.Local.{Local}
 use Rattle.lot_turns.specs.Turns.{is_ready}
-use Rattle.lot_program.specs.Cuts.{is_cut, may_go_straight}
+use Rattle.lot_program.specs.Grains.{is_cut, may_go_straight}
 use Rattle.lot_program.specs.States.{Turning, goes_straight, turning, is_own, is_barred, turn_ends, gone, gone_if, gone_on, step_of}
 use Rattle.lot_program.specs.Runs.{go_steps, more_steps, turn_steps}
 

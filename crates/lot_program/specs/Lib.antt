@@ -2,4 +2,4 @@ pub mod Programs
 pub mod States
 pub mod Rows
 pub mod Runs
-pub mod Cuts
+pub mod Grains

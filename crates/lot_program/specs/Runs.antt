@@ -6,7 +6,7 @@ use Rattle.lot_program.specs.declared.program.Instruction.{Instruction}
 use Rattle.lot_program.specs.declared.program.Instruction.TheVariants as instruction
 use Rattle.lot_program.specs.declared.program.Program.{Program}
 use Rattle.lot_machine.specs.Machine.{State, after, step_outcome}
-use Rattle.lot_program.specs.declared.cuts.Grain.{Grain}
+use Rattle.lot_program.specs.declared.grains.Grain.{Grain}
 use Rattle.lot_program.specs.Programs.{instruction_at}
 use Rattle.lot_program.specs.States.{ProgramState, step_of, closing, goes_straight, is_own, is_barred, local_at}
 use Rattle.lot_program.specs.States.{turn_ends}
@@ -21,6 +21,7 @@ step_by (instruction.Jump n) t = None
 step_by (instruction.JumpUnless test n) t = None
 step_by (instruction.JumpUnlessTold x n) t = None
 step_by (instruction.JumpUnlessRunning n) t = None
+step_by (instruction.Either n) t = None
 step_by (instruction.Assert test) t = None
 
 -- the steps in which a thread goes on alone till its turn ends
@@ -51,7 +52,7 @@ abbrev pub thread_step : Program → ProgramState → ℕ → ℕ → Option Ste
 thread_step p s t zero =
     if is_own s.world t then own_step (instruction_at p t (local_at s t).at) t
     else Some (step_of t turn.Go)
-thread_step p s t (suc zero) = Some (step_of t turn.Spin)
+thread_step p s t (suc zero) = if is_own s.world t then None else Some (step_of t turn.Spin)
 thread_step p s t (suc (suc n)) = Some (step_of t turn.Late)
 
 -- the first step of a move

@@ -1,7 +1,6 @@
 //! Programs of lock calls, and where each move of a thread leads.
 #![tactic(auto)]
 
-pub mod cuts;
 pub mod grains;
 pub mod program;
 pub mod scenes;
@@ -9,9 +8,9 @@ pub mod states;
 pub mod tables;
 pub mod turns;
 
-pub use cuts::{Cut, Cuts, Grain};
+pub use grains::Grain;
 pub use program::{
-    Comparison, Deadlines, Instruction, Program, Property, Station, Test, Told, Value,
+    Comparison, Condition, Deadlines, Instruction, Program, Property, Station, Test, Told, Value,
 };
 pub use scenes::Scene;
 pub use states::{Fault, Local};

@@ -1,11 +1,11 @@
 //! Programs of lock calls: for each thread a list of instructions.
 ghost use Rattle.std.specs.Prelude.{◌≡◌, ◌<◌, ◌-◌, ◌^◌, IfSome, All, true, false, length};
-ghost use Rattle.lot_program.specs.Programs.{told_by, told_number, number_of, holds, compares};
-ghost use Rattle.lot_program.specs.Programs.{instruction_at, line_at, IsFit};
+ghost use Rattle.lot_program.specs.Programs.{told_by, told_number, number_of, holds, compares, all_hold, is_met};
+ghost use Rattle.lot_program.specs.Programs.{branch_of, instruction_at, branch_at, line_at, IsFit};
 ghost use Rattle.spec_locks.specs.Kinds.{fits};
 ghost use Rattle.lot_program.specs.Runs.{step_by};
 
-use crate::cuts::Grain;
+use crate::grains::Grain;
 use lot_parts::MOST;
 use lot_world::{Answer, Call, Kind, MOST_LOCKS, Step, Turn};
 
@@ -33,6 +33,13 @@ pub struct Test {
     pub variable: usize,
     pub comparison: Comparison,
     pub value: Value,
+}
+
+/// Tests of variables in one state.
+#[derive(Drop)]
+pub struct Condition {
+    /// All tests of one of these hold.
+    pub alternatives: Vec<Vec<Test>>,
 }
 
 /// What a thread was told by its last call.
@@ -69,6 +76,8 @@ pub enum Instruction {
     JumpUnlessTold { told: Told, target: usize },
     /// Jumps where the thread runs no closure.
     JumpUnlessRunning { target: usize },
+    /// Goes to the next instruction, or jumps: each of the two is a move.
+    Either { other: usize },
     Assert(Test),
 }
 
@@ -88,12 +97,12 @@ pub struct Station {
 }
 
 /// What has to be true of the states of a program.
-#[derive(Clone, Copy, Debug, PartialEq, Eq)]
+#[derive(Drop)]
 pub enum Property {
-    /// A test holds in each state.
-    Always(Test),
-    /// A test holds where all threads are through.
-    Finally(Test),
+    /// A condition holds in each state.
+    Always(Condition),
+    /// A condition holds where all threads are through.
+    Finally(Condition),
     /// Two threads are never there at once.
     Never { first: Station, second: Station },
 }
@@ -139,9 +148,23 @@ impl Instruction {
             Instruction::Jump { .. } | Instruction::JumpUnless { .. } => return None,
             Instruction::JumpUnlessTold { .. } | Instruction::JumpUnlessRunning { .. } =>
                 return None,
-            Instruction::Assert(_) => return None,
+            Instruction::Either { .. } | Instruction::Assert(_) => return None,
         };
         Some(Step { thread, turn })
+    }
+
+    /// Where its second branch begins, if it has one.
+    pub fn branch(self) -> Option<usize>
+        ensures { result ≡ branch_of self }
+    {
+        match self {
+            Instruction::Either { other } => Some(other),
+            Instruction::Call(_) | Instruction::Close { .. } => None,
+            Instruction::Set { .. } | Instruction::Add { .. } => None,
+            Instruction::Jump { .. } | Instruction::JumpUnless { .. } => None,
+            Instruction::JumpUnlessTold { .. } | Instruction::JumpUnlessRunning { .. } => None,
+            Instruction::Assert(_) => None,
+        }
     }
 }
 
@@ -232,6 +255,30 @@ impl Test {
     }
 }
 
+// Whether all of some tests hold.
+fn all_hold(tests: &[Test], variables: &[u32]) -> bool
+    ensures { result ≡ all_hold variables.now tests.now (length tests.now) }
+{
+    let mut all = true;
+    for number in 0..tests.len() {
+        all = tests[number].holds(variables) && all;
+    }
+    all
+}
+
+impl Condition {
+    /// Whether all tests of some alternative hold.
+    pub fn holds(&self, variables: &[u32]) -> bool
+        ensures { result ≡ is_met variables.now self.now }
+    {
+        let mut any = false;
+        for number in 0..self.alternatives.len() {
+            any = all_hold(self.alternatives[number].as_slice(), variables) || any;
+        }
+        any
+    }
+}
+
 impl Program {
     /// How many threads there are.
     pub fn threads(&self) -> usize
@@ -253,6 +300,16 @@ impl Program {
             Some(code[at])
         } else {
             None
+        }
+    }
+
+    /// Where the second branch of an instruction of a thread begins, by its number, if it has one.
+    pub fn branch(&self, thread: usize, at: usize) -> Option<usize>
+        ensures { result ≡ branch_at self.now thread at }
+    {
+        match self.instruction(thread, at) {
+            Some(instruction) => instruction.branch(),
+            None => None,
         }
     }
 

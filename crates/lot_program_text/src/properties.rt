@@ -1,78 +1,84 @@
 //! What a program's states are said to be: `always`, `finally` and `never`.
-use crate::conditions::test;
-use crate::malformed::{TextError, malformed};
-use crate::words::{MOST_NUMBER, number, word_at};
 use lot_program::{Property, Station};
-use lot_text::Names;
-use std::alloc::Global;
+use lot_program_lines::malformed::malformed;
+use lot_program_lines::words::{MOST_NUMBER, number, word_at};
+use lot_program_lines::{Scope, TextError, Threads};
 
-/// The lines of the instructions of each thread.
+/// The threads, and the lines of the instructions of each.
 #[derive(Clone, Copy, Drop)]
 pub(crate) struct Stations<'a> {
-    pub alloc: Global,
+    pub scope: Scope<'a>,
+    pub threads: &'a Threads,
     pub lines: &'a [Vec<u32>],
 }
 
-/// Returns the property that a line spells.
-pub(crate) fn property(
-    stations: &Stations<'_>,
-    variables: &Names,
-    line: u32,
-    words: &[&str],
-) -> Result<Property, TextError> {
-    let alloc = stations.alloc;
-    match word_at(words, 0) {
-        "always" => Ok(Property::Always(test(alloc, variables, line, words)?)),
-        "finally" => Ok(Property::Finally(test(alloc, variables, line, words)?)),
-        _ => stations.never(line, words),
-    }
+/// A station, and the place of the word after it.
+struct StationWords {
+    station: Station,
+    after: usize,
 }
 
 impl Stations<'_> {
-    fn wrong(&self, line: u32, word: &str, expected: &'static str) -> TextError {
-        malformed(self.alloc, line, word, expected)
+    fn wrong(&self, word: &str, expected: &'static str) -> TextError {
+        malformed(self.scope.alloc, self.scope.line, word, expected)
+    }
+
+    /// Returns the property that a line spells.
+    pub(crate) fn property(&self, words: &[&str]) -> Result<Property, TextError> {
+        match word_at(words, 0) {
+            "always" => Ok(Property::Always(self.scope.condition(words)?)),
+            "finally" => Ok(Property::Finally(self.scope.condition(words)?)),
+            _ => self.never(words),
+        }
     }
 
     // The property of a line `never T at LINE U at LINE`.
-    fn never(&self, line: u32, words: &[&str]) -> Result<Property, TextError> {
-        let first = self.station(line, words, 1)?;
-        let second = self.station(line, words, 4)?;
+    fn never(&self, words: &[&str]) -> Result<Property, TextError> {
+        let StationWords {
+            station: first,
+            after: middle,
+        } = self.station(words, 1)?;
+        let StationWords {
+            station: second,
+            after,
+        } = self.station(words, middle)?;
         if first.thread == second.thread {
             let expected = "another thread, as in `never 0 at 7 1 at 7`";
-            return Err(self.wrong(line, word_at(words, 4), expected));
+            return Err(self.wrong(word_at(words, middle), expected));
         }
-        if words.len() > 7 {
-            return Err(self.wrong(line, word_at(words, 7), "the end of the line"));
+        if words.len() > after {
+            return Err(self.wrong(word_at(words, after), "the end of the line"));
         }
         Ok(Property::Never { first, second })
     }
 
-    // The station of three words `T at LINE`, of which this is the place of the first.
-    fn station(&self, line: u32, words: &[&str], first: usize) -> Result<Station, TextError> {
-        let (thread, at, label) = (
-            word_at(words, first),
-            word_at(words, first.wrapping_add(1)),
-            word_at(words, first.wrapping_add(2)),
-        );
-        let Some(lines) = number(thread, MOST_NUMBER).and_then(|n| self.lines.get(n as usize))
-        else {
-            let expected = "a thread's number, as in `never 0 at 7 1 at 7`";
-            return Err(self.wrong(line, thread, expected));
+    // The station of some words `T at LINE`, of which this is the place of the first.
+    fn station(&self, words: &[&str], first: usize) -> Result<StationWords, TextError> {
+        let Some(named) = self.threads.find(words, first) else {
+            let expected = "a thread, as in `never 0 at 7 1 at 7` or `never a at 7 b 2 at 9`";
+            return Err(self.wrong(word_at(words, first), expected));
         };
+        let (at, label) = (
+            word_at(words, named.after),
+            word_at(words, named.after.wrapping_add(1)),
+        );
         if at != "at" {
-            return Err(self.wrong(line, at, "`at`, as in `never 0 at 7 1 at 7`"));
+            return Err(self.wrong(at, "`at`, as in `never 0 at 7 1 at 7`"));
         }
-        match number(label, MOST_NUMBER) {
-            Some(label_number) if lines.iter().any(|own| *own as u64 == label_number) => Ok(
-                Station {
-                    thread: number(thread, MOST_NUMBER).unwrap_or(0) as usize,
-                    line: label_number as u32,
-                },
-            ),
-            _ => {
+        let after = named.after.wrapping_add(2);
+        match self.station_at(named.thread, label) {
+            Some(station) => Ok(StationWords { station, after }),
+            None => {
                 let expected = "a line of one of the thread's instructions";
-                Err(self.wrong(line, label, expected))
+                Err(self.wrong(label, expected))
             }
         }
+    }
+
+    // The station of a thread at the line that a word spells, if an instruction of its own is of that line.
+    fn station_at(&self, thread: usize, label: &str) -> Option<Station> {
+        let line = number(label, MOST_NUMBER)? as u32;
+        let lines = self.lines.get(thread)?;
+        lines.contains(&line).then_some(Station { thread, line })
     }
 }

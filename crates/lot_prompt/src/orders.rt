@@ -1,4 +1,7 @@
 //! Orders, each a line.
+use core_base::ListQueues;
+use lot_explore::Walk;
+use lot_program_text::Shown;
 use thiserror::Error;
 
 /// The turn of a thread.
@@ -6,6 +9,8 @@ use thiserror::Error;
 pub enum TurnSort {
     /// It goes on.
     Go,
+    /// It takes the other branch of its line.
+    Or,
     /// It looks at the word once more.
     Look,
     /// It gives up a timed sleep.
@@ -19,7 +24,7 @@ pub enum Order {
     Turn { thread: usize, sort: TurnSort },
     /// The last turns are taken back.
     Back { turns: usize },
-    /// The locks are shown.
+    /// The locks and the variables are shown.
     Show,
     /// It is told which thread has what, and waits for what.
     Waits,
@@ -39,27 +44,28 @@ pub enum Order {
 #[derive(Debug, Drop, Error)]
 pub enum OrderError<'a> {
     #[error("`{word}`: an order: the number of a thread, or one of {ORDERS}")]
-    Unknown { word: &'a str },
+    Unknown { word: Shown<'a> },
     #[error("`{word}`, at its end: the number of a thread, as in `{word} 0`")]
-    NoThread { word: &'a str },
+    NoThread { word: Shown<'a> },
     #[error("`{word}`: the number of a thread, less than {threads}")]
-    NotThread { word: &'a str, threads: usize },
+    NotThread { word: Shown<'a>, threads: usize },
     #[error("`{word}`: how many turns, as in `back 2`")]
-    NotTurns { word: &'a str },
+    NotTurns { word: Shown<'a> },
     #[error("`{word}`: nothing comes after this order")]
-    More { word: &'a str },
+    More { word: Shown<'a> },
 }
 
 /// The orders but for a thread's number.
-const ORDERS: &str = "look, late, back, show, waits, search, settle, schedule, help, quit";
+const ORDERS: &str = "or, look, late, back, show, waits, search, settle, schedule, help, quit";
 
 /// What each order does, a line for each.
 pub const HELP: &str = "\
 N          thread N goes on
+or N       thread N takes the other branch of its line
 look N     thread N looks at the word once more
 late N     thread N gives up its timed sleep
 back [K]   takes the last K turns back, 1 if nothing is said
-show       shows the locks
+show       shows the locks and the variables
 waits      tells which thread has what, and waits for what
 search     searches all schedules from here on
 settle     lets threads in calls go on till none of them can
@@ -72,16 +78,17 @@ impl TurnSort {
     pub fn number(self, thread: usize) -> usize {
         let sort = match self {
             TurnSort::Go => 0,
-            TurnSort::Look => 1,
+            TurnSort::Or | TurnSort::Look => 1,
             TurnSort::Late => 2,
         };
         thread.saturating_mul(3).saturating_add(sort)
     }
 
-    /// Returns the sort of a move.
-    pub fn of_move(by: usize) -> TurnSort {
+    /// Returns the sort of a move that comes next in a walk.
+    pub fn of_move(walk: &Walk<'_, ListQueues>, by: usize) -> TurnSort {
         match by % 3 {
             0 => TurnSort::Go,
+            1 if walk.scene().is_own(by / 3) => TurnSort::Or,
             1 => TurnSort::Look,
             _ => TurnSort::Late,
         }
@@ -91,6 +98,7 @@ impl TurnSort {
     pub fn word(self) -> &'static str {
         match self {
             TurnSort::Go => "",
+            TurnSort::Or => "or ",
             TurnSort::Look => "look ",
             TurnSort::Late => "late ",
         }
@@ -108,14 +116,15 @@ pub fn order_of(line: &str, threads: usize) -> Result<Order, OrderError<'_>> {
         None => (line.trim(), ""),
     };
     match word {
+        "or" => turn_of(word, rest, threads, TurnSort::Or),
         "look" => turn_of(word, rest, threads, TurnSort::Look),
         "late" => turn_of(word, rest, threads, TurnSort::Late),
         "back" if rest.is_empty() => Ok(Order::Back { turns: 1 }),
         "back" => match rest.parse::<usize>() {
             Ok(turns) => Ok(Order::Back { turns }),
-            Err(_) => Err(OrderError::NotTurns { word: rest }),
+            Err(_) => Err(OrderError::NotTurns { word: Shown(rest) }),
         },
-        _ if !rest.is_empty() => Err(OrderError::More { word: rest }),
+        _ if !rest.is_empty() => Err(OrderError::More { word: Shown(rest) }),
         _ => order_of_word(word, threads),
     }
 }
@@ -132,7 +141,7 @@ fn order_of_word(word: &str, threads: usize) -> Result<Order, OrderError<'_>> {
         "quit" => Ok(Order::Quit),
         _ => match word.parse::<usize>() {
             Ok(_) => turn_of("", word, threads, TurnSort::Go),
-            Err(_) => Err(OrderError::Unknown { word }),
+            Err(_) => Err(OrderError::Unknown { word: Shown(word) }),
         },
     }
 }
@@ -144,12 +153,12 @@ fn turn_of<'a>(
     sort: TurnSort,
 ) -> Result<Order, OrderError<'a>> {
     if number.is_empty() {
-        return Err(OrderError::NoThread { word: order });
+        return Err(OrderError::NoThread { word: Shown(order) });
     }
     match number.parse::<usize>() {
         Ok(thread) if thread < threads => Ok(Order::Turn { thread, sort }),
         _ => Err(OrderError::NotThread {
-            word: number,
+            word: Shown(number),
             threads,
         }),
     }

@@ -3,7 +3,11 @@ use crate::orders::{HELP, Order, TurnSort};
 use crate::settling::settle;
 use core_base::ListQueues;
 use lot_explore::{Walk, explore_from};
-use lot_findings::{Headline, Source, Telling, line_of, waitings, write_schedule, write_waitings};
+use lot_findings::{
+    GrainName, Headline, Scope, Source, Start, instruction_of, line_of, sort_words, waitings,
+    write_schedule, write_waitings,
+};
+use lot_story::Telling;
 use state_search::{Limits, NoRoom, Observer, Verdict};
 use std::alloc::Global;
 use std::io;
@@ -13,7 +17,7 @@ use std::io::{ErrorKind, Write};
 #[derive(Drop)]
 pub struct Prompt<'a> {
     pub source: Source<'a>,
-    pub grain: &'a str,
+    pub grain: GrainName,
     pub limits: Limits,
     pub moves: Vec<usize>,
 }
@@ -23,7 +27,7 @@ impl<'a> Prompt<'a> {
     ///
     /// # Errors
     ///
-    /// Those of the writer, and `OutOfMemory`. The walk is as before.
+    /// The errors of the writer, and `OutOfMemory`. The walk is as before.
     pub fn obey<W: Write, O: Observer>(
         &mut self,
         alloc: Global,
@@ -32,12 +36,12 @@ impl<'a> Prompt<'a> {
         observer: &mut O,
     ) -> io::Result<()> {
         match order {
-            Order::Turn { thread, sort } => self.take(alloc, out, sort.number(thread)),
+            Order::Turn { thread, sort } => self.take(alloc, out, thread, sort),
             Order::Back { turns } => {
                 self.moves.truncate(self.moves.len().saturating_sub(turns));
                 Ok(())
             }
-            Order::Show => write!(out, "{}", self.telling(alloc)?.shown()),
+            Order::Show => self.show(alloc, out),
             Order::Waits => self.tell_waits(alloc, out),
             Order::Search => self.search(alloc, out, observer),
             Order::Settle => self.settle(alloc, out),
@@ -51,7 +55,7 @@ impl<'a> Prompt<'a> {
     ///
     /// # Errors
     ///
-    /// Those of the writer, and `OutOfMemory`.
+    /// The errors of the writer, and `OutOfMemory`.
     pub fn write_choices<W: Write>(&self, alloc: Global, out: &mut W) -> io::Result<()> {
         let mut telling = self.telling(alloc)?;
         let walk = telling.walk_mut();
@@ -77,19 +81,44 @@ impl<'a> Prompt<'a> {
     }
 
     // Takes a turn, or tells that it is impossible.
-    fn take<W: Write>(&mut self, alloc: Global, out: &mut W, by: usize) -> io::Result<()> {
+    fn take<W: Write>(
+        &mut self,
+        alloc: Global,
+        out: &mut W,
+        thread: usize,
+        sort: TurnSort,
+    ) -> io::Result<()> {
         let mut telling = self.telling(alloc)?;
-        if !telling.walk_mut().is_possible(by).map_err(out_of_memory)? {
+        let by = sort.number(thread);
+        let is_so = TurnSort::of_move(telling.walk(), by) == sort;
+        if !is_so || !telling.walk_mut().is_possible(by).map_err(out_of_memory)? {
             return writeln!(out, "this turn is not possible here");
         }
         telling.turn(alloc, out, by)?;
         self.moves.push(by).map_err(|_| out_of_memory(NoRoom))
     }
 
+    // Shows the locks and the variables.
+    fn show<W: Write>(&self, alloc: Global, out: &mut W) -> io::Result<()> {
+        let telling = self.telling(alloc)?;
+        write!(out, "{}", telling.shown())?;
+        for (variable, number) in telling.walk().scene().variables().iter().enumerate() {
+            write!(out, "{}", self.source.variable_name(variable))?;
+            if let Some(thread) = self.source.owner(variable) {
+                write!(out, " of {}", self.source.thread_name(thread))?;
+            }
+            writeln!(out, " = {number}")?;
+        }
+        Ok(())
+    }
+
     fn tell_waits<W: Write>(&self, alloc: Global, out: &mut W) -> io::Result<()> {
         let telling = self.telling(alloc)?;
         match waitings(alloc, telling.walk(), telling.world()) {
-            Ok(waitings) => write_waitings(out, self.source, waitings.as_slice()),
+            Ok(waitings) => {
+                let numbers = telling.walk().scene().variables();
+                write_waitings(out, self.source, numbers, waitings.as_slice())
+            }
             Err(_) => Err(out_of_memory(NoRoom)),
         }
     }
@@ -117,7 +146,12 @@ impl<'a> Prompt<'a> {
     ) -> io::Result<()> {
         let mut telling = self.telling(alloc)?;
         let verdict = explore_from(alloc, telling.walk(), self.limits, observer);
-        match Headline::of_verdict(&verdict, self.grain, "the search was stopped") {
+        let scope = Scope {
+            grain: self.grain,
+            start: Start::of_moves(self.moves.as_slice()),
+            calls: None,
+        };
+        match Headline::of_verdict(&verdict, scope, "the search was stopped") {
             Ok(headline) => writeln!(out, "{headline}"),
             Err(moves) => self.tell_turns(alloc, out, &mut telling, moves),
         }
@@ -158,6 +192,10 @@ fn write_turn<W: Write>(
 ) -> io::Result<()> {
     let thread = by / 3;
     let line = line_of(walk, thread);
-    let order = TurnSort::of_move(by).word();
-    writeln!(out, "{order}{thread}: line {line}: {}", source.line(line))
+    let order = TurnSort::of_move(walk, by).word();
+    write!(out, "{order}{thread}: line {line}: {}", source.line(line))?;
+    match walk.program().branch(thread, instruction_of(walk, thread)) {
+        Some(_) => writeln!(out, ": {}", sort_words(walk, by)),
+        None => writeln!(out),
+    }
 }

@@ -2,7 +2,7 @@
 use crate::orders::TurnSort;
 use core_base::ListQueues;
 use lot_explore::Walk;
-use lot_findings::Telling;
+use lot_story::Telling;
 use lot_world::Outcome;
 use state_search::NoRoom;
 use std::alloc::Global;
@@ -18,7 +18,7 @@ const MOST_ROUNDS: usize = 50000;
 ///
 /// # Errors
 ///
-/// Those of the writer, and `OutOfMemory`.
+/// The errors of the writer, and `OutOfMemory`.
 pub fn settle<W: Write>(alloc: Global, out: &mut W, telling: &mut Telling<'_>) -> io::Result<()> {
     for _round in 0..MOST_ROUNDS {
         if !settle_round(alloc, out, telling)? {

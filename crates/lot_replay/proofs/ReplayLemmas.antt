@@ -72,7 +72,7 @@ whole_from : (input text : List ℕ) (k : ℕ) (s : ReplayStage) (rest : List (L
 whole_from input text k s rest t st r h = subst (λ ls. LinesWrite ls (text ++ t) st) (sym r.lines)
     (r.goes rest t st h)
 
--- the same where the bytes may be unknown
+-- a stage is reached, where the bytes may be unknown
 abbrev pub ReachedKnown : Option (List ℕ) → Option (List ℕ) → List ℕ → ℕ → ReplayStage → Type 0
 ReachedKnown None now text k s = ⊤
 ReachedKnown (Some x) None text k s = ⊥

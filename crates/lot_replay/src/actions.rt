@@ -85,7 +85,7 @@ fn is_bare_wait(call: OnceCall) -> bool
     matches!(call, OnceCall::Wait { forced: false } | OnceCall::WaitTimed)
 }
 
-// A wait on a condition variable would name its mutex.
+// Returns a wait on a condition variable would name its mutex.
 fn once_call(lock: usize, call: OnceCall, on_condvar: bool) -> Option<Call>
     ensures { result ≡ (if on_condvar && is_bare_wait call then None
         else Some (Call.Once lock call)) }

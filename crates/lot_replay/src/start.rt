@@ -43,7 +43,7 @@ pub fn start<Q: Queues + Drop, R: BufRead, W: Write, E: Write>(
     }
 }
 
-/// Whether the arguments are this word alone.
+/// Returns whether the arguments are this word alone.
 fn is_job(args: &[&str], job: &str) -> bool
     ensures { IsTrue result ↔ (texts_of args.now ≡ job.now ∷ []) }
 {

@@ -1,4 +1,7 @@
 //! The threads and locks of a replay, and what they answer to a line.
+//!
+//! The world is made at the first line that is neither `threads` nor `lock`; where memory for it is
+//! refused, that line is named. A schedule without such a line makes no world.
 ghost use Rattle.std.specs.Prelude.{◌≡◌, ◌≤◌, ℕ, List, [], Option, Some, IfSome, IfNone, length};
 ghost use Rattle.lot_world.specs.declared.world.TheConstants.{MOST_THREADS, MOST_LOCKS};
 ghost use Rattle.lot_text.specs.Lines.{line_len};
@@ -60,7 +63,7 @@ impl<Q: Queues + Drop> State<Q> {
         State { session: None }
     }
 
-    /// The world with the names of its locks, from the first turn, `show` or `drain` on.
+    /// Returns the world with the names of its locks, from the first turn, `show` or `drain` on.
     pub fn scene(&self) -> Option<(&World<Q>, &[Name])>
         ensures { IfSome result
             (λ scene. replay_stage_of self.now.session ≡ running scene.1.now scene.0.now) }

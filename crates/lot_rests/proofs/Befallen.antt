@@ -253,7 +253,7 @@ condvar_late l (condvar.Look all) key h = absurd cc
 abbrev place : RwLockPurpose → Bool → RwLockAt → RwLockPlace
 place q again to = record { purpose = q; retries = again; at = to }
 
--- it goes on in the same call, with no more to do
+-- the thread goes on in the same call, with no more to do
 record Stays (a : Admission) (q : RwLockPurpose) (again : Bool) (to : RwLockAt) (r : Reply) : Type 0 where
   pub again_now : Bool
   pub now : RwLockAt

@@ -86,7 +86,7 @@ module _ (w : State) (t c : ℕ) where
         (ways_then (mutex_ways word) (mutex_next at (reply_to w t (mutex_act m at))))
     inner at can = mutex_row w t m of.sort of.few of.there at can
 
-    -- it releases its mutex
+    -- the thread releases its mutex
     released_row : (timed : Bool) (s : WaiterFate) (a : Act) (work ways : ℕ) (n : Next MutexPlace) → 1 ≤ work
         → Goes w a work (work_then mutex_work n) ways (ways_then (mutex_ways word) n)
         → Goes w a (8 + work) (work_then condvar_work (in_wait m timed (At (released s n)))) ways
@@ -111,7 +111,7 @@ module _ (w : State) (t c : ℕ) where
         (released_row timed s (mutex_act m at) (mutex_work at) (mutex_ways word at)
         (mutex_next at (reply_to w t (mutex_act m at))) (some_work at) (inner at can))
 
-    -- it locks its mutex again
+    -- the thread locks its mutex again
     relocked_row : (timed late : Bool) (a : Act) (work ways : ℕ) (n : Next MutexPlace)
         → Goes w a work (work_then mutex_work n) ways (ways_then (mutex_ways word) n)
         → Goes w a work (work_then condvar_work (in_wait m timed (relocked timed late n))) ways

@@ -97,7 +97,7 @@ module _ (w : State) (t l : ℕ) (sort : (rules_of (kind_at w l)).sort ≡ locks
       by_word true true is = inr (omega arith, inl (sets is))
       by_word true false is = inl (omega arith)
 
-  -- it tries to own the mutex
+  -- the thread tries to own the mutex
   own_row : (e : Entry) (again : Bool) (seen : ℕ) → is_locked seen ≡ false
       → Goes w (act.Word l (Exchange seen (seen + 1))) 4
       (work_then mutex_work (mutex_next (Lock e again (lock.Decide seen)) (Value word)))

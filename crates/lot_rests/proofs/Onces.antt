@@ -163,7 +163,7 @@ module _ (w : State) (t l : ℕ) (sort : (rules_of (kind_at w l)).sort ≡ locks
     ) (omega arith);
   }
 
-  -- it finds what it saw
+  -- the thread finds what it saw
   won : (c : OnceCall) (again : Bool) (seen : ℕ) → (word == seen) ≡ true → (k : Course) → course_of c seen ≡ k
       → is_park k ≡ false
       → Comes c again (course_act l seen k) false true k

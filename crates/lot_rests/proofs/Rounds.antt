@@ -93,7 +93,7 @@ goes_round w v n moved all so = record {
 
 -- ---------------------------------------------------------------- rounds
 
--- so far
+-- threads have gone one after another, and led from one state to another
 pub record HasGone (w v : State) : Type 0 where
   pub threads : List ℕ
   pub go : AllGo w threads

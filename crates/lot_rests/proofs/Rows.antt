@@ -40,7 +40,7 @@ clear_most kind word =
 
 -- ---------------------------------------------------------------- acts
 
--- it changes no word, and no place of another
+-- an act changes no word, and no place of another thread
 abbrev pub is_still : State → Act → Bool
 is_still w (Word l f) = apply f (word_at w l) == word_at w l
 is_still w (HandOver l f) = not (takes_effect f (word_at w l)) && (apply f (word_at w l) == word_at w l)
@@ -62,7 +62,7 @@ abbrev pub Goes : State → Act → (work work2 ways ways2 : ℕ) → Type 0
 Goes w a work work2 ways ways2 =
     (work2 + 1 ≤ work) ⊎ ((work2 ≤ work) × (SetsBit w a ⊎ ((is_still w a ≡ true) × (ways2 + 1 ≤ ways))))
 
--- it comes nearer
+-- the thread comes nearer
 pub nears : {w : State} {a : Act} (work work2 ways ways2 : ℕ) → work2 ≤ work → is_still w a ≡ true
     → ways2 + 1 ≤ ways
     → Goes w a work work2 ways ways2

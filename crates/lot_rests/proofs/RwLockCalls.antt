@@ -148,7 +148,7 @@ module _ (w : State) (t l : ℕ) (readers : has_readers (rules_of (kind_at w l))
     abbrev hands : HandOverAt → RwLockCallPlace
     hands to = HandOver x bumps to
 
-    -- it ends, or enters again
+    -- the thread ends, or enters again
     released_works : (b : Bool) → work_then call_work (released x b) ≡ work_after b 10
     released_works true = again_works x
     released_works false = refl
@@ -198,7 +198,7 @@ module _ (w : State) (t l : ℕ) (readers : has_readers (rules_of (kind_at w l))
     take_row : (k : Taken) → call_work (hands (took x k)) + 1 ≤ base + 3
     take_row k = let works = took_works x k in omega arith
 
-    -- its exchange, which hands the lock over or only gives the right up
+    -- the exchange of the thread, which hands the lock over or only gives the right up
     exchanged_row : (k : Taken) (seen : ℕ) (y : Act) → ((word == seen) ≡ false → is_still w y ≡ true)
         → (room : Bool)
         → Goes w y (base + 2) (work_then call_work (if word == seen then At

@@ -79,7 +79,7 @@ parked_fewer sort readers v few even = subst (λ n. clear_by sort n + 1 ≤ clea
     by_sort locks.Recursive r = fewer
     by_sort sort r = absurd cc
 
--- so of the bit of the second queue
+-- a word with the bit of the second queue set has fewer clear bits
 aside_fewer : (sort : Sort) → has_readers sort ≡ true → (v : ℕ) → v < 2 ^ 64 → has_aside v ≡ false
     → clear_by sort (plus v 2) + 1 ≤ clear_by sort v
 aside_fewer sort readers v few none = subst (λ n. clear_by sort n + 1 ≤ clear_by sort v)
@@ -215,7 +215,7 @@ module _ (w : State) (t l : ℕ) (readers : has_readers (rules_of (kind_at w l))
         by_word false Timed is = nears 10 10 (loads waits + 1) (loads waits) (omega arith)
             (exchange_fails 0 8 word is) (omega arith)
 
-    -- it came in
+    -- the thread came in
     came_less : (to : RwLockAt) (q2 : RwLockPurpose) → work_then plain_work (came_in_for (on to) q2) + 1 ≤ 10
     came_less to (purpose.Enter access.Exclusive how) = omega arith
     came_less to (purpose.Enter access.Upgradable how) = omega arith
@@ -412,7 +412,7 @@ module _ (w : State) (t l : ℕ) (readers : has_readers (rules_of (kind_at w l))
     took_less Main any false = omega arith
     took_less Second any none_left = omega arith
 
-    -- it has taken some, or none
+    -- the thread has taken some, or none
     takes_less : (m : Line) (told : Reply) → TellsTaken told
         → work_then plain_work (wake_next (on (at.Wake m waking.Take)) m waking.Take told) + 1 ≤ 3
     takes_less m (Took any none_left) told = took_less m any none_left

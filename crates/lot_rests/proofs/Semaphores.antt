@@ -81,7 +81,7 @@ module _ (w : State) (t l : ℕ) (sort : (rules_of (kind_at w l)).sort ≡ locks
       by_word true false is = inr (omega arith, inl (sets is))
       by_word true true is = inl (omega arith)
 
-  -- it tries to get a permit
+  -- the thread tries to get a permit
   take_row : (timed again : Bool) (seen : ℕ) → is_free seen ≡ true
       → Goes w (act.Word l (Exchange seen (seen - 2))) 4
       (work_then semaphore_work (semaphore_next (Acquire timed again (acquire.Decide seen)) (Value word)))

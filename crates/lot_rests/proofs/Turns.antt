@@ -72,7 +72,7 @@ module _ (w v : State) (size : SameSize w v) where
   locks : length v.locks ≡ length w.locks
   locks = size.locks
 
-  -- it uses an event up, and changes one word at most
+  -- the step uses an event up, and changes one word at most
   event_falls : (t l : ℕ) → t < length w.places → ((u : ℕ) → work_at v u ≤ work_at w u) → work_at v t + 1
       ≤ work_at w t
       → ((k : ℕ) → k ≢ l → clear_at v k ≤ clear_at w k) → left v + 1 ≤ left w
@@ -88,7 +88,7 @@ module _ (w v : State) (size : SameSize w v) where
       (work_at v) + sum_below (length w.locks) (clear_at v)) (sum_below (length w.places) (ways_at w))
       (sum_below (length w.places) (ways_at v)) (omega arith) short)
 
-  -- it sets a bit
+  -- the step sets a bit
   bit_falls : (l : ℕ) → l < length w.locks → ((u : ℕ) → work_at v u ≤ work_at w u)
       → ((k : ℕ) → clear_at v k ≤ clear_at w k)
       → clear_at v l + 1 ≤ clear_at w l → left v + 1 ≤ left w
@@ -103,7 +103,7 @@ module _ (w v : State) (size : SameSize w v) where
       (work_at v) + sum_below (length w.locks) (clear_at v)) (sum_below (length w.places) (ways_at w))
       (sum_below (length w.places) (ways_at v)) (omega arith) short)
 
-  -- its thread comes nearer
+  -- the thread of the step comes nearer
   way_falls : (t : ℕ) → t < length w.places → ((u : ℕ) → work_at v u ≤ work_at w u)
       → ((k : ℕ) → clear_at v k ≤ clear_at w k)
       → ((u : ℕ) → ways_at v u ≤ ways_at w u) → ways_at v t + 1 ≤ ways_at w t → left v + 1 ≤ left w

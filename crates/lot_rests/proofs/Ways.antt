@@ -88,7 +88,7 @@ abbrev pub ways_then : {A : Type 0} → (A → ℕ) → Next A → ℕ
 ways_then ways (At at) = ways at
 ways_then ways (End answer) = 0
 
--- it goes into the section where the mutex is owned and its bit is set
+-- the thread goes into the section where the mutex is owned and its bit is set
 abbrev pub lock_enters : ℕ → Bool
 lock_enters seen = is_locked seen && not (seen == 1)
 

@@ -1,4 +1,8 @@
 //! Where things are on a picture.
+//!
+//! A width is that of the whole picture, at which letters keep their size. In 84 millimetres there is
+//! room for fourteen columns of a schedule with one lock; further columns are in a panel below. The
+//! least width is 60 millimetres, for labels and four columns.
 
 use lot_picture::{Column, Recording};
 use std::alloc::{AllocError, Global};
@@ -176,12 +180,31 @@ fn room_of_labels(recording: &Recording, names_lanes: bool) -> Pixels {
     } else {
         Pixels(58)
     };
-    labels.max(Pixels::of_text(name.saturating_add(9), 56))
+    labels
+        .max(Pixels::of_text(name.saturating_add(9), 56))
+        .max(room_of_threads(recording, names_lanes))
+}
+
+/// Returns the room of the names of threads, beside those of lanes.
+fn room_of_threads(recording: &Recording, names_lanes: bool) -> Pixels {
+    let mut longest = 0;
+    for name in &recording.thread_names {
+        longest = name.len().max(longest);
+    }
+    let lanes = if names_lanes {
+        Pixels::of_text(longest_name(recording), 60)
+    } else {
+        Pixels(0)
+    };
+    Pixels::of_text(longest, 56) + lanes + Pixels(10)
 }
 
 fn longest_name(recording: &Recording) -> usize {
     let mut longest = 0;
     for row in &recording.rows {
+        longest = row.name.text().len().max(longest);
+    }
+    for row in &recording.variables {
         longest = row.name.text().len().max(longest);
     }
     longest

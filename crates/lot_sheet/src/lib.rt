@@ -12,4 +12,4 @@ pub mod words;
 pub use headings::heading_of;
 pub use lengths::{Length, Unit};
 pub use sheet::Sheet;
-pub use titles::title_of;
+pub use titles::{title_of, unit_word};

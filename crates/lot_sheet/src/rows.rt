@@ -1,9 +1,10 @@
-//! Rows of text below the lanes: the words of locks and their queues.
+//! Rows of text below the lanes: the words of locks, their queues, and variables.
 
 use crate::layout::{COLUMN, Layout, Panel, Pixels, runs};
-use crate::titles::wrapped;
+use crate::titles::{push_bytes, wrapped};
 use crate::words::{text_of_queue, text_of_word};
-use lot_picture::{LockRow, Recording};
+use lot_picture::{LockRow, Recording, VariableRow};
+use lot_text::Name;
 use std::alloc::{AllocError, Global};
 
 /// The room of a row whose texts lie.
@@ -26,11 +27,9 @@ pub struct TextRow {
 }
 
 impl TextRow {
-    fn new(alloc: Global, what: &str, row: &LockRow) -> Result<TextRow, AllocError> {
+    fn new(alloc: Global, what: &str, named: Name) -> Result<TextRow, AllocError> {
         let mut name = String::from_str(alloc, what)?;
-        for byte in row.name.text() {
-            name.push(char::from(*byte))?;
-        }
+        push_bytes(&mut name, named.text())?;
         Ok(TextRow {
             name,
             texts: Vec::new(alloc),
@@ -142,13 +141,13 @@ pub fn fitting(text: &str, width: Pixels) -> &str {
     }
 }
 
-/// Returns the rows of all locks, of a queue only where somebody waits.
+/// Returns the rows of all variables, and of all locks, of a queue only where somebody waits.
 pub fn rows_of(
     alloc: Global,
     recording: &Recording,
     layout: &Layout,
 ) -> Result<Vec<TextRow>, AllocError> {
-    let mut rows = Vec::new(alloc);
+    let mut rows = numbers_of(alloc, recording, layout)?;
     for row in recording.rows.iter() {
         let mut words = words_of(alloc, recording, row)?;
         words.measure(alloc, recording, layout)?;
@@ -162,8 +161,34 @@ pub fn rows_of(
     Ok(rows)
 }
 
+fn numbers_of(
+    alloc: Global,
+    recording: &Recording,
+    layout: &Layout,
+) -> Result<Vec<TextRow>, AllocError> {
+    let mut rows = Vec::new(alloc);
+    for row in recording.variables.iter() {
+        let mut numbers = numbers_in(alloc, row)?;
+        numbers.measure(alloc, recording, layout)?;
+        rows.push(numbers)?;
+    }
+    Ok(rows)
+}
+
+fn numbers_in(alloc: Global, row: &VariableRow) -> Result<TextRow, AllocError> {
+    let mut numbers = TextRow::new(alloc, "", row.name)?;
+    if let Some(owner) = row.owner {
+        let of = format!(in alloc; " of {owner}")?;
+        numbers.name.push_str(of.as_str())?;
+    }
+    for number in row.numbers.iter() {
+        numbers.push(format!(in alloc; "{number}")?)?;
+    }
+    Ok(numbers)
+}
+
 fn words_of(alloc: Global, recording: &Recording, row: &LockRow) -> Result<TextRow, AllocError> {
-    let mut words = TextRow::new(alloc, "word of ", row)?;
+    let mut words = TextRow::new(alloc, "word of ", row.name)?;
     for word in row.words.iter() {
         words.push(text_of_word(alloc, recording, row.kind, *word)?)?;
     }
@@ -171,7 +196,7 @@ fn words_of(alloc: Global, recording: &Recording, row: &LockRow) -> Result<TextR
 }
 
 fn queues_of(alloc: Global, row: &LockRow) -> Result<TextRow, AllocError> {
-    let mut queues = TextRow::new(alloc, "queue of ", row)?;
+    let mut queues = TextRow::new(alloc, "queue of ", row.name)?;
     for queue in row.queues.iter() {
         queues.push(text_of_queue(alloc, row, queue.as_slice())?)?;
     }

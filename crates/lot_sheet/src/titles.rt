@@ -1,13 +1,13 @@
 //! How pictures and locks are called.
 
-use lot_picture::{LockRow, Recording};
+use lot_picture::{ColumnKind, LockRow, Recording};
 use lot_world::Kind;
 use std::alloc::{AllocError, Global};
 
 /// How many locks a title names.
 const MOST_NAMED: usize = 4;
 
-/// Returns what a picture is called: its locks, each with its kind, and how many threads and lines
+/// Returns what a picture is called: its locks, each with its kind, and how many threads and lines or turns
 /// there are.
 pub fn title_of(alloc: Global, recording: &Recording) -> Result<String, AllocError> {
     let mut title = String::new(alloc);
@@ -18,8 +18,16 @@ pub fn title_of(alloc: Global, recording: &Recording) -> Result<String, AllocErr
     }
     push_counted(&mut title, recording.threads as u64, "thread")?;
     title.push_str(", ")?;
-    push_counted(&mut title, recording.lines, "line")?;
+    push_counted(&mut title, recording.lines, unit_word(recording.kind))?;
     Ok(title)
+}
+
+/// Returns the word for a column.
+pub fn unit_word(kind: ColumnKind) -> &'static str {
+    match kind {
+        ColumnKind::Line => "line",
+        ColumnKind::Turn => "turn",
+    }
 }
 
 fn push_locks(title: &mut String, recording: &Recording) -> Result<(), AllocError> {

@@ -1,4 +1,7 @@
 //! The words of locks and their queues, in words.
+//!
+//! A word is cut to its number where its columns are narrower, and a line below says what such numbers
+//! mean.
 
 use core_base::{Waiter, Want, main_key};
 use lot_picture::{LockRow, Recording};

@@ -1,4 +1,7 @@
 //! Where a thread stands, and where each step leads it.
+//!
+//! `advance` has the condition that the lock's number is below 2^63, so that its keys are numbers.
+//! Every place of a world meets it.
 ghost use Rattle.std.specs.Prelude.{◌≡◌};
 ghost use Rattle.steps_base.specs.Acts.{outcome_of};
 ghost use Rattle.lot_steps.specs.Steps.{HasKeys, ShowsKeys, first_place, has_right, act_of, next_place};
@@ -43,7 +46,7 @@ pub enum Place {
 }
 
 impl Place {
-    /// Where a call of a lock of this kind begins.
+    /// Returns where a call of a lock of this kind begins.
     pub fn first(kind: Kind, call: Call) -> Place
         ensures { result ≡ first_place kind call }
     {
@@ -97,7 +100,7 @@ impl Place {
         }
     }
 
-    /// The step of `advance`, of a place that is kept: a running thread copies none of it.
+    /// Takes the step of `advance`, of a place that is kept: a running thread copies none of it.
     pub fn advance_in_place(&mut self, reply: Reply) -> Act
         requires keys { HasKeys self.old }
         requires shown { ShowsKeys self.old reply }
@@ -157,7 +160,7 @@ impl Place {
         *self = Place::Idle;
     }
 
-    /// The step of every call: where the reply to its act leads a thread. It answers what the thread
+    /// The step of every call: where the reply to its act leads a thread. Returns what the thread
     /// is told.
     pub fn step(&mut self, reply: Reply) -> Outcome
         ensures place { self.new ≡ next_place self.old reply }
@@ -245,8 +248,8 @@ impl Place {
         }
     }
 
-    /// How many shared rights of the lock the thread has after its operation on the word, which saw
-    /// this value. None where their number stays.
+    /// Returns how many shared rights of the lock the thread has after its operation on the word,
+    /// which saw this value. None where their number stays.
     pub fn shares_after(&self, seen: u64, shares: usize) -> Option<usize>
         ensures { result ≡ shares_after self.now seen shares }
     {
@@ -271,7 +274,7 @@ impl Place {
         }
     }
 
-    /// The thread that took this one from its queue, and has not left its section yet.
+    /// Returns the thread that took this one from its queue, and has not left its section yet.
     pub fn taker(&self) -> Option<usize>
         ensures { result ≡ taker self.now }
     {
@@ -322,7 +325,7 @@ impl Place {
         }
     }
 
-    /// The key under which the thread sleeps in a timed call, where it may give up.
+    /// Returns the key under which the thread sleeps in a timed call, where it may give up.
     pub fn late_key(self) -> Option<Key>
         requires { HasKeys self }
         ensures { result ≡ late_key self }
@@ -349,8 +352,8 @@ impl Place {
         }
     }
 
-    /// Whether the thread owes a wake on a lock: from the step that saw waiters of one of its
-    /// queues, or from entering the section, until it leaves that section.
+    /// Returns whether the thread owes a wake on a lock: from the step that saw waiters of one of
+    /// its queues, or from entering the section, until it leaves that section.
     pub fn owes_on(&self, lock: usize) -> bool
         ensures { result ≡ owes_on self.now lock }
     {
@@ -364,8 +367,8 @@ impl Place {
         }
     }
 
-    /// Whether the thread was woken and tries again on a lock: from the wake note until it stands
-    /// in a queue again, owns what it waited for, or its call ends.
+    /// Returns whether the thread was woken and tries again on a lock: from the wake note until it
+    /// stands in a queue again, owns what it waited for, or its call ends.
     pub fn retries_on(&self, lock: usize) -> bool
         ensures { result ≡ retries_on self.now lock }
     {
@@ -380,8 +383,8 @@ impl Place {
     }
 }
 
-/// Whether a thread has the right that a call needs, of a lock with these owners, which it shares
-/// so many times.
+/// Returns whether a thread has the right that a call needs, of a lock with these owners, which it
+/// shares so many times.
 pub fn has_right(call: Call, thread: usize, owners: Owners, shares: usize) -> bool
     ensures { result ≡ has_right call thread owners shares }
 {
@@ -394,7 +397,7 @@ pub fn has_right(call: Call, thread: usize, owners: Owners, shares: usize) -> bo
     }
 }
 
-/// The step of every call, with what the thread does next in place of what it is told.
+/// Takes the step of every call, with what the thread does next in place of what it is told.
 pub fn advance(place: Place, reply: Reply) -> (Place, Act)
     requires keys { HasKeys place }
     requires shown { ShowsKeys place reply }

@@ -21,12 +21,14 @@ enum Entry {
     Step,
     NoStep,
     Effect(Effect),
+    Again,
 }
 
 /// All entries, in their order.
-const ENTRIES: [Entry; 17] = [
+const ENTRIES: [Entry; 18] = [
     Entry::Step,
     Entry::NoStep,
+    Entry::Again,
     Entry::Effect(Effect::Wakes),
     Entry::Effect(Effect::HandsOver),
     Entry::Effect(Effect::Moves),
@@ -53,6 +55,7 @@ impl Entry {
             Entry::Inside => "is inside a section",
             Entry::Step => "takes the step",
             Entry::NoStep => "can't take it now",
+            Entry::Again => "comes again and again",
             Entry::Effect(effect) => match arrow_of(effect) {
                 Some(arrow) => arrow.means,
                 None => "takes off the queue",
@@ -65,6 +68,7 @@ impl Entry {
         match self {
             Entry::Step => some_column(recording, true),
             Entry::NoStep => some_column(recording, false),
+            Entry::Again => recording.again.is_some(),
             Entry::Effect(effect) => some_event(recording, effect),
             Entry::Right(_) | Entry::Deed(_) | Entry::Inside => recording
                 .lanes
@@ -78,7 +82,7 @@ impl Entry {
             Entry::Right(right) => cell.right == Some(right),
             Entry::Deed(deed) => cell.deed == Some(deed),
             Entry::Inside => cell.is_inside,
-            Entry::Step | Entry::NoStep | Entry::Effect(_) => false,
+            Entry::Step | Entry::NoStep | Entry::Again | Entry::Effect(_) => false,
         }
     }
 }
@@ -162,6 +166,7 @@ fn draw_sign<W: Write>(out: &mut W, entry: Entry, x: Pixels, y: Pixels) -> io::R
         Entry::Inside => draw_inside(out, swatch(x, y)),
         Entry::Step => put_marker(out, x + Pixels(8), y + Pixels(9), true),
         Entry::NoStep => put_marker(out, x + Pixels(8), y + Pixels(9), false),
+        Entry::Again => put_rect(out, "inside", swatch(x, y).bar(Pixels(5))),
         Entry::Effect(effect) => match arrow_of(effect) {
             Some(arrow) => draw_lying(out, arrow, x, y + Pixels(7)),
             None => Ok(()),

@@ -156,11 +156,8 @@ fn draw_thread<W: Write>(
     thread: usize,
     top: Pixels,
 ) -> io::Result<()> {
-    let base = top + Pixels(14);
-    writeln!(
-        out,
-        "<text x=\"{MARGIN}\" y=\"{base}\">thread {thread}</text>"
-    )?;
+    let (base, label) = (top + Pixels(14), sheet.recording.thread_label(thread));
+    writeln!(out, "<text x=\"{MARGIN}\" y=\"{base}\">{label}</text>")?;
     let lanes = sheet.recording.lanes_of(thread);
     if lanes.is_empty() {
         return draw_frame(out, &sheet.layout, panel, top);

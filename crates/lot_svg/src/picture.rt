@@ -5,8 +5,8 @@ use crate::panels::draw_panel;
 use crate::shapes::{Area, put_label, put_rect};
 use crate::style::STYLE;
 use crate::texts::put_text;
-use lot_picture::{Column, Recording};
-use lot_sheet::layout::{COLUMN, MARGIN, Panel, Pixels, TITLE};
+use lot_picture::{Column, ColumnKind, Recording};
+use lot_sheet::layout::{APART, COLUMN, MARGIN, Panel, Pixels, TITLE};
 use lot_sheet::sheet::KEY;
 use lot_sheet::{Length, Sheet};
 use std::alloc::Global;
@@ -25,15 +25,16 @@ pub struct Drawing<'a> {
     pub marks: &'a [u64],
     /// How wide it is on paper.
     pub width: Option<Length>,
-    /// Whether each column has a rectangle that a page can find, `column-K`.
-    pub names_columns: bool,
+    /// Whether it is part of a page, which finds each column by its rectangle, `column-K`, and keeps the
+    /// names of threads in view.
+    pub is_for_page: bool,
 }
 
 /// Writes the picture of a schedule.
 ///
 /// # Errors
 ///
-/// Those of the writer, and `OutOfMemory`.
+/// The errors of the writer, and `OutOfMemory`.
 pub fn draw<W: Write>(
     alloc: Global,
     out: &mut W,
@@ -44,12 +45,27 @@ pub fn draw<W: Write>(
     let legend = sheet.legend_top();
     let notes = legend_bottom(recording, Spot::new(legend, sheet.width));
     let height = notes + notes_height(recording) + MARGIN;
-    open(out, &sheet, height, drawing.width)?;
+    open(out, &sheet, height, drawing)?;
     draw_panels(alloc, out, &sheet, drawing)?;
     draw_keys(out, &sheet)?;
     draw_legend(out, recording, Spot::new(legend, sheet.width))?;
     draw_notes(out, recording, notes)?;
-    out.write_all(b"</svg>\n")
+    out.write_all(b"</svg>\n")?;
+    if drawing.is_for_page {
+        put_names(out, &sheet)?;
+    }
+    Ok(())
+}
+
+/// Writes what is before the columns once more, as a picture that a page lays over the first and keeps in
+/// view.
+fn put_names<W: Write>(out: &mut W, sheet: &Sheet<'_>) -> io::Result<()> {
+    let (top, width) = (sheet.top(), sheet.layout.left);
+    let height = sheet.keys_top().less(top + APART);
+    writeln!(
+        out,
+        "<svg id=\"names\" width=\"{width}\" height=\"{height}\" viewBox=\"0 {top} {width} {height}\" style=\"margin-top:{top}px\"><use href=\"#lots\"/></svg>"
+    )
 }
 
 /// Writes all panels.
@@ -87,7 +103,10 @@ fn draw_frames<W: Write>(
         if drawing.marks.contains(&column.number) {
             put_rect(out, "chosen", area)?;
         }
-        if drawing.names_columns {
+        if sheet.recording.comes_again(column.number) {
+            put_rect(out, "inside", area.bar(sheet.height_of_headings(panel)))?;
+        }
+        if drawing.is_for_page {
             put_named(out, column, area)?;
         }
     }
@@ -114,11 +133,14 @@ fn open<W: Write>(
     out: &mut W,
     sheet: &Sheet<'_>,
     height: Pixels,
-    asked: Option<Length>,
+    drawing: Drawing<'_>,
 ) -> io::Result<()> {
     out.write_all(b"<svg class=\"lots\" xmlns=\"http://www.w3.org/2000/svg\" ")?;
+    if drawing.is_for_page {
+        out.write_all(b"id=\"lots\" ")?;
+    }
     let width = sheet.width;
-    match asked {
+    match drawing.width {
         Some(length) => {
             let high = length.scaled(height, width);
             write!(out, "width=\"{length}\" height=\"{high}\"")?;
@@ -186,11 +208,14 @@ impl Note {
         (all.saturating_sub(shown), all)
     }
 
-    fn what(self) -> &'static str {
+    fn what(self, recording: &Recording) -> &'static str {
         match self {
             Note::Threads => "threads",
             Note::Locks => "locks",
-            Note::Lines => "lines",
+            Note::Lines => match recording.kind {
+                ColumnKind::Line => "lines",
+                ColumnKind::Turn => "turns",
+            },
         }
     }
 }
@@ -211,7 +236,7 @@ fn draw_notes<W: Write>(out: &mut W, recording: &Recording, top: Pixels) -> io::
     for note in NOTES {
         let (hidden, all) = note.counts(recording);
         if hidden != 0 {
-            draw_note(out, note.what(), hidden, all, base)?;
+            draw_note(out, note.what(recording), hidden, all, base)?;
             base = base + NOTE;
         }
     }

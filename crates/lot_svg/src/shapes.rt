@@ -1,4 +1,7 @@
 //! The shapes of a picture, each a line of SVG.
+//!
+//! A line of SVG is written by a function for its shape, since each `write!` is proved anew where it is
+//! written.
 
 use crate::looks::{Ground, Look};
 use crate::texts::put_text;

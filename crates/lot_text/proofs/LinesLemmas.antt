@@ -65,7 +65,7 @@ lines_begin b (c ∷ part) rest h =
           (ne_eqb b 10 (All-head (λ y. y ≢ 10) b (c ∷ part) h)) ∙ ap (onto_first b) r.is;
     }
 
--- the same where the bytes may be unknown
+-- two takes of a line are one, where the bytes may be unknown
 pub takes_fed : (a b c : Option (List ℕ)) (line part : List ℕ) → Consumes a b line
     → Consumes b c (part ++ 10 ∷ []) → IsOneLine (line ++ part) → TakesLine a c (line ++ part)
 takes_fed None b c line part p q h = tt

@@ -41,30 +41,30 @@ pub enum NamedCall {
     RwLock(RwLockCall),
     Once(OnceCall),
     Semaphore(SemaphoreCall),
-    /// It notifies the first waiter of a condition variable, or all.
+    /// The thread notifies the first waiter of a condition variable, or all.
     Notify { all: bool },
-    /// It waits on a condition variable with the mutex of this name.
+    /// The thread waits on a condition variable with the mutex of this name.
     Wait { mutex: Name, timed: bool },
 }
 
 /// A thread's turn, with locks by their names.
 #[derive(Clone, Copy, PartialEq, Eq)]
 pub enum NamedTurn {
-    /// It begins a call.
+    /// The thread begins a call.
     Begin { call: NamedCall, name: Name },
-    /// It does the next act of its call.
+    /// The thread does the next act of its call.
     Go,
-    /// It loads a word again in place of an act that leads to sleep.
+    /// The thread loads a word again in place of an act that leads to sleep.
     Spin,
-    /// Its time is up, and it gives up a timed sleep.
+    /// The thread's time is up, and it gives up a timed sleep.
     Late,
     /// The closure of its call answers well, and it goes on.
     Ok,
     /// The closure of its call answers an error, and it goes on.
     Err,
-    /// It goes on alone.
+    /// The thread goes on alone.
     Solo,
-    /// It begins a call, and goes on alone.
+    /// The thread begins a call, and goes on alone.
     Do { call: NamedCall, name: Name },
 }
 
@@ -107,7 +107,7 @@ fn split_word(text: &[u8]) -> (&[u8], Option<&[u8]>)
     (&text[..at], Some(&text[at + 1..]))
 }
 
-/// How many bytes come before the first space, or all.
+/// Returns how many bytes come before the first space, or all.
 fn len_of_word(text: &[u8]) -> usize
     ensures within { result ≤ length text.now }
     ensures before { All (λ b. b ≢ 32) (take result text.now) }
@@ -159,7 +159,7 @@ fn command_of_four(first: &[u8], second: &[u8], third: &[u8], fourth: &[u8]) -> 
     calling_command(first, second, call(third), fourth)
 }
 
-/// A wait on a condition variable, with a mutex.
+/// Returns a wait on a condition variable, with a mutex.
 fn command_of_five(
     first: &[u8],
     second: &[u8],
@@ -174,7 +174,7 @@ fn command_of_five(
     calling_command(first, second, call, fourth)
 }
 
-/// A lock with a reader limit, or with its permits.
+/// Returns a lock with a reader limit, or with its permits.
 fn limited_lock(name: &[u8], kind: &[u8], limit: &[u8]) -> Option<Command>
     ensures { result ≡ lock_command (name_of name.now)
         (limited_kind_of kind.now (number_read limit.now)) }
@@ -184,7 +184,7 @@ fn limited_lock(name: &[u8], kind: &[u8], limit: &[u8]) -> Option<Command>
     Some(Command::Lock { name, kind })
 }
 
-/// A turn that calls a lock.
+/// Takes a turn that calls a lock.
 fn calling_command(
     thread: &[u8],
     turn: &[u8],
@@ -200,7 +200,7 @@ fn calling_command(
     Some(Command::Turn { thread, turn })
 }
 
-/// The turn that a word names, which calls no lock.
+/// Returns the turn that a word names, which calls no lock.
 fn turn(word: &[u8]) -> Option<NamedTurn>
     ensures { result ≡ turn_of word.now }
 {
@@ -217,7 +217,7 @@ fn turn(word: &[u8]) -> Option<NamedTurn>
     }
 }
 
-/// The turn that a word names, by which a closure answers.
+/// Returns the turn that a word names, by which a closure answers.
 fn closing_turn(word: &[u8]) -> Option<NamedTurn>
     ensures { result ≡ closing_turn_of word.now }
 {
@@ -230,7 +230,7 @@ fn closing_turn(word: &[u8]) -> Option<NamedTurn>
     }
 }
 
-/// The turn that a word names, which calls a lock.
+/// Returns the turn that a word names, which calls a lock.
 fn calling_turn(word: &[u8], call: NamedCall, name: Name) -> Option<NamedTurn>
     ensures { result ≡ calling_turn_of word.now call name }
 {
@@ -243,7 +243,8 @@ fn calling_turn(word: &[u8], call: NamedCall, name: Name) -> Option<NamedTurn>
     }
 }
 
-/// The kind of lock that a word names. Readers without a limit may be as many as fit into a word.
+/// Returns the kind of lock that a word names. Readers without a limit may be as many as fit into a
+/// word.
 fn kind(word: &[u8]) -> Option<Kind>
     ensures { result ≡ kind_of word.now }
 {
@@ -260,7 +261,7 @@ fn kind(word: &[u8]) -> Option<Kind>
     }
 }
 
-/// The kind of lock that a word names, with this limit of readers or so many permits.
+/// Returns the kind of lock that a word names, with this limit of readers or so many permits.
 fn limited_kind(word: &[u8], limit: usize) -> Option<Kind>
     ensures { result ≡ limited_kind_of word.now (Some limit) }
 {
@@ -272,7 +273,7 @@ fn limited_kind(word: &[u8], limit: usize) -> Option<Kind>
     }
 }
 
-/// The kind of reader-writer lock that a word names, with this limit.
+/// Returns the kind of reader-writer lock that a word names, with this limit.
 fn rwlock_kind(word: &[u8], limit: u64) -> Option<Kind>
     ensures { result ≡ rwlock_kind_of word.now limit }
 {
@@ -307,7 +308,7 @@ fn call(word: &[u8]) -> Option<NamedCall>
     notification(word)
 }
 
-/// The call of a mutex that a word names.
+/// Returns the call of a mutex that a word names.
 fn mutex_call(word: &[u8]) -> Option<MutexCall>
     ensures { result ≡ mutex_call_of word.now }
 {
@@ -410,7 +411,7 @@ fn fair_call(word: &[u8]) -> Option<RwLockCall>
     }
 }
 
-/// The call of a `Once` that a word names.
+/// Returns the call of a `Once` that a word names.
 fn once_call(word: &[u8]) -> Option<OnceCall>
     ensures { result ≡ once_call_of word.now }
 {
@@ -429,7 +430,7 @@ fn once_call(word: &[u8]) -> Option<OnceCall>
     }
 }
 
-/// The call of a semaphore that a word names.
+/// Returns the call of a semaphore that a word names.
 fn semaphore_call(word: &[u8]) -> Option<SemaphoreCall>
     ensures { result ≡ semaphore_call_of word.now }
 {
@@ -476,7 +477,7 @@ fn wait(word: &[u8], mutex: Option<Name>) -> Option<NamedCall>
     }
 }
 
-/// The number that a word spells as it would be printed, in at most 19 digits.
+/// Returns the number that a word spells as it would be printed, in at most 19 digits.
 pub(crate) fn number(word: &[u8]) -> Option<usize>
     ensures { result ≡ number_read word.now }
 {
@@ -489,7 +490,7 @@ pub(crate) fn number(word: &[u8]) -> Option<usize>
     digits(word)
 }
 
-/// The number that digits spell.
+/// Returns the number that digits spell.
 fn digits(word: &[u8]) -> Option<usize>
     requires { length word.now ≤ MOST_DIGITS }
     ensures { result ≡ digits_after 0 word.now }

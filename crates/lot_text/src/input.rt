@@ -82,7 +82,7 @@ fn take_piece<R: BufRead>(reader: &mut R, line: &mut ArrayVec<u8, LINE_LEN>) -> 
     Piece::More
 }
 
-/// How many bytes come before the first line feed, or all.
+/// Returns how many bytes come before the first line feed, or all.
 pub(crate) fn len_of_line(bytes: &[u8]) -> usize
     ensures within { result ≤ length bytes.now }
     ensures before { IsOneLine (take result bytes.now) }

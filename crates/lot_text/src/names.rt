@@ -1,4 +1,8 @@
 //! The names of locks.
+//!
+//! A name is found by a hint: a table by the hash of a name says where it may be, and a look there
+//! decides. Where another name of that hash came since, all are looked through. The table has no
+//! invariant.
 ghost use Rattle.std.specs.Prelude.{◌≡◌, ◌≢◌, ◌<◌, ◌≤◌, ◌||◌, ◌++◌, ◌∷◌, [], ℕ, Some, None, IfErr, IfOk};
 ghost use Rattle.std.specs.Prelude.{if◌then◌else◌, length, slice_index};
 ghost use Rattle.std.specs.Str.{bytes_eq};
@@ -42,7 +46,7 @@ impl Model for Name {
 }
 
 impl Name {
-    /// The name that a word spells.
+    /// Returns the name that a word spells.
     pub fn from_word(word: &[u8]) -> Option<Name>
         ensures { result ≡ name_of word.now }
     {
@@ -56,7 +60,8 @@ impl Name {
         Some(Name { bytes })
     }
 
-    /// Whether the names are the same, by a loop of a fixed length, which is quicker than `==`.
+    /// Returns whether the names are the same, by a loop of a fixed length, which is quicker than
+    /// `==`.
     fn is_same(&self, other: &Name) -> bool
         ensures { result ≡ bytes_eq self.now other.now }
     {
@@ -67,13 +72,13 @@ impl Name {
         same
     }
 
-    /// A hash of `HASH_BITS` bits.
+    /// Returns a hash of `HASH_BITS` bits.
     fn hash(&self) -> usize {
         let bytes = u128::from_le_bytes(self.bytes);
         (bytes.wrapping_mul(GOLDEN) >> (128 - HASH_BITS)) as usize
     }
 
-    /// The name as it is written.
+    /// Returns the name as it is written.
     pub fn text(&self) -> &[u8]
         ensures { result.now ≡ self.now }
     {
@@ -81,7 +86,7 @@ impl Name {
     }
 }
 
-/// The word with zeros after it, where it is of lower-case letters and digits.
+/// Returns the word with zeros after it, where it is of lower-case letters and digits.
 fn padded(word: &[u8]) -> Option<[u8; NAME_LEN]>
     requires { length word.now ≤ NAME_LEN }
     ensures { result ≡ if are_name_bytes word.now then Some (padded word.now) else None }
@@ -96,7 +101,7 @@ fn padded(word: &[u8]) -> Option<[u8; NAME_LEN]>
     Some(bytes)
 }
 
-/// How many bytes come before the first 0, or all.
+/// Returns how many bytes come before the first 0, or all.
 fn len_of_name(bytes: &[u8]) -> usize
     ensures within { result ≤ length bytes.now }
     ensures before { (k : ℕ) → k < result → slice_index bytes.now k ≢ 0 }
@@ -147,7 +152,7 @@ impl Names {
         }
     }
 
-    /// How many there are.
+    /// Returns how many there are.
     pub fn len(&self) -> usize
         ensures { result ≡ length self.now }
     {

@@ -1,4 +1,7 @@
 //! Output through a page of bytes.
+//!
+//! The page remembers a failed write, and `put` returns nothing. There is no `BufWriter`, which
+//! promises nothing on an error and loses one when it is dropped.
 ghost use Rattle.std.specs.Prelude.{◌≡◌, ℕ, ◌≤◌, List, [], ◌++◌, true, false, length, take, decimal};
 ghost use Rattle.std.specs.Io.KnownBytes.{Appends};
 ghost use Rattle.lot_text.specs.Sent.{Held, Puts, Sends, SendsFront};
@@ -36,7 +39,7 @@ impl Page {
         }
     }
 
-    /// Whether a write failed.
+    /// Returns whether a write failed.
     pub fn is_lost(&self) -> bool
         ensures { result ≡ self.now.lost }
     {

@@ -90,7 +90,7 @@ fn print_name<W: Write>(page: &mut Page, writer: &mut W, names: &[Name], lock: u
     }
 }
 
-/// The word of a call.
+/// Returns the word of a call.
 fn call_word(call: Call) -> &'static [u8]
     ensures { result.now ≡ call_word call }
 {

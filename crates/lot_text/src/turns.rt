@@ -38,7 +38,7 @@ struct TurnLine {
     len: usize,
 }
 
-/// The line that comes first, where its line feed is there.
+/// Returns the line that comes first, where its line feed is there.
 #[inline]
 pub fn first_line(text: &[u8]) -> Option<ShownLine>
     ensures { IfSome result (λ first. BeginsWithLine text.now first.said first.len) }
@@ -50,7 +50,7 @@ pub fn first_line(text: &[u8]) -> Option<ShownLine>
     text_line(text)
 }
 
-/// The text that comes first, where its line feed is there.
+/// Returns the text that comes first, where its line feed is there.
 #[inline(never)]
 fn text_line(text: &[u8]) -> Option<ShownLine>
     ensures { IfSome result (λ first. BeginsWithLine text.now first.said first.len) }
@@ -63,7 +63,7 @@ fn text_line(text: &[u8]) -> Option<ShownLine>
     Some(ShownLine { said, len: len + 1 })
 }
 
-/// The plain turn whose line comes first.
+/// Returns the plain turn whose line comes first.
 fn turn_line(text: &[u8]) -> Option<TurnLine>
     ensures { IfSome result (λ line. BeginsWithTurn text.now line.thread line.turn line.len) }
 {
@@ -77,7 +77,7 @@ fn turn_line(text: &[u8]) -> Option<TurnLine>
     })
 }
 
-/// How many digits come first.
+/// Returns how many digits come first.
 fn len_of_digits(text: &[u8]) -> usize
     ensures { result ≤ length text.now }
 {
@@ -86,8 +86,8 @@ fn len_of_digits(text: &[u8]) -> usize
         .unwrap_or(text.len())
 }
 
-/// The turn whose word comes first, between a space and a line feed, and how many bytes these are
-/// together.
+/// Returns the turn whose word comes first, between a space and a line feed, and how many bytes
+/// these are together.
 fn plain_turn(text: &[u8]) -> Option<(PlainTurn, usize)>
     ensures { IfSome result (λ found. BeginsWithWord text.now found.0 found.1) }
 {

@@ -3,7 +3,7 @@
 ghost use Rattle.std.specs.Prelude.{◌≡◌, length, take};
 ghost use Rattle.std.specs.Str.{bytes_eq};
 
-/// Whether a word is this text.
+/// Returns whether a word is this text.
 #[inline(always)]
 pub(crate) fn is_text(word: &[u8], text: &[u8]) -> bool
     ensures { result ≡ bytes_eq word.now text.now }
@@ -11,7 +11,7 @@ pub(crate) fn is_text(word: &[u8], text: &[u8]) -> bool
     word.len() == text.len() && begins_with(word, text)
 }
 
-/// Whether a text begins with this one.
+/// Returns whether a text begins with this one.
 #[inline(always)]
 pub(crate) fn begins_with(text: &[u8], front: &[u8]) -> bool
     ensures { result ≡ bytes_eq (take (length front.now) text.now) front.now }

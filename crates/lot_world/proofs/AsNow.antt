@@ -10,7 +10,7 @@ use Rattle.spec_locks.specs.Sites.{shares_less}
 use Rattle.spec_locks.proofs.SiteKeeps.{deed_keeps}
 use Rattle.lot_world.specs.Drained.{EachDeedKeepsNow}
 
--- the same with another memory of having been full
+-- a site with another memory of having been full
 abbrev pub with_filled : Bool → Site → Site
 with_filled b s = record s { filled = b }
 

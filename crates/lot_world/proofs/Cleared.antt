@@ -144,7 +144,7 @@ module _ (k : Kind) (v : ℕ) (w : State) (f : Passes k w Idle v) (c : Call) (he
 
 -- ---------------------------------------------------------------- both calls
 
--- it takes the lock and releases it fairly
+-- the thread takes the lock and releases it fairly
 module _ (k : Kind) (v e n m : ℕ) (w : State) (d : Progress) (f : Passes k d.state Idle v) (h : HasCome w d)
     (outside : NobodyInside d.state) (free : IsFree (lock_state d.state 0))
     (drains : Drains (rules_of k).sort) (c r : Call) (enters : purpose_of k c

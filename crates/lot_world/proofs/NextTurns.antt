@@ -111,7 +111,7 @@ all_give kind.Once d = absurd d
 all_give (kind.Semaphore permits) d = absurd d
 all_give kind.Condvar d = absurd d
 
--- it begins a release
+-- a thread begins a release
 pub record BeginsRelease (w : State) (s : Step) : Type 0 where
   pub thread : ℕ
   pub call : Call

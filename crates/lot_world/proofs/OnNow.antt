@@ -98,7 +98,7 @@ nothing_after (x ∷ xs) = ap (λ y. x ∷ y) (nothing_after xs)
 one_alone : (t : ℕ) (ds : List Deed) → AreOneCase ds → HasOneCase (acts t ds)
 one_alone t ds one = subst HasOneCase (nothing_after (acts t ds)) (one_of t ds [] one tt)
 
--- those to which a lock is handed claim it
+-- the threads to which a lock is handed claim it
 claims_keep : (t : ℕ) (alone : Bool) (u : ℕ) (o : Option Taken) → AllKeep (claim_of t alone u o)
 claims_keep t alone u None = tt
 claims_keep t alone u (Some h) = either (h.by == t)

@@ -59,7 +59,7 @@ pub record Passes (k : Kind) (w : State) (p : Place) (v : ℕ) : Type 0 where
   pub others : (u : ℕ) → u ≢ 0 → place_at w u ≡ Idle
   pub kind : kind_at w 0 ≡ k
 
--- its run ends with the lock's word as this
+-- the run of the thread ends with the lock's word as this
 abbrev pub Ended : Kind → ℕ → State → Outcome → Type 0
 Ended k v w o = Passes k w Idle v
 
@@ -75,7 +75,7 @@ others_stay w u ne idle = either (is_possible w (go_of 0))
         (λ loud r b q e. ap (λ p. next_place p r) e) idle
     either false = idle
 
--- the same lines
+-- a run alone that leaves every line empty is one without lines
 same_lines : (w : State) (p : Place) (v : ℕ) (q : Line → List Waiter) → ((m : Line) → q m ≡ [])
     → StepsAlone w 0 0 p v q → StepsAlone w 0 0 p v no_lines
 same_lines w p v q e f = record {

@@ -66,7 +66,7 @@ one_more_comes w d s h can = record {
       (sym h.leads) can);
 }
 
--- it has come so from a schedule so far, by n more steps at most
+-- a drain has come from an earlier schedule, by n more steps at most
 pub record HasGone (w : State) (n : ℕ) (d e : Progress) : Type 0 where
   pub come : HasCome w e
   pub few : length e.steps ≤ length d.steps + n
@@ -90,7 +90,7 @@ goes_within w n m d e le h = record { come = h.come; few = let a = h.few in omeg
 
 -- ---------------------------------------------------------------- a thread alone
 
--- it comes to where the machine's own run of a thread alone does
+-- a thread alone comes to where the machine's own run of it does
 pub alone_state : (n : ℕ) (d : Progress) (t : ℕ) (last : Outcome) → (run_alone n d t).state
     ≡ (solo n d.state t last).state
 unfolding run_alone solo

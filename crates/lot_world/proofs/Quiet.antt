@@ -58,7 +58,7 @@ only_here w lock (Condvar l at) there fits = absurd (
     let f = subst (λ j. (rules_in w j).sort ≡ Rattle.spec_locks.specs.Locks.Condvar) e fits.sort in
     subst Drains f lock.sort)
 
--- its call's beginning
+-- the beginning of the thread's call
 pub began : (p : Place) (rights : ℕ → Rights) → called_lock p ≡ Some 0 → MayStandAt p
     → HasFew (call_state p rights).purpose ((call_state p rights).former 0) (rights 0)
     → BeganWithFew 0 p rights
@@ -231,7 +231,7 @@ module _ (w : State) (draining : IsDraining w) (quiet : IsQuiet w) where
     pending = somebody_aside s.pending refl;
   }
 
-  -- it isn't full now
+  -- the lock isn't full now
   unfilled : (b : Bool) → has_readers rules.sort ≡ b → is_full rules s ≡ false
   unfilled false e = ap (λ b. b && nat_le rules.limit (count s)) e
   unfilled true e =

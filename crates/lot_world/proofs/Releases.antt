@@ -45,7 +45,7 @@ use Rattle.lot_world.proofs.Turns.{each_turn_falls, here, idle_call, ordered, re
 abbrev right_now : State → ℕ → Rights
 right_now w t = rights_of (lock_state w 0) t
 
--- it is in its call, or has ended it without a right
+-- the thread is in its call, or has ended it without a right
 record GivesUp (t : ℕ) (x : Want) (fair : Bool) (w : State) : Type 0 where
   pub ordered_now : IsOrdered w
   pub either : (((call_at w t).purpose ≡ Some (Releases 0 x fair))

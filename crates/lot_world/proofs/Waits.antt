@@ -468,7 +468,7 @@ sleepers_wait (Condvar l to) stands h = refl
 
 -- ---------------------------------------------------------------- effects on threads that don't only wait
 
--- it goes on for the same
+-- the call goes on for the same purpose
 abbrev GoesOnFor : RwLockPurpose → Next RwLockPlace → Type 0
 GoesOnFor q (At p) = p.purpose ≡ q
 GoesOnFor q (End answer) = ⊥

@@ -11,7 +11,7 @@ use Rattle.lot_world.specs.Owned.{ReleasesOne}
 use Rattle.lot_world.specs.Sleepers.{BeganWithFew}
 use Rattle.lot_world.specs.Waits.{MayStandAt}
 
--- it owns what its place says, and no more
+-- a thread owns what its place says, and no more
 abbrev pub IsJust : Option Claim → Rights → Type 0
 IsJust None r = Unit {0}
 IsJust (Some (Has x)) r = r ≡ with_right x no_rights
@@ -19,7 +19,7 @@ IsJust (Some (Pends falls_back)) r = r ≡ record no_rights { pending = 1 }
 IsJust (Some Runs) r = Unit {0}
 IsJust (Some Ran) r = Unit {0}
 
--- its call began with what it needs and no more
+-- the call at a place began with what it needs and no more
 abbrev pub PlacesBegan : Type 0
 PlacesBegan =
     (p : Place) (rights : ℕ → Rights) → MayStandAt p → called_lock p ≡ Some 0 → IsFew (rights 0)

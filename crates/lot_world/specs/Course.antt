@@ -11,7 +11,7 @@ use Rattle.lot_world.specs.Quiet.{IsDraining}
 use Rattle.lot_world.specs.Full.{IsStrict}
 use Rattle.lot_world.specs.Turns.{NobodyInside, after_alone, after_release, awake, weight}
 
--- so many turns: a thread that is awake goes on alone, or one that may release begins to, and goes on alone
+-- this many turns: a thread that is awake goes on alone, or one that may release begins to, and goes on alone
 pub data Course : ℕ → State → Type 0 where
   Over : {w : State} → Course zero w
   Alone : {n : ℕ} {w : State} (t : ℕ) → awake w t ≡ true → Course n (after_alone w t) → Course (suc n) w

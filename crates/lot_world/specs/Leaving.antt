@@ -7,7 +7,7 @@ use Rattle.lot_machine.specs.Machine.{State, can_do, reply_to}
 use Rattle.lot_world.specs.Second.{left_inside}
 use Rattle.lot_world.specs.Waits.{MayStandAt}
 
--- it may go on, and has fewer steps left there
+-- a thread inside the second section may go on, and has fewer steps left there
 abbrev pub LeavesSecond : Type 0
 LeavesSecond =
     (w : State) (t : ℕ) (p : Place) → MayStandAt p → (profile p).role.inside ≡ Some Second

@@ -50,7 +50,7 @@ StepKeepsNow =
     → (is_full r s.lock ≡ true → s.lock.queue ≡ [])
     → IsSite r (as_now r (after_acts r ds s))
 
--- it does so over each step of the machine while a lock is drained
+-- a state that is being drained is one that is after each step of the machine
 abbrev pub DrainingGoesOn : Type 0
 DrainingGoesOn =
     (w : State) (t : ℕ) → IsDraining w → IsStrict w → IsDraining (after w (go_of t))

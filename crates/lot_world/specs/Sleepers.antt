@@ -11,13 +11,13 @@ use Rattle.lot_world.specs.Drained.{IsResting}
 use Rattle.lot_world.specs.Few.{HasFew}
 use Rattle.lot_world.specs.Waits.{MayStandAt}
 
--- it is inside no section, owes nobody a wake, and has nobody in hand
+-- a sleeper is inside no section, owes nobody a wake, and has nobody in hand
 abbrev pub SleepersRest : Type 0
 SleepersRest =
     (p : Place) → MayStandAt p → act_of p ≡ act.Sleep
     → IsResting (profile p).role × ((profile p).role.inside ≡ None)
 
--- its rights now, where its row tells what it owned as its call began
+-- the rights of a thread now are few, where its row says what it owned as its call began
 abbrev pub BeganWithFew : ℕ → Place → (ℕ → Rights) → Type 0
 BeganWithFew l p rights =
     HasFew (Some ((profile p).purpose l)) ((profile p).former l rights l) (rights l)
@@ -39,7 +39,7 @@ PendingOwnNothing =
     → (profile p).stands ≡ Some Second → act_of p ≡ act.Sleep → BeganWithFew l p rights
     → without_pending (rights l) ≡ no_rights
 
--- it stands in a line, or is in a hand, and has nobody in its own
+-- a thread stands in a line, or is in a hand, and has nobody in its own
 pub record StandsSomewhere (row : Profile) : Type 0 where
   pub carries : row.carries ≡ None
   pub somewhere : (row.stands ≡ Some Main) ⊎ ((row.stands ≡ Some Second)

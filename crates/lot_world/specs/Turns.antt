@@ -26,7 +26,7 @@ weight_of p r = if is_idle p then one_if (not (number r == 0)) else if waits_or_
 abbrev pub weight : State → ℕ → ℕ
 weight w t = weight_of (place_at w t) (rights_of (lock_state w 0) t)
 
--- it is in a call, awake
+-- a thread is in a call, awake
 abbrev pub is_up : Place → Bool
 is_up p = not (is_idle p) && not (sleeps (act_of p))
 

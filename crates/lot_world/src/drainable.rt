@@ -1,4 +1,8 @@
 //! Whether a world may be drained.
+//!
+//! The test is of the state alone, as a program can make it. Three of its parts hold in every world
+//! that steps lead to from an opening. A world that was full isn't drained: a reader may be forgotten
+//! behind a full lock, as `readers full` ends a call that was woken.
 ghost use Rattle.std.specs.Prelude.{◌≡◌, ◌<◌, ◌≤◌, length};
 ghost use Rattle.lot_laws.specs.Refinement.{lock_state};
 ghost use Rattle.spec_locks.specs.Locks.{rights_of};
@@ -24,8 +28,8 @@ struct HeldRights {
     shared: usize,
 }
 
-/// Whether there is one lock, which has owners, and whose readers were never as many as its limit,
-/// and whether each thread has one right at most, and none where its call is to get one.
+/// Returns whether there is one lock, which has owners, and whose readers were never as many as its
+/// limit, and whether each thread has one right at most, and none where its call is to get one.
 pub fn is_drainable<Q: Queues + Drop>(machine: &Machine<Q>) -> bool
     ensures { result ≡ is_drainable machine.now }
 {
@@ -38,7 +42,7 @@ pub fn is_drainable<Q: Queues + Drop>(machine: &Machine<Q>) -> bool
         && all_hold_few(machine)
 }
 
-/// Whether locks of this kind have owners.
+/// Returns whether locks of this kind have owners.
 fn has_owners(kind: Kind) -> bool
     ensures { result ≡ has_owners kind }
 {
@@ -48,7 +52,7 @@ fn has_owners(kind: Kind) -> bool
     }
 }
 
-/// Whether each thread that owns a lock is one of so many threads.
+/// Returns whether each thread that owns a lock is one of so many threads.
 fn are_below(owners: Owners, threads: usize) -> bool
     ensures { result ≡ are_below owners threads }
 {
@@ -78,7 +82,7 @@ fn all_hold_few<Q: Queues + Drop>(machine: &Machine<Q>) -> bool
     true
 }
 
-/// Which rights a thread has.
+/// Returns which rights a thread has.
 fn held<Q: Queues + Drop>(machine: &Machine<Q>, thread: usize) -> HeldRights
     requires { 0 < length machine.now.locks }
     ensures { rights_held result ≡ rights_of (lock_state machine.now 0) thread }
@@ -93,8 +97,8 @@ fn held<Q: Queues + Drop>(machine: &Machine<Q>, thread: usize) -> HeldRights
     }
 }
 
-/// Whether a thread at this place has one right at most, and none where its call is to get one. It
-/// is pending only where its call may be.
+/// Returns whether a thread at this place has one right at most, and none where its call is to get
+/// one. It is pending only where its call may be.
 fn holds_few(place: Place, held: HeldRights) -> bool
     ensures { result ≡ holds_few place (rights_held held) }
 {
@@ -110,7 +114,7 @@ fn holds_few(place: Place, held: HeldRights) -> bool
     }
 }
 
-/// How many rights these are.
+/// Returns how many rights these are.
 fn number(held: HeldRights) -> usize
     requires { held.shared ≤ 1 }
     ensures { result ≡ number (rights_held held) }
@@ -118,7 +122,7 @@ fn number(held: HeldRights) -> usize
     one_if(held.exclusive) + one_if(held.pending) + one_if(held.upgradable) + held.shared
 }
 
-/// How many of them are what a call has got.
+/// Returns how many of them are what a call has got.
 fn gained(gain: Gain, held: HeldRights) -> usize
     ensures { result ≡ rights_gained gain (rights_held held) }
 {

@@ -1,4 +1,7 @@
 //! The schedule that drains a machine of one lock, worked out on the machine itself.
+//!
+//! The schedule takes one thread at a time: the first that is awake in a call, until it rests; where
+//! none is, the first owner between its calls, which begins its release in the same turn.
 ghost use Rattle.std.specs.Prelude.{◌≡◌, ◌<◌, ◌^◌, IfOk, IfErr, length};
 ghost use Rattle.lot_machine.specs.Machine.{go_of, kind_at, step_outcome};
 ghost use Rattle.lot_machine.specs.Fits.{IsWellFormed};
@@ -64,7 +67,11 @@ impl<Q: Queues + Drop> Model for Drain<Q> {
     ghost invariant = { λ d. IsWellFormed d.machine × (length d.machine.locks ≡ 1) };
 }
 
-/// The steps that drain a machine. They are taken.
+/// Takes the steps that drain a machine, and returns them.
+///
+/// # Errors
+///
+/// `NoMemory`, where memory was refused.
 pub fn schedule<Q: Queues + Drop>(alloc: Global, machine: Machine<Q>) -> Result<Vec<Step>, Fault>
     requires well_formed { IsWellFormed machine }
     requires one { length machine.locks ≡ 1 }
@@ -191,7 +198,7 @@ impl<Q: Queues + Drop> Drain<Q> {
         }
     }
 
-    /// The step with which the next turn begins.
+    /// Takes the step with which the next turn begins.
     fn next_turn(&self) -> Option<Step>
         ensures { result ≡ next_turn self.now.state }
     {
@@ -201,7 +208,7 @@ impl<Q: Queues + Drop> Drain<Q> {
         }
     }
 
-    /// A step of the first thread that is in a call, awake.
+    /// Returns a step of the first thread that is in a call, awake.
     fn first_up(&self) -> Option<Step>
         ensures { result ≡ first_up self.now.state 0 (length self.now.state.places) }
     {
@@ -213,7 +220,7 @@ impl<Q: Queues + Drop> Drain<Q> {
         None
     }
 
-    /// The first release that a thread may begin.
+    /// Returns the first release that a thread may begin.
     fn first_release(&self) -> Option<Step>
         ensures { result ≡ first_release self.now.state 0 (length self.now.state.places) }
     {
@@ -241,7 +248,7 @@ impl<Q: Queues + Drop> Drain<Q> {
         }
     }
 
-    /// The first of some calls that a thread may begin.
+    /// Returns the first of some calls that a thread may begin.
     fn first_begin(&self, thread: usize, calls: &[Call]) -> Option<Step>
         requires { thread < length self.now.state.places }
         ensures { result ≡ first_begin self.now.state thread calls.now }
@@ -287,7 +294,7 @@ fn begin_of(thread: usize, call: Call) -> Step
     }
 }
 
-/// Whether a thread at this place is in a call, awake.
+/// Returns whether a thread at this place is in a call, awake.
 fn is_up(place: Place) -> bool
     ensures { result ≡ is_up place }
 {

@@ -13,7 +13,7 @@ use steps_rwlock_fair::{HandOverAt, HandedAt, RwLockCallPlace};
 #[derive(Clone, Copy)]
 pub(crate) enum Gain {
     Nothing,
-    /// It is the pending writer.
+    /// The thread is the pending writer.
     Pending,
     Right(Access),
 }
@@ -30,8 +30,8 @@ pub(crate) fn gain_of(place: Place) -> Option<Gain>
     }
 }
 
-/// Whether a thread at this place may be the pending writer: where it is in a call that does more
-/// than give a right up.
+/// Returns whether a thread at this place may be the pending writer: where it is in a call that
+/// does more than give a right up.
 pub(crate) fn may_pend(place: Place) -> bool
     ensures { result ≡ may_pend place }
 {

@@ -56,7 +56,7 @@ pub struct Stopped {
     pub taken: usize,
 }
 
-/// Whether a turn was possible: one before, or that which told this.
+/// Returns whether a turn was possible: one before, or that which told this.
 fn any_turn(before: bool, told: Outcome) -> bool
     ensures { result ≡ (is_turn told || before) }
 {
@@ -84,8 +84,13 @@ impl<Q: Queues + Drop> Model for World<Q> {
 }
 
 impl<Q: Queues + Drop> World<Q> {
-    /// A world of locks of these kinds, in their order, and of this many threads. Nobody is in a
-    /// call, nobody owns anything, and nobody waits. `Kind::fits` tests what a kind needs.
+    /// Makes a world of locks of these kinds, at most 256, in their order, and of 1 to 1,024 threads.
+    /// Nobody is in a call, nobody owns anything, and nobody waits. `Kind::fits` tests what a kind
+    /// needs.
+    ///
+    /// # Errors
+    ///
+    /// `NoMemory`, where memory was refused.
     pub fn new(alloc: Global, kinds: &[Kind], threads: usize) -> Result<Self, Fault>
         requires some { 1 ≤ threads }
         requires few_threads { threads ≤ MOST_THREADS }
@@ -104,7 +109,7 @@ impl<Q: Queues + Drop> World<Q> {
         })
     }
 
-    /// One step of one thread. One that isn't possible answers `NotNow` and changes nothing.
+    /// Takes one step of one thread. One that isn't possible answers `NotNow` and changes nothing.
     pub fn step(&mut self, step: Step) -> Outcome
         ensures state { self.new ≡ after self.old step }
         ensures outcome { result ≡ step_outcome self.old step }
@@ -182,7 +187,7 @@ impl<Q: Queues + Drop> World<Q> {
     }
 
     /// Steps of one thread alone, until its call ends, sleeps or is in its closure, or until its
-    /// next step isn't possible, at most `SOLO_STEPS`. It answers the outcome of the last possible
+    /// next step isn't possible, at most `SOLO_STEPS`. Returns the outcome of the last possible
     /// step, and `NotNow` where there was none.
     pub fn solo(&mut self, thread: usize) -> Outcome
         ensures state { self.new ≡ (solo SOLO_STEPS self.old thread Outcome.NotNow).state }
@@ -221,7 +226,7 @@ impl<Q: Queues + Drop> World<Q> {
             → EndsAlone self.old thread (purpose_at (locks_of self.old) call) result self.new }
         ensures same_size { SameSize self.old self.new }
     {
-        // The proof reads the world's invariant here.
+        // A use of the field brings the world's invariant into the proof.
         let _ = &self.machine;
         self.step_alone(thread)
     }
@@ -245,8 +250,12 @@ impl<Q: Queues + Drop> World<Q> {
         last
     }
 
-    /// Steps in their order, with their outcomes after those that are there. Where memory for an
-    /// outcome is refused, the world is the one after the steps that were taken.
+    /// Takes steps in their order, and puts their outcomes after those that are there.
+    ///
+    /// # Errors
+    ///
+    /// `Stopped`, with the number of steps that were taken, where memory for an outcome was refused.
+    /// The world is the one after these steps.
     pub fn run(&mut self, steps: &[Step], outcomes: &mut Vec<Outcome>) -> Result<(), Stopped>
         ensures same_size { SameSize self.old self.new }
 
@@ -316,7 +325,7 @@ impl<Q: Queues + Drop> World<Q> {
             (outcomes.new.items ≡ outcomes.old.items ++ step_outcomes self.old steps.now) }
         ensures taken { IfErr result (λ stopped. stopped.taken < length steps.now) }
 
-        // It is refused only past the room that there was.
+        // Memory is refused only past the room that there was.
         ensures room { IfErr result
             (λ stopped. vec_capacity outcomes.old ≤ vec_len outcomes.old + stopped.taken) }
         ensures stopped { IfErr result
@@ -325,7 +334,7 @@ impl<Q: Queues + Drop> World<Q> {
             (λ stopped. outcomes.new.items
             ≡ outcomes.old.items ++ step_outcomes self.old (take stopped.taken steps.now)) }
     {
-        // The proof reads the world's invariant here.
+        // Brings the world's invariant into the proof, as above.
         let _ = &self.machine;
         for (taken, step) in steps.iter().enumerate() {
             if outcomes.reserve(1).is_err() {
@@ -336,8 +345,8 @@ impl<Q: Queues + Drop> World<Q> {
         Ok(())
     }
 
-    /// Lets threads go on, one after another, round and round, until none can: then nobody waits for
-    /// a lock that is open.
+    /// Lets threads go on, one after another, round and round, until none can. Nobody waits for a
+    /// lock that is open then, but for waiters of a reader-writer lock that was once full of readers.
     pub fn settle(&mut self)
         // The turns are few, and each was possible. None is possible afterwards.
         ensures settles { Settles self.old self.new }
@@ -347,12 +356,12 @@ impl<Q: Queues + Drop> World<Q> {
         ensures rests { each_state.Rests (locks_of self.new) (filled_at self.new) }
         ensures same_size { SameSize self.old self.new }
     {
-        // The proof reads the world's invariant here.
+        // Brings the world's invariant into the proof, as above.
         let _ = &self.machine;
         'rounds: while self.go_round() {}
     }
 
-    /// One turn of each thread that can go on. It tells whether there was one.
+    /// Takes one turn of each thread that can go on. Returns whether there was one.
     fn go_round(&mut self) -> bool
         ensures { GoesRound self.old result self.new }
     {
@@ -367,9 +376,10 @@ impl<Q: Queues + Drop> World<Q> {
         moved
     }
 
-    /// Whether some steps drain the world: it has one lock, a mutex or a reader-writer lock, whose
-    /// readers were never as many as its limit. Each thread has one right at most, and none where
-    /// its call needs none, or is a bump that has given its right up, but for what that call got.
+    /// Returns whether some steps drain the world: it has one lock, a mutex or a reader-writer
+    /// lock, whose readers were never as many as its limit. Each thread has one right at most, and
+    /// none where its call needs none, or is a bump that has given its right up, but for what that
+    /// call got.
     pub fn drainable(&self) -> bool
         ensures drainable { IsTrue result ↔ IsDrainable self.now }
         ensures test { result ≡ is_drainable self.now }
@@ -377,8 +387,12 @@ impl<Q: Queues + Drop> World<Q> {
         is_drainable(&self.machine)
     }
 
-    /// Steps that drain the world: after them nobody is in a call or queued, nobody owns the lock,
-    /// and its word is 0. The world stays as it is.
+    /// Returns steps that drain the world: after them nobody is in a call or queued, nobody owns the
+    /// lock, and its word is 0. The world stays as it is.
+    ///
+    /// # Errors
+    ///
+    /// `NoMemory`, where memory was refused.
     pub fn drain(&self, alloc: Global) -> Result<Vec<Step>, Fault>
         requires { IsDrainable self.now }
         ensures ok { IfOk result (λ steps. IsDrain self.now steps.items) }
@@ -398,14 +412,14 @@ impl<Q: Queues + Drop> World<Q> {
         self.machine.restore(parts);
     }
 
-    /// How many threads there are.
+    /// Returns how many threads there are.
     pub fn threads(&self) -> usize
         ensures { result ≡ length self.now.places }
     {
         self.machine.threads()
     }
 
-    /// How many locks there are.
+    /// Returns how many locks there are.
     pub fn locks(&self) -> usize
         ensures { result ≡ length self.now.locks }
     {
@@ -420,7 +434,7 @@ impl<Q: Queues + Drop> World<Q> {
         self.machine.lock(lock)
     }
 
-    /// A thread's number of shared rights of a lock.
+    /// Returns a thread's number of shared rights of a lock.
     pub fn share(&self, lock: usize, thread: usize) -> usize
         requires { lock < length self.now.locks }
         ensures { result ≡ share_at self.now lock thread }
@@ -428,7 +442,7 @@ impl<Q: Queues + Drop> World<Q> {
         self.machine.share(lock, thread)
     }
 
-    /// The kind of a lock.
+    /// Returns the kind of a lock.
     pub fn kind(&self, lock: usize) -> Kind
         requires { lock < length self.now.locks }
         ensures { result ≡ kind_at self.now lock }
@@ -436,7 +450,7 @@ impl<Q: Queues + Drop> World<Q> {
         self.machine.kind(lock)
     }
 
-    /// The word of a lock.
+    /// Returns the word of a lock.
     pub fn word(&self, lock: usize) -> u64
         requires { lock < length self.now.locks }
         ensures { result ≡ word_at self.now lock }
@@ -444,8 +458,8 @@ impl<Q: Queues + Drop> World<Q> {
         self.machine.word(lock)
     }
 
-    /// Whether as many threads as its limit allows once shared a lock. One that nobody shares, such
-    /// as a mutex, is never filled.
+    /// Returns whether as many threads as its limit allows once shared a lock. One that nobody
+    /// shares, such as a mutex, is never filled.
     pub fn filled(&self, lock: usize) -> bool
         requires { lock < length self.now.locks }
         ensures { result ≡ filled_at self.now lock }
@@ -498,7 +512,8 @@ impl<Q: Queues + Drop> World<Q> {
         DebtBook::new(self.machine.places())
     }
 
-    /// Which threads owe a wake on a lock, then which were woken and try again, by their numbers.
+    /// Returns which threads owe a wake on a lock, then which were woken and try again, by their
+    /// numbers.
     pub fn debt(&self, lock: usize) -> Debts<'_>
         requires { lock < length self.now.locks }
         ensures { result ≡ debts_of self.now lock }

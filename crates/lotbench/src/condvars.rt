@@ -15,9 +15,9 @@ const PLACES: u64 = 16;
 enum Meeting {
     // Nothing is left to meet for.
     Over,
-    // It was the last that came.
+    // The thread was the last that came.
     Full,
-    // It waits until more than so many operations are done.
+    // The thread waits until more than so many operations are done.
     Waits { round: u64 },
 }
 
@@ -108,7 +108,7 @@ pub(crate) struct Desk {
 /// How many words they take of their lot.
 pub(crate) const DESK: usize = 3;
 
-/// A desk at which so many operations are to be done.
+/// Returns a desk at which so many operations are to be done.
 pub(crate) fn desk_for(
     lot: &Arc<ParkingLot>,
     token: &mut Token,
@@ -135,7 +135,7 @@ pub(crate) fn desk_for(
     })
 }
 
-/// How many operations were done there.
+/// Returns how many operations were done there.
 pub(crate) fn done_at<R: Wait>(rt: &R, desk: &Desk, token: &mut Token) -> u64
     requires { IsTokenOf (lot_of_condvar desk.now.filled) token.old }
 {
@@ -263,7 +263,7 @@ pub(crate) enum Way {
     Queue,
 }
 
-// The number of a thread, by the order in which they come.
+// Returns the number of a thread, by the order in which they come.
 fn come_to<R: Wait>(rt: &R, desk: &Desk, token: &mut Token) -> u64
     requires { IsTokenOf (lot_of_condvar desk.now.filled) token.old }
     ensures { IsTokenOf (lot_of_condvar desk.now.filled) token.new }

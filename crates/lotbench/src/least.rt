@@ -50,7 +50,7 @@ pub(crate) struct LeastLock {
 impl LeastLock {
     ghost use Rattle.lotbench.specs.Seats.{IsSeatOfLeast};
 
-    /// A lock over the first word of a new table, and a thread that steps on it.
+    /// Makes a lock over the first word of a new table, and a thread that steps on it.
     pub(crate) fn new(alloc: Global) -> Result<(LeastLock, Seat<(), ()>), AllocError>
         ensures { IfOk result (λ made. IsSeatOfLeast made.0 made.1) }
     {
@@ -69,7 +69,7 @@ impl LeastLock {
         self.words.shared.load::<AnyStep>(seat, self.at)
     }
 
-    // Whether the word was 0, and is 1 now.
+    // Returns whether the word was 0, and is 1 now.
     #[inline]
     pub(crate) fn take(&self, seat: &mut Seat<(), ()>) -> bool
         requires { IsSeatOfLeast self.now seat.old }
@@ -81,7 +81,7 @@ impl LeastLock {
             == 0
     }
 
-    // Whether the word was 1, and is 0 now.
+    // Returns whether the word was 1, and is 0 now.
     #[inline]
     pub(crate) fn give(&self, seat: &mut Seat<(), ()>) -> bool
         requires { IsSeatOfLeast self.now seat.old }
@@ -130,7 +130,7 @@ impl LeastLock {
         last == 1
     }
 
-    // Whether the word is 0, for a thread that has no seat.
+    // Returns whether the word is 0, for a thread that has no seat.
     pub(crate) fn is_free(&self) -> bool {
         self.words.shared.peek(self.at) == 0
     }

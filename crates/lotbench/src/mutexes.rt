@@ -45,7 +45,7 @@ pub(crate) fn mutexes_of(lot: &Arc<ParkingLot>, token: &mut Token) -> Result<Mut
     })
 }
 
-/// The value that was written.
+/// Returns the value that was written.
 pub(crate) fn value_in<M: RawLock, R: Wait>(
     rt: &R,
     mutex: &lock_api::Mutex<M, u64>,

@@ -97,7 +97,7 @@ pub enum Mode {
 }
 
 impl Mode {
-    /// The mode of a name.
+    /// Returns the mode of a name.
     fn named(name: &str) -> Option<Mode>
         ensures { IsModeNamed name.now result }
     {
@@ -184,8 +184,8 @@ pub struct Plan {
     ghost some_operations: { (1 ≤ operations) × (operations ≤ MOST_OPERATIONS) },
 }
 
-/// The plan of three arguments: a mode, how many threads, how many operations. A fourth one, `second`, asks for
-/// the loop at the second place in the code.
+/// Returns the plan of three arguments: a mode, how many threads, how many operations. A fourth
+/// one, `second`, asks for the loop at the second place in the code.
 pub fn plan_of(args: &[&str]) -> Option<Plan> {
     let (mode, threads, operations, place) = match args {
         [mode, threads, operations] => (mode, threads, operations, CodePlace::First),

@@ -28,7 +28,7 @@ pub(crate) struct Rows {
     pub(crate) fair: Row<RawFairMutex>,
 }
 
-// A row of mutexes, drawn from the lot.
+// Returns a row of mutexes, drawn from the lot.
 fn row_of<M: RawLock + Drop>(
     alloc: Global,
     lot: &Arc<M::Lot>,

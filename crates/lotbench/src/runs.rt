@@ -206,7 +206,7 @@ fn operate<const SECOND: bool, R: Wait>(
     }
 }
 
-// How the threads of a mode work at a desk, if they do.
+// Returns how the threads of a mode work at a desk, if they do.
 fn way_of(mode: Mode) -> Option<Way> {
     match mode {
         Mode::NotifyAll => Some(Way::Meet),

@@ -41,7 +41,7 @@ pub(crate) fn rwlocks_of(lot: &Arc<ParkingLot>, token: &mut Token) -> Result<RwL
     })
 }
 
-/// The value that was written.
+/// Returns the value that was written.
 pub(crate) fn value_in<R: Wait>(rt: &R, lock: &RwLock<u64>, token: &mut Token) -> u64
     requires { IsTokenOf (lot_of_rwlock lock.now) token.old }
 {

@@ -1,4 +1,8 @@
 //! How threads share operations: each takes a batch whenever it has done its last.
+//!
+//! Operations are shared out by batches of 128 from one counter, in every mode, so that a thread that
+//! gets the lock more often does more of them. In the try modes an operation is tries until one gets
+//! the lock: with a fixed number of tries a lock whose tries fail more often would look faster.
 ghost use Rattle.std.specs.Prelude.{◌≤◌};
 
 use std::sync::atomic::AtomicU64;
@@ -23,7 +27,7 @@ impl Shares {
         }
     }
 
-    /// How many operations the caller is to do. 0 where none is left.
+    /// Returns how many operations the caller is to do. 0 where none is left.
     pub(crate) fn take(&self) -> u64
         ensures { result ≤ BATCH }
     {

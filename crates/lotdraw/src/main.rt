@@ -36,7 +36,7 @@ fn run(rt: &HostRuntime) -> io::Result<u8> {
     ))
 }
 
-// What the arguments of the process ask for.
+// Returns what the arguments of the process ask for.
 fn asked_for(rt: &HostRuntime) -> io::Result<Result<Options, Refused>> {
     let words = match env::args(rt) {
         Ok(args) => args.collect::<Vec<String>>(rt.alloc())?,

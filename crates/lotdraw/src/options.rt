@@ -1,4 +1,7 @@
 //! What the program's arguments ask for.
+//!
+//! An argument that names a line, a thread or a lock that isn't there is refused in status 2, with what
+//! was expected. A `--to` before `--from` is refused too, and one past the last line is not.
 
 use crate::values::{line_number, line_numbers, thread_numbers, width_in, words_in};
 use clap::error::{Error, ErrorKind};

@@ -93,7 +93,7 @@ fn write_picture<W: Write>(
         title,
         marks: options.marks.as_slice(),
         width: options.width,
-        names_columns: options.form == Form::Page,
+        is_for_page: options.form == Form::Page,
     };
     match options.form {
         Form::Svg => draw(alloc, writer, recording, drawing),

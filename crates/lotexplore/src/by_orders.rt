@@ -1,8 +1,8 @@
 //! A walk by orders, which are lines of standard input.
-use crate::arguments::Arguments;
 use crate::printing::write_files;
 use crate::status;
 use crate::watch::Watch;
+use lot_arguments::Arguments;
 use lot_findings::{Source, finding_by};
 use lot_prompt::{Order, Prompt, order_of};
 use state_search::NoRoom;
@@ -14,7 +14,7 @@ use std::io::{BufWriter, ErrorKind, Write};
 ///
 /// # Errors
 ///
-/// Those of the input, the output and the files.
+/// The errors of the input, the output and the files.
 pub fn walk_by_orders(
     rt: &HostRuntime,
     source: Source<'_>,
@@ -23,7 +23,7 @@ pub fn walk_by_orders(
 ) -> io::Result<u8> {
     let mut prompt = Prompt {
         source,
-        grain: asked.turns.grain.word(),
+        grain: asked.turns.grain,
         limits: asked.limits,
         moves,
     };
@@ -80,7 +80,7 @@ fn write_walk(
     moves: &[usize],
 ) -> io::Result<()> {
     match finding_by(rt.alloc(), source, moves) {
-        Ok(finding) => write_files(rt, asked, &finding),
+        Ok(finding) => write_files(rt, asked, None, &finding),
         Err(NoRoom) => Err(io::Error::from(ErrorKind::OutOfMemory)),
     }
 }

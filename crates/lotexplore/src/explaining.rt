@@ -10,7 +10,7 @@ use std::{fs, io};
 ///
 /// # Errors
 ///
-/// Those of the devices.
+/// The errors of the devices.
 pub fn explain_schedule(rt: &HostRuntime, path: Option<&str>) -> io::Result<u8> {
     match path {
         Some(path) => match fs::read(rt, path) {

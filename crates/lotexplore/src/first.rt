@@ -1,6 +1,6 @@
 //! The turns that come first.
-use crate::arguments::Arguments;
 use crate::status;
+use lot_arguments::Arguments;
 use lot_findings::Source;
 use lot_prompt::{AlongError, moves_along};
 use std::io::ErrorKind;
@@ -11,7 +11,7 @@ use std::{fs, io};
 ///
 /// # Errors
 ///
-/// Those of standard output and standard error.
+/// The errors of standard output and standard error.
 pub fn first_moves(
     rt: &HostRuntime,
     source: Source<'_>,

@@ -1,7 +1,6 @@
 //! A program of lock calls; what a search of all its schedules finds, on standard output.
 #![tactic(auto)]
 
-mod arguments;
 mod by_orders;
 mod endings;
 mod explaining;
@@ -16,9 +15,9 @@ mod status;
 mod warnings;
 mod watch;
 
-use crate::arguments::{Arguments, Job, job_from};
 use crate::explaining::explain_schedule;
 use crate::report::report;
+use lot_arguments::{Arguments, Job, job_from};
 use lot_program_text::{TextError, parse};
 use std::io::ErrorKind;
 use std::process::ExitCode;
@@ -45,7 +44,13 @@ fn run<T: Threads + Sync>(threads: &T, rt: &HostRuntime) -> io::Result<u8> {
         Err(e) => return Err(e),
     };
     match job_from(rt.alloc(), words.as_slice()) {
-        Ok(Job::Search(arguments)) => search_program(threads, rt, with_jobs(threads, arguments)),
+        Ok(Job::Search(arguments)) => match arguments.fault() {
+            None => search_program(threads, rt, with_jobs(threads, arguments)),
+            Some(fault) => {
+                eprintln!(rt; "error: {fault}\n\nFor more information, try '--help'.")?;
+                Ok(status::MALFORMED)
+            }
+        },
         Ok(Job::Explain { schedule }) => explain_schedule(rt, schedule),
         Err(error) => {
             error.print(rt)?;

@@ -1,9 +1,10 @@
 //! Threads that go on till they rest.
-use crate::arguments::Arguments;
 use crate::printing::print_finding;
 use crate::status;
-use lot_findings::{Finding, Headline, Source, Telling};
+use lot_arguments::Arguments;
+use lot_findings::{Finding, Headline, Source};
 use lot_prompt::settle;
+use lot_story::Telling;
 use std::io;
 use std::io::ErrorKind;
 
@@ -11,7 +12,7 @@ use std::io::ErrorKind;
 ///
 /// # Errors
 ///
-/// Those of the output and the files.
+/// The errors of the output and the files.
 pub fn settle_threads(
     rt: &HostRuntime,
     source: Source<'_>,
@@ -22,7 +23,7 @@ pub fn settle_threads(
         Ok(finding) => {
             let headline = Headline::Rests {
                 turns: finding.walk.moves().len(),
-                grain: asked.turns.grain.word(),
+                grain: asked.turns.grain,
             };
             print_finding(rt, asked, &headline, &finding)?;
             Ok(status::NOTHING)

@@ -7,7 +7,7 @@ use std::io;
 ///
 /// # Errors
 ///
-/// Those of standard error, and `OutOfMemory`.
+/// The errors of standard error, and `OutOfMemory`.
 pub fn warn(rt: &HostRuntime, source: Source<'_>) -> io::Result<()> {
     for warning in warnings_of(rt.alloc(), &source.parsed.program)? {
         match warning {

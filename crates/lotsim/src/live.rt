@@ -1,5 +1,8 @@
 //! Real threads on one lot: readers that meet, a value that is written and then read, and a count
 //! of many.
+//!
+//! All three trials run, also where the readers did not meet: the status says so. `main` takes `live`
+//! up before `start`, since the trials need the process's threads, which a replay is not given.
 mod lines;
 mod runs;
 

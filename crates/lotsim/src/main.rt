@@ -24,7 +24,7 @@ fn main(rt: HostRuntime) -> ExitCode {
     }
 }
 
-// Whether the one argument is `live`.
+// Returns whether the one argument is `live`.
 fn asks_for_threads(rt: &HostRuntime) -> bool {
     let Ok(args) = env::args(rt) else {
         return false;

@@ -1,5 +1,7 @@
 -- The names that clauses of users cite, for all locks. `lot_of` is of a mutex, fair or not, and of the
 -- first of the pair that a reentrant mutex or a monitor is.
+--
+-- There is no overloading, so a lot's lock has a name here for each sort of lock.
 pub use Rattle.lock_api.specs.Guards.{lock_of, value_of}
 pub use Rattle.parking_lot_core.specs.Places.{IsPlaceOf}
 pub use Rattle.parking_lot_core.specs.Tokens.{IsSameThread, IsTicketOf, IsTokenOf, view_of, last_of}

@@ -66,8 +66,8 @@ pub type MappedReentrantMutexGuard<'a, T, P> = lock_api::MappedReentrantMutexGua
 
 /// Where a thread that has the guard of a [`Mutex`] gives it up and waits to be notified.
 ///
-/// Nobody wakes by itself. `notify_one` tells whether anybody waited, and `notify_all` how many
-/// did.
+/// Nobody wakes by itself. `notify_one` returns whether it notified a waiter, and `notify_all` how
+/// many it notified.
 pub type Condvar = lock_api::Condvar<RawCondvar>;
 
 /// A value of a lot that one thread at a time may use, and `N` condition variables on which threads
@@ -107,7 +107,8 @@ pub type MappedRwLockWriteGuard<'a, T, P> = lock_api_rw::MappedRwLockWriteGuard<
     P,
 >;
 
-/// A reader-writer lock whose readers may read again while a writer waits for them.
+/// A reader-writer lock that any thread may read while somebody reads, though a writer waits: a
+/// reader may read again, and a writer may wait for ever.
 pub type RecursiveRwLock<T> = lock_api_rw::RwLock<RawRwLockRecursive, T>;
 
 /// The guard of a thread that reads.

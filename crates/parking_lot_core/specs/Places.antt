@@ -6,6 +6,6 @@ use Rattle.parking_lot_core.specs.declared.places.QueuePlace.{QueuePlace}
 abbrev pub thread_of : QueuePlace → ℕ
 thread_of place = place.thread
 
--- it was made as this thread of the lot stood last under a key
+-- a place was made as this thread of the lot stood last under a key
 abbrev pub IsPlaceOf : ParkingLot → ℕ → QueuePlace → Type 0
 IsPlaceOf lot thread place = (place.lot.now ≡ lot) × (place.thread ≡ thread)

@@ -11,11 +11,11 @@ use Rattle.parking_lot_core.specs.declared.sections.Section.{Section}
 use Rattle.parking_lot_core.specs.declared.tellings.Telling.{Telling}
 use Rattle.parking_lot_core.specs.declared.tokens.Did.TheVariants.{Nothing}
 
--- those in the first bucket
+-- the waiters in the first bucket of a section
 abbrev pub in_first_bucket : Section → List Waiter
 in_first_bucket section = (mutex_guard_value section.first).queues.waiters
 
--- those in the second, if there is one
+-- the waiters in the second bucket, if there is one
 abbrev pub others_in : Section → Option (List Waiter)
 others_in section = waiters_of section.other
 
@@ -41,7 +41,7 @@ moved_in section = section.moved
 abbrev pub told_in : Section → List Telling
 told_in section = section.told.list
 
--- it is the same section, of the same thread
+-- two states are of one section, of one thread
 abbrev pub StaysIn : Section → Section → Type 0
 StaysIn old new = (new.lot.now ≡ old.lot.now) × (new.keys ≡ old.keys) × (new.thread ≡ old.thread)
 

@@ -26,7 +26,7 @@ GivesUpAt lot thread section key =
     × (queued_under thread (waiting_in section) ≡ Some key) × (section.thread ≡ thread)
     × (told_in section ≡ [])
 
--- it has its place still
+-- a sleeper is late, and has its place still
 abbrev pub IsLate : ParkingLot → ℕ → Slept → Type 0
 IsLate _ _ (Woken _) = ⊥
 IsLate _ _ (Handed _) = ⊥

@@ -36,7 +36,7 @@ last_of token = if token.expected.unlocked == 0 then None else Some token.record
 abbrev pub told_of : Token → List Telling
 told_of token = token.told.list
 
--- it is the same thread of the same lot
+-- two tokens are of one thread of one lot
 abbrev pub IsSameThread : ParkingLot → Token → Token → Type 0
 IsSameThread lot old new = IsTokenOf lot new × (new.number ≡ old.number)
 

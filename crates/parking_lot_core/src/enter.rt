@@ -5,6 +5,10 @@
 //!
 //! No two threads wait for one another here: the lock of a bucket is taken before that of a record,
 //! and that of a lower bucket before that of a higher one.
+//!
+//! A thread that finds another inside a section tries the bucket's lock forty times, with twelve rounds
+//! of a pause between, for five microseconds, before it sleeps in the kernel. While one thread sleeps
+//! there the others sleep at once, and each thread that leaves calls the kernel.
 ghost use Rattle.std.specs.Prelude.{ℕ, ◌≡◌, ◌⊎◌, ◌<◌, None, [], length};
 ghost use Rattle.std.specs.Sync.Mutex.{mutex_guard_value};
 ghost use Rattle.core_base.specs.Lines.{line};
@@ -68,14 +72,14 @@ impl ParkingLot {
     ghost use Rattle.parking_lot_core.specs.Sections.{IsUntouched, told_in};
     ghost use Rattle.parking_lot_core.specs.Tokens.{IsTokenOf, IsSameThread};
 
-    // The bucket of a key.
+    // Returns the bucket of a key.
     fn bucket(&self, key: Key) -> usize
         ensures { (result ≡ bucket_of self.now.bits key) × (result < length self.now.buckets.items) }
     {
         bucket_among(self.bits, key)
     }
 
-    // The queues of a bucket, with nobody taken.
+    // Returns the queues of a bucket, with nobody taken.
     fn queues<'a, R: Wait>(&'a self, rt: &R, bucket: usize) -> MutexGuard<'a, SectionQueues>
         requires { bucket < length self.now.buckets.items }
         ensures place { ((mutex_guard_value result).number ≡ bucket)
@@ -95,7 +99,7 @@ impl ParkingLot {
         section_queues
     }
 
-    // The queues of a bucket, for a thread that has those of a lower one.
+    // Returns the queues of a bucket, for a thread that has those of a lower one.
     fn queues_above<'a, R: Wait>(
         &'a self,
         rt: &R,
@@ -150,7 +154,7 @@ impl ParkingLot {
         unreachable!()
     }
 
-    // The section of keys that have one bucket.
+    // Returns the section of keys that have one bucket.
     fn enter_one<'a, R: Wait>(
         &'a self,
         rt: &R,
@@ -175,7 +179,7 @@ impl ParkingLot {
         }
     }
 
-    // The section of two keys that have two buckets, of which the first key has the lower.
+    // Returns the section of two keys that have two buckets, of which the first key has the lower.
     fn enter_two<'a, R: Wait>(
         &'a self,
         rt: &R,
@@ -204,7 +208,7 @@ impl ParkingLot {
         }
     }
 
-    // The section of some keys, for a thread.
+    // Returns the section of some keys, for a thread.
     pub(crate) fn locked<'a, R: Wait>(&'a self, rt: &R, thread: usize, keys: Keys) -> Section<'a>
         ensures { (result.lot.now ≡ self.now) × (result.keys ≡ keys) × IsUntouched result
             × (result.thread ≡ thread) × (told_in result ≡ []) }
@@ -238,7 +242,7 @@ impl ParkingLot {
         self.locked(rt, token.number, keys)
     }
 
-    /// How many stand under a key.
+    /// Returns how many stand under a key.
     pub fn queued<R: Wait>(&self, rt: &R, token: &mut Token, key: Key) -> usize
         requires { IsTokenOf self.now token.old }
         ensures { token.new ≡ token.old }

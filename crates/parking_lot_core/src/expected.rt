@@ -1,4 +1,9 @@
 //! The values that a thread's steps expect of a mutex's word.
+//!
+//! While a section is recorded in the token the two values are others: no mutex's word, so that the
+//! exchange of a lock misses, and 0, so that the subtraction of an unlock takes nothing. Then the
+//! section is forgotten and the step is taken. To the table the first attempt is no step
+//! (`TakesExpected`). A test of the record before each step would take two instructions more.
 ghost use Rattle.std.specs.Prelude.{◌≡◌, ◌≢◌, ◌<◌, ◌≤◌, ◌↔◌};
 
 /// The word of a mutex that nobody has, and what the unlock of one takes from it. While a thread

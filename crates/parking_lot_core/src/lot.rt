@@ -55,7 +55,7 @@ impl Drop for ParkingLot {
     }
 }
 
-// The queues of each bucket, with nobody in them.
+// Returns the queues of each bucket, with nobody in them.
 fn empty_buckets(alloc: Global, seats: usize, bits: u32) -> Result<Vec<Mutex<SectionQueues>>, Fault>
     requires { bits < 64 }
     ensures ok { IfOk result (λ buckets. length buckets.items ≡ 2 ^ bits) }
@@ -101,7 +101,7 @@ impl ParkingLot {
     ghost use Rattle.core_names.specs.Names.{IsNamer};
     ghost use Rattle.parking_lot_core.specs.Tokens.{IsNewTicket, IsNewTicketOf, number_of};
 
-    // A ticket for each seat, numbered from 0, and what wakes its thread.
+    // Returns a ticket for each seat, numbered from 0, and what wakes its thread.
     fn tickets(
         alloc: Global,
         words: &LotWords,
@@ -158,7 +158,7 @@ impl ParkingLot {
         Ok((Arc::new(alloc, lot)?, tickets))
     }
 
-    /// Its words.
+    /// Returns the words of the lot.
     #[inline]
     pub fn words(&self) -> &LotWords
         ensures { result.now ≡ self.now.words }
@@ -166,7 +166,7 @@ impl ParkingLot {
         &self.words
     }
 
-    /// Whether a lot may have so many words and threads: 1 to 2^20, and 1 to 1024.
+    /// Returns whether a lot may have so many words and threads: 1 to 2^20, and 1 to 1024.
     pub fn fits(words: usize, seats: usize) -> bool
         ensures { IsTrue result
             ↔ ((0 < words) × (words ≤ most_words) × (0 < seats) × (seats ≤ 1024)) }
@@ -174,10 +174,10 @@ impl ParkingLot {
         0 < words && words <= 1 << 20 && 0 < seats && seats <= 1024
     }
 
-    /// A lot of 1 to 2^20 words for 1 to 1024 threads, and a ticket for each of these, numbered
-    /// from 0.
+    /// Makes a lot of 1 to 2^20 words for 1 to 1024 threads, and a ticket for each of these,
+    /// numbered from 0.
     ///
-    /// It takes all memory that the lot ever needs.
+    /// The call takes all memory that the lot ever needs.
     ///
     /// # Errors
     ///

@@ -1,4 +1,8 @@
 //! Pauses of a thread that waits for others without sleep.
+//!
+//! A thread that waits spins by pauses alone, for microseconds, and then parks; it never yields. Where
+//! busy processes are as many as processors, a processor that was yielded comes back a slice later,
+//! some three milliseconds. Each spin is a count of rounds of a pause, as no clock is at hand.
 
 use std::hint::spin_loop;
 

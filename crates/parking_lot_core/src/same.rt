@@ -46,7 +46,7 @@ enum Asked {
 impl Probes {
     ghost use Rattle.parking_lot_core.specs.Same.{IsProbeOf};
 
-    /// A permit that no other lot has. The mark is another one at lots of other sizes.
+    /// Makes a permit that no other lot has. The mark is another one at lots of other sizes.
     pub(crate) fn new(alloc: Global, mark: usize) -> Result<Probes, AllocError> {
         let mut source = Permits::new();
         let permit = source.draw();
@@ -66,7 +66,7 @@ impl Probes {
         self.row.try_take(0)
     }
 
-    // Whether all changes of this mark are seen through the other, and no more.
+    // Returns whether all changes of this mark are seen through the other, and no more.
     fn shows(&self, other: &Probes) -> bool {
         for _ in 0..ROUNDS {
             let now = self.mark.load(SeqCst);
@@ -116,7 +116,7 @@ impl ParkingLot {
         asked
     }
 
-    /// Whether this is the other lot. It never says no of one lot.
+    /// Returns whether this is the other lot. It never says no of one lot.
     pub fn same_lot(&self, other: &ParkingLot) -> bool
         ensures { result ≡ false → self.now ≢ other.now }
     {

@@ -1,4 +1,15 @@
 //! Sections, in which one thread at a time changes the queues of its keys.
+//!
+//! A section keeps the threads that it took in a list of its own, with the want of each, noted before
+//! the take: a thread that hands a lock over to several gives each the right that it wants. The moved
+//! are counted apart from the taken, since only the taken are woken; the record's number is the sum.
+//! `Did` keeps the key of a take, since a section of two keys may take under either.
+//!
+//! The type of a lock says nothing of two locks together, so a section tests what is left, and the
+//! tests never fail: that the bucket is the one asked for, that the number of seats is the lot's, that
+//! each waiter of two buckets is in one of them alone, and that the token that leaves is the one that
+//! entered. A section of two buckets turns to the bucket of the key under which it takes, by a swap of
+//! its guards.
 ghost use Rattle.std.specs.Prelude.{◌≡◌, ◌≢◌, ◌<◌, ◌≤◌, ◌+◌, ◌++◌, ◌∷◌, ◌==◌, not, [], Some, Contains};
 ghost use Rattle.std.specs.Prelude.{MatchOption, length, slice_index, take, true};
 ghost use Rattle.std.specs.List.{filter};
@@ -31,8 +42,8 @@ use std::sync::{MutexGuard, Wait};
 
 /// The right of a thread to the queues of its keys, while no other thread does anything to them.
 ///
-/// It takes or moves waiters by one call at most, and wakes those that it took as it leaves. It has
-/// to be left: it can't be dropped.
+/// A section takes or moves waiters by one call at most, and wakes those that it took as it leaves.
+/// It has to be left: it can't be dropped.
 pub struct Section<'a> {
     pub(crate) lot: &'a ParkingLot,
     // The bucket of a key: of the one of which it takes or moves waiters, once it did so.
@@ -258,7 +269,7 @@ impl<'a> Section<'a> {
     }
 
     /// Moves waiters from under one of its keys after the last under the other. Those that are
-    /// moved want to own alone from then on. It answers the thread that was taken, if any, and how
+    /// moved want to own alone from then on. Returns the thread that was taken, if any, and how
     /// many were moved.
     pub fn requeue(&mut self, from: Key, to: Key, op: Requeue) -> (Option<usize>, usize)
         requires keys { IsKeyOf self.old.keys from × IsKeyOf self.old.keys to × (from ≢ to) }
@@ -283,7 +294,7 @@ impl<'a> Section<'a> {
         (first, moved)
     }
 
-    /// How many stand under a key.
+    /// Returns how many stand under a key.
     pub fn count(&self, key: Key) -> usize
         requires { IsKeyOf self.now.keys key }
         ensures { result ≡ length (line key (waiting_in self.now)) }
@@ -309,7 +320,7 @@ impl<'a> Section<'a> {
         number
     }
 
-    /// The key under which a thread stands.
+    /// Returns the key under which a thread stands.
     pub fn key_of(&self, thread: usize) -> Option<Key>
         ensures { result ≡ queued_under thread (waiting_in self.now) }
     {
@@ -334,14 +345,14 @@ impl<'a> Section<'a> {
         self.first.wants()
     }
 
-    /// The threads that it took and that have no right yet, in order.
+    /// Returns the threads that it took and that have no right yet, in order.
     pub fn rightless(&self) -> &[usize]
         ensures { result.now ≡ rightless_in self.now }
     {
         self.first.rightless()
     }
 
-    /// How many it took and moved.
+    /// Returns how many it took and moved.
     pub fn number(&self) -> usize
         ensures { result ≡ length (taken_in self.now) + moved_in self.now }
     {
@@ -362,7 +373,7 @@ impl<'a> Section<'a> {
         self.lay(rt, thread, right);
     }
 
-    /// Gives a right to the first that has none yet. It answers which.
+    /// Gives a right to the first that has none yet. Returns which.
     pub fn give_next<R: Wait>(&mut self, rt: &R, right: Right) -> usize
         requires some { 0 < length (rightless_in self.old) }
         requires right { IsRightOf self.old.lot.now.words right }

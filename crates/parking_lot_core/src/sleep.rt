@@ -1,4 +1,14 @@
 //! Sleep, until somebody wakes the thread or its time is up.
+//!
+//! The key of a waiter is an atomic word of its seat, written inside the section of a bucket in which
+//! the thread is queued or joins: a field of its record would make each `append` and `requeue` wait for
+//! the record. A sleeper that gives up reads the word, enters that bucket and asks for its key there.
+//! Where it isn't queued there and the word is another, it looks in that bucket; where the word is the
+//! same, it was taken, and sleeps on until its note comes.
+//!
+//! Before each park a thread asks by a load whether its record is marked, and takes the record, by two
+//! locked instructions, only then. A queued thread polls so twelve times, for 0.8 microseconds, before
+//! it parks.
 ghost use Rattle.std.specs.Prelude.{◌≡◌, ◌<◌, ◌++◌, ◌∷◌, [], IfSome, None};
 ghost use Rattle.core_base.specs.Clocks.{IsUp};
 ghost use Rattle.parking_lot_core.specs.declared.tellings.Telling.TheVariants as tellings;
@@ -30,7 +40,8 @@ pub enum Slept<'a> {
     Woken(WakeNote),
     /// The thread was taken, and has been handed what it waited for.
     Handed(Right),
-    /// Its time is up, and it is inside the section of the key where it stands, with its place.
+    /// The thread's time is up. It is inside the section of the key where it stands, with its
+    /// place.
     Late(Section<'a>, Key, QueuePlace<'a>),
 }
 
@@ -86,9 +97,10 @@ impl ParkingLot {
         told
     }
 
-    // The section of the key where the thread stands. None where it was taken meanwhile. Another thread
-    // that moves it notes its new key inside both buckets. So the thread was taken where the key is the
-    // same as before, read inside that key's bucket, and nobody of its number stands there.
+    // Returns the section of the key where the thread stands. None where it was taken meanwhile.
+    // Another thread that moves it notes its new key inside both buckets. So the thread was taken
+    // where the key is the same as before, read inside that key's bucket, and nobody of its number
+    // stands there.
     fn give_up<'a, R: Wait>(&'a self, rt: &R, thread: usize) -> Option<(Section<'a>, Key)>
         ensures { IfSome result (λ late. GivesUpAt self.now thread late.0 late.1) }
     {

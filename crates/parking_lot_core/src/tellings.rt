@@ -1,5 +1,9 @@
 //! The tellings of a thread: what its acts on the queues found there, in their order. They have no
 //! bytes.
+//!
+//! `tell` and `pass_on` add to the list, by proofs written by hand, and each public call that uses them
+//! says in its clause what the queues have, too. A reading is told by `tell_count`, so that `count`
+//! needs no section that may change.
 ghost use Rattle.std.specs.Borrow.{ftrue};
 ghost use Rattle.std.specs.Prelude.{◌≡◌, ◌++◌, ◌∷◌, [], List, length};
 ghost use Rattle.parking_lot_core.specs.declared.tellings.Telling.{Telling};

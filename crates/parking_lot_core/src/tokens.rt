@@ -158,7 +158,7 @@ impl Token {
         }
     }
 
-    /// The thread's number in the lot, from 0.
+    /// Returns the thread's number in the lot, from 0.
     #[inline]
     pub fn number(&self) -> usize
         ensures { result ≡ self.now.number }

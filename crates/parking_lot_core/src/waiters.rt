@@ -1,4 +1,10 @@
 //! The records by which a thread that takes a waiter wakes it.
+//!
+//! A record is found by a try: its value is out for a few plain steps. A thread that finds it out looks
+//! for a microsecond and then parks on the record's word, where it leaves a mark; the thread that gives
+//! the value back sees the mark and wakes one. A second right for a thread puts the first out of its
+//! record, and that one goes with the lot. Leaving swaps where it stored: on x86-64 a sequentially
+//! consistent store is an exchange anyway.
 ghost use Rattle.std.specs.Prelude.{◌≡◌, IfSome, None};
 ghost use Rattle.core_words.specs.RightsOf.{IsRightOf, IsFor};
 

@@ -88,7 +88,7 @@ impl ParkingLot {
         Noted { thread }
     }
 
-    // Gives a thread its note, and unparks it. It answers which thread was taken next: once the thread
+    // Gives a thread its note, and unparks it. Returns which thread was taken next: once the thread
     // runs, it may be taken again.
     fn wake<R: Wait>(&self, rt: &R, tied: Tied, note: Note) -> usize
         ensures { result ≡ tied.next }

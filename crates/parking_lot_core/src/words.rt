@@ -26,9 +26,9 @@ use core_words::laws::{condvar_may_step, count_may_step};
 use core_words::{Held, OpenHeld, Owner, Right, Word, WordKind};
 
 impl ParkingLot {
-    /// One step on a word, sequentially consistent. It answers the value before. With the step that
-    /// locks a mutex the permit of its value goes out with the thread, and with the one that unlocks
-    /// it it lies in its slot again.
+    /// Takes one step on a word, sequentially consistent. Returns the value before. With the step
+    /// that locks a mutex the permit of its value goes out with the thread, and with the one that
+    /// unlocks it it lies in its slot again.
     #[inline]
     pub fn word(&self, token: &mut Token, word: Word, op: Op) -> u64
         requires own { IsTokenOf self.now token.old × IsWordOf self.now.words word }
@@ -71,8 +71,8 @@ impl ParkingLot {
         self.words.step(&mut token.seat, word, op)
     }
 
-    /// One load of a word, as a step: what `word` does with `Op::Load`, for a thread that does no
-    /// more than look.
+    /// Takes one load of a word, as a step: what `word` does with `Op::Load`, for a thread that
+    /// does no more than look.
     #[inline]
     pub fn load(&self, token: &mut Token, word: Word) -> u64
         requires own { IsTokenOf self.now token.old × IsWordOf self.now.words word }
@@ -91,8 +91,7 @@ impl ParkingLot {
     }
 
     /// Shows a mutex that the thread owns on the word of a condition variable, where that shows
-    /// none. It answers the value before: 0, or one more than the number of the mutex that is
-    /// shown.
+    /// none. Returns the value before: 0, or one more than the number of the mutex that is shown.
     pub fn show_mutex(&self, token: &mut Token, condvar: Word, mutex: Word) -> u64
         requires own { IsTokenOf self.now token.old × IsWordOf self.now.words condvar
             × IsWordOf self.now.words mutex }
@@ -112,7 +111,7 @@ impl ParkingLot {
         self.word(token, condvar, Op::Exchange { from: 0, to })
     }
 
-    /// Looks what a condition variable shows, by one load of its word. It answers 0 where that is
+    /// Looks what a condition variable shows, by one load of its word. Returns 0 where that is
     /// nothing, and else one more than the number of a mutex of the lot.
     #[inline]
     pub fn look_shown(&self, token: &mut Token, condvar: Word) -> u64
@@ -143,7 +142,7 @@ impl ParkingLot {
         self.words.mutex_shown(&token.seat, condvar, seen)
     }
 
-    /// The next word, of this kind. A number is never given twice.
+    /// Returns the next word, of this kind. A number is never given twice.
     ///
     /// # Errors
     ///
@@ -165,8 +164,8 @@ impl ParkingLot {
         self.words.new_word(&mut token.seat, kind)
     }
 
-    /// The next word, of a semaphore of so many permits. The thread holds them all, and the word is
-    /// 0 until it gives them back.
+    /// Returns the next word, of a semaphore of so many permits. The thread holds them all, and the
+    /// word is 0 until it gives them back.
     ///
     /// # Errors
     ///
@@ -193,9 +192,9 @@ impl ParkingLot {
         self.words.new_semaphore(&mut token.seat, permits)
     }
 
-    /// The word of a semaphore, by one load, as a step. The permits that are free by it, with those
-    /// that the token's view names, are no more than those with which it was drawn, which are known
-    /// to the thread that drew it.
+    /// Returns the word of a semaphore, by one load, as a step. The permits that are free by it,
+    /// with those that the token's view names, are no more than those with which it was drawn,
+    /// which are known to the thread that drew it.
     #[inline]
     pub fn look_free(&self, token: &mut Token, semaphore: Word) -> u64
         requires { IsTokenOf self.now token.old × IsWordOf self.now.words semaphore
@@ -312,8 +311,11 @@ impl ParkingLot {
         self.words.join_right(&mut token.seat, right);
     }
 
-    /// Takes a mutex that nobody has, and the permit of its value with the same step. Else it
-    /// answers what the step saw.
+    /// Takes a mutex that nobody has, and the permit of its value with the same step.
+    ///
+    /// # Errors
+    ///
+    /// What the step saw, where it wasn't an unlocked mutex without waiters.
     #[inline]
     pub fn enter_open(&self, token: &mut Token, word: Word) -> Result<(OpenHeld, Permit), u64>
         requires { IsTokenOf self.now token.old × IsWordOf self.now.words word
@@ -344,8 +346,8 @@ impl ParkingLot {
         }
     }
 
-    /// Locks where others may wait. It answers what the step saw, and writes nothing to a mutex
-    /// that it sees locked.
+    /// Locks where others may wait. Returns what the step saw, and writes nothing to a mutex that
+    /// it sees locked.
     #[inline]
     pub fn try_enter_open(&self, token: &mut Token, word: Word) -> (u64, Option<(OpenHeld, Permit)>)
         requires { IsTokenOf self.now token.old × IsWordOf self.now.words word
@@ -363,7 +365,7 @@ impl ParkingLot {
         self.words.try_enter_open(&mut token.seat, word)
     }
 
-    /// Gives a mutex up, and lays the permit of its value back with the same step. It answers the
+    /// Gives a mutex up, and lays the permit of its value back with the same step. Returns the
     /// value before.
     #[inline]
     pub fn leave_open(&self, token: &mut Token, word: Word, opened: OpenHeld, permit: Permit) -> u64

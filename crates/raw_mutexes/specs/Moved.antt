@@ -10,7 +10,7 @@ abbrev pub RecordsMoved : ℕ → Token → Type 0
 RecordsMoved number token =
     (section : SectionRecord) × (last_of token ≡ Some section) × (section.number ≡ number)
 
--- it took or moved so many, as its record tells, or it moved nobody and saw that there is none to
+-- a notification took or moved this many, as its record tells, or moved nobody and saw that there is none to
 -- move
 abbrev pub HasMoved : ℕ → Bool → ℕ → Token → Token → Type 0
 HasMoved c all number old new =

@@ -22,7 +22,7 @@ pub IsGuardOf-prop : (lot : ParkingLot) (word : Word) (guard : RawGuard)
     → IsProp (IsGuardOf lot word guard)
 IsGuardOf-prop lot word guard = Prim.hlevel props
 
--- the same without the permit
+-- a guard whose permit is out is this mutex's
 abbrev pub IsOpenGuardOf : ParkingLot → Word → OpenGuard → Type 0
 IsOpenGuardOf lot word guard = IsOpenOf lot.words word guard.opened
 
@@ -34,7 +34,7 @@ IsOpenGuardOf-prop lot word guard = Prim.hlevel props
 abbrev pub permit_in : ParkingLot → Word → PermitId
 permit_in lot word = permit_of lot.words word
 
--- it is the same thread, and owns what it did
+-- two tokens are of one thread, which owns what it did
 abbrev pub StaysAs : Token → Token → Type 0
 StaysAs old new = (new.number ≡ old.number) × ((view_of new).owns ≡ (view_of old).owns)
 

@@ -1,4 +1,8 @@
 //! The guards of raw mutexes.
+//!
+//! A raw guard has the permit, whatever the mutex guards, and neither has bytes: to open a value is to
+//! take its guard apart, at no cost. There is one form of each call, for mutexes with a value and
+//! without.
 use parking_lot_core::{OpenHeld, Permit};
 
 /// The ownership of a raw mutex, with the permit of the value that this guards, which its releases

@@ -1,4 +1,7 @@
 //! The condition variable, with whose guards of raw mutexes threads wait.
+//!
+//! `notify_one` asks its section's record before it returns yes, since the lot's rule doesn't tie the
+//! word of a condition variable to its queue. A thread that found nobody would stay there.
 ghost use Rattle.std.specs.Prelude.{◌≡◌, ◌≢◌, ◌<◌, ◌*◌};
 ghost use Rattle.std.specs.Arc.{arc_value};
 ghost use Rattle.core_base.specs.Clocks.{IsUp};
@@ -81,14 +84,14 @@ fn go_on_where_one_moved<R: Wait>(rt: &R, token: &Token)
 impl RawCondvar {
     ghost use Rattle.raw_mutexes.specs.CondvarWords.{lot_of, word_of};
 
-    /// The key of its queue.
+    /// Returns the key of its queue.
     pub fn key(&self) -> Key
         ensures { result ≡ 2 * (word_of self.now).number }
     {
         main_key(self.word.number())
     }
 
-    // Waits up to a deadline, or without one. It answers whether the time was up, with the guard.
+    // Waits up to a deadline, or without one. Returns whether the time was up, with the guard.
     fn wait_with<R: Wait, C: Clock>(
         &self,
         rt: &R,
@@ -117,7 +120,7 @@ impl RawCondvar {
         (answer, mutex.split(lot, token))
     }
 
-    // The rest of a notification of the first, or of all, whose first step saw this.
+    // Does the rest of a notification of the first, or of all, whose first step saw this.
     #[cold]
     #[inline(never)]
     fn notify_rest<R: Wait>(&self, rt: &R, token: &mut Token, all: bool, seen: u64) -> Answer

@@ -38,7 +38,7 @@ impl RawFairMutex {
     ghost use Rattle.std.specs.Prelude.{◌*◌};
     ghost use Rattle.raw_mutexes.specs.Words.{word_of};
 
-    /// The key of its queue.
+    /// Returns the key of its queue.
     pub fn key(&self) -> Key
         ensures { result ≡ 2 * (word_of self.now).number }
     {

@@ -1,4 +1,8 @@
 //! The mutex, without a value.
+//!
+//! The slow half of `lock` returns no right: it leaves the ownership in the token's view, and `lock`
+//! splits it off, since a place for the right would cost the fast half. `unlock` asks of its
+//! subtraction whether it found 1; an owner finds 1 or 3, so the slow half is told 3.
 ghost use Rattle.std.specs.Prelude.{◌≡◌, ◌<◌, ◌*◌, ◌++◌, List, None, true, IfNone, IfSome};
 ghost use Rattle.std.specs.Arc.{arc_value};
 ghost use Rattle.core_base.specs.Clocks.{IsUp};
@@ -58,14 +62,14 @@ impl Drop for RawMutex {
 impl RawMutex {
     ghost use Rattle.raw_mutexes.specs.Words.{lot_of, word_of};
 
-    /// The key of its queue.
+    /// Returns the key of its queue.
     pub fn key(&self) -> Key
         ensures { result ≡ 2 * (word_of self.now).number }
     {
         main_key(self.word.number())
     }
 
-    // The guard of a thread that has waited for the mutex, and owns it.
+    // Returns the guard of a thread that has waited for the mutex, and owns it.
     pub(crate) fn split(&self, lot: &ParkingLot, token: &mut Token) -> RawGuard
         requires lot { lot.now ≡ lot_of self.now }
         requires own { IsTokenOf (lot_of self.now) token.old }
@@ -140,8 +144,8 @@ impl RawMutex {
         self.go_on(rt, token, MutexCall::UnlockFair, seen);
     }
 
-    // The slow half of a call without a limit. It takes the mutex by its address, so that the fast
-    // half copies nothing.
+    // Does the slow half of a call without a limit. It takes the mutex by its address, so that the
+    // fast half copies nothing.
     #[cold]
     #[inline(never)]
     fn go_on<R: Wait>(&self, rt: &R, token: &mut Token, call: MutexCall, seen: u64) -> Answer
@@ -158,7 +162,7 @@ impl RawMutex {
         call_slow(rt, &self.lot, token, self.word, NO_LIMIT, call, seen)
     }
 
-    // The rest of a bump, whose first step saw a waiter. The thread owns the mutex.
+    // Does the rest of a bump, whose first step saw a waiter. The thread owns the mutex.
     #[cold]
     #[inline(never)]
     fn bump_slow<R: Wait>(&self, rt: &R, token: &mut Token, seen: u64) -> RawGuard
@@ -213,7 +217,7 @@ impl RawMutex {
         }
     }
 
-    // The slow half of a call with a limit.
+    // Does the slow half of a call with a limit.
     #[cold]
     #[inline(never)]
     fn go_on_timed<R: Wait, C: Clock>(

@@ -1,4 +1,8 @@
 //! The reader-writer lock, without a value.
+//!
+//! `RawRwLock` wraps `LotRwLock`, which has the facts: a type with a const parameter may have no model
+//! and no ghost field. Its traits are met by `RawRwLock<false>` and by `RawRwLock<true>`, each in files
+//! of its own, since the bound of an impl over a parameter is written out anew at each call.
 ghost use Rattle.std.specs.Prelude.{◌≡◌, ◌+◌, ◌*◌};
 
 use crate::rwlock_rights::LotRwLock;
@@ -20,14 +24,14 @@ pub type RawRwLockRecursive = RawRwLock<true>;
 impl<const RECURSIVE: bool> RawRwLock<RECURSIVE> {
     ghost use Rattle.raw_rwlocks.specs.RwLockUsers.{word_of};
 
-    /// The key of its main queue.
+    /// Returns the key of its main queue.
     pub fn key(&self) -> Key
         ensures { result ≡ 2 * (word_of self.now).number }
     {
         self.lock.key()
     }
 
-    /// The key of the queue of the writer that waits for the last readers.
+    /// Returns the key of the queue of the writer that waits for the last readers.
     pub fn second_key(&self) -> Key
         ensures { result ≡ 2 * (word_of self.now).number + 1 }
     {

@@ -117,7 +117,7 @@ impl LotRwLock {
         second_key(self.word.number())
     }
 
-    /// The words of its lot.
+    /// Returns the words of its lot.
     #[inline]
     pub(crate) fn words(&self) -> &LotWords
         ensures { result.now ≡ (lot_in self.now).words }
@@ -125,7 +125,7 @@ impl LotRwLock {
         self.lot.words()
     }
 
-    /// Its word, which is one of these.
+    /// Returns the word of a right, which is one of these.
     #[inline]
     pub(crate) fn word(&self) -> Word
         ensures { (result ≡ word_in self.now) × IsWordOf (lot_in self.now).words result
@@ -196,8 +196,8 @@ impl LotRwLock {
         }
     }
 
-    /// The fast half of `enter`: all of it, where the thread meets nobody. Else it answers what is
-    /// left to `enter_slow`.
+    /// Does the fast half of `enter`: all of it, where the thread meets nobody. Else it answers
+    /// what is left to `enter_slow`.
     #[inline(always)]
     pub(crate) fn enter_fast<C: Clock>(
         &self,
@@ -222,7 +222,7 @@ impl LotRwLock {
         }
     }
 
-    /// The slow half of `enter`.
+    /// Does the slow half of `enter`.
     #[inline(always)]
     pub(crate) fn enter_slow<R: Wait, C: Clock>(
         &self,
@@ -319,8 +319,8 @@ impl LotRwLock {
         None
     }
 
-    /// The fast half of a release: all of it, where there is nobody to wake. Else it answers what is
-    /// left to `release_slow`.
+    /// Does the fast half of a release: all of it, where there is nobody to wake. Else it answers
+    /// what is left to `release_slow`.
     #[inline(always)]
     pub(crate) fn release_fast(
         &self,
@@ -547,7 +547,7 @@ impl LotRwLock {
         }
     }
 
-    /// One load of the word.
+    /// Takes one load of the word.
     #[inline(always)]
     pub(crate) fn load(&self, token: &mut Token) -> u64
         requires { IsTokenOf (lot_in self.now) token.old }

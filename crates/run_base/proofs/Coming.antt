@@ -31,7 +31,7 @@ pub record HasCome (up : Type 0) (lot : ParkingLot) (words : Words) (p : Place) 
   pub ends : (answer : Answer) (last : Token) → HasEnded up lot words q answer new now last
       → HasEnded up lot words p answer old section last
 
--- it begins where it is
+-- a thread begins where it is
 pub begins : (up : Type 0) (lot : ParkingLot) (words : Words) (p : Place) (token : Token)
     (section : Option Section) → IsAtPlace up lot words p token section
     → HasCome up lot words p token section p token section
@@ -40,7 +40,7 @@ begins up lot words p token section at = record { at = at; same = refl; ends = �
 module _ {up : Type 0} {lot : ParkingLot} {words : Words} {p : Place} {old : Token} {section : Option Section}
     {q : Place} {mid : Token} {there : Option Section} (came : HasCome up lot words p old section q mid there)
   where
-    -- the same place by another name
+    -- a thread has come to a place, by another name of that
     pub named : {r : Place} → q ≡ r → HasCome up lot words p old section r mid there
     named e = subst (λ (r : Place). HasCome up lot words p old section r mid there) e came
 

@@ -306,7 +306,7 @@ module _ (up : Type 0) (c m : ℕ) (kinds : ℕ → WordKind) (at : ℕ → ℕ)
       release_comes (At (unlock.Leave any)) h = (h.0, refl)
       release_comes (End answer) h = ((h.1.0, h.1.1), refl)
 
-      -- it locks its mutex again, or has it
+      -- the thread locks its mutex again, or has it
       abbrev RelockComes : Bool → Bool → Next LockAt → Type 0
       RelockComes timed_out retries n = ReachedBy up (apart m base) (of_mutex m (to_enter entry.Lock))
           (mutex_goes m (in_lock entry.Lock retries n))
@@ -335,7 +335,8 @@ module _ (up : Type 0) (c m : ℕ) (kinds : ℕ → WordKind) (at : ℕ → ℕ)
       by_mutex p f o reply b = (law m (apart m base) p st f).2 reply new
           (became_there (sleeper_at (Mutex m p)) refl st new (mutex_act m p) o reply b)
 
-      -- its subtraction leaves it without the mutex, and goes on by whether somebody waits for that
+      -- the subtraction of the thread leaves it without the mutex, and it goes on by whether somebody waits
+      -- for that
       subtracts : OwnsIt m base × Outside base st
           → Leads (wait.Release stands.Listed (Unlock unlock.Subtract))
       subtracts f (Value seen) b = by_bit (is_parked seen)
@@ -569,7 +570,7 @@ module _ (up : Type 0) (c m : ℕ) (kinds : ℕ → WordKind) (at : ℕ → ℕ)
           may_there (Or 2) st.owns (mutex_steps (mutex_at m) st.owns).mark_any
       notify_needs (notify.Leave any number) f = leave_needs any number f
 
-      -- it has moved waiters, and took one of them or none
+      -- the thread has moved waiters, and took one of them or none
       moved_so : (a : Bool) (number : ℕ) (locked : Bool) (waiters : List Waiter) (moved : ℕ) → new.owns ≡ base
           → new.inside ≡ Some (record (having_taken (Two (2 * c) (2 * m)) (move_did a locked c m) waiters
           (threads_of waiters)) { moved = moved })

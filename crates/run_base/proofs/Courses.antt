@@ -147,7 +147,7 @@ module _ (at : ℕ → ℕ) (me : ℕ) where
       (trail (step (at l) op seen) []) (begins p (trail a s)) (trails e (same ∙ sym (append-nil s)))
       (steps_first p l op seen is calm) refl) rest
 
-  -- the same, by trails
+  -- a call that ends by its first step, by trails
   pub over_at_once : (p : Place) (l : ℕ) (op : Op) (seen : ℕ) (old new : Trail) (answer : Answer)
       → act_of p ≡ act.TheVariants.Word l op → is_queued (next_place p (Value seen)) ≡ false
       → new ≡ joined old (one (at l) op seen) → next_act p (Value seen) ≡ act.TheVariants.End answer

@@ -132,7 +132,7 @@ module _ (up : Type 0) (n : ℕ) (base : List Ownership) (st : ThreadState) wher
     inside_of : (s : ThreadState) → new ≡ s → new.inside ≡ s.inside
     inside_of s e = ap (λ (x : ThreadState). x.inside) e
 
-    -- it is where it was, after a step on the word that changes no owner
+    -- the thread is where it was, after a step on the word that changes no owner
     stays : (owns : List Ownership) (inside : Option SectionView) (s : ThreadState) → new ≡ s → s.owns
         ≡ st.owns
         → s.inside ≡ st.inside → (st.owns ≡ owns) × (st.inside ≡ inside) → (new.owns ≡ owns)

@@ -88,7 +88,7 @@ use Rattle.steps_condvar.specs.declared.wait.WaitAt.TheVariants as wait
 use Rattle.lot_steps.specs.Steps.{or_else}
 use Rattle.run_base.specs.Queued.{GoesOn, spends_place}
 
--- it is not queued after
+-- what isn't so has no proof that it is
 never : {A : Type 0} {is : Bool} → is ≡ false → is ≡ true → A
 never none e = absurd (false≢true (sym none ∙ e))
 

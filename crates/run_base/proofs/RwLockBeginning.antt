@@ -113,7 +113,7 @@ module _ (up : Type 0) (l : ℕ) (a : Admission) (base : List Ownership) (st new
       → st.owns ≡ owning (rwlock_at l) o ∷ rest
   of_owner o w rest is e = e ∙ ap (λ (x : Owner). owning (rwlock_at l) x ∷ rest) is
 
-  -- it ends, or goes to wake others of a line
+  -- the thread ends, or goes to wake others of a line
   wakes_some : (q : RwLockPurpose) (m : Line) (b : Bool) → (late_at is_late q (wakes m) ≡ true → up)
       → OwnsBeside l (kept_claim (start_of q)) base new.owns → new.inside ≡ None
       → AnswersCall up l base a q Ok new

@@ -76,7 +76,7 @@ module _ (up : Type 0) (l : ℕ) (a : Admission) (base : List Ownership) where
             (purpose.Enter (access_of r) Patient)) same,
       )
 
-  -- it has released its right, and enters again
+  -- the thread has released its right, and enters again
   enters_on : (new : ThreadState) → a.limit < 2 ^ 60 - 1 → new.inside ≡ None → IsBeside l base new.owns
       → Fits up base (RwLock l a (Bump (rwlock_first (purpose.Enter access.Shared Patient)))) new
   enters_on new room none beside = (tt, enters_fit up l a base room true new new access.Shared beside none)

@@ -113,7 +113,7 @@ module _ (l : ℕ) (a : Admission) where
 
 module _ (up : Type 0) (l : ℕ) (a : Admission) (base : List Ownership) (p : RwLockPlace) (st : ThreadState)
     (f : FitsRwLock up l base a p st) where
-  -- it has there what it had
+  -- the thread has there what it had
   pub looks_fit : (p2 : RwLockPlace) → rwlock_looking a p ≡ Some p2 → FitsRwLock up l base a p2 st
   looks_fit p2 e = let row = (rwlock_looks_stand a p p2 e).0 in let place =
       looks_from l a p.purpose p.retries p.at p2 e in

@@ -79,7 +79,7 @@ module _ (up : Type 0) (kinds : ℕ → WordKind) (at : ℕ → ℕ) (sleeper : 
   sleeps act.Sleep h = refl
   sleeps x h = absurd h
 
-  -- it sleeps and is told that it was handed the lock, or it is told of no right
+  -- the thread sleeps and is told that it was handed the lock, or it is told of no right
   pub told_plainly : (reply : Reply) (x : Act) → Became up kinds at sleeper st x reply new
       → (((b : Bool) (p : RwLockPlace) → given b p reply ≡ None)
       × Became up kinds at (record sleeper { takes_over = false }) st x reply new)
@@ -181,7 +181,7 @@ module _ (up : Type 0) (l : ℕ) (a : Admission) (base : List Ownership) (st new
   never : {A : Type 0} → false ≡ true → A
   never e = absurd cc
 
-  -- it was asleep in the main queue
+  -- the thread was asleep in the main queue
   pub plain_goes : (p : RwLockPlace) → FitsRwLock up l base a p st → Became up rwlocks (at_rwlock l)
       (sleeper_at (RwLock l a (Plain p))) st act.Sleep (Woken note.HandOff) new → Goes (Plain p)
   plain_goes p f h = by_place p.at p.purpose p.retries f h

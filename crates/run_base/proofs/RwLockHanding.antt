@@ -208,7 +208,7 @@ module _ (up : Type 0) (l : ℕ) (a : Admission) (base : List Ownership) (room :
   goes x to h f = subst (λ (o : Option Answer). ReachedBy up base (handing_aim l a x bumps)
       (RwLock l a (HandOver x bumps to)) o new) (sym (hand_over_goes_on l a x to).0) ((h, room, f), refl)
 
-  -- it has given its right up
+  -- the thread has given its right up
   gave_up : (x : Access) → new.inside ≡ None → IsBeside l base new.owns → GaveFairly l a x new.last new.steps
       → Reach x (released x bumps)
   gave_up x none beside gave = by_call bumps x gave
@@ -260,7 +260,7 @@ module _ (up : Type 0) (l : ℕ) (a : Admission) (base : List Ownership) (room :
       by_access access.Exclusive h took = took
       by_access access.Shared h took = absurd h
 
-  -- those that it took own what they wanted, and it owns its right no longer
+  -- the threads that it took own what they wanted, and it owns its right no longer
   handed_over : (x : Access) (k : Taken) (given : Bool) → IsHandingPlace x (handing.Leave (any_taken k) given)
       → (waiters : List Waiter) → AreTaken (wants_of waiters) k → IsBeside l base new.owns
       → HasPicked l a waiters (still_rightless given waiters) new.inside
@@ -395,7 +395,7 @@ module _ (up : Type 0) (l : ℕ) (a : Admission) (base : List Ownership) (room :
         (if t then At (HandOver access.Upgradable bumps (handing.Leave (any_taken k)
         (has_room a.limit k seen))) else At (HandOver access.Upgradable bumps (handing.Exchange k seen)))
 
-    -- it was there
+    -- the value that the exchange expected was there
     there : (seen : ℕ) (given : Bool) → seen ≡ expected → has_room a.limit k expected ≡ given
         → IsBeside l base new.owns → HasPicked l a f.1.0 (still_rightless given f.1.0) new.inside
         → Goes seen (seen == expected)

@@ -348,7 +348,7 @@ module _ (at seen m : ℕ) (owns : List Ownership) (code : CodesWith RwLock at s
   one_reader_more e = let some = some_upgradable in let c₁ = code.1.1 in by_trade (trading [] (Shared ∷ []))
       (reads_trade at owns (Exchange seen m) seen m code.0 code.1 code.2 e (omega arith))
 
-  -- it only gives the right up
+  -- the exchange only gives the right up
   gives_up : m / 4 + 5 ≡ seen / 4 → owns_after_step RwLock at (Exchange seen m) seen owns ≡ kept
   gives_up e = traded 0 [] (omega arith) (λ z. omega arith) (λ z. omega arith) (λ z. omega arith)
       (λ z. omega arith) refl
@@ -407,7 +407,7 @@ word_of n successor none_left = parked_as none_left (tokens (record {
   none_left = none_left;
 }))
 
--- its quarters
+-- the quarters of a word
 record Quarters (m n : ℕ) : Type 0 where
   fits : m < 2 ^ 64
   stand : m / 4 ≡ n

@@ -111,7 +111,7 @@ module _ (up : Type 0) (l : ℕ) (a : Admission) (base : List Ownership) (how : 
   handed_needs access.Exclusive to f = absurd f
   handed_needs x to f = absurd f
 
-  -- it has its right already
+  -- the thread has its right already
   accepts : (x : Access) → OwnsRight l (wanted x) base st.owns × (st.inside ≡ None) → (new : ThreadState)
       → new ≡ st
       → IsRwLockOver up l base a (purpose.Enter x how) (entered how) new

@@ -314,7 +314,7 @@ module _ (up : Type 0) (l : ℕ) (a : Admission) (base : List Ownership) (q : Rw
         looked_comes at.Load seen (small Load seen b) stands (look_claimed Load seen stands b refl f.owns)
         (inside_now Load seen b ∙ f.within) (last_now Load seen b) (decided_for a q seen) refl
 
-    -- its exchange failed
+    -- the exchange of the thread failed
     misses : (seen to other : ℕ) → Fits (at.Decide seen) → other ≢ seen → Step (Exchange seen to) other
         → Reach (looked a (of (at.Decide seen)) other)
     misses seen to other f ne b = let op = Exchange seen to in let stands =
@@ -685,7 +685,7 @@ module _ (up : Type 0) (l : ℕ) (a : Admission) (base : List Ownership) (q : Rw
         by_purpose (purpose.Release access.Exclusive) stands = absurd stands
         by_purpose (purpose.Downgrade d) stands = absurd stands
 
-    -- it has taken no step since
+    -- the thread has taken no step since
     still_looked : new.steps ≡ st.steps → LookedLast l st.steps → LookedLast l new.steps
     still_looked e = subst (LookedLast l) (sym e)
 
@@ -693,7 +693,7 @@ module _ (up : Type 0) (l : ℕ) (a : Admission) (base : List Ownership) (q : Rw
         → OwnsBeside l c base new.owns
     kept_owns c e = subst (OwnsBeside l c base) (sym e)
 
-    -- it looks at the word again, woken or not
+    -- the thread looks at the word again, woken or not
     loads_again : (to : ParkAt) (r : Bool) → StandsAt q again (at.Park to) → IsBeside l base st.owns
         → new.owns ≡ st.owns → new.inside ≡ None → Reach (At (record {
           purpose = q;

@@ -181,7 +181,7 @@ module _ (permits l : ℕ) (base : List Ownership) (st : ThreadState) where
     steps_of : (s : ThreadState) → new ≡ s → new.steps ≡ s.steps
     steps_of s e = ap (λ (x : ThreadState). x.steps) e
 
-    -- it is where it was, after a step on the word that changes no owner
+    -- the thread is where it was, after a step on the word that changes no owner
     stays : (inside : Option SectionView) (s : ThreadState) → new ≡ s → s.owns ≡ st.owns → s.inside
         ≡ st.inside
         → (st.owns ≡ base) × (st.inside ≡ inside) → (new.owns ≡ base) × (new.inside ≡ inside)

@@ -72,7 +72,7 @@ module _ (me : ℕ) (b : Bool) where
   sleeps_by act.Sleep reply t told needs = slept false told (needs refl)
   sleeps_by a reply t told needs = none_sleeps told
 
-  -- it stood last by the act, or stands still
+  -- the thread stood last by the act, or stands still
   same_told : {S : Type 0} {t u : List Telling} → t ≡ u → stands_after b u ≡ b → (false ≡ true)
       ⊎ (S × (b ≡ true))
       → stands_after b t ≡ true

@@ -50,7 +50,7 @@ taken_there : (section : Option Section) → threads_taken section ≡ taken_of 
 taken_there None = refl
 taken_there (Some section) = refl
 
--- those that it took are few
+-- the threads that a section took are few
 pub few_taken : (did : Did) (waiters : List Waiter) (key : ℕ) (old : Option SectionView)
     (new : Option Section) → HasKey key old → section_view new ≡ took_as did waiters old
     → length (threads_taken new) < 2 ^ 60 → length waiters < 2 ^ 60

@@ -44,7 +44,7 @@ pub within_none : (section : Option Section) → section_view section ≡ None �
 within_none None none = refl
 within_none (Some section) none = cc
 
--- those that a section's view has taken
+-- the threads that a section's view has taken
 abbrev taken_of : Option SectionView → List ℕ
 taken_of None = []
 taken_of (Some inside) = inside.taken

@@ -34,7 +34,7 @@ MeetAt lot token word = IsTokenOf lot token × IsWordOf lot.words word
 abbrev pub beginning : ℕ → MutexCall → Place
 beginning n c = Mutex n (mutex_first false c)
 
--- its first operation on the word
+-- the first operation of a call on the word
 abbrev pub first_op : MutexCall → Op
 first_op call.Lock = Exchange 0 1
 first_op call.LockTimed = Exchange 0 1
@@ -43,7 +43,7 @@ first_op call.Unlock = Sub 1
 first_op call.UnlockFair = Exchange 1 0
 first_op call.Bump = Load
 
--- its aim after that
+-- the aim of a call after its first operation
 abbrev pub purpose_in : MutexCall → MutexPurpose
 purpose_in call.Lock = to_enter entry.TheVariants.Lock
 purpose_in call.LockTimed = to_enter entry.TheVariants.LockTimed
@@ -51,7 +51,8 @@ purpose_in call.UnlockFair = to_hand_over
 purpose_in call.Bump = to_enter entry.TheVariants.Bump
 purpose_in _ = to_release
 
--- it goes on after the value that its first operation saw; a thread that is to hand the mutex over owns it
+-- a call goes on after the value that its first operation saw; a thread that is to hand the mutex over owns
+-- it
 abbrev pub IsUnfinished : ℕ → MutexCall → ℕ → List Ownership → Type 0
 IsUnfinished n call.Lock seen owns = 0 < seen
 IsUnfinished n call.LockTimed seen owns = 0 < seen

@@ -35,7 +35,7 @@ use Rattle.run_base.specs.Stages.{HasLeft, ThreadState, TookNobodyAt, entered_no
 abbrev pub OwnsIt : ℕ → List Ownership → Type 0
 OwnsIt m base = has (mutex_ownership m) base ≡ true
 
--- its ownership while it waits
+-- the ownership of a thread while it waits
 abbrev pub apart : ℕ → List Ownership → List Ownership
 apart m base = without (mutex_ownership m) base
 
@@ -61,7 +61,7 @@ abbrev pub TellsNumber : Bool → ℕ → ℕ → Type 0
 TellsNumber true number counted = number ≡ counted
 TellsNumber false number counted = number ≡ 1
 
--- it has moved waiters there, and took one of them or none
+-- a thread has moved waiters there, and took one of them or none
 abbrev pub HasMovedInSection : ℕ → ℕ → Bool → ℕ → List Ownership → ThreadState → Type 0
 HasMovedInSection c m all number owns st =
     (st.owns ≡ owns) × (locked : Bool) × (waiters : List Waiter) × (moved : ℕ)

@@ -1,4 +1,7 @@
 -- The word steps of a call and what the queues told it are a course of its transitions.
+--
+-- A course says where its thread is queued, and what the queues told it. A sleep tells no key, and a
+-- waiter may be moved to another key: that it stood is known by the last stand that it was told.
 use Rattle.std.specs.Prelude.{ℕ, ◌≡◌, ◌==◌, ◌+◌, ◌++◌, ◌∷◌, ◌⊎◌, [], not, Bool, true, false, List, Option}
 use Rattle.std.specs.Prelude.{Some, None, length, MatchBool, if◌then◌else◌}
 use Rattle.core_base.specs.Requeues.{moved_by}
@@ -127,7 +130,7 @@ pub data Course (at : ℕ → ℕ) (me : ℕ) : Place → Trail → Place → Ty
   rests : (p : Place) → Course at me p no_trail p
   goes : (p q : Place) (x y : Trail) (reply : Reply) → Course at me p x q
       → BringsTold at me q y reply → Course at me p (joined x y) (next_place q reply)
-  -- it looks at the word once more in place of an act that leads to sleep
+  -- a thread looks at the word once more in place of an act that leads to sleep
   sees : (p q r : Place) (x : Trail) → Course at me p x q → respins_from q ≡ Some r → Course at me p x r
 
 -- the last reply of a call, which ends it by an answer
@@ -168,7 +171,7 @@ EachSleepStands stands (telling.TheVariants.Slept ∷ more) = (stands ≡ true) 
 EachSleepStands stands (telling.TheVariants.Took _ _ _ ∷ more) = EachSleepStands stands more
 EachSleepStands stands (telling.TheVariants.Counted _ _ ∷ more) = EachSleepStands stands more
 
--- so in each call that came to its answer
+-- in each call that came to its answer each sleep follows a stand
 abbrev pub SleepersStood : Type 0
 SleepersStood = (at : ℕ → ℕ) (me : ℕ) (p : Place) (all : Trail) (answer : Answer)
     → Arrival at me p all answer → EachSleepStands (is_queued p) all.told

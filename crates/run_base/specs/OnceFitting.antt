@@ -33,7 +33,7 @@ knowing l (suc times) base = owning (once_at l) Witness ∷ knowing l times base
 abbrev pub OwnsKnowing : ℕ → List Ownership → List Ownership → Type 0
 OwnsKnowing l base owns = (times : ℕ) × (owns ≡ knowing l times base)
 
--- it knows that the `Once` is done
+-- a thread knows that the `Once` is done
 abbrev pub KnowsIt : ℕ → List Ownership → List Ownership → Type 0
 KnowsIt l base owns = (times : ℕ) × (owns ≡ knowing l (suc times) base)
 
@@ -67,7 +67,7 @@ abbrev pub OwnsRun : ℕ → List Ownership → List Ownership → Type 0
 OwnsRun l base owns = (rest : List Ownership) × OwnsKnowing l base rest
     × (owns ≡ owning (once_at l) Runner ∷ rest)
 
--- it has taken all that waited; these have no right yet, and get none
+-- a section has taken all that waited; these have no right yet, and get none
 abbrev pub TookEach : ℕ → List Waiter → Option SectionView → Type 0
 TookEach l waiters inside =
     inside ≡ Some (having_taken (One (2 * l)) (TakeAll (2 * l)) waiters (threads_of waiters))

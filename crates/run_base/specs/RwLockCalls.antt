@@ -58,7 +58,7 @@ abbrev pub rwlock_deciding : ℕ → Admission → RwLockPurpose → ℕ → Pla
 rwlock_deciding l a q seen =
     RwLock l a (Plain (record { purpose = q; retries = false; at = at.Decide seen }))
 
--- its first operation
+-- the first operation of a call
 abbrev pub op_at : RwLockPurpose → RwLockAt → Op
 op_at q at.First = Exchange 0 8
 op_at q at.GiveWay = give_op q
@@ -116,15 +116,15 @@ MeetsAt lot token word a = IsTokenOf lot token × IsWordOf lot.words word
 abbrev pub IsRwLockRight : ParkingLot → Word → Owner → Held → Type 0
 IsRwLockRight lot word owner held = IsHeldOf lot.words word owner held
 
--- it is the same thread, and owns what it did, where it waited for no last readers of the lock
+-- two tokens are of one thread, which owns what it did, but for the wait for the last readers of this lock
 abbrev pub StaysBeside : ℕ → Token → Token → Type 0
 StaysBeside l old new = (new.number ≡ old.number) × IsBeside l (view_of old).owns (view_of new).owns
 
--- it waits for the last readers of no lock
+-- a thread waits for the last readers of no lock
 abbrev pub WaitsForNobody : List Ownership → Type 0
 WaitsForNobody owns = (l : ℕ) → AwaitsNoReaders l owns
 
--- it is the same thread, and owns what it did, where it waited for the last readers of no lock
+-- two tokens are of one thread, which owns what it did, where it waited for the last readers of no lock
 abbrev pub StaysSettled : Token → Token → Type 0
 StaysSettled old new = (new.number ≡ old.number)
     × (WaitsForNobody (view_of old).owns → (view_of new).owns ≡ (view_of old).owns)
@@ -170,7 +170,7 @@ ReleasesFairly l a accesses.Exclusive old new =
 
 -- ---------------------------------------------------------------- calls of the world's language
 
--- the same, from where a call of a world begins
+-- a thread has walked a call of the world's language, from where that begins to its answer
 abbrev pub HasWalkedCall : ℕ → Admission → RwLockCall → Answer → Token → Token → Type 0
 HasWalkedCall l a call answer old new = Courses (at_rwlock l) old.number
     (RwLock l a (call_first call)) (trail_of old None) (trail_of new None) answer

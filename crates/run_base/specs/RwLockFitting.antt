@@ -216,8 +216,8 @@ HasPickedThese l a k inside =
     (waiters : List Waiter) × AreTaken (wants_of waiters) k
     × HasPicked l a waiters (threads_of waiters) inside
 
--- those that it took have their rights where it handed the lock over, and nobody is there where it
--- took nobody
+-- the threads that were taken have their rights where the lock was handed over, and nobody is there where
+-- nobody was taken
 abbrev pub still_rightless : Bool → List Waiter → List ℕ
 still_rightless true waiters = []
 still_rightless false waiters = threads_of waiters
@@ -237,7 +237,7 @@ IsHandingPlace access.Exclusive (handing.Look k) = ⊥
 IsHandingPlace access.Exclusive (handing.Exchange k seen) = ⊥
 IsHandingPlace x to = Unit {0}
 
--- it owns its right until the step that gives that up
+-- a thread owns its right until the step that gives that up
 abbrev pub FitsHandOver : ℕ → List Ownership → Admission → Access → HandOverAt → ThreadState → Type 0
 FitsHandOver l base a x handing.Load st = OwnsRight l (wanted x) base st.owns × (st.inside ≡ None)
 FitsHandOver l base a x (handing.Free seen) st =
@@ -289,7 +289,7 @@ rwlock_purpose_in (places.PeekQueue x) = purpose.Enter x Patient
 rwlock_purpose_in (places.HandOver x b to) = purpose.Enter x Patient
 rwlock_purpose_in (places.Handed x how b to) = purpose.Enter x how
 
--- it sleeps in the main queue, where it may be handed the lock
+-- a thread sleeps in the main queue, where it may be handed the lock
 abbrev pub awaits_right : RwLockAt → Bool
 awaits_right (at.Park parking.Asleep) = true
 awaits_right to = false

@@ -213,7 +213,8 @@ abbrev pub stepped : WordKind → ℕ → Op → ℕ → ThreadState → ThreadS
 stepped kind at op seen st =
     stage (owns_after_step kind at op seen st.owns) st.inside None (st.steps ++ step at op seen)
 
--- its ownership after one with which each of those that were taken is given the right that it wants
+-- the ownership of a thread after a step with which each of those that it took is given the right that it
+-- wants
 abbrev pub owns_when_handed : WordKind → ℕ → Op → ℕ → List Want → List Ownership → List Ownership
 owns_when_handed kind at op seen wants owns =
     without_all at (owners_given kind (apply op seen) wants) (owns_after_step kind at op seen owns)
@@ -233,8 +234,8 @@ HasLeft key did number last = last ≡ Some (record { key = key; did = did; numb
 abbrev pub HasDone : ℕ → Did → Option SectionRecord → Type 0
 HasDone key did last = (number : ℕ) × HasLeft key did number last
 
--- it is that of a lock's main queue, where nobody was taken or moved: a thread that gives up leaves the queue
--- there
+-- a record is that of a lock's main queue, where nobody was taken or moved: a thread that gives up leaves the
+-- queue there
 abbrev pub TookNobodyAt : ℕ → Option SectionRecord → Type 0
 TookNobodyAt lock last = HasLeft (key_of lock Main) Nothing 0 last
 

@@ -50,7 +50,7 @@ MayTakeStep word op token = MayStep word.kind (index_of word) op (owns_of token)
 abbrev pub MayFind : Word → ℕ → Token → Type 0
 MayFind word seen token = CodesWith word.kind (index_of word) seen (owns_of token)
 
--- it has taken the step, and no other
+-- a thread has taken this step, and no other
 abbrev pub HasStepped : Word → Op → ℕ → Token → Token → Type 0
 HasStepped word op seen old new =
     view_of new ≡ after_step word.kind (index_of word) op seen (view_of old)

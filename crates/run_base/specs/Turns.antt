@@ -37,7 +37,7 @@ HasTurned up lot words p reply old section new now = IsSameThread lot old new ×
     × HasTold old.number (act_of p) reply (told_by old section) (told_by new now)
     × StaysQueued p reply
 
--- it is at a place whose act is this
+-- a thread is at a place whose act is this
 abbrev pub MayAct : Type 0 → ParkingLot → Words → Act → Token → Option Section → Type 0
 MayAct up lot words a token section =
     (p : Place) × IsAtPlace up lot words p token section × (act_of p ≡ a)

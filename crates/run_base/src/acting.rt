@@ -1,4 +1,10 @@
 //! The acts of a thread in any call, whatever the lock is.
+//!
+//! A hand-over gives each taken thread one right, in their order, by `owner_given`: a mutex is given
+//! alone, a reader-writer lock by what each thread wants, where a writer is pending while readers are
+//! left. A waiter that is handed the mutex ends at once: its hand-off and its `Accept` touch no word,
+//! so the driver does nothing for them. A sleeper learns its note alone, so `Asleep` goes on by `Woken`
+//! too.
 ghost use Rattle.std.specs.Prelude.{◌≡◌, ◌++◌, ◌∷◌, ◌==◌, ℕ, [], None, Some, false, length, true, MatchBool};
 ghost use Rattle.core_base.specs.Clocks.{IsUp};
 ghost use Rattle.core_base.specs.Lines.{queued_under, waiter, line, lines, without};
@@ -110,8 +116,9 @@ pub(crate) fn stand<'a>(
     }
 }
 
-// One step on the word, with which the lock goes to those that were taken. The right that each of
-// them wants is laid in its record. Where an exchange finds another value nothing is handed over.
+// Takes one step on the word, with which the lock goes to those that were taken. The right that
+// each of them wants is laid in its record. Where an exchange finds another value nothing is handed
+// over.
 pub(crate) fn hand_over<R: Wait>(
     rt: &R,
     lot: &ParkingLot,
@@ -303,7 +310,7 @@ fn awake_late<'a, R: Wait>(
     }
     if sleeper.moved == Some(key) {
         *queue = Some(place);
-        // It may be late there too, and is so at once.
+        // The sleeper may be late under the other key too, and is so at once.
         inside.leave(rt, token, Note::Normal);
         return Reply::MovedTo(key);
     }

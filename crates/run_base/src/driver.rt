@@ -1,4 +1,8 @@
 //! One driver for all calls: it does the act of a place on the real lot, and `advance` leads on.
+//!
+//! A run ends at a closure, and another begins after it, so that no path passes a closure over. The
+//! world and the driver both lead on by the same `next` of a place. A thread that waits without a limit
+//! is never late, by the contract of `sleep`, so one driver serves timed and other calls.
 ghost use Rattle.std.specs.Prelude.{◌≡◌, ◌++◌, List, None, IsTrue, IsFalse};
 ghost use Rattle.core_base.specs.Clocks.{IsUp};
 ghost use Rattle.lot_steps.specs.Steps.{act_of, next_place};
@@ -83,7 +87,7 @@ pub fn answer_of(act: Act) -> Option<Answer>
     }
 }
 
-/// One step on the word of a mutex.
+/// Takes one step on the word of a mutex.
 #[inline]
 pub fn step(lot: &ParkingLot, token: &mut Token, word: Word, op: Op) -> u64
     requires own { MeetAt lot.now token.old word }
@@ -270,7 +274,7 @@ fn place_after(word: Word, call: MutexCall, seen: u64) -> Place
     first.next_place(Reply::Value(seen))
 }
 
-/// The rest of a call whose first step saw this.
+/// Does the rest of a call whose first step saw this.
 #[cold]
 #[inline(never)]
 pub fn call_slow<R: Wait, C: Clock>(

@@ -1,4 +1,9 @@
 //! The limits of waits that end after a while.
+//!
+//! A deadline is made of one look at the clock. Where no `u64` holds the sum the call waits without a
+//! limit. No contract says that the first of two times was reported in this call: a clock knows no
+//! calls. A timed try that needs no wait never looks at the deadline: a free lock is taken though the
+//! time is up, as in the Rust crate.
 ghost use Rattle.std.specs.Duration.{as_nanos};
 ghost use Rattle.core_base.specs.Clocks.{HasElapsed, IsUp};
 

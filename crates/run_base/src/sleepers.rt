@@ -1,4 +1,9 @@
 //! For what a thread sleeps in its call, and under which keys it may be late or moved.
+//!
+//! A sleeper whose time is up may be queued under another key. Where its call knows that key, as a wait
+//! on a condition variable knows its mutex's, the sleeper is told `MovedTo`, and is late there at once.
+//! Under any other key, to which only a section of a user's own can have moved it, it leaves the queue
+//! and tries again.
 ghost use Rattle.std.specs.Prelude.{◌≡◌};
 ghost use Rattle.lot_steps.specs.Steps.{HasKeys};
 ghost use Rattle.lot_steps.specs.declared.places.Place.TheVariants.{Condvar};
@@ -26,7 +31,7 @@ pub(crate) struct Sleeper {
     pub takes_over: bool,
 }
 
-// Whether a thread sleeps in the main queue, where it may be handed the lock.
+// Returns whether a thread sleeps in the main queue, where it may be handed the lock.
 fn may_be_handed(at: RwLockCallPlace) -> bool
     ensures { result ≡ may_be_handed at }
 {

@@ -43,7 +43,7 @@ fn successor(wants: &[Want]) -> Option<Want>
     None
 }
 
-/// Whether it took one, and whether none is left.
+/// Returns whether it took one, and whether none is left.
 pub(crate) fn take_first(_lot: &ParkingLot, section: &mut Option<Section>, key: Key) -> (bool, bool)
     requires { MayTakeAt _lot.now key section.old }
     ensures did { WereTaken _lot.now (TakeFirst key) (listed (front_waiter (line_in key section.old)))
@@ -64,7 +64,7 @@ pub(crate) fn take_first(_lot: &ParkingLot, section: &mut Option<Section>, key: 
     }
 }
 
-/// Whether it took any, and whether none is left.
+/// Returns whether it took any, and whether none is left.
 pub(crate) fn take_all(_lot: &ParkingLot, section: &mut Option<Section>, key: Key) -> (bool, bool)
     requires { MayTakeAt _lot.now key section.old }
     ensures did { WereTaken _lot.now (TakeAll key)
@@ -85,7 +85,7 @@ pub(crate) fn take_all(_lot: &ParkingLot, section: &mut Option<Section>, key: Ke
     }
 }
 
-/// Whether none is left.
+/// Returns whether none is left.
 pub(crate) fn take_picked(
     _lot: &ParkingLot,
     section: &mut Option<Section>,
@@ -114,7 +114,8 @@ pub(crate) fn take_picked(
     }
 }
 
-/// How many of those that it took want to share, and what the first of them wants that wants more.
+/// Returns how many of those that it took want to share, and what the first of them wants that
+/// wants more.
 pub(crate) fn tell_wants(section: &Option<Section>) -> (usize, Option<Want>)
     ensures sharers { result.0 ≡ sharers_in (wants_taken section.now) }
     ensures successor { result.1 ≡ successor_in (wants_taken section.now) }
@@ -130,7 +131,7 @@ pub(crate) fn tell_wants(section: &Option<Section>) -> (usize, Option<Want>)
     }
 }
 
-/// How many it took and moved, and whether none is left where they stood.
+/// Returns how many it took and moved, and whether none is left where they stood.
 pub(crate) fn requeue(
     _lot: &ParkingLot,
     section: &mut Option<Section>,

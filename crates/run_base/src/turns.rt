@@ -23,7 +23,7 @@ use parking_lot_core::{
 };
 use std::sync::Wait;
 
-/// A turn with one operation on the word of a lock. It answers what the word was.
+/// Takes a turn with one operation on the word of a lock. Returns what the word was.
 #[inline]
 pub fn turn_word<C: Clock>(
     lot: &ParkingLot,
@@ -42,8 +42,8 @@ pub fn turn_word<C: Clock>(
     lot.word(token, words.of(lock), op)
 }
 
-/// A turn with one operation on the word of a lock, by which the lock goes to those that were taken.
-/// It answers what the word was.
+/// Takes a turn with one operation on the word of a lock, by which the lock goes to those that were
+/// taken. Returns what the word was.
 #[inline]
 pub fn turn_hand_over<R: Wait, C: Clock>(
     rt: &R,
@@ -81,8 +81,8 @@ pub fn turn_enter<'a, R: Wait, C: Clock>(
     enter(rt, lot, token, section, keys);
 }
 
-/// A turn that loads the word, and where the check holds stands after the last of a queue. It
-/// answers whether it stands, and gives the thread's place there.
+/// Takes a turn that loads the word, and where the check holds stands after the last of a queue.
+/// Returns whether it stands, and gives the thread's place there.
 #[inline]
 pub fn turn_park<'a, C: Clock>(
     lot: &ParkingLot,
@@ -107,7 +107,7 @@ pub fn turn_park<'a, C: Clock>(
     park(lot, token, words.of(lock), section, queue, key, check, want)
 }
 
-/// A turn that stands after the last of a queue. It gives the thread's place there.
+/// Takes a turn that stands after the last of a queue. It gives the thread's place there.
 #[inline]
 pub fn turn_stand<'a, C: Clock>(
     lot: &ParkingLot,
@@ -128,7 +128,7 @@ pub fn turn_stand<'a, C: Clock>(
     stand(lot, token, section, key, want)
 }
 
-/// A turn that takes the first of a queue. Whether there was any, and whether none is left.
+/// Takes a turn that takes the first of a queue. Whether there was any, and whether none is left.
 #[inline]
 pub fn turn_take_first<C: Clock>(
     lot: &ParkingLot,
@@ -148,8 +148,8 @@ pub fn turn_take_first<C: Clock>(
     take_first(lot, section, key)
 }
 
-/// A turn that takes the waiters that a lock lets in: how many of them want to share, the want of the
-/// first that wants more, and whether none is left.
+/// Takes a turn that takes the waiters that a lock lets in: how many of them want to share, the
+/// want of the first that wants more, and whether none is left.
 #[inline]
 pub fn turn_take_wanted<C: Clock>(
     lot: &ParkingLot,
@@ -172,8 +172,8 @@ pub fn turn_take_wanted<C: Clock>(
     take_wanted(lot, section, key, start, recursive)
 }
 
-/// A turn that moves waiters from one queue to another, and may take the first. How many these are,
-/// and whether none is left where they stood.
+/// Takes a turn that moves waiters from one queue to another, and may take the first. How many
+/// these are, and whether none is left where they stood.
 #[inline]
 pub fn turn_requeue<C: Clock>(
     lot: &ParkingLot,

@@ -12,7 +12,7 @@ pub struct Words {
 }
 
 impl Words {
-    /// Those of a call that steps on one word: it stands for any lock's.
+    /// Returns the words of a call that steps on one word, which stands for any lock's.
     pub fn alone(word: Word) -> Words
         ensures { result ≡ single_word word }
     {
@@ -22,8 +22,8 @@ impl Words {
         }
     }
 
-    /// Those of a call that steps on two: the second where its own lock's number is asked for, and
-    /// else the first.
+    /// Returns the words of a call that steps on two: the second where its own lock's number is
+    /// asked for, and else the first.
     pub fn both(word: Word, other: Word) -> Words
         ensures { result ≡ word_pair word other }
     {
@@ -33,7 +33,7 @@ impl Words {
         }
     }
 
-    /// The word of the lock of this number.
+    /// Returns the word of the lock of this number.
     pub(crate) fn of(self, lock: usize) -> Word
         ensures { result ≡ word_among self lock }
     {

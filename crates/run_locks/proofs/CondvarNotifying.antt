@@ -44,7 +44,7 @@ module _ (n : ℕ) (all : Bool) (seen : ℕ) (answer : Answer) (old mid : Token)
       by_test true = refl
       by_test false = refl
 
-  -- it saw that nobody waits
+  -- the thread saw that nobody waits
   pub nobody_waits : seen ≡ 0 → answer ≡ notified all 0 → NotifiesBy n all answer old mid
   nobody_waits zero told = (
     n + 1,

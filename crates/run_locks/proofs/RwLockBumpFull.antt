@@ -55,7 +55,7 @@ module _ (a : Admission) (x : Access) where
   abbrev enters : RwLockPurpose
   enters = purpose.Enter x Patient
 
-  -- it gives its right up, and enters again
+  -- the thread gives its right up, and enters again
   abbrev IsOfBump : RwLockCallPlace → Type 0
   IsOfBump (Plain p) = ⊥
   IsOfBump (PeekQueue y) = y ≡ x

@@ -132,13 +132,13 @@ module _ (l : ℕ) (a : Admission) (c : RwLockPurpose) (seen : ℕ) where
   led_by k e = subst (λ (x : Course). Led (decided_for a c seen) c seen x (rwlock_next a (rwlock_first c)
       (Value seen))) e (led a c seen)
 
-  -- it has ended
+  -- the thread has ended
   pub ends_with : (answer : Answer) → course_of a c seen ≡ Ends answer
       → answer_of (next_act (rwlock_begin l a c) (Value seen)) ≡ Some answer
   ends_with answer e = ap (λ (n : Next RwLockPlace). answer_of (rwlock_does l a (plain_next n)))
       (led_by (Ends answer) e)
 
-  -- it goes on, with or without a wait
+  -- the thread goes on, with or without a wait
   pub waits_at : course_of a c seen ≡ GoesOn → (p : RwLockPlace)
       × (rwlock_next a (rwlock_first c) (Value seen) ≡ At p)
   waits_at e = led_by GoesOn e
@@ -152,7 +152,7 @@ module _ (l : ℕ) (a : Admission) (c : RwLockPurpose) (seen : ℕ) where
   comes_to e = ap (λ (n : Next RwLockPlace). rwlock_goes l a (plain_next n)) (led_by Takes e).0
 
   module _ (takes : course_of a c seen ≡ Takes) where
-    -- it takes its right by an exchange
+    -- the thread takes its right by an exchange
     pub takes_by : act_of (rwlock_deciding l a c seen) ≡ act.Word l (Exchange seen (word_taken c seen))
     takes_by = ap (decided_act l c seen) (led_by Takes takes).1
 

@@ -153,7 +153,7 @@ module _ (l : ℕ) (a : Admission) (base : List Ownership) (st new : ThreadState
     ),
   )
 
--- its path
+-- the path of the call
 module _ (l : ℕ) (a : Admission) (seen : ℕ) (old mid : Token)
     (saw : steps_of mid ≡ steps_of old ++ step (rwlock_at l) (Exchange 8 0) seen)
     (untold : told_of mid ≡ told_of old) where
@@ -187,7 +187,7 @@ module _ (l : ℕ) (a : Admission) (seen : ℕ) (old mid : Token)
       (subst (λ (me : ℕ). Courses (at_rwlock l) me hands (trail_of mid None) (trail_of new None) Ok) same
       rest))
 
--- its record
+-- the record of the call
 module _ (l : ℕ) (a : Admission) (seen : ℕ) (old mid new : List WordStep)
     (saw : mid ≡ old ++ step (rwlock_at l) (Exchange 8 0) seen) where
   pub record_free : seen ≡ 8 → LeftFairly l a old mid None

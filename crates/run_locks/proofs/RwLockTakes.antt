@@ -46,7 +46,7 @@ module _ (word : Word) (is : word.kind ≡ kinds.RwLock) (a : Admission) (c : Rw
       fits_here : Fits up base here (stage_of old None)
       fits_here = subst (λ (p : Place). Fits up base p (stage_of old None)) same fits
 
-      -- it may take the exchange
+      -- the exchange may be taken
       pub word_may_take : MayStep word.kind (word_index word.number word.kind) op (view_of old).owns
       word_may_take = subst (λ (k : WordKind). MayStep k (word_index word.number k) op (view_of old).owns)
           (sym is)

@@ -10,7 +10,7 @@ use Rattle.lot_steps.specs.Steps.{next_act, next_place}
 use Rattle.run_base.specs.Fitting.{answer_of}
 use Rattle.run_locks.specs.WakeCourses.{left_on, wakes_at}
 
--- it goes on by whether any is left
+-- the thread goes on by whether any waiter is left
 pub took_picked : (l : ℕ) (a : Admission) (q : RwLockPurpose) (sharers : ℕ) (successor : Option Want)
     (none_left : Bool) → (next_place (wakes_at l a q waking.Take) (Picked sharers successor none_left)
     ≡ wakes_at l a q (left_on (any_picked sharers successor) none_left))

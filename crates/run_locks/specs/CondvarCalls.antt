@@ -65,7 +65,7 @@ MeetsCondvar lot token condvar = IsTokenOf lot token × IsWordOf lot.words condv
 abbrev pub notify_begin : ℕ → Bool → Place
 notify_begin c all = Condvar c (Look all)
 
--- its thread loaded the word once and found this
+-- a thread loaded the word once and found this
 abbrev pub HasLooked : ℕ → ℕ → ℕ → Token → Token → Type 0
 HasLooked words c seen old new =
     (steps_of new ≡ steps_of old ++ step (condvar_at c) Load seen) × (owns_of new ≡ owns_of old)
@@ -104,7 +104,7 @@ abbrev pub WaitsBy : ℕ → ℕ → Bool → Answer → Token → Token → Typ
 WaitsBy c m timed answer old new = HasWaited c m timed answer old new
     ⊎ ((c ≡ m) × (answer ≡ TwoMutexes) × (steps_of new ≡ steps_of old))
 
--- it tells of another mutex, or whether its time was up
+-- a wait answers that another mutex is shown, or whether its time was up
 abbrev pub AnswersWait : Bool → Answer → Type 0
 AnswersWait timed answer = (answer ≡ TwoMutexes) ⊎ ((late : Bool) × (answer ≡ waited timed late))
 
@@ -123,13 +123,13 @@ abbrev pub IsNumber : Bool → ℕ → ℕ → Type 0
 IsNumber true n number = n ≡ number
 IsNumber false n number = n ≡ 1
 
--- its one look saw that nobody waits, or its second look another value than its first
+-- the one look of a notification saw that nobody waits, or its second look another value than its first
 abbrev pub SawNoneToMove : ℕ → Token → Token → Type 0
 SawNoneToMove c old new = (steps_of new ≡ steps_of old ++ step (condvar_at c) Load 0)
     ⊎ ((first : ℕ) × LookedElse c first (steps_of old ++ step (condvar_at c) Load first) new)
 
--- it moved nobody and saw that there is none to move, or left both queues with so many, which went to the
--- mutex that its first look saw
+-- a notification moved nobody and saw that there is none to move, or left both queues with this many, which
+-- went to the mutex that its first look saw
 abbrev pub WaitersMoved : ℕ → Bool → ℕ → Token → Token → Type 0
 WaitersMoved c all n old new = ((n ≡ 0) × SawNoneToMove c old new)
     ⊎ ((m : ℕ) × (locked : Bool) × (number : ℕ) × IsNumber all n number

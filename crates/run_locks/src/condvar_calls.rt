@@ -1,4 +1,6 @@
 //! The calls of a condition variable.
+//!
+//! A notification's first load is inlined, and the rest is out of line: mostly no thread waits.
 ghost use Rattle.std.specs.Prelude.{◌≡◌, ◌≢◌, Bool, None};
 ghost use Rattle.core_base.specs.Clocks.{IsUp};
 ghost use Rattle.parking_lot_core.specs.Tokens.{IsSameThread};
@@ -55,8 +57,8 @@ pub fn wait<R: Wait, C: Clock>(
     wait_through(rt, lot, token, pair_of(condvar, mutex), limit, timed)
 }
 
-// The rest of a notification whose first step saw this mutex: it wakes the first that waits with
-// it, or all, or moves them to its queue.
+// Does the rest of a notification whose first step saw this mutex: it wakes the first that waits
+// with it, or all, or moves them to its queue.
 #[cold]
 #[inline(never)]
 fn notify_shown<R: Wait>(
@@ -76,8 +78,9 @@ fn notify_shown<R: Wait>(
     notify_through(rt, lot, token, pair_of(condvar, mutex), all)
 }
 
-/// The step with which each notification begins, as all callers make it themselves. It answers what
-/// it sees of the condition variable: where that is 0 nobody waits, and the notification is over.
+/// Takes the step with which each notification begins, as all callers make it themselves. Returns
+/// what it sees of the condition variable: where that is 0 nobody waits, and the notification is
+/// over.
 #[inline]
 pub fn notify_fast(lot: &ParkingLot, token: &mut Token, condvar: Word) -> u64
     requires own { MeetsCondvar lot.now token.old condvar }
@@ -89,9 +92,10 @@ pub fn notify_fast(lot: &ParkingLot, token: &mut Token, condvar: Word) -> u64
     lot.look_shown(token, condvar)
 }
 
-/// The rest of a notification whose first step saw that a mutex is shown. It wakes the first that
-/// waits, or all: those whose mutex somebody owns it moves to the queue of that, but for the first
-/// where nobody owns it. It answers how many it took and moved, of the first whether there was one.
+/// Does the rest of a notification whose first step saw that a mutex is shown. It wakes the first
+/// that waits, or all: those whose mutex somebody owns it moves to the queue of that, but for the
+/// first where nobody owns it. Returns how many it took and moved, of the first whether there was
+/// one.
 #[cold]
 #[inline(never)]
 pub fn notify_slow<R: Wait>(

@@ -23,7 +23,7 @@ pub(crate) struct Pair {
 }
 
 impl Pair {
-    // Where a thread stands that waits.
+    // Returns where a thread stands that waits.
     pub(crate) fn waits(self, timed: bool, at: WaitAt) -> Place
         ensures { result ≡ wait_at self.condvar self.mutex timed at }
     {
@@ -37,7 +37,7 @@ impl Pair {
         }
     }
 
-    // Where one stands that notifies.
+    // Returns where one stands that notifies.
     pub(crate) fn notifies(self, all: bool, at: NotifyAt) -> Place
         ensures { result ≡ notify_at self.condvar self.mutex all at }
     {
@@ -52,7 +52,7 @@ impl Pair {
     }
 }
 
-// The rest of a call, from a place off its straight course.
+// Does the rest of a call, from a place off its straight course.
 #[cold]
 #[inline(never)]
 pub(crate) fn rest<'a, R: Wait, C: Clock>(

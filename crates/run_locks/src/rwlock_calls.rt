@@ -1,4 +1,10 @@
 //! The calls of a reader-writer lock, each from its first step to its answer.
+//!
+//! The first half of a call is inlined: the first step, the decision about the value seen
+//! (`course_of`), and one exchange for a thread that may come in to read. All code that waits or wakes
+//! is cold. A cold call takes its word and settings by reference and a constant purpose, since a local
+//! would be set to zero each time. The limit is kept twice (`Settings`), as a number and shifted as the
+//! word has it.
 ghost use Rattle.std.specs.Prelude.{◌≡◌, List, None, MatchResult, IsFalse};
 ghost use Rattle.steps_base.specs.declared.acts.Reply.TheVariants.{Value};
 ghost use Rattle.core_base.specs.Clocks.{IsUp};
@@ -39,9 +45,10 @@ use steps_rwlock_fair::RwLockCallPlace;
 /// The rest of a call, which the fast half leaves to the slow one.
 #[derive(Clone, Copy)]
 pub enum Rest {
-    /// Its first step saw this, and it goes on.
+    /// The first step saw this, and the call goes on.
     GoesOn(u64),
-    /// Its first step saw one value, and the exchange by which it takes its right found another.
+    /// The first step saw one value, and the exchange by which the call takes its right found
+    /// another.
     Missed { seen: u64, found: u64 },
 }
 
@@ -103,7 +110,7 @@ fn place_after(lock: usize, admission: Admission, purpose: RwLockPurpose, seen: 
     first.next_place(Reply::Value(seen))
 }
 
-// Where a call decides by what its first step saw.
+// Returns where a call decides by what its first step saw.
 fn deciding(lock: usize, admission: Admission, purpose: RwLockPurpose, seen: u64) -> Place
     ensures { result ≡ rwlock_deciding lock admission purpose seen }
 {
@@ -118,7 +125,7 @@ fn deciding(lock: usize, admission: Admission, purpose: RwLockPurpose, seen: u64
     }
 }
 
-// A purpose to enter, where it lasts.
+// Returns a purpose to enter, where it lasts.
 #[inline(always)]
 fn entering(access: Access, patience: Patience) -> &'static RwLockPurpose
     ensures { result.now ≡ Enter access patience }
@@ -166,7 +173,7 @@ fn entering(access: Access, patience: Patience) -> &'static RwLockPurpose
     }
 }
 
-// The purpose of a call, where it lasts.
+// Returns the purpose of a call, where it lasts.
 #[inline(always)]
 fn static_purpose(purpose: RwLockPurpose) -> &'static RwLockPurpose
     ensures { result.now ≡ purpose }
@@ -216,7 +223,7 @@ fn rest_slow<R: Wait, C: Clock>(
     run_out(rt, lot, token, *word, *limit, start)
 }
 
-/// The slow half of a call whose first step saw this, and that goes on.
+/// Does the slow half of a call whose first step saw this, and that goes on.
 #[inline(always)]
 pub fn call_slow<R: Wait, C: Clock>(
     rt: &R,
@@ -290,7 +297,7 @@ fn rest_missed<R: Wait, C: Clock>(
     }
 }
 
-/// The slow half of a call whose first step saw one value, and whose exchange found another.
+/// Does the slow half of a call whose first step saw one value, and whose exchange found another.
 #[inline(always)]
 pub fn missed<R: Wait, C: Clock>(
     rt: &R,
@@ -326,8 +333,8 @@ pub fn missed<R: Wait, C: Clock>(
     )
 }
 
-/// The fast half of a call of a thread that has the right that it needs: a step or two, which are
-/// all where it meets nobody. Else it answers what is left to `afterwards` or `missed`.
+/// Does the fast half of a call of a thread that has the right that it needs: a step or two, which
+/// are all where it meets nobody. Else it answers what is left to `afterwards` or `missed`.
 #[inline(always)]
 pub fn call_fast<C: Clock>(
     lot: &ParkingLot,

@@ -33,7 +33,7 @@ impl Settings {
         Settings { admission, full }
     }
 
-    // Whether the count in a word is at the limit.
+    // Returns whether the count in a word is at the limit.
     #[inline(always)]
     fn fill(self, seen: u64) -> bool
         ensures { result ≡ nat_le self.admission.limit (codes.count_in seen) }
@@ -46,7 +46,7 @@ impl Settings {
 #[derive(Clone, Copy)]
 pub(crate) enum Course {
     Ends(Answer),
-    /// It takes its right by an exchange.
+    /// The call takes its right by an exchange.
     Takes,
     GoesOn,
 }
@@ -75,7 +75,7 @@ pub(crate) fn answer_with(purpose: RwLockPurpose) -> Answer
     entered(purpose.patience())
 }
 
-/// The operation with which a call begins.
+/// Returns the operation with which a call begins.
 #[inline(always)]
 pub(crate) fn opening(purpose: RwLockPurpose) -> Op
     ensures { result ≡ first_op purpose }

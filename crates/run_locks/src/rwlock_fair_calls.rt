@@ -42,7 +42,7 @@ const HAND_OVER: &RwLockCallPlace = &RwLockCallPlace::HandOver {
     at: HandOverAt::Enter,
 };
 
-// The rest of a call, from a place.
+// Does the rest of a call, from a place.
 #[cold]
 #[inline(never)]
 fn rest<R: Wait>(

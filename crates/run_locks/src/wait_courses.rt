@@ -1,4 +1,6 @@
 //! The straight course of a wait.
+//!
+//! No part of a wait is inlined: it sleeps, or is about to.
 ghost use Rattle.std.specs.Prelude.{◌≡◌, ◌==◌, ◌||◌, None, false};
 ghost use Rattle.core_base.specs.Clocks.{IsUp};
 ghost use Rattle.steps_condvar.specs.CondvarSteps.{is_shown, waited};
@@ -31,7 +33,7 @@ fn notified_answer(timed: bool) -> Answer
     if timed { Answer::Notified } else { Answer::Ok }
 }
 
-// Where a thread locks the mutex again.
+// Returns where a thread locks the mutex again.
 fn locks(at: LockAt) -> WaitAt
     ensures { result ≡ locks_at at }
 {
@@ -275,7 +277,7 @@ fn release<'a, R: Wait, C: Clock>(
     wake_first_and_sleep(rt, lot, token, pair, limit, section, queue, timed)
 }
 
-// Whether a condition variable with this word may show the mutex.
+// Returns whether a condition variable with this word may show the mutex.
 fn may_show(seen: u64, mutex: usize) -> bool
     ensures { result ≡ (seen == 0) || is_shown seen mutex }
 {

@@ -29,7 +29,7 @@ fn answer_after(purpose: RwLockPurpose) -> Answer
     }
 }
 
-// Whether it took any, where so many want to share and this one wants more.
+// Returns whether it took any, where so many want to share and this one wants more.
 #[inline]
 fn took_any(sharers: usize, successor: Option<Want>) -> bool
     ensures { result ≡ any_picked sharers successor }

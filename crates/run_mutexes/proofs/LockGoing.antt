@@ -72,7 +72,7 @@ module _ (m : ℕ) where
   sleeps_on e (Woken Normal) = refl
   sleeps_on e (Woken HandOff) = refl
 
-  -- it stays in the call
+  -- the thread stays in the call
   pub stays_of : (e : Entry) (reply : Reply) → IsOfMutex (next_place (locks_at m e lock.Asleep) reply)
   stays_of e Done = tt
   stays_of e (Value seen) = tt

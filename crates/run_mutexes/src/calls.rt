@@ -20,7 +20,7 @@ use spec_locks::{Answer, MutexCall};
 use std::sync::Wait;
 use steps_mutex::{Entry, LOCKED, PARKED};
 
-// The rest of a lock whose first step saw that others wait.
+// Does the rest of a lock whose first step saw that others wait.
 fn lock_after_others<R: Wait, C: Clock>(
     rt: &R,
     lot: &ParkingLot,
@@ -40,7 +40,7 @@ fn lock_after_others<R: Wait, C: Clock>(
     lock_through(rt, lot, token, words, limit, mutex, Entry::Lock)
 }
 
-// The rest of a timed lock whose first step saw that others wait.
+// Does the rest of a timed lock whose first step saw that others wait.
 fn lock_timed_after_others<R: Wait, C: Clock>(
     rt: &R,
     lot: &ParkingLot,
@@ -60,7 +60,7 @@ fn lock_timed_after_others<R: Wait, C: Clock>(
     lock_through(rt, lot, token, words, limit, mutex, Entry::LockTimed)
 }
 
-// The rest of a fair unlock whose first step saw that others wait.
+// Does the rest of a fair unlock whose first step saw that others wait.
 fn hand_over_to_first<R: Wait, C: Clock>(
     rt: &R,
     lot: &ParkingLot,
@@ -81,8 +81,8 @@ fn hand_over_to_first<R: Wait, C: Clock>(
     hand_over_through(rt, lot, token, words, limit, mutex)
 }
 
-/// The rest of a call whose first step saw this. Where others wait already, a lock and a fair unlock
-/// go by courses of their own.
+/// Does the rest of a call whose first step saw this. Where others wait already, a lock and a fair
+/// unlock go by courses of their own.
 pub fn call_slow<R: Wait, C: Clock>(
     rt: &R,
     lot: &ParkingLot,

@@ -17,7 +17,7 @@ use spec_locks::Answer;
 use std::sync::Wait;
 use steps_mutex::{HandOffAt, LOCKED, MutexPlace, PARKED};
 
-// Where a thread stands that hands a mutex over.
+// Returns where a thread stands that hands a mutex over.
 #[inline]
 fn hands(mutex: usize, at: HandOffAt) -> Place
     ensures { result ≡ hands_at mutex at }
@@ -28,7 +28,7 @@ fn hands(mutex: usize, at: HandOffAt) -> Place
     }
 }
 
-// The word of a mutex whose next owner was taken from the queue.
+// Returns the word of a mutex whose next owner was taken from the queue.
 #[inline]
 fn owned(none_left: bool) -> u64
     ensures { result ≡ hand_off_word true none_left }

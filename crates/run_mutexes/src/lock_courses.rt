@@ -18,7 +18,7 @@ use spec_locks::Answer;
 use std::sync::Wait;
 use steps_mutex::{Entry, LOCKED, LockAt, MutexPlace, PARKED};
 
-// Where a thread stands that locks.
+// Returns where a thread stands that locks.
 #[inline]
 fn locks(mutex: usize, entry: Entry, at: LockAt) -> Place
     ensures { result ≡ locks_at mutex entry at }

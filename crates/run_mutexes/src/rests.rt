@@ -12,7 +12,7 @@ use run_base::words::Words;
 use spec_locks::Answer;
 use std::sync::Wait;
 
-// The rest of a call, from a place off its straight course.
+// Does the rest of a call, from a place off its straight course.
 #[cold]
 #[inline(never)]
 pub(crate) fn rest<'a, R: Wait, C: Clock>(

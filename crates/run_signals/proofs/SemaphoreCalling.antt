@@ -38,7 +38,7 @@ use Rattle.run_base.proofs.Courses.{steps_first}
 use Rattle.run_signals.specs.SemaphoreCalls.{HasGone, IsSemaphore, deciding, semaphore_begin, try_place}
 use Rattle.run_signals.specs.SemaphoreCalls.{waiting, waking}
 
--- its word stands where that of any semaphore of its number does
+-- the word of a semaphore stands where that of any semaphore of its number does
 pub semaphore_at_alone : (w : Word) → IsSemaphore w → at_in (single_word w) ≡ at_semaphore w.number
 semaphore_at_alone w is = ap {B = ℕ → ℕ} (λ (kind : kinds.WordKind) (lock : ℕ). word_index w.number kind) is.1
 

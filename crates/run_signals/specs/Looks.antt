@@ -24,7 +24,7 @@ came_by answers.Yes = Done
 came_by answers.No = Late
 came_by answer = Poisoned
 
--- its steps lead to its closure, which is told this
+-- the steps of a call lead to its closure, which is told this
 abbrev pub Began : ℕ → OnceCall → OnceState → Token → Token → Type 0
 Began n c state old new = (forced : Bool) × (poisoned : Bool) × (c ≡ CallOnce forced)
     × (state ≡ state_before poisoned)
@@ -45,7 +45,7 @@ CameTo up n c old new Late =
 CameTo up n c old new (Runs state) =
     (new.number ≡ old.number) × OwnsRun n (owns_of old) (owns_of new) × Began n c state old new
 
--- its first step found it done, and was all of any call
+-- the first step of a call found the `Once` done, and was all of the call
 abbrev pub FoundDone : ℕ → Token → Token → Type 0
 FoundDone n old new = StaysKnowing n old new × KnowsIt n (owns_of old) (owns_of new)
     × ((c : OnceCall) → RanNothing n c (when_done c) old new)

@@ -81,7 +81,7 @@ abbrev pub EndsRun : ℕ → ℕ → Bool → Bool → Trail → Trail → Type 
 EndsRun n me forced succeeded old new =
     Courses (at_once n) me (run_end n forced succeeded) old new (ended succeeded)
 
--- its thread loaded the word once and found this, and each call goes on from there
+-- a thread loaded the word once and found this, and each call goes on from there
 abbrev pub HasLookedFirst : ℕ → ℕ → Token → Token → Type 0
 HasLookedFirst n seen old new =
     (new.number ≡ old.number) × (steps_of new ≡ steps_of old ++ step (once_at n) Load seen)

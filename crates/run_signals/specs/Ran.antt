@@ -26,11 +26,11 @@ use Rattle.run_signals.specs.OnceCalls.{EndedAndWoke, StepsLeadTo, EndsRun, in_c
 use Rattle.run_signals.specs.declared.once.OnceFault.{OnceFault}
 use Rattle.run_signals.specs.declared.once.OnceFault.TheVariants.{Refused, Failed}
 
--- it is the same thread, and owns what it did; beside that it may know that the `Once` is done
+-- two tokens are of one thread, which owns what it did; beside that it may know that the `Once` is done
 abbrev pub StaysKnowing : ℕ → Token → Token → Type 0
 StaysKnowing n old new = (new.number ≡ old.number) × OwnsKnowing n (owns_of old) (owns_of new)
 
--- it knows that the `Once` is done
+-- a thread knows that the `Once` is done
 abbrev pub SawDone : ℕ → Token → Token → Type 0
 SawDone n old new = KnowsIt n (owns_of old) (owns_of new)
 
@@ -38,7 +38,7 @@ SawDone n old new = KnowsIt n (owns_of old) (owns_of new)
 abbrev pub FoundOrMade : ℕ → Token → Token → Type 0
 FoundOrMade n old new = (new ≡ old) ⊎ SawDone n old new
 
--- its one step, which begins a run, saw that somebody had stepped on the word before
+-- the one step of a thread, which begins a run, saw that somebody had stepped on the word before
 abbrev pub MissedStart : ℕ → Token → Token → Type 0
 MissedStart n old new = (seen : ℕ) × (seen ≢ 0)
     × (steps_of new ≡ steps_of old ++ step (once_at n) (Exchange 0 4) seen)

@@ -51,22 +51,22 @@ try_place n seen = Semaphore n (Try (tries.Decide seen))
 abbrev pub waking : ℕ → Place
 waking n = Semaphore n (Release release.Enter)
 
--- it is the same thread, and owns what it did
+-- two tokens are of one thread, which owns what it did
 abbrev pub StaysAs : Token → Token → Type 0
 StaysAs old new = (new.number ≡ old.number) × (owns_of new ≡ owns_of old)
 
--- its thread loaded the word once and found this
+-- a thread loaded the word once and found this
 abbrev pub HasLooked : ℕ → ℕ → Token → Token → Type 0
 HasLooked n seen old new = StaysAs old new × (last_of new ≡ None)
     × (steps_of new ≡ steps_of old ++ step (semaphore_at n) Load seen) × (told_of new ≡ told_of old)
 
--- it exchanged a value for the one that has a permit less, and found this
+-- a thread exchanged a value for the one that has a permit less, and found this
 abbrev pub HasFound : ℕ → ℕ → ℕ → Token → Token → Type 0
 HasFound n seen found old new = (new.number ≡ old.number) × (last_of new ≡ None)
     × (steps_of new ≡ steps_of old ++ step (semaphore_at n) (Exchange seen (seen - 2)) found)
     × (told_of new ≡ told_of old)
 
--- it gave a permit back, and found this
+-- a thread gave a permit back, and found this
 abbrev pub HasAdded : ℕ → ℕ → Token → Token → Type 0
 HasAdded n seen old new = (new.number ≡ old.number)
     × (steps_of new ≡ steps_of old ++ step (semaphore_at n) (Add 2) seen)

@@ -1,4 +1,8 @@
 //! `Once`, and its calls.
+//!
+//! A call is two halves round its closure. Nothing of the driver is kept while the closure runs: that
+//! its run is on is an ownership of the thread (`OwnsRun`), which the end of the run gives up. A thread
+//! that has found a `Once` done has an ownership that is never given up (`Witness`).
 ghost use Rattle.std.specs.Prelude.{◌≡◌, ◌≢◌, ◌⊎◌, ◌<◌, ◌*◌, ◌∷◌, [], ℕ, List, None, true, false, IfErr};
 ghost use Rattle.std.specs.Prelude.{IfOk, MatchResult};
 ghost use Rattle.std.specs.Arc.{arc_value};
@@ -92,7 +96,7 @@ impl Once {
     ghost use Rattle.run_signals.specs.Ran.{StaysKnowing, Waited, state_of, deadline_answer};
     ghost use Rattle.run_signals.specs.OnceUsers.{lot_of, number_of};
 
-    /// A `Once` that has run nothing.
+    /// Makes a `Once` that has run nothing.
     ///
     /// # Errors
     ///
@@ -141,7 +145,7 @@ impl Once {
         true
     }
 
-    /// A `Once` that is done, and runs nothing.
+    /// Makes a `Once` that is done, and runs nothing.
     ///
     /// # Errors
     ///
@@ -170,14 +174,14 @@ impl Once {
         }
     }
 
-    /// The key of its queue.
+    /// Returns the key of its queue.
     pub fn key(&self) -> Key
         ensures { result ≡ 2 * number_of self.now }
     {
         main_key(self.word.number())
     }
 
-    // One load of its word.
+    // Takes one load of its word.
     #[inline]
     fn load(&self, token: &mut Token) -> u64
         requires { IsTokenOf (lot_of self.now) token.old }
@@ -190,7 +194,7 @@ impl Once {
         self.lot.load(token, self.word)
     }
 
-    /// How far it has come.
+    /// Returns how far it has come.
     #[inline]
     pub fn state(&self, token: &mut Token) -> OnceState
         requires { IsTokenOf (lot_of self.now) token.old }
@@ -211,7 +215,7 @@ impl Once {
         }
     }
 
-    /// Whether a run has succeeded.
+    /// Returns whether a run has succeeded.
     #[inline]
     pub fn is_completed(&self, token: &mut Token) -> bool
         requires { IsTokenOf (lot_of self.now) token.old }
@@ -224,7 +228,7 @@ impl Once {
         is_done(self.load(token))
     }
 
-    // The step with which each call begins.
+    // Takes the step with which each call begins.
     #[inline]
     pub(crate) fn begin(&self, token: &mut Token) -> u64
         requires { IsTokenOf (lot_of self.now) token.old }
@@ -235,8 +239,8 @@ impl Once {
         begin(&self.lot, token, self.word)
     }
 
-    // The rest of a call whose first step saw this, up to its end or its closure. The limit comes by
-    // reference, so that a call which is done has no room to clear for it.
+    // Does the rest of a call whose first step saw this, up to its end or its closure. The limit
+    // comes by reference, so that a call which is done has no room to clear for it.
     #[cold]
     #[inline(never)]
     pub(crate) fn go_on<R: Wait, C: Clock>(

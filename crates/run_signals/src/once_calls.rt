@@ -30,14 +30,14 @@ use steps_once::{DONE, OncePlace, POISONED, RunAt};
 
 /// The end of a call of a `Once`, or its closure.
 pub(crate) enum Look {
-    /// It is over, and ran nothing.
+    /// The call is over, and ran nothing.
     Ended(Answer),
-    /// Its closure is to run, with this state, and [`close`] ends its run.
+    /// The closure is to run, with this state, and [`close`] ends its run.
     Runs(OnceState),
 }
 
-/// The step with which each call begins, as all callers make it themselves: where it sees DONE the
-/// call is over.
+/// Takes the step with which each call begins, as all callers make it themselves: where it sees
+/// DONE the call is over.
 #[inline]
 pub(crate) fn begin(lot: &ParkingLot, token: &mut Token, word: Word) -> u64
     requires own { MeetsOnce lot.now token.old word }

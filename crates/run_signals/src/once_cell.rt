@@ -1,4 +1,9 @@
 //! `OnceCell`: a value that the first that asks for it makes.
+//!
+//! A cell makes its value by a forced call, so that the next thread tries again where one failed. The
+//! value is in std's `OnceLock`, written inside the closure of the cell's own `Once`. No clause
+//! says that the value is there once the `Once` is done, so a thread that met none would stay there. In
+//! a clause a cell is a pair, of its `Once` and the name of what holds its value.
 ghost use Rattle.std.specs.Prelude.{◌≡◌, ◌⊎◌, ◌∷◌, [], List, Ok, Err, true, IfErr, IfOk, IfSome, MatchResult};
 ghost use Rattle.std.specs.Arc.{arc_value};
 ghost use Rattle.core_words.specs.Draws.{IsDrawn, IsDrawRefused};
@@ -60,7 +65,7 @@ impl<T: Drop> OnceCell<T> {
     ghost use Rattle.run_signals.specs.Ran.{FoundAnothers, FoundOrMade, StaysKnowing};
     ghost use Rattle.run_signals.specs.OnceUsers.{lot_of, number_of};
 
-    /// A cell that is empty.
+    /// Makes a cell that is empty.
     ///
     /// # Errors
     ///
@@ -94,10 +99,10 @@ impl<T: Drop> OnceCell<T> {
         self.value.get()
     }
 
-    /// What shows the value, once it is made. That is one load, and never waits.
+    /// Returns what shows the value, once it is made. That is one load, and never waits.
     ///
-    /// It has no bytes. Any two that show the value of one cell agree, whichever threads have them:
-    /// `OnceToken::agrees`.
+    /// The token has no bytes. Any two that show the value of one cell agree, whichever threads
+    /// have them: `OnceToken::agrees`.
     #[inline]
     pub fn witness(&self) -> Option<OnceToken<'_, T>>
         ensures { IfSome result (λ shown. shown.of ≡ self.now.1) }
@@ -105,7 +110,7 @@ impl<T: Drop> OnceCell<T> {
         self.value.witness()
     }
 
-    /// The value, by what shows it.
+    /// Returns the value, by what shows it.
     #[inline]
     pub fn value<'a>(&'a self, shown: &OnceToken<'a, T>) -> &'a T
         requires { shown.now.of ≡ self.now.1 }
@@ -114,7 +119,7 @@ impl<T: Drop> OnceCell<T> {
         self.value.value(shown)
     }
 
-    /// The value, for a thread that has the cell alone.
+    /// Returns the value, for a thread that has the cell alone.
     pub fn get_mut(&mut self) -> Option<&mut T> {
         self.value.get_mut()
     }
@@ -176,7 +181,7 @@ impl<T: Drop> OnceCell<T> {
         }
     }
 
-    /// The value. It is made as by `show_or_try_init`.
+    /// Returns the value. It is made as by `show_or_try_init`.
     ///
     /// # Errors
     ///
@@ -203,7 +208,7 @@ impl<T: Drop> OnceCell<T> {
         }
     }
 
-    /// The value, where the closure can't fail.
+    /// Returns the value, where the closure can't fail.
     #[inline]
     pub fn get_or_init<R: Wait, F: FnOnce() -> T + Drop>(
         &self,

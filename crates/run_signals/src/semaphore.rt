@@ -1,4 +1,9 @@
 //! Semaphores, and the permits that threads hold of them.
+//!
+//! A permit keeps a reference to its semaphore, so that `release` needs no more than the permit. A
+//! semaphore hands nothing over: a release wakes the first waiter, which looks again and passes the
+//! turn on where it fails. `available` takes the smaller of what it finds and the number of permits, so
+//! that it promises any thread no more than there are.
 ghost use Rattle.std.specs.Prelude.{◌≡◌, ◌≢◌, ◌⊎◌, ◌<◌, ◌≤◌, ◌*◌, ◌^◌, ◌++◌, ◌∷◌, ℕ, Bool, true, false};
 ghost use Rattle.std.specs.Prelude.{if◌then◌else◌, IfNone, IfSome, MatchResult};
 ghost use Rattle.std.specs.Arc.{arc_value};
@@ -36,7 +41,7 @@ use steps_semaphore::free_permits;
 /// Lets so many threads at once hold a permit as it has permits. Others wait until one is given
 /// back.
 ///
-/// Its word counts the permits that are free.
+/// The word of a semaphore counts the permits that are free.
 pub struct Semaphore {
     lot: Arc<ParkingLot>,
     word: Word,
@@ -67,7 +72,7 @@ impl Semaphore {
     ghost use Rattle.run_signals.specs.SemaphoreUsers.{HasMade, SawFree, lot_of, number_of, permits_of};
     ghost use Rattle.run_signals.specs.SemaphoreUsers.{semaphore_of, word_of};
 
-    /// A semaphore with so many permits, 1 to 2^62, all of them free.
+    /// Makes a semaphore with so many permits, 1 to 2^62, all of them free.
     ///
     /// # Errors
     ///
@@ -90,7 +95,7 @@ impl Semaphore {
         Ok(Semaphore { lot, word, permits })
     }
 
-    // The end of a call that tried again, after an exchange that found this.
+    // Does the end of a call that tried again, after an exchange that found this.
     #[cold]
     #[inline(never)]
     fn retry<'a, R: Wait>(&'a self, rt: &R, token: &mut Token, found: u64) -> Option<Permit<'a>>
@@ -109,21 +114,21 @@ impl Semaphore {
         Some(self.split(token))
     }
 
-    /// The key of its queue.
+    /// Returns the key of its queue.
     pub fn key(&self) -> Key
         ensures { result ≡ 2 * number_of self.now }
     {
         main_key(self.word.number())
     }
 
-    /// How many permits it has, free or held.
+    /// Returns how many permits it has, free or held.
     pub fn permits(&self) -> u64
         ensures { result ≡ permits_of self.now }
     {
         self.permits
     }
 
-    // The permit of a thread that has acquired one.
+    // Returns the permit of a thread that has acquired one.
     #[inline(always)]
     fn split<'a>(&'a self, token: &mut Token) -> Permit<'a>
         requires token { IsTokenOf (lot_of self.now) token.old }
@@ -172,7 +177,7 @@ impl Semaphore {
         self.wait_after(rt, token, limit, timed, found)
     }
 
-    // The slow half of a call that waits, after a step that saw this.
+    // Does the slow half of a call that waits, after a step that saw this.
     #[cold]
     #[inline(never)]
     fn wait_after<'a, R: Wait, C: Clock>(
@@ -279,8 +284,9 @@ impl Semaphore {
         self.wait(rt, token, &Some((clock, deadline)), true)
     }
 
-    /// How many permits are free, by one load, and at most `permits`. The load sees no more: with those
-    /// that the token's own view names they are those of the draw, which the thread that drew it knows.
+    /// Returns how many permits are free, by one load, and at most `permits`. The load sees no
+    /// more: with those that the token's own view names they are those of the draw, which the
+    /// thread that drew it knows.
     #[inline]
     pub fn available(&self, token: &mut Token) -> u64
         requires { IsTokenOf (lot_of self.now) token.old }

@@ -30,7 +30,7 @@ use spec_locks::Answer;
 use std::sync::Wait;
 use steps_semaphore::{AcquireAt, ReleaseAt, SemaphorePlace, TryAt};
 
-/// One load of the word, with which each call begins that wants a permit.
+/// Takes one load of the word, with which each call begins that wants a permit.
 #[inline(always)]
 pub(crate) fn look(lot: &ParkingLot, token: &mut Token, word: Word) -> u64
     requires own { MeetsSemaphore lot.now token.old word }
@@ -41,8 +41,8 @@ pub(crate) fn look(lot: &ParkingLot, token: &mut Token, word: Word) -> u64
     lot.load(token, word)
 }
 
-/// The exchange that takes a permit, after a look that saw one free. It answers what it found: it
-/// took one only where that is what the look saw.
+/// Makes the exchange that takes a permit, after a look that saw one free. Returns what it found:
+/// it took one only where that is what the look saw.
 #[inline(always)]
 pub(crate) fn take(lot: &ParkingLot, token: &mut Token, word: Word, seen: u64) -> u64
     requires own { MeetsSemaphore lot.now token.old word }
@@ -63,7 +63,7 @@ pub(crate) fn take(lot: &ParkingLot, token: &mut Token, word: Word, seen: u64) -
     lot.word_again(token, word, op)
 }
 
-/// The addition that gives a permit back. It answers the value before.
+/// Makes the addition that gives a permit back. Returns the value before.
 #[inline(always)]
 pub(crate) fn give(lot: &ParkingLot, token: &mut Token, word: Word) -> u64
     requires own { MeetsSemaphore lot.now token.old word }

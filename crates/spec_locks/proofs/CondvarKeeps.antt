@@ -63,7 +63,7 @@ module _ (c : CondvarSite) (t : ℕ) (h : IsCondvar c) where
   settled_at : (o : Option ℕ) → c.shown ≡ o → IsSettled c → IsSettledAt o c
   settled_at o e k = subst (λ (o : Option ℕ). IsSettledAt o c) e k
 
-  -- it doesn't matter to it which thread is inside
+  -- a condition variable stays settled whichever thread is inside
   settled_now : (i : Option Inside) → IsSettled c → IsSettled (record c { inside = i })
   settled_now i k = by_shown c.shown k
     where

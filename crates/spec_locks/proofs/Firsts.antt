@@ -123,7 +123,7 @@ module _ (r : Rules) (s : LockState) (t u : ℕ) (state : IsLockState r s) (one 
 -- ---------------------------------------------------------------- a step
 
 module _ (w v : LocksState) (t : ℕ) (o : Outcome) (all : AreLockStates w) (u : ℕ) where
-  -- it was in a hand, or the first in the queue of the lock or of a condition variable
+  -- the thread was in a hand, or the first in the queue of the lock or of a condition variable
   abbrev First : ℕ → Type 0
   First l = ((w.locks l).taken u ≢ None) ⊎ ((first_thread (w.locks l).queue ≡ Some u)
       ⊎ ((c : ℕ) × (timed : Bool) × ((w.calls u).purpose ≡ Some (Waits c l timed)) ×

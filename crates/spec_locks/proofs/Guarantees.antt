@@ -249,7 +249,7 @@ module _ (w v : LocksState) (t : ℕ) where
     notified = λ n. subst IsNotified h n;
   }
 
-  -- its time is up
+  -- the time of the thread is up
   recalls_late : (l : ℕ) (r : CondvarMemory) → (w.calls t).recalls ≡ r → (w.calls t).late ≡ true
       → Recalls w t (gives_up l r (w.calls t))
   recalls_late l WasMoved e late = record {

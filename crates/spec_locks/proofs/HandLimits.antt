@@ -53,7 +53,7 @@ sharing_fewer t taken i (suc u) (n ∷ ns) lt e =
 
 -- ---------------------------------------------------------------- the successor
 
--- it does not fall back to anything
+-- a writer that is pending anew does not fall back to a lesser right
 pends_anew : (b : Bool) (u : ℕ) (s : LockState) → s.pending ≡ None → (p : Pending)
     → (if b then with_owner u Exclusive s else pending_for u false s).pending ≡ Some p → p.falls_back ≡ false
 pends_anew true u s none p e = absurd cc

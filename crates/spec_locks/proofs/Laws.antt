@@ -61,7 +61,7 @@ owners_exclude w t l x blocked may =
 
 -- ---------------------------------------------------------------- a try of a mutex that nobody owns
 
--- it does nothing but enter, and then it owns what it didn't
+-- a try of a free mutex does nothing but enter, and then its thread owns what it didn't
 no_try_fails : (v : LocksState) (e : Event) → MayHappen trying 0 e
     → ((l : ℕ) → v.locks l ≡ locks_after trying 0 e l) → ((l : ℕ) → v.kinds l ≡ trying.kinds l)
     → Agrees 0 (going_on e (trying.calls 0)) (outcome.TheVariants.End answer.TheVariants.No) v → ⊥

@@ -1,4 +1,5 @@
--- Those that a notification moves leave the list of a condition variable, and what holds of it holds again.
+-- The waiters that a notification moves leave the list of a condition variable, and what holds of it holds
+-- again.
 use Rattle.std.proofs.Common.{ℕ, Bool, true, false, ◌≡◌, ◌≤◌, List, [], ◌∷◌, drop, refl, arith, if◌then◌else◌}
 use Rattle.spec_locks.specs.Locks.{LockState, Queued, Rules, IsLockState, KnowsAll, left_after, times}
 

@@ -127,7 +127,7 @@ module _ (w v : LocksState) (t : ℕ) (o : Outcome) (state : OnceState)
 
 module _ (w v : LocksState) (t : ℕ) (o : Outcome) (full : ℕ → Bool) (safe : IsSafe w full) (l : ℕ)
     (runs : (w.locks l).phase ≡ InProgress t) where
-  -- its lock is that of the event
+  -- the lock of the event is the one whose run ends
   same_lock : (k : ℕ) (e : OnceCase) → ((x : Want) (b : Bool) → e ≢ Rest x b)
       → MayHappen w t (AtLock k (OfOnce e)) → k ≡ l
   same_lock k e rests_not may =

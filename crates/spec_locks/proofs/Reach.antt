@@ -71,7 +71,7 @@ module _ (w v : LocksState) (c t u : ℕ) (now : IsToBeReached w c t u) (stands 
     shows : ShowsWaiters w c
     shows = now.safe.1.shown c now.sort
 
-    -- it isn't moved itself
+    -- the waiter isn't moved
     not_moved : (x d m : ℕ) (all owned : Bool) (n : ℕ) → MayHappen w x (Moves d m all owned n)
         → is_among u (moved_of all (w.locks d).queue) ≡ true → ⊥
     not_moved x d m all owned n may among = let waits = (may.wait u among).0 in let e : Some (Notifies c true)
@@ -259,7 +259,7 @@ module _ (c t u : ℕ) where
   run_recalls [] (o ∷ os) w v now h run = absurd run
   run_recalls (s ∷ ss) [] w v now h run = absurd run
 
-  -- its answer
+  -- the answer of the notification
   module _ (v z : LocksState) (now : IsToBeReached v c t u) (shows : ShowsWaiters z c) (stands : 1
       ≤ times t (z.locks c).queue) (waits : (z.calls t).purpose ≡ (v.calls t).purpose) where
     none_shown : (z.locks c).shown ≡ None → IsBeingEmptied z c

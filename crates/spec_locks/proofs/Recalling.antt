@@ -73,7 +73,7 @@ module _ (w : LocksState) (t : ℕ) where
 -- ---------------------------------------------------------------- a call
 
 module _ (w v : LocksState) where
-  -- it recalls what it did before, or what befell it
+  -- the thread recalls what it did before, or what befell it
   stays_so : (u : ℕ) (r : CondvarMemory) → r ≡ (w.calls u).recalls → Notes w v u r
   stays_so u r e = record { saw = λ m f. inl (sym e ∙ f); moved = λ m n f. inl (sym e ∙ f) }
 

@@ -152,7 +152,7 @@ module _ (r : Rules) (s : Site) (t : ℕ) (h : IsSite r s) where
     bring_keeps = turn_keeps r s (after_deed r (Bring gone moved) s t) t (s.role t) _ h refl
         (put_changed s.role t _) brings_local
 
-  -- those that a notification moves leave the condition variable, where no way is barred
+  -- the waiters that a notification moves leave the condition variable, where no way is barred
   pub send_keeps : (all : Bool) → Needed r (Send all) s t → IsSite r (after_deed r (Send all) s t)
   send_keeps all n = turn_keeps r s (after_deed r (Send all) s t) t (s.role t) (s.role t) h refl (record {
     here = refl;

@@ -17,10 +17,10 @@ pub record Local (r : Rules) (s v : Site) (t : ℕ) (d d2 : Role) : Type 0 where
   pub aside_parked : v.lock.aside ≢ None → v.aside_parked ≡ true
   pub full : is_full r v.lock ≡ true → v.filled ≡ true
   pub filled : s.filled ≡ true → v.filled ≡ true
-  -- it goes into a free section, and a line fills up only by a thread that is inside
+  -- the thread goes into a free section, and a line fills up only by a thread that is inside
   pub inside : (m : Line) → d2.inside ≡ Some m → (d.inside ≡ Some m) ⊎ ((u : ℕ) → (s.role u).inside ≢ Some m)
   pub fills : (m : Line) → IsEmpty s.lock m → IsEmpty v.lock m ⊎ (d.inside ≡ Some m)
-  -- its claims of itself are so
+  -- the claims of the thread about itself are true
   pub emptied : (m : Line) → d2.empty ≡ Some m → (d2.inside ≡ Some m) × IsEmpty v.lock m
   pub covered : d2.covers ≡ true → (d2.inside ≡ Some Main) × (d2.carries ≡ true)
       × (v.lock.queue ≢ [] → (u : ℕ) × (counts_taken r.sort t (v.lock.taken u) ≡ true))

@@ -19,7 +19,7 @@ abbrev pub in_hands : ℕ → (ℕ → Option Taken) → ℕ
 in_hands zero taken = 0
 in_hands (suc n) taken = one_if_some (taken n) + in_hands n taken
 
--- those that come before it
+-- how many threads come before this one
 abbrev pub turns : ℕ → ℕ → LockState → ℕ
 turns n t s = ahead t s.queue + in_hands n s.taken
 

@@ -19,7 +19,7 @@ bit false = 0
 abbrev pub packed : ℕ → ℕ → ℕ → ℕ → ℕ → ℕ
 packed c w u a p = 16 * c + 8 * w + 4 * u + 2 * a + p
 
--- exclusive or pending
+-- how many exclusive and pending owners there are
 abbrev pub writers : LockState → ℕ
 writers s = one_if_some s.exclusive + one_if_some s.pending
 
@@ -49,7 +49,7 @@ code_of sort limit s = word_by sort limit s.lock s.aside_parked s.parked
 abbrev pub code : Rules → Site → ℕ
 code r s = code_of r.sort r.limit s
 
--- a thread reads these
+-- what a thread reads from a word: the count of readers, and whether a writer is there
 abbrev pub count_in : ℕ → ℕ
 count_in v = v / 16
 

@@ -10,7 +10,7 @@ use Rattle.spec_locks.specs.Sites.{Main, Site, Bring, Needed, is_empty}
 pub data CondvarPhase : Type 0 where
   -- nothing: it has come, or has done what it came for
   NothingToDo : CondvarPhase
-  -- it has shown its mutex, and is to stand after the last
+  -- the thread has shown its mutex, and is to stand after the last
   ToStandLast : (m : ℕ) → CondvarPhase
   -- another mutex than its own is shown
   SeesOther : (m : ℕ) → CondvarPhase
@@ -79,19 +79,19 @@ pub data CondvarDeed : Type 0 where
   -- into the section, and out of it
   GoIn : CondvarDeed
   GoOut : CondvarDeed
-  -- it shows its mutex, or sees another
+  -- a wait shows its mutex, or sees another
   Show : (m : ℕ) → CondvarDeed
   SeeOther : (m : ℕ) → CondvarDeed
-  -- it stands after the last waiter
+  -- a wait stands after the last waiter
   StandLast : CondvarDeed
   -- a notification sees the mutex again that it saw first, or does not
   SeeAgain : (m : ℕ) → CondvarDeed
   MissIt : (m : ℕ) → CondvarDeed
-  -- it shows nothing and takes all; it moves the first, or all
+  -- a notification shows nothing and takes all; it moves the first, or all
   HideAndTakeAll : CondvarDeed
   MoveFirst : CondvarDeed
   MoveAll : CondvarDeed
-  -- its time is up, and it leaves the list
+  -- a waiter's time is up, and it leaves the list
   LeaveList : CondvarDeed
   -- nobody is left, and nothing is shown
   ShowNone : CondvarDeed

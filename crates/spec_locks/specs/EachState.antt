@@ -20,7 +20,7 @@ use Rattle.spec_locks.specs.Runs.{ShowsWaiters, rules_at}
 abbrev pub sort_in : LocksState → ℕ → Sort
 sort_in w l = (rules_at w l).sort
 
--- it is awake, and runs no closure
+-- a thread is awake, and runs no closure
 abbrev pub IsUp : Status → Type 0
 IsUp stance = (stance.asleep ≡ false) × (stance.in_closure ≡ false)
 

@@ -22,13 +22,13 @@ use Rattle.spec_locks.specs.UserLaws.{ReadersStayOut}
 
 -- ---------------------------------------------------------------- queues
 
--- it is a part of the other, in its order
+-- a list is a part of another, in its order
 abbrev pub IsPartOf : List Queued → List Queued → Type 0
 IsPartOf [] q = Unit {0}
 IsPartOf (x ∷ xs) [] = ⊥
 IsPartOf (x ∷ xs) (y ∷ q) = ((x ≡ y) × IsPartOf xs q) ⊎ IsPartOf (x ∷ xs) q
 
--- those that stay in a line keep their order, and a thread that joins it stands after them
+-- waiters that stay in a line keep their order, and threads that join it stand after them
 pub record KeepsOrderOf (before now : List Queued) : Type 0 where
   pub left : List Queued
   pub joined : List Queued
@@ -120,7 +120,7 @@ pub record StepHolds (w : LocksState) (step : Step) (o : Outcome) (v : LocksStat
   -- another thread stands as it did, but for a sleeper that this one wakes
   pub others : (u : ℕ) → u ≢ step.thread → (v.stances u ≡ w.stances u)
       ⊎ (((w.stances u).asleep ≡ true) × MayWake w step.thread u)
-  -- those that stay in a queue keep their order, and a thread that joins stands last
+  -- waiters that stay in a queue keep their order, and threads that join stand last
   pub order : QueuesKeepOrder w v
   -- a thread leaves a queue as its time is up, as it comes into a hand, or as a notification moves it
   pub leaves : (u l : ℕ) → 1 ≤ times u (w.locks l).queue → times u (v.locks l).queue ≡ 0

@@ -69,7 +69,7 @@ abbrev pub IsAtLine : LocksState → ℕ → ℕ → Line → Type 0
 IsAtLine w t l m =
     (w.inside (key_of l m) ≡ Some t) ⊎ ((w.stances t).enters ≡ Some (One (key_of l m)))
 
--- it is there, in a call that wakes those that it takes; or it was woken, is about to try again, and
+-- a thread is there, in a call that wakes those that it takes; or it was woken, is about to try again, and
 -- will pass the turn on
 abbrev pub IsDebtor : LocksState → ℕ → ℕ → Line → Type 0
 IsDebtor w t l Main =
@@ -99,12 +99,12 @@ abbrev pub IsOpenNow : Rules → LockState → Type 0
 IsOpenNow r s = IsOpen r.sort s
     ⊎ (((r.sort ≡ Semaphore) × (readers s < r.limit)) ⊎ ((r.sort ≡ Once) × (s.phase ≡ Done)))
 
--- it owns what it waited for; a writer of a lock that is shared may be pending
+-- a thread owns what it waited for; a writer of a lock that is shared may be pending
 abbrev pub HasOrPends : Sort → LockState → ℕ → Want → Type 0
 HasOrPends sort s t x = Owns s t x
     ⊎ ((x ≡ Exclusive) × (has_readers sort ≡ true) × IsSomePending s.pending t)
 
--- it has what it waited for, and the thread inside the section has yet to wake it
+-- a thread has what it waited for, and the thread inside the section has yet to wake it
 pub record IsHandedOver (w : LocksState) (t : ℕ) : Type 0 where
   pub lock : ℕ
   pub by : ℕ
@@ -113,7 +113,7 @@ pub record IsHandedOver (w : LocksState) (t : ℕ) : Type 0 where
   pub owner : HasOrPends (sort_in w lock) (w.locks lock) t want
   pub inside : w.inside (key_of lock Main) ≡ Some by
 
--- it is awake, runs no closure, and enters no section next: no other thread keeps it from going on
+-- a thread is awake, runs no closure, and enters no section next: no other thread keeps it from going on
 abbrev pub GoesFreely : Status → Type 0
 GoesFreely stance =
     (stance.asleep ≡ false) × (stance.in_closure ≡ false) × (stance.enters ≡ None)

@@ -52,7 +52,7 @@ trying = record {
   stances = λ t. record { asleep = false; in_closure = false; enters = None; may_spin = false };
 }
 
--- it doesn't fail
+-- a try of a mutex that nobody owns doesn't fail
 abbrev pub FreeMutexIsGot : Type 0
 FreeMutexIsGot = (v : LocksState)
     → IsStep trying (record { thread = 0; turn = turn.TheVariants.Go })

@@ -82,7 +82,7 @@ count s = readers s + one_if_some s.upgradable
 abbrev pub putting : {A : Type 0} → (ℕ → A) → ℕ → A → ℕ → A
 putting f t x u = if u == t then x else f u
 
--- those that t has taken are let go
+-- the threads that t has taken are let go
 abbrev pub keep_from : ℕ → Option Taken → Option Taken
 keep_from t None = None
 keep_from t (Some h) = if h.by == t then None else Some h
@@ -280,39 +280,39 @@ unpicked sort start q = others (drop (front_of start q) (before_stop sort start 
 -- the deeds of a thread at a condition variable, in its section or as it looks from outside; that it waits is
 -- `Park`, and that it gives up `Late`
 pub data CondvarCase : Type 0 where
-  -- it sees which mutex is shown
+  -- a notification sees which mutex is shown
   Look : (seen : Option ℕ) → CondvarCase
-  -- it shows its own, where none or this one is shown
+  -- a wait shows its own mutex, where none or this one is shown
   Show : (mutex : ℕ) → CondvarCase
-  -- it shows none: nobody is left, or all are to be taken
+  -- a thread shows no mutex: nobody is left, or all are to be taken
   Hide : CondvarCase
 
 -- the deeds that a thread may do to a lock in one step
 pub data LockCase : Type 0 where
-  -- it comes in
+  -- the thread comes in
   Enter : (want : Want) → LockCase
   -- a writer keeps further readers out and waits for those that are inside
   Pend : LockCase
   -- the last reader has gone, and the pending writer owns
   Settle : LockCase
-  -- it gives one right up
+  -- the thread gives one right up
   Leave : (right : Want) → LockCase
-  -- it turns one right into another without letting anyone in between
+  -- the thread turns one right into another without letting anyone in between
   Convert : (right want : Want) → LockCase
-  -- it stands in the queue, after the last
+  -- the thread stands in the queue, after the last
   Park : (want : Want) → LockCase
   -- the pending writer stands aside
   Aside : LockCase
-  -- it takes the first of the queue, or the writer aside, or those that are picked
+  -- the thread takes the first of the queue, or the writer aside, or those that are picked
   TakeFirst : (first : Queued) → LockCase
   TakeAside : (first : ℕ) → LockCase
   TakePicked : (start : Option Want) → LockCase
-  -- it wakes all that it has taken, and they try again
+  -- the thread wakes all that it has taken, and they try again
   Wake : LockCase
-  -- it hands its right to all that it has taken: it owns no longer, and they own, in one step; the
+  -- the thread hands its right to all that it has taken: it owns no longer, and they own, in one step; the
   -- successor is the one among them that wants more than to share
   HandOff : (right : Want) → (successor : Option Queued) → LockCase
-  -- its time is up, and it leaves the queue
+  -- the thread's time is up, and it leaves the queue
   Late : LockCase
   -- the pending writer whose time is up has again what it had
   Rollback : LockCase
@@ -446,7 +446,7 @@ condvar_after (Look seen) s = s
 condvar_after (Show m) s = record s { shown = Some m }
 condvar_after Hide s = record s { shown = None }
 
--- those that a notification moves, the first or all, leave the list of the condition variable
+-- the waiters that a notification moves, the first or all, leave the list of the condition variable
 abbrev pub left_after : Bool → LockState → LockState
 left_after all s = record s { queue = if all then [] else drop 1 s.queue }
 

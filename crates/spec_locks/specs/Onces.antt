@@ -11,14 +11,14 @@ pub data Phase : Type 0 where
   Done : Phase
 
 pub data OnceCase : Type 0 where
-  -- it begins to run its closure
+  -- the thread begins to run its closure
   Start : (forced : Bool) → OnceCase
-  -- its closure answered well, or an error
+  -- the closure answers well, or an error
   Finish : OnceCase
   Fail : OnceCase
-  -- it stands after the last waiter
+  -- the thread stands after the last waiter
   Rest : (want : Want) → (forced : Bool) → OnceCase
-  -- it takes all waiters
+  -- the thread takes all waiters
   TakeAll : OnceCase
 
 -- a new one may be started by any call, a poisoned one by a forced call alone

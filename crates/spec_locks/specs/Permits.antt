@@ -14,7 +14,7 @@ abbrev pub wakes_main : Option Line → ℕ
 wakes_main (Some Main) = 1
 wakes_main line = 0
 
--- it is to wake the next, has it in hand, or tries again
+-- a thread is to wake the next, has it in hand, or tries again
 abbrev pub debt : Role → ℕ
 debt d = wakes_main d.wakes + bit d.covers + one_if_some d.retries
 

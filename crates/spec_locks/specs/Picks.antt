@@ -17,10 +17,10 @@ queue_under key waiters = map queued_of (line key waiters)
 -- the waiters that a thread picks of the line of a key, by the right that it keeps, if any
 pub record PicksAsTheLockSays (sort : Sort) (start : Option Want) (key : ℕ)
     (waiters : List Waiter) : Type 0 where
-  -- it takes just those that the lock says, in order
+  -- the picker takes just the waiters that the lock says, in order
   pub taken : map queued_of (lock_picked start (is_recursive sort) (line key waiters))
       ≡ picked sort start (queue_under key waiters)
-  -- it leaves just the others, in order
+  -- the picker leaves just the others, in order
   pub left : queue_under key (without_lock_picked start (is_recursive sort) key waiters)
       ≡ unpicked sort start (queue_under key waiters)
   -- Every other line stays as it was.

@@ -143,7 +143,7 @@ pub data CondvarMemory : Type 0 where
   Saw : (mutex : ℕ) → CondvarMemory
   -- A notification saw, inside both sections, whether somebody owns the mutex.
   SawOwner : (mutex : ℕ) → (owned : Bool) → CondvarMemory
-  -- it has taken and moved so many
+  -- a notification has taken and moved so many waiters
   HasMoved : (mutex number : ℕ) → CondvarMemory
   -- a wait was moved to its mutex: to its queue, or into a hand
   WasMoved : CondvarMemory
@@ -260,7 +260,7 @@ WaitsThere m timed gave_up released (Park x) = (x ≡ Wait) × (released ≡ fal
 WaitsThere m timed gave_up released Late = (timed ≡ true) × (gave_up ≡ None)
 WaitsThere m timed gave_up released case = ⊥
 
--- it releases its mutex once
+-- a wait releases its mutex once
 abbrev pub ReleasesOnce : Bool → LockCase → Type 0
 ReleasesOnce released (Leave y) = (y ≡ Exclusive) × (released ≡ false)
 ReleasesOnce released case = ReleasesBy Exclusive false case

@@ -38,7 +38,7 @@ use Rattle.spec_locks.specs.Purposes.{IsMadeOf}
 
 -- the memory of a call: what its answer needs of earlier steps, and whether it tries again
 pub record CallState : Type 0 where
-  -- its goal; none between calls
+  -- the goal of the call; none between calls
   pub purpose : Option Purpose
   -- the ownership of the thread at each lock as the call began
   pub former : ℕ → Rights
@@ -57,13 +57,13 @@ pub record CallState : Type 0 where
 
 -- how a thread stands between two steps
 pub record Status : Type 0 where
-  -- it sleeps until another thread wakes it
+  -- the thread sleeps until another thread wakes it
   pub asleep : Bool
-  -- it runs the closure of its call
+  -- the thread runs the closure of its call
   pub in_closure : Bool
   -- the sections that its next step enters
   pub enters : Option Keys
-  -- it may look at the word once more in place of its next step
+  -- the thread may look at the word once more in place of its next step
   pub may_spin : Bool
 
 -- locks, and threads that call them
@@ -128,8 +128,8 @@ pub data Event : Type 0 where
   AtLock : (lock : ℕ) → LockCase → Event
   Moves : (condvar mutex : ℕ) → (all owned : Bool) → (number : ℕ) → Event
 
--- those that it moves stand after the last that waits for the mutex; of a free one the first of
--- them is in its hand
+-- the waiters that a notification moves stand after the last that waits for the mutex; of a free mutex the
+-- first of them is in its hand
 abbrev pub joined_by : Bool → ℕ → List Queued → LockState → LockState
 joined_by owned t moved s =
     record s {
@@ -144,7 +144,7 @@ locks_after w t (Moves c m all owned number) =
     putting (putting w.locks c (left_after all (w.locks c))) m
     (joined_by owned t (moved_of all (w.locks c).queue) (w.locks m))
 
--- its time is up, and it leaves the queue of this lock: a wait that was moved to the queue of its
+-- a thread's time is up, and it leaves the queue of this lock: a wait that was moved to the queue of its
 -- mutex was notified all the same
 abbrev pub gives_up : ℕ → CondvarMemory → CallState → CallState
 gives_up l WasMoved c = record c { recalls = WasNotified; late = false }
@@ -316,7 +316,7 @@ AwaitsAnswer w t c l forced timed answer.TheVariants.Poisoned =
     ((w.locks l).phase ≡ Poisoned) × (forced ≡ false) × Keeps w t c
 AwaitsAnswer w t c l forced timed a = ⊥
 
--- its mutex is owned again, got since it released it
+-- the mutex of a wait is owned again, got since the wait released it
 abbrev pub HasAgain : LocksState → ℕ → CallState → Type 0
 HasAgain w t c = (c.released ≡ true) × Keeps w t c
 
@@ -338,7 +338,7 @@ WaitsAnswer w t c l m timed answer.TheVariants.TwoMutexes =
     (c.released ≡ false) × ShowsOther (w.locks l) m × Keeps w t c
 WaitsAnswer w t c l m timed a = ⊥
 
--- it moved nobody: no mutex was shown, or another than it saw first, or none
+-- a notification moved nobody: it saw no mutex shown, or the mutex that it saw first is no longer shown
 abbrev pub MovedNobody : LockState → CondvarMemory → Type 0
 MovedNobody s Blank = s.shown ≡ None
 MovedNobody s (Saw m) = s.shown ≢ Some m
@@ -449,7 +449,7 @@ StandsFreely w t l =
     ((1 ≤ times t (w.locks l).queue) × (w.inside (2 * l) ≡ None))
     ⊎ (((w.locks l).aside ≡ Some t) × (w.inside (2 * l + 1) ≡ None))
 
--- its time may be up: its call has a deadline, and it sleeps in a queue whose section is free
+-- a thread's time may be up: its call has a deadline, and it sleeps in a queue whose section is free
 pub record MayBeLate (w : LocksState) (t : ℕ) : Type 0 where
   pub lock : ℕ
   pub timed : IsTimed (w.calls t).purpose (w.calls t).recalls lock
@@ -482,7 +482,7 @@ pub record GoesOn (w : LocksState) (t : ℕ) (o : Outcome) (v : LocksState) : Ty
   pub agrees : Agrees t (going_on event (w.calls t)) o v
   pub begins : Begins w event o
 
--- its closure has answered, and so its run of a `Once` ends, well or not
+-- a thread's closure has answered, and its run of a `Once` ends, well or not
 pub record Closes (w : LocksState) (t : ℕ) (ending : OnceCase) (o : Outcome)
     (v : LocksState) : Type 0 where
   pub goes : GoesOn w t o v
@@ -566,7 +566,7 @@ pub record ShowsWaiters (w : LocksState) (c : ℕ) : Type 0 where
       → (timed : Bool) × ((w.calls t).purpose ≡ Some (Waits c m timed))
   -- Where no mutex is shown, nobody waits, but while a notification is about to move all.
   pub none : (w.locks c).shown ≡ None → ((w.locks c).queue ≡ []) ⊎ IsBeingEmptied w c
-  -- it shows none where nobody waits, unless a thread is inside its section
+  -- a condition variable shows none where nobody waits, unless a thread is inside its section
   pub left : w.inside (key_of c Main) ≡ None → (w.locks c).queue ≡ [] → (w.locks c).shown ≡ None
 
 -- a step leaves the other threads as they are

@@ -30,20 +30,20 @@ pub record Role : Type 0 where
   pub inside : Option Line
   -- the line whose waiters it has seen, since it gave way, and hasn't taken yet
   pub wakes : Option Line
-  -- it has taken in this section the threads that it was to take
+  -- the thread has taken in this section the threads that it was to take
   pub carries : Bool
-  -- it has taken them, none of its own rights bars the way, and it is to let them go
+  -- the thread has taken them, none of its own rights bars the way, and it is to let them go
   pub covers : Bool
   -- where it has seen nobody, inside that section
   pub empty : Option Line
-  -- its want, for which it was woken
+  -- the want for which the thread was woken
   pub retries : Option Want
-  -- its right by its place
+  -- the right of the thread by its place
   pub claims : Option Claim
   -- inside the main section: it has set the parked bit of a mutex that somebody owned, and is to
   -- bring waiters
   pub brings : Bool
-  -- it has brought waiters to a mutex that nobody owned, has one of them in hand, and is yet to set
+  -- the thread has brought waiters to a mutex that nobody owned, has one of them in hand, and is yet to set
   -- the bit; or it has cleared the bit of a `Once` beside its waiters, and is yet to take them
   pub sets : Bool
 
@@ -202,13 +202,13 @@ pub data Deed : Type 0 where
   FindNobody : Line → Deed
   -- a notification sets the parked bit of a mutex that somebody owns
   MarkOwned : Deed
-  -- it brings waiters of a condition variable: it takes some, and the others stand after the last
+  -- a thread brings waiters of a condition variable: it takes some, and the others stand after the last
   Bring : (taken moved : List Queued) → Deed
   -- The deed sets the bit for waiters that were brought to a mutex that nobody owned.
   MarkBrought : Deed
   -- the condition variable, which the first of its waiters leaves for the mutex, or all do
   Send : (all : Bool) → Deed
-  -- its time is up, and it leaves the list of a condition variable, whose word has no bit for it
+  -- a thread's time is up, and it leaves the list of a condition variable, whose word has no bit for it
   LeaveLine : Deed
   -- a case of the lock
   Case : LockCase → Deed
@@ -384,7 +384,7 @@ abbrev pub HasClaim : LockState → ℕ → Option Claim → Type 0
 HasClaim s t None = Unit {0}
 HasClaim s t (Some c) = Holds s t c
 
--- it may keep more than a shared right only where it has it
+-- a thread may keep more than a shared right only where it has that
 abbrev pub KeepsOwned : LockState → ℕ → Option Want → Type 0
 KeepsOwned s t None = Unit {0}
 KeepsOwned s t (Some Shared) = Unit {0}

@@ -118,9 +118,9 @@ pub enum Turn {
     Spin,
     /// Gives up a timed sleep.
     Late,
-    /// Its closure answers that it succeeded.
+    /// The closure answers that it succeeded.
     Ok,
-    /// Its closure answers an error.
+    /// The closure answers an error.
     Err,
 }
 
@@ -132,7 +132,7 @@ pub struct Step {
 }
 
 impl Call {
-    /// The lock that is called.
+    /// Returns the lock that is called.
     pub fn lock(self) -> usize
         ensures { result ≡ lock_in self }
     {
@@ -145,7 +145,7 @@ impl Call {
         }
     }
 
-    /// The mutex that a wait on a condition variable names.
+    /// Returns the mutex that a wait on a condition variable names.
     pub fn mutex(self) -> Option<usize>
         ensures { result ≡ mutex_in self }
     {
@@ -158,8 +158,8 @@ impl Call {
         }
     }
 
-    /// The lock to which the call needs a right, if it needs one: of a wait the mutex that it
-    /// names.
+    /// Returns the lock to which the call needs a right, if it needs one: of a wait the mutex that
+    /// it names.
     pub fn needs_right_to(self) -> usize
         ensures { result ≡ lock_of_right self }
     {

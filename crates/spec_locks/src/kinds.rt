@@ -27,8 +27,9 @@ pub enum Kind {
 }
 
 impl Kind {
-    /// Whether a world of this many threads may have such a lock: its reader limit, if it has one,
-    /// is at least the number of threads and at most 2^60 - 2; a semaphore has 1 to 2^62 permits.
+    /// Returns whether a world of this many threads may have such a lock: its reader limit, if it
+    /// has one, is at least the number of threads and at most 2^60 - 2; a semaphore has 1 to 2^62
+    /// permits.
     pub fn fits(self, threads: usize) -> bool
         ensures { result ≡ fits self threads }
     {
@@ -40,7 +41,7 @@ impl Kind {
         }
     }
 
-    /// Whether the kind has the call.
+    /// Returns whether the kind has the call.
     pub fn has_call(self, call: Call) -> bool
         ensures { result ≡ has_call self call }
     {
@@ -54,14 +55,14 @@ impl Kind {
         }
     }
 
-    /// Whether it is a mutex whose `unlock` hands the lock over.
+    /// Returns whether it is a mutex whose `unlock` hands the lock over.
     pub fn is_fair(self) -> bool
         ensures { result ≡ is_fair self }
     {
         matches!(self, Kind::Fair)
     }
 
-    /// Whether it is a mutex that condition variables work with. A fair one isn't.
+    /// Returns whether it is a mutex that condition variables work with. A fair one isn't.
     pub fn is_plain_mutex(self) -> bool
         ensures { result ≡ is_plain_mutex self }
     {

@@ -12,28 +12,28 @@ pub enum OnceState {
 }
 
 impl OnceState {
-    /// Whether a run has succeeded.
+    /// Returns whether a run has succeeded.
     pub fn is_completed(self) -> bool
         ensures { result ≡ is_completed self }
     {
         matches!(self, OnceState::Done)
     }
 
-    /// Whether the `Once` is done.
+    /// Returns whether the `Once` is done.
     pub fn done(self) -> bool
         ensures { result ≡ is_completed self }
     {
         self.is_completed()
     }
 
-    /// Whether the last run failed, and none goes on.
+    /// Returns whether the last run failed, and none goes on.
     pub fn is_poisoned(self) -> bool
         ensures { result ≡ is_poisoned self }
     {
         matches!(self, OnceState::Poisoned)
     }
 
-    /// Whether the `Once` is poisoned.
+    /// Returns whether the `Once` is poisoned.
     pub fn poisoned(self) -> bool
         ensures { result ≡ is_poisoned self }
     {

@@ -59,7 +59,7 @@ module _ {x : StepView} where
       may = may;
     }
 
-  -- it stands in no line, and is in nobody's hand
+  -- the thread stands in no line, and is in nobody's hand
   pub awake : x.row.stands ≡ None → x.row.hand ≡ None → RowWaits x
   awake out free = record {
     aside = λ h. absurd (let e : ◌≡◌ {A = Option Line} None (Some Second) = sym out ∙ h in cc);
@@ -67,7 +67,7 @@ module _ {x : StepView} where
     held = λ u handed h. absurd (let e : ◌≡◌ {A = Option Hand} None (hand u handed) = sym free ∙ h in cc);
   }
 
-  -- it is inside the section of the main line, where it stands
+  -- the thread is inside the section of the main line, where it stands
   pub stands_inside : x.row.stands ≡ Some Main → (location_of x).inside ≡ Some Main → x.row.hand ≡ None
       → RowWaits x
   stands_inside stood inside free = record {

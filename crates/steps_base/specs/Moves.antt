@@ -60,7 +60,7 @@ Hears = Rules → Site → ℕ → Option ℕ → Reply → Type 0
 abbrev pub IsSectionFree : Site → Line → Type 0
 IsSectionFree s m = (u : ℕ) → (s.role u).inside ≢ Some m
 
--- it stands in a line, and whether nobody else does
+-- a thread stands in a line, and whether nobody else does
 abbrev pub StandsAlone : Site → ℕ → Line → Bool → Type 0
 StandsAlone s t Main alone =
     (1 ≤ times t s.lock.queue) × (alone ≡ is_empty (without t s.lock.queue))
@@ -98,21 +98,21 @@ abbrev pub parks_in : Line → Want → Deed
 parks_in Main x = Case (Park x)
 parks_in Second x = Case Aside
 
--- it takes the waiter of the second line, if any
+-- the thread takes the waiter of the second line, if any
 abbrev pub takes_aside : Option ℕ → Deed
 takes_aside None = FindNobody Second
 takes_aside (Some u) = Case (TakeAside u)
 
 -- ---------------------------------------------------------------- acts
 
--- it stays where it is, in no line and in nobody's hand
+-- the thread stays where it is, in no line and in nobody's hand
 pub record StaysPut (x : StepView) : Type 0 where
   pub out : (location_of x).stands ≡ None
   pub free : (location_of x).hand ≡ None
   pub deeds : (seen : ℕ) → AreOfWord (x.deeds None (Value seen))
   pub goes : (seen : ℕ) → location_then x (Value seen) ≡ location_of x
 
--- it goes into the section of a line
+-- the thread goes into the section of a line
 pub record GoesIn (x : StepView) (hears : Hears) (m : Line) (told : Reply) : Type 0 where
   pub out : (location_of x).inside ≡ None
   pub free : (location_of x).hand ≡ None
@@ -131,7 +131,7 @@ pub record Parks (x : StepView) (hears : Hears) (m : Line) (check : Check) (want
   pub may : (r : Rules) (s : Site) (t : ℕ) (b : Bool) → b ≡ holds check (code r s)
       → standing t s.lock ≡ 0 → hears r s t None (Parked b)
 
--- it takes the waiters of the main line that the lock lets in beside what it keeps
+-- the thread takes the waiters of the main line that the lock lets in beside what it keeps
 pub record Picks (x : StepView) (hears : Hears) (start : Option Want) : Type 0 where
   pub was : location_of x ≡ inside_of Main
   pub deeds : (n : ℕ) (y : Option Want) (none_left : Bool)
@@ -142,7 +142,7 @@ pub record Picks (x : StepView) (hears : Hears) (start : Option Want) : Type 0 w
   pub may : (r : Rules) (s : Site) (t n : ℕ) (y : Option Want) (none_left : Bool)
       → MayTake r s start Main None none_left → hears r s t None (Picked n y none_left)
 
--- it takes the writer aside
+-- the thread takes the writer aside
 pub record TakesAside (x : StepView) (hears : Hears) : Type 0 where
   pub was : location_of x ≡ inside_of Second
   pub deeds : (u : Option ℕ) (any none_left : Bool)
@@ -153,7 +153,7 @@ pub record TakesAside (x : StepView) (hears : Hears) : Type 0 where
   pub may : (r : Rules) (s : Site) (t : ℕ) (any none_left : Bool)
       → hears r s t s.lock.aside (Took any none_left)
 
--- its time is up, and it leaves the line in which it stands
+-- the thread's time is up, and it leaves the line in which it stands
 pub record LeavesLine (x : StepView) (hears : Hears) (m : Line) : Type 0 where
   pub want : Want
   pub was : location_of x ≡ record (inside_of m) { stands = Some m; waits = Some want }
@@ -162,7 +162,7 @@ pub record LeavesLine (x : StepView) (hears : Hears) (m : Line) : Type 0 where
   pub may : (r : Rules) (s : Site) (t : ℕ) (none_left : Bool) → StandsAlone s t m none_left
       → hears r s t None (Removed none_left)
 
--- it goes out of the section of a line, and wakes the threads that it has in hand, if anybody
+-- the thread goes out of the section of a line, and wakes the threads that it has in hand, if anybody
 pub record GoesOut (x : StepView) (hears : Hears) (m : Line) (wakes : Wakes) : Type 0 where
   pub any : Bool
   pub notes : wakes ≡ wakes_taken any Normal
@@ -190,7 +190,7 @@ heir_of whom x = None
 abbrev pub bit_left : Bool → Deed
 bit_left none_left = if none_left then Clear Main else Mark Main
 
--- it hands a right of its own over to all that it has in hand, where its operation takes effect
+-- the thread hands a right of its own over to all that it has in hand, where its operation takes effect
 pub record HandsOver (x : StepView) (op : Op) : Type 0 where
   pub right : Want
   -- the want of the one among them that wants more than to share

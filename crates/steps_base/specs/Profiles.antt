@@ -28,7 +28,7 @@ abbrev pub in_hand : Bool → Bool → Option Bool
 in_hand any handed = if any then Some handed else None
 
 pub record Profile : Type 0 where
-  -- its deeds at the lock
+  -- the deeds of the thread at the lock
   pub role : Role
   -- in which line it stands
   pub stands : Option Line
@@ -36,28 +36,28 @@ pub record Profile : Type 0 where
   pub carries : Option Bool
   -- in whose hand it is
   pub hand : Option Hand
-  -- its want, where it waits
+  -- the want of the thread, where it waits
   pub wants : Option Want
   -- on which line it is shown to owe a wake, and whether to try again
   pub owes : Option Line
   pub retries : Bool
-  -- its call has a deadline, and it sleeps in this line, so that it may give up
+  -- the call has a deadline, and its thread sleeps in this line, so that it may give up
   pub timed : Bool
   pub late_line : Option Line
-  -- its time was up, and it has left the line
+  -- the time of the call was up, and its thread has left the line
   pub late : Bool
   pub gave_up : Bool
-  -- its run of a `Once` failed
+  -- the run of a `Once` by this call failed
   pub failed : Bool
   -- a call of a condition variable: what it has seen and moved, and what befell it
   pub recalls : CondvarMemory
-  -- its next deed inside the section of a condition variable, and the mutex that its wait names
+  -- the next deed of the thread inside the section of a condition variable, and the mutex that its wait names
   pub stage : Option CondvarPhase
   pub names : Option ℕ
   -- the goal of its call, by the lock, and whether it has given its right up
   pub purpose : ℕ → Purpose
   pub released : Bool
-  -- its ownership of each lock as its call of this one began, by what it owns now
+  -- the ownership of each lock as the call began, by what the thread owns now
   pub former : ℕ → (ℕ → Rights) → ℕ → Rights
 
 -- the row of a try: each other row is told by what is otherwise
@@ -83,7 +83,7 @@ blank_row = record {
   former = λ l rights. rights;
 }
 
--- it brings no waiters: only a condition variable does
+-- the thread brings no waiters: only a call of a condition variable does
 abbrev pub bringing_nobody : Profile → Profile
 bringing_nobody row = record row { role = record row.role { brings = false; sets = false } }
 

@@ -56,17 +56,17 @@ is_acting a = true
 abbrev pub taken_in_row : Profile → Option Taken
 taken_in_row row = taken_from row.hand row.wants true
 
--- it stands in a line, or was taken from one
+-- the thread stands in a line, or was taken from one
 abbrev pub IsWaiting : Profile → Type 0
 IsWaiting row = (row.stands ≢ None) ⊎ (taken_in_row row ≢ None)
 
--- it has this right, or, to a lock that is shared, its pending one
+-- a claim is to this right, or, of a lock that is shared, to the pending one in its place
 abbrev pub HasClaimed : Sort → Option Claim → Want → Type 0
 HasClaimed sort claims x =
     (claims ≡ Some (Has x)) ⊎ ((x ≡ Exclusive) × (has_readers sort ≡ true)
     × ((b : Bool) × (claims ≡ Some (Pends b))))
 
--- it was handed what it waited for
+-- the thread was handed what it waited for
 pub record WasHanded (sort : Sort) (l : ℕ) (row : Profile) : Type 0 where
   pub by : ℕ
   pub in_hand : row.hand ≡ hand by true
@@ -75,7 +75,7 @@ pub record WasHanded (sort : Sort) (l : ℕ) (row : Profile) : Type 0 where
   pub wants : want_of (Some (row.purpose l)) ≡ Some want
   pub has : HasClaimed sort row.role.claims want
 
--- its call lets others in
+-- the call of a row lets others in: it releases, downgrades or has given up
 abbrev pub LetsIn : Sort → ℕ → Profile → Type 0
 LetsIn sort l row =
     IsReleasing (Some (row.purpose l)) row.released l
@@ -94,7 +94,7 @@ pub record RowOwes (sort : Sort) (l : ℕ) (row : Profile) (a : Act) : Type 0 wh
   pub entering : (m : Line) → a ≡ Enter (One (key_of l m)) → LetsInAt sort l row m → row.owes ≡ Some m
   pub second : row.owes ≡ Some Second → has_readers sort ≡ true
 
--- it is to look after the waiters of a line, by what it does
+-- the thread is to look after the waiters of a line, by what it does
 abbrev pub IsDebtorIn : Sort → Role → Line → Type 0
 IsDebtorIn sort d Main = IsDebtorRole sort d
 IsDebtorIn sort d Second = d.wakes ≡ Some Second
@@ -106,7 +106,7 @@ HasDebt sort l row Main =
     ⊎ ((row.retries ≡ true) × (counts_some sort (want_of (Some (row.purpose l))) ≡ true))
 HasDebt sort l row Second = row.owes ≡ Some Second
 
--- it has the debt, is awake, stands in no line and isn't taken
+-- the thread has the debt, is awake, stands in no line and isn't taken
 pub record RowLooksAfter (sort : Sort) (l : ℕ) (row : Profile) (a : Act) (m : Line) : Type 0 where
   pub debt : HasDebt sort l row m
   pub awake : a ≢ Sleep
@@ -121,9 +121,9 @@ pub record RowIsLate (sort : Sort) (l : ℕ) (row : Profile) (a : Act) (m : Line
   pub shut : LetsIn sort l row → ⊥
 
 pub record RowPromises (sort : Sort) (l : ℕ) (row : Profile) (a : Act) : Type 0 where
-  -- its call is of the lock
+  -- the call is of the lock
   pub own : lock_for (row.purpose l) ≡ l
-  -- it has something to do
+  -- the thread has something to do
   pub acts : is_acting a ≡ true
   -- a waiter is in a call that may wait
   pub waits : IsWaiting row → MayWait (Some (row.purpose l)) l

@@ -1,4 +1,7 @@
 //! The acts of threads, one a step, and the replies to them.
+//!
+//! A hand-over is an act of its own, the operation on the word with which the taken threads own the
+//! lock. `Reply` is what an act came to, `Answer` what a call answers.
 ghost use Rattle.std.specs.Prelude.{◌≡◌};
 ghost use Rattle.steps_base.specs.Acts.{wakes_taken, holds, takes_effect, outcome_of};
 
@@ -138,7 +141,7 @@ pub enum Reply {
         by: usize,
         alone: bool,
     },
-    /// Its time is up, and it has entered the section of the queue where it stands.
+    /// The thread's time is up, and it has entered the section of the queue where it stands.
     Late,
     /// The wake note is there.
     Woken(Note),
@@ -181,7 +184,7 @@ impl Check {
     }
 }
 
-/// Whether an operation that is to hand a lock over does so, by the value that it finds: an
+/// Returns whether an operation that is to hand a lock over does so, by the value that it finds: an
 /// exchange may fail.
 pub fn takes_effect(op: Op, seen: u64) -> bool
     ensures { result ≡ takes_effect op seen }

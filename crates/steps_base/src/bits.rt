@@ -19,7 +19,7 @@ ghost use Rattle.spec_locks.specs.Codes as codes;
 
 use core_base::Want;
 
-/// How many readers a reader-writer lock has, an upgradable owner among them.
+/// Returns how many readers a reader-writer lock has, an upgradable owner among them.
 #[inline]
 pub fn count_in(word: u64) -> u64
     ensures { result ≡ codes.count_in word }
@@ -41,7 +41,7 @@ pub fn has_upgradable(word: u64) -> bool
     word / 4 % 2 == 1
 }
 
-/// Whether a writer may stand in the second queue.
+/// Returns whether a writer may stand in the second queue.
 #[inline]
 pub fn has_aside(word: u64) -> bool
     ensures { result ≡ codes.has_aside word }
@@ -49,7 +49,7 @@ pub fn has_aside(word: u64) -> bool
     word / 2 % 2 == 1
 }
 
-/// Whether somebody may stand in the main queue.
+/// Returns whether somebody may stand in the main queue.
 #[inline]
 pub fn has_parked(word: u64) -> bool
     ensures { result ≡ codes.has_parked word }
@@ -57,8 +57,8 @@ pub fn has_parked(word: u64) -> bool
     word % 2 == 1
 }
 
-/// Whether the owners of a reader-writer lock keep out a thread that wants this. A recursive lock
-/// lets readers in beside readers.
+/// Returns whether the owners of a reader-writer lock keep out a thread that wants this. A
+/// recursive lock lets readers in beside readers.
 #[inline(always)]
 pub fn is_blocked(recursive: bool, want: Want, word: u64) -> bool
     ensures { result ≡ codes.is_blocked recursive want word }
@@ -69,28 +69,28 @@ pub fn is_blocked(recursive: bool, want: Want, word: u64) -> bool
     }
 }
 
-/// Whether a `Once` is done.
+/// Returns whether a `Once` is done.
 pub fn is_done(word: u64) -> bool
     ensures { result ≡ codes.is_done word }
 {
     word % 2 == 1
 }
 
-/// Whether the last run of a `Once` failed.
+/// Returns whether the last run of a `Once` failed.
 pub fn is_poisoned(word: u64) -> bool
     ensures { result ≡ codes.is_poisoned word }
 {
     word / 2 % 2 == 1
 }
 
-/// Whether some thread runs a `Once`.
+/// Returns whether some thread runs a `Once`.
 pub fn is_running(word: u64) -> bool
     ensures { result ≡ codes.is_running word }
 {
     word / 4 % 2 == 1
 }
 
-/// Whether somebody may stand in the queue of a `Once`.
+/// Returns whether somebody may stand in the queue of a `Once`.
 pub fn is_marked(word: u64) -> bool
     ensures { result ≡ codes.is_marked word }
 {

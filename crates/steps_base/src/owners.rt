@@ -103,7 +103,7 @@ impl Owners {
 }
 
 impl Phase {
-    /// The thread that runs the closure.
+    /// Returns the thread that runs the closure.
     pub fn runner(self) -> Option<usize>
         ensures { result ≡ running_thread self }
     {

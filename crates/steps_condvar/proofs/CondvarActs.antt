@@ -600,7 +600,7 @@ looks_move c m all = (
 
 -- ---------------------------------------------------------------- effects on a waiter
 
--- it stands in neither queue, and is in nobody's hand
+-- the thread stands in neither queue, and is in nobody's hand
 awake : (p : CondvarPlace) → (there p).stands ≡ None → (location_of (move_beside [] p)).stands ≡ None
     → (location_of (move_beside [] p)).hand ≡ None → WaitsAtBoth p
 awake p out off free = record {

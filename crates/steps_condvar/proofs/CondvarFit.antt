@@ -109,7 +109,7 @@ module _ (c : CondvarSite) (t : ℕ) (site : IsCondvar c) where
   known : (stage : CondvarPhase) → IsInsideAt c t stage → condvars.StageHolds c t stage
   known stage e = subst (λ (i : Option Inside). IsAsInside c i) e site.inside
 
-  -- it may leave with nothing left to do
+  -- the thread may leave with nothing left to do
   may_go : (stage : CondvarPhase) → IsInsideAt c t stage → MayLeaveSection stage → MayGoOut c.inside t
   may_go stage e go = subst (λ (i : Option Inside). MayGoOut i t) (sym e) (refl, go)
 

@@ -78,7 +78,7 @@ module _ (v : CondvarSite) (r : Rules) (s : Site) (t c m : ℕ) (site : IsCondva
   sees_again all seen false shown = keeps c m t _ _ (Value seen) Nothing shown s.lock _ tt refl
       (λ rights. refl)
 
-  -- it has looked whether the mutex is owned
+  -- the thread has looked whether the mutex is owned
   marked : (all : Bool) (seen : ℕ) (b : Bool)
       → CallOfTwoFollows c m (Notify all m notify.Mark) (Value seen) (if b then Nothing else AtLock m
       (SeeOwner false)) v.shown s.lock s.lock t
@@ -103,7 +103,7 @@ module _ (v : CondvarSite) (r : Rules) (s : Site) (t c m : ℕ) (site : IsCondva
   set all expected seen false false = keeps c m t _ _ (Value seen) (AtLock m (SeeOwner false)) v.shown s.lock
       _ (inr refl, tt) refl (λ rights. refl)
 
-  -- it has moved waiters
+  -- the thread has moved waiters
   moves_one : (locked any none_left : Bool) (told : Reply) (shown : Option ℕ) (s2 : LockState)
       → rights_of s2 t ≡ rights_of s.lock t → ((call : CallState) → heard told call ≡ call)
       → CallOfTwoFollows c m (Notify false m (notify.Move locked)) told (Moves c m false locked 1) shown
@@ -290,7 +290,7 @@ abbrev AreLocks : Next LockAt → Type 0
 AreLocks (At at) = IsLockOf at
 AreLocks (Over answer) = Unit {0}
 
--- it locks the mutex without a deadline
+-- the thread locks the mutex without a deadline
 locks_on : (at : LockAt) (told : Reply) → IsLockOf at → (told ≡ Late → ⊥)
     → AreLocks (next_lock entry.Lock at told)
 locks_on lock.First (Value seen) is late = by (seen == 0)

@@ -58,7 +58,7 @@ module _ (t m : ℕ) (s s2 : LockState) (rights : ℕ → Rights) (is : rights m
   same_rights stay = λ i k. agree rights m (rights_where m s2 t rights) rights _ _ (λ k. refl)
       (unchanged rights m (rights_of s t) is) stay k i
 
-  -- it gave its right up
+  -- the thread gave its right up
   pub lost : with_right Exclusive (rights_of s2 t) ≡ rights_of s t → one_more_at m Exclusive
       (rights_where m s2 t rights) ≡ rights
   lost e = λ i k. agree rights m (one_more_at m Exclusive (rights_where m s2 t rights)) rights _ _
@@ -100,7 +100,7 @@ module _ (v : CondvarSite) (limit : ℕ) (s : Site) (t c m : ℕ) (timed : Bool)
     abbrev releasing : UnlockAt → CondvarPlace
     releasing at = place (wait.Release st (mutex.Unlock at))
 
-    -- it has released the mutex
+    -- the thread has released the mutex
     gives_way : (p2 : CondvarPlace) (seen : ℕ) (shown : Option ℕ) → s.lock.exclusive ≡ Some t
         → ((rights2 rights : ℕ → Rights) → condvar_call_by c m p2 rights2 ≡ record
         (condvar_call_by c m (releasing unlock.Subtract) rights) {
@@ -145,7 +145,7 @@ module _ (v : CondvarSite) (limit : ℕ) (s : Site) (t c m : ℕ) (timed : Bool)
   subtracts (stands.Handed by) seen shown own without b = absurd cc
   subtracts (stands.Noted note.HandOff) seen shown own without b = absurd cc
 
-  -- it leaves its section, and wakes the threads that it has taken, if anybody
+  -- the thread leaves its section, and wakes the threads that it has taken, if anybody
   wakes : (st : WaiterFate) (any : Bool) (shown : Option ℕ) (s2 : LockState) → rights_of s2 t
       ≡ rights_of s.lock t
       → CallOfTwoFollows c m (releasing st (unlock.Leave any)) Done
@@ -223,7 +223,7 @@ module _ (v : CondvarSite) (limit : ℕ) (s : Site) (t c m : ℕ) (timed : Bool)
     abbrev locking : LockAt → CondvarPlace
     locking at = place (wait.Lock timed_out (mutex.Lock e retries at))
 
-    -- it has the mutex again
+    -- the thread has the mutex again
     answers : (w : LocksState) (call : CallState) → call.recalls ≡ (if timed_out then Blank else WasNotified)
         → call.gave_up ≡ (if timed_out then Some c else None) → call.released ≡ true → Keeps w t call
         → AnswerHolds (Some (Waits c m timed)) w t call (waited timed timed_out)

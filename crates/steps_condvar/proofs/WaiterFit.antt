@@ -193,7 +193,7 @@ module _ (limit : ℕ) (s : Site) (t m : ℕ) (h : IsSite (record { sort = Mutex
     wants_it true = inr refl
     wants_it false = inl refl
 
-    -- it enters, and its call ends
+    -- the thread enters, and its call ends
     comes_in : s.role t ≡ with_retry retries idle → s.lock.exclusive ≡ None
         → Locks enter_deeds retries (Over (entered e))
     comes_in is free =
@@ -272,7 +272,7 @@ module _ (limit : ℕ) (s : Site) (t m : ℕ) (h : IsSite (record { sort = Mutex
         left true = refl
         left false = refl
 
-    -- it was handed the mutex
+    -- the thread was handed the mutex
     accepts : s.role t ≡ owner → Locks (End ∷ []) retries (Over (entered e))
     accepts is = (ends r s t refl (Some (Has Exclusive)) is, put_same s.role t idle)
 

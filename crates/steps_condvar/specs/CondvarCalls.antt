@@ -99,7 +99,7 @@ MayComeOfTwo c row (Moves k m all owned number) =
     (k ≡ c) × (row.purpose c ≡ Notifies c all) × (row.recalls ≡ SawOwner m owned) × (number ≢ 0)
 MayComeOfTwo c row event = MayCome c row event
 
--- its time is up
+-- the thread's time is up
 abbrev pub heard : Reply → CallState → CallState
 heard Late call = record call { late = true }
 heard told call = call
@@ -229,7 +229,7 @@ abbrev pub told_rights : ℕ → Reply → (ℕ → Rights) → ℕ → Rights
 told_rights m (HandedBy u alone) rights = one_more_at m Exclusive rights
 told_rights m told rights = rights
 
--- it is handed the mutex only where it has released it
+-- a waiter is handed the mutex only where it has released it
 abbrev pub BecomesTold : ℕ → ℕ → Bool → WaitAt → Reply → Next WaitAt → Type 0
 BecomesTold c m timed at told (At next) =
     (rights : ℕ → Rights)

@@ -31,7 +31,7 @@ use Rattle.steps_condvar.specs.CondvarProfiles.{condvar_row, notify_row}
 
 -- ---------------------------------------------------------------- the deeds of each step
 
--- its mutex is locked again, and the call ends
+-- the mutex of the wait is locked again, and the call ends
 abbrev pub relocked_deeds : Next MutexPlace → List CondvarDeed
 relocked_deeds (At at) = []
 relocked_deeds (End answer) = EndsWait ∷ []
@@ -92,7 +92,7 @@ pub record IsAt (c : CondvarSite) (t : ℕ) (p : CondvarPlace) : Type 0 where
   pub listed : IsListed c t (condvar_row p).listed
   pub names : c.waits_with t ≡ (condvar_row p).waits_with
 
--- it is in no call
+-- the thread is in no call
 pub record IsAway (c : CondvarSite) (t : ℕ) : Type 0 where
   pub outside : IsInsideNot c.inside t
   pub unlisted : times t c.waiters ≡ 0

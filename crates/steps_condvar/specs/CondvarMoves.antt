@@ -99,20 +99,20 @@ pub record StaysThere (p : CondvarPlace) (told : Reply) : Type 0 where
   pub deeds : StayThere (condvar_deeds p told)
   pub goes : there_then p told ≡ there p
 
--- it goes into the section
+-- the thread goes into the section
 pub record GoesInThere (p : CondvarPlace) (told : Reply) : Type 0 where
   pub out : (there p).inside ≡ None
   pub deeds : condvar_deeds p told ≡ GoIn ∷ []
   pub goes : there_then p told ≡ record (there p) { inside = Some Main }
 
--- it stands after the last, and waits to be notified
+-- the thread stands after the last, and waits to be notified
 pub record StandsThere (p : CondvarPlace) : Type 0 where
   pub was : there p ≡ inside_of Main
   pub deeds : condvar_deeds p Done ≡ StandLast ∷ []
   pub goes : there_then p Done
       ≡ record (inside_of Main) { stands = Some Main; waits = Some WaitHere }
 
--- its time is up, and it leaves the queue
+-- the thread's time is up, and it leaves the queue
 pub record LeavesThere (p : CondvarPlace) : Type 0 where
   pub was : there p ≡ record (inside_of Main) { stands = Some Main; waits = Some WaitHere }
   pub deeds : (none_left : Bool) → condvar_deeds p (Removed none_left) ≡ LeaveList ∷ []
@@ -137,7 +137,7 @@ StayBeside (MarkOwned ∷ []) = Unit {0}
 StayBeside (MarkBrought ∷ []) = Unit {0}
 StayBeside ds = AreOfWord ds
 
--- it stays where it is; while it releases the mutex it may stand in its queue, or be in a hand
+-- the thread stays where it is; while it releases the mutex it may stand in its queue, or be in a hand
 pub record StaysPutBeside (x : StepView) (told : Reply) : Type 0 where
   pub deeds : StayBeside (x.deeds None told)
   pub goes : location_then x told ≡ location_of x
@@ -160,7 +160,7 @@ pub record TakesBeside (x : StepView) (hears : Hears) : Type 0 where
       → TakesFirst s whom any none_left
       → HasTakenNobody s.lock t → hears r s t whom (Took any none_left)
 
--- it goes out of the section, and wakes the threads that it has in hand, if anybody
+-- the thread goes out of the section, and wakes the threads that it has in hand, if anybody
 pub record GoesOutBeside (x : StepView) (wakes : Wakes) : Type 0 where
   pub any : Bool
   pub notes : wakes ≡ wakes_taken any Normal
@@ -306,7 +306,7 @@ WaitersMove = (m : ℕ) (timed : Bool) (at : WaitAt) → IsReached (Wait m timed
 
 -- -------------------------------------------- where a call begins, and where it looks at its mutex once more
 
--- it stands nowhere, and a wait owns its mutex
+-- the thread stands nowhere, and a wait owns its mutex
 pub record BeginsAt (v : CondvarSite) (r : Rules) (s : Site) (t c m : ℕ)
     (timed : Bool) : Type 0 where
   pub reached : IsReached (condvar_first (call.Wait m timed))
@@ -326,7 +326,7 @@ WaitsBegin =
     → Owns s.lock t Exclusive
     → s.role t ≡ idle → BeginsAt v r s t c m timed
 
--- its rows are the same there
+-- the rows of a waiter are the same after one more look
 abbrev pub WaitersLookAgain : Type 0
 WaitersLookAgain =
     (p p2 : CondvarPlace) → condvar_looking p ≡ Some p2

@@ -19,7 +19,7 @@ use Rattle.steps_condvar.specs.declared.notify.NotifyAt.TheVariants as notify
 use Rattle.steps_condvar.specs.CondvarSteps.{next_notify, notify_act}
 use Rattle.steps_condvar.specs.CondvarProfiles.{notify_row}
 
--- those among the waiters that it moves or takes
+-- the waiters that a notification takes, and those that it moves
 abbrev pub brings : Bool → Bool → List Queued → List Deed
 brings all locked q = Bring (taken_of locked (moved_of all q)) (line_of locked (moved_of all q))
     ∷ []

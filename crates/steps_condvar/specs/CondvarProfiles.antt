@@ -29,7 +29,7 @@ pub record CondvarRow : Type 0 where
   pub stage : Option CondvarPhase
   pub waits_with : Option ℕ
   pub listed : Bool
-  -- its deeds at the mutex, and whether it stands in that queue
+  -- the deeds of the thread at the mutex, and whether it stands in that queue
   pub role : Role
   pub moved : Bool
   -- in whose hand it is, and what it wants, where it waits
@@ -68,13 +68,13 @@ abbrev pub is_moved : WaiterFate → Bool
 is_moved stands.Moved = true
 is_moved s = false
 
--- it was handed the mutex
+-- the thread was handed the mutex
 abbrev pub has_mutex : WaiterFate → Bool
 has_mutex (stands.Handed by) = true
 has_mutex (stands.Noted note.HandOff) = true
 has_mutex s = false
 
--- it was woken, and has the mutex to lock again
+-- the thread was woken, and has the mutex to lock again
 abbrev pub is_woken : WaiterFate → Bool
 is_woken (stands.Noted note.Normal) = true
 is_woken s = false
@@ -97,7 +97,7 @@ befell s d = record d {
   claims = if has_mutex s then Some (Has wants.Exclusive) else d.claims;
 }
 
--- it stands somewhere since it stood after the last
+-- the thread stands somewhere since it stood after the last
 abbrev pub standing_row : WaiterFate → CondvarRow → CondvarRow
 standing_row s row = record row {
   listed = is_listed s;
@@ -122,7 +122,7 @@ mutex_row_beside row = record blank_condvar_row {
 abbrev pub waiting_at : CondvarPhase → CondvarRow
 waiting_at stage = record blank_condvar_row { stage = Some stage; wants = Some wants.Wait; owes = true }
 
--- it still owns its mutex there
+-- the thread still owns its mutex there
 abbrev pub coming : CondvarPhase → CondvarRow
 coming stage = record (waiting_at stage) { role = owner }
 
@@ -153,7 +153,7 @@ wait_row m (wait.Lock timed_out at) = mutex_row_beside (mutex_profile at)
 abbrev pub brings_to : Bool → Role
 brings_to locked = record inside { brings = locked }
 
--- it has taken the first, if any, and has the bit to set yet where it has moved others
+-- the thread has taken the first, if any, and has the bit to set yet where it has moved others
 abbrev pub has_moved : Bool → Bool → Role
 has_moved any sets = record inside { carries = true; covers = any; sets = sets }
 
@@ -161,7 +161,7 @@ abbrev pub inside_both : CondvarPhase → Role → CondvarRow
 inside_both stage role = record blank_condvar_row
     { stage = Some stage; role = role; owes = true; owes_mutex = true }
 
--- it has moved nobody, or so many
+-- the thread has moved nobody, or so many
 abbrev pub told_stage : ℕ → ℕ → CondvarPhase
 told_stage m number = if number == 0 then Misses m else NothingToDo
 
@@ -191,7 +191,7 @@ condvar_row (Notify all m at) = notify_row all m at
 abbrev pub condvar_taker : CondvarPlace → Option ℕ
 condvar_taker p = hand_owner (condvar_row p).hand
 
--- its want, where it waits
+-- the want of the thread, where it waits
 abbrev pub condvar_wants : CondvarPlace → Option Want
 condvar_wants p = (condvar_row p).wants
 
@@ -240,8 +240,8 @@ abbrev pub may_give_up : CondvarPlace → Bool
 may_give_up (Wait m timed (wait.Asleep s)) = timed
 may_give_up p = false
 
--- its time is up, and it leaves, or has left, the queue of the condition variable; or it leaves
--- that of the mutex
+-- the thread's time is up, and it leaves, or has left, the queue of the condition variable; or it leaves that
+-- of the mutex
 abbrev pub is_late : CondvarPlace → Bool
 is_late (Wait m timed wait.RemoveMoved) = true
 is_late (Wait m timed wait.Remove) = true

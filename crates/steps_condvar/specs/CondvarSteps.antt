@@ -40,7 +40,7 @@ use Rattle.steps_condvar.specs.declared.wait.WaitAt.TheVariants as wait
 
 -- ---------------------------------------------------------------- the word
 
--- it shows a mutex by one more than its number, and 0 where none is shown
+-- a condition variable shows a mutex by one more than its number, and 0 where none is shown
 abbrev pub shown_as : ℕ → ℕ
 shown_as m = m + 1
 
@@ -140,7 +140,7 @@ past_release (stands.Noted note.Normal) = wait.Lock false (first_lock true)
 past_release (stands.Noted note.HandOff) = wait.Lock false (mutex.Lock entry.Lock false lock.Accept)
 past_release s = wait.Asleep s
 
--- its time is up: it leaves the queue in which it stands
+-- the thread's time is up: it leaves the queue in which it stands
 abbrev pub late_place : WaiterFate → WaitAt
 late_place stands.Listed = wait.Remove
 late_place stands.Moved = wait.RemoveMoved

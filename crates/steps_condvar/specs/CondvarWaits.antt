@@ -54,7 +54,7 @@ waiter_deeds at whom told = []
 
 -- ---------------------------------------------------------------- the notes that it may be told
 
--- it takes the first, if anybody waits
+-- the thread takes the first, if anybody waits
 pub record TakesFirst (s : Site) (whom : Option ℕ) (any none_left : Bool) : Type 0 where
   pub first : whom ≡ first_thread s.lock.queue
   pub some : any ≡ not (is_none whom)
@@ -71,7 +71,7 @@ MayHearReleasing r s t st (unlock.Clear any) whom (Value seen) = Unit {0}
 MayHearReleasing r s t st (unlock.Leave any) whom Done = Unit {0}
 MayHearReleasing r s t st at whom told = ⊥
 
--- it locks the mutex again without a deadline
+-- the thread locks the mutex again without a deadline
 abbrev pub MayHearLocking : Rules → Site → ℕ → LockAt → Reply → Type 0
 MayHearLocking r s t lock.First (Value seen) = seen ≡ code r s
 MayHearLocking r s t lock.Load (Value seen) = Unit {0}
@@ -128,7 +128,7 @@ WaitersFollow =
     → IsSite r s → s.role t ≡ (wait_row m at).role → MayHearWaiter r s t at whom told
     → WaiterFollows r s t m timed at whom told
 
--- its steps on the word of the mutex leave the word of the mutex after the deeds, and the owner
+-- the steps of a wait on the word of its mutex leave the word of the mutex after the deeds, and the owner
 pub record LeavesMutex (r : Rules) (s : Site) (t m : ℕ) (timed : Bool) (at : WaitAt) (f : Op)
     (o : Owners) : Type 0 where
   pub word : apply f (code r s) ≡ code r (after_all r (waiter_deeds at None (Value (code r s))) s t)
@@ -152,7 +152,7 @@ befalls_role (HandedBy by alone) d = record d { claims = Some (Has Exclusive) }
 befalls_role (Woken Normal) d = record d { retries = Some Exclusive }
 befalls_role told d = d
 
--- it stands in a queue and is taken, or moved to its mutex's; it is in a hand, and handed the mutex
+-- the thread stands in a queue and is taken, or moved to its mutex's; it is in a hand, and handed the mutex
 -- or woken
 abbrev pub MayBefall : WaitAt → Reply → Type 0
 MayBefall (wait.Release stands.Listed at) (TakenBy u) = Unit {0}
@@ -174,7 +174,7 @@ MayBefall (wait.Lock timed_out (mutex.Lock e retries (lock.Handed by))) (Woken H
     Unit {0}
 MayBefall at told = ⊥
 
--- its next place says so
+-- what befalls a waiter is what its next place says
 abbrev pub WaitersHear : Type 0
 WaitersHear =
     (m : ℕ) (timed : Bool) (at : WaitAt) (told : Reply) → MayBefall at told

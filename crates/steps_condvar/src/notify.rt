@@ -28,7 +28,7 @@ use steps_mutex::places::{LOCKED, PARKED, is_locked};
 pub enum NotifyAt {
     Enter,
     Again,
-    /// It is to move all.
+    /// Hides the mutex that is shown, since all waiters will be moved.
     Hide,
     Mark,
     /// Somebody owns the mutex.
@@ -37,7 +37,7 @@ pub enum NotifyAt {
     Move { locked: bool },
     /// The one that it moved or took was the last.
     Clear { any: bool },
-    /// It has taken one and moved others.
+    /// The thread has taken one and moved others.
     MarkMoved { number: usize },
     /// Whether it has taken any, and how many it has taken and moved.
     Leave { any: bool, number: usize },
@@ -56,7 +56,7 @@ pub(super) fn notified(all: bool, number: usize) -> Answer
     }
 }
 
-/// Where a thread goes that has seen this word of the mutex.
+/// Returns where a thread goes that has seen this word of the mutex.
 fn marks(seen: u64) -> NotifyAt
     ensures { result ≡ marks seen }
 {
@@ -67,7 +67,7 @@ fn marks(seen: u64) -> NotifyAt
     }
 }
 
-/// Where its second look leads.
+/// Returns where its second look leads.
 fn again_next(all: bool, mutex: usize, seen: u64) -> NotifyAt
     ensures { result ≡ again_next all mutex seen }
 {
@@ -83,7 +83,7 @@ fn again_next(all: bool, mutex: usize, seen: u64) -> NotifyAt
     }
 }
 
-/// Where a thread goes that has moved or taken the first.
+/// Returns where a thread goes that has moved or taken the first.
 fn moved_one(any: bool, none_left: bool) -> NotifyAt
     ensures { result ≡ moved_one any none_left }
 {
@@ -108,7 +108,7 @@ fn moved_all(locked: bool, number: usize) -> NotifyAt
     }
 }
 
-/// Where a notification goes.
+/// Returns where a notification goes.
 pub(super) fn next_notify(all: bool, mutex: usize, at: NotifyAt, reply: Reply) -> Next<NotifyAt>
     ensures { result ≡ next_notify all mutex at reply }
 {

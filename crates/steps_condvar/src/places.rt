@@ -33,7 +33,7 @@ pub enum CondvarPlace {
     Look {
         all: bool,
     },
-    /// It has seen this mutex.
+    /// Notifies, having seen this mutex.
     Notify {
         all: bool,
         mutex: usize,
@@ -41,7 +41,7 @@ pub enum CondvarPlace {
     },
 }
 
-/// The word that shows a mutex.
+/// Returns the word that shows a mutex.
 pub fn shown(mutex: usize) -> u64
     requires { mutex < 2 ^ 63 }
     ensures { result ≡ shown_as mutex }
@@ -49,14 +49,14 @@ pub fn shown(mutex: usize) -> u64
     mutex as u64 + 1
 }
 
-/// Whether a word shows this mutex.
+/// Returns whether a word shows this mutex.
 pub fn shows(word: u64, mutex: usize) -> bool
     ensures { result ≡ is_shown word mutex }
 {
     word != 0 && word - 1 == mutex as u64
 }
 
-/// Where a notification goes by the word that it sees first.
+/// Returns where a notification goes by the word that it sees first.
 fn look_next(all: bool, seen: u64) -> Next<CondvarPlace>
     ensures { result ≡ look_next all seen }
 {
@@ -70,8 +70,8 @@ fn look_next(all: bool, seen: u64) -> Next<CondvarPlace>
     })
 }
 
-/// Whether a thread has the right that a call needs: of a wait, to the mutex that it names, with
-/// these owners.
+/// Returns whether a thread has the right that a call needs: of a wait, to the mutex that it names,
+/// with these owners.
 pub fn condvar_right(call: CondvarCall, thread: usize, owners: Owners) -> bool
     ensures { result ≡ condvar_right call thread owners }
 {
@@ -82,7 +82,7 @@ pub fn condvar_right(call: CondvarCall, thread: usize, owners: Owners) -> bool
 }
 
 impl CondvarPlace {
-    /// Where a call begins.
+    /// Returns where a call begins.
     pub fn first(call: CondvarCall) -> CondvarPlace
         ensures { result ≡ condvar_first call }
     {
@@ -96,7 +96,7 @@ impl CondvarPlace {
         }
     }
 
-    /// The mutex that a wait names, or that a notification has seen.
+    /// Returns the mutex that a wait names, or that a notification has seen.
     pub fn mutex(self) -> Option<usize>
         ensures { result ≡ mutex_beside self }
     {
@@ -138,7 +138,7 @@ impl CondvarPlace {
         }
     }
 
-    /// Where the reply leads the thread.
+    /// Returns where the reply leads the thread.
     pub fn next(self, reply: Reply) -> Next<CondvarPlace>
         ensures { result ≡ condvar_next self reply }
     {
@@ -185,7 +185,7 @@ impl CondvarPlace {
         }
     }
 
-    /// The thread that took this one from a queue, and has not left its sections yet.
+    /// Returns the thread that took this one from a queue, and has not left its sections yet.
     pub fn taker(self) -> Option<usize>
         ensures { result ≡ condvar_taker self }
     {
@@ -234,7 +234,7 @@ impl CondvarPlace {
         }
     }
 
-    /// The key under which the thread sleeps, where it may give up.
+    /// Returns the key under which the thread sleeps, where it may give up.
     pub fn late_key(self, condvar: usize) -> Option<Key>
         requires { (condvar < 2 ^ 63) × HasMutexKey self }
         ensures { result ≡ condvar_late_key condvar self }
@@ -253,7 +253,7 @@ impl CondvarPlace {
         }
     }
 
-    /// Whether the thread owes a wake on the queue of this lock.
+    /// Returns whether the thread owes a wake on the queue of this lock.
     pub fn owes_on(self, condvar: usize, lock: usize) -> bool
         ensures { result ≡ condvar_owes condvar lock self }
     {
@@ -268,7 +268,7 @@ impl CondvarPlace {
         }
     }
 
-    /// Whether the thread was woken and tries to lock its mutex.
+    /// Returns whether the thread was woken and tries to lock its mutex.
     pub fn retries(self) -> bool
         ensures { result ≡ condvar_retries self }
     {

@@ -32,13 +32,13 @@ use steps_mutex::{Entry, LockAt, MutexPlace, UnlockAt};
 pub enum WaiterFate {
     /// Nothing: it stands in the queue of the condition variable.
     Listed,
-    /// It was moved to the queue of its mutex.
+    /// The waiter was moved to the queue of its mutex.
     Moved,
     /// Taken by a thread that has not left its sections yet.
     InHand { by: usize },
     /// The thread that took it has handed it the mutex, and not left its section yet.
     Handed { by: usize },
-    /// It has its wake note.
+    /// The waiter has its wake note.
     Noted(Note),
 }
 
@@ -47,12 +47,12 @@ pub enum WaiterFate {
 pub enum WaitAt {
     Enter,
     Show,
-    /// It shows its mutex.
+    /// The mutex of the wait is shown.
     Stand,
     Leave,
     /// Another mutex is shown.
     Refuse,
-    /// It may be moved, taken, handed the mutex and woken meanwhile.
+    /// Releases the mutex. The waiter may be moved, taken, handed the mutex and woken meanwhile.
     Release { stands: WaiterFate, at: MutexPlace },
     Asleep(WaiterFate),
     /// Late, inside the section and still in the queue.
@@ -65,7 +65,8 @@ pub enum WaitAt {
     RemoveMoved,
     /// Whether nobody is left in that queue, whose bit it leaves.
     GiveUpMoved { none_left: bool },
-    /// Its time was up while it stood in the queue of the condition variable, or somebody moved it.
+    /// Locks the mutex again. The time was up while the waiter stood in the queue of the condition
+    /// variable, or somebody moved it.
     Lock { timed_out: bool, at: MutexPlace },
 }
 
@@ -90,7 +91,7 @@ impl WaiterFate {
         }
     }
 
-    /// Whether it was woken, and not handed its mutex.
+    /// Returns whether it was woken, and not handed its mutex.
     pub(super) fn is_woken(self) -> bool
         ensures { result ≡ is_woken self }
     {
@@ -99,7 +100,7 @@ impl WaiterFate {
 }
 
 impl WaitAt {
-    /// Whether the thread owes a wake on the queue of the condition variable.
+    /// Returns whether the thread owes a wake on the queue of the condition variable.
     pub(super) fn owes(self) -> bool
         ensures { result ≡ (wait_row 0 self).owes }
     {
@@ -115,7 +116,7 @@ impl WaitAt {
         )
     }
 
-    /// Whether it owes one on the queue of its mutex.
+    /// Returns whether it owes one on the queue of its mutex.
     pub(super) fn owes_mutex(self) -> bool
         ensures { result ≡ (wait_row 0 self).owes_mutex }
     {
@@ -127,7 +128,7 @@ impl WaitAt {
     }
 }
 
-/// Whether a reply tells what another thread has done to this one.
+/// Returns whether a reply tells what another thread has done to this one.
 pub(super) fn comes_from_another(reply: Reply) -> bool
     ensures { result ≡ comes_from_another reply }
 {
@@ -137,7 +138,7 @@ pub(super) fn comes_from_another(reply: Reply) -> bool
     )
 }
 
-/// How a thread stands after what befell it.
+/// Returns how a thread stands after what befell it.
 pub(super) fn stands_after(stands: WaiterFate, reply: Reply) -> WaiterFate
     ensures { result ≡ stands_after stands reply }
 {
@@ -150,7 +151,7 @@ pub(super) fn stands_after(stands: WaiterFate, reply: Reply) -> WaiterFate
     }
 }
 
-/// Where a thread begins to lock its mutex again.
+/// Returns where a thread begins to lock its mutex again.
 pub(super) fn first_lock(retries: bool) -> MutexPlace
     ensures { result ≡ first_lock retries }
 {
@@ -161,7 +162,7 @@ pub(super) fn first_lock(retries: bool) -> MutexPlace
     }
 }
 
-/// Where a thread goes that has released its mutex.
+/// Returns where a thread goes that has released its mutex.
 fn afterwards(stands: WaiterFate) -> WaitAt
     ensures { result ≡ past_release stands }
 {
@@ -206,7 +207,7 @@ fn waited(timed: bool, timed_out: bool) -> Answer
     }
 }
 
-/// Where a thread goes that releases its mutex.
+/// Returns where a thread goes that releases its mutex.
 fn released(stands: WaiterFate, next: Next<MutexPlace>) -> WaitAt
     ensures { result ≡ released stands next }
 {
@@ -216,7 +217,7 @@ fn released(stands: WaiterFate, next: Next<MutexPlace>) -> WaitAt
     }
 }
 
-/// Where a thread goes that locks its mutex again.
+/// Returns where a thread goes that locks its mutex again.
 fn relocked(timed: bool, timed_out: bool, next: Next<MutexPlace>) -> Next<WaitAt>
     ensures { result ≡ relocked timed timed_out next }
 {
@@ -226,7 +227,7 @@ fn relocked(timed: bool, timed_out: bool, next: Next<MutexPlace>) -> Next<WaitAt
     }
 }
 
-/// Where a thread goes that sleeps.
+/// Returns where a thread goes that sleeps.
 fn asleep_next(stands: WaiterFate, reply: Reply) -> WaitAt
     ensures { result ≡ asleep_next stands reply }
 {
@@ -236,7 +237,7 @@ fn asleep_next(stands: WaiterFate, reply: Reply) -> WaitAt
     }
 }
 
-/// Where a wait goes.
+/// Returns where a wait goes.
 pub(super) fn next_wait(mutex: usize, timed: bool, at: WaitAt, reply: Reply) -> Next<WaitAt>
     ensures { result ≡ next_wait mutex timed at reply }
 {

@@ -37,7 +37,7 @@ use Rattle.steps_mutex.specs.MutexDeeds.{enter_deeds, take_deeds, handing_deeds,
 use Rattle.steps_mutex.specs.MutexLaws.{heir, mutex_row, next_row}
 use Rattle.steps_mutex.specs.MutexProfiles.{is_bump, entry_purpose, release_purpose, before_release}
 
--- it goes on, or sleeps in its line
+-- the thread goes on, or sleeps in its line
 abbrev pub Rests : ℕ → Next MutexPlace → Type 0
 Rests l (next.At at) = (outcome_of (mutex_act l at) ≡ outcome.Step)
     ⊎ ((outcome_of (mutex_act l at) ≡ outcome.Sleep) × ((mutex_row at).stands ≡ Some Main))
@@ -57,7 +57,7 @@ decides l s = either (is_locked s) (s == 1)
     either true true = refl
     either true false = refl
 
--- it goes on, with any hand-over
+-- the thread goes on, with any hand-over
 stores_so : (l : ℕ) (any none_left : Bool) → outcome_of (hand_off_act l (hand_off.Store any none_left))
     ≡ outcome.Step
 stores_so l true none_left = refl
@@ -79,7 +79,7 @@ module _ (limit l t : ℕ) (s : LockState) where
   same_rights s2 stay rights is = λ i k. agree rights l (rights_where l s2 t rights) rights _ _ (λ k. refl)
       (unchanged rights l (rights_of s t) is) stay k i
 
-  -- its rights at the lock stay, and its call is what the event makes of it
+  -- the rights of the thread at the lock stay, and its call is what the event makes of it
   keeps : (at at2 : MutexPlace) (ds : List Deed) → AreOneCase ds
       → MayCome l (mutex_row at) (event_at l (mutex_row at) ds)
       → rights_of (after_event mutex (event_at l (mutex_row at) ds) s t) t ≡ rights_of s t
@@ -104,7 +104,7 @@ module _ (limit l t : ℕ) (s : LockState) where
   quiet at at2 ds one none same rests = keeps at at2 ds one (rw none tt) (rw none refl)
       (λ rights. rw none (same rights)) rests
 
-  -- it has entered: what it owns then
+  -- the thread has entered: what it owns then
   module _ (v : LocksState) (rights : ℕ → Rights) (s2 : LockState) (now : v.locks l ≡ s2) (is : rights l
       ≡ rights_of s t)
       (has : (k : ℕ) → rights_in v t k ≡ rights_where l s2 t rights k) where
@@ -121,14 +121,14 @@ module _ (limit l t : ℕ) (s : LockState) where
     loses e = agree rights l _ _ _ _ (changed rights l (with_right Exclusive) (rights_in v t) _ has)
         (unchanged rights l (rights_of s t) is) e
 
-    -- it was handed its right before
+    -- the thread was handed its right before
     had : Owns s t Exclusive → rights_of s2 t ≡ rights_of s t → (k : ℕ)
         → rights_in v t k ≡ one_more_at l Exclusive (one_less_at l Exclusive rights) k
     had own e = agree rights l _ _ _ _ has (changed rights l (with_right Exclusive)
         (one_less_at l Exclusive rights) _ (changed rights l (without_right Exclusive) rights _
         (unchanged rights l (rights_of s t) is))) (e ∙ sym (regained s t Exclusive own))
 
-  -- it gave its right up
+  -- the thread gave its right up
   lost : (s2 : LockState) → with_right Exclusive (rights_of s2 t) ≡ rights_of s t → (rights : ℕ → Rights)
       → rights l ≡ rights_of s t → one_more_at l Exclusive (rights_where l s2 t rights) ≡ rights
   lost s2 e rights is = λ i k. agree rights l (one_more_at l Exclusive (rights_where l s2 t rights)) rights _
@@ -256,7 +256,7 @@ module _ (limit l t : ℕ) (s : LockState) where
   removes e again false timed = keeps (Lock e again Remove) (Lock e again GiveUp) (Case locks.Late ∷ []) tt
       (late_by e timed, refl) refl (λ rights. refl) (inl refl)
 
-  -- it has given up, and owns what it owned
+  -- the thread has given up, and owns what it owned
   pub gives_up : (e : Entry) (again : Bool) → is_timed e ≡ true → Tells (Lock e again GiveUp) (Out ∷ [])
       (next.End answer.No)
   gives_up entries.LockTimed again timed = record {
@@ -270,7 +270,7 @@ module _ (limit l t : ℕ) (s : LockState) where
   gives_up entries.Lock again timed = absurd cc
   gives_up entries.Bump again timed = absurd cc
 
-  -- it was handed the lock, and owns it
+  -- the thread was handed the lock, and owns it
   pub accepts : (e : Entry) (again : Bool) → s.exclusive ≡ Some t → Tells (Lock e again Accept) (End ∷ [])
       (next.End (entered e))
   accepts entries.Lock again own = record {
@@ -346,7 +346,7 @@ module _ (limit l t : ℕ) (s : LockState) where
     rests = tt;
   }
 
-  -- it takes the first of the queue, or finds nobody
+  -- the thread takes the first of the queue, or finds nobody
   pub takes_one : (o : Option ℕ) (any b : Bool)
       → Tells (Unlock unlock.Take) (take_deeds o) (in_unlock (if b then next.At (unlock.Clear any)
       else next.At (unlock.Leave any)))
@@ -359,7 +359,7 @@ module _ (limit l t : ℕ) (s : LockState) where
   takes_one (Some u) any false = keeps (Unlock unlock.Take) (Unlock (unlock.Leave any)) (take_deeds (Some u))
       tt ((refl, tt), tt) refl (λ rights. refl) (inl refl)
 
-  -- it wakes the threads that it has taken
+  -- the thread wakes the threads that it has taken
   pub wakes_taken : (any : Bool) → Tells (Unlock (unlock.Leave any)) (Out ∷ []) (next.End answer.Ok)
   wakes_taken true = record {
     follows = record {
@@ -416,7 +416,7 @@ module _ (limit l t : ℕ) (s : LockState) where
       (HandOff bumping (hand_off.Store any b)) (take_deeds (Some u)) tt (takes_by bumping (queued u), tt) refl
       (λ rights. refl) (inl (stores_so l any b))
 
-  -- it gives its right to its heir, which isn't itself
+  -- the thread gives its right to its heir, which isn't itself
   pub stores : (bumping any none_left : Bool) (to : Option ℕ)
       → with_right Exclusive (rights_of (locks.handed t Exclusive (heir to) s) t) ≡ rights_of s t
       → Tells (HandOff bumping (hand_off.Store any none_left)) (handing_deeds to none_left)
@@ -457,7 +457,7 @@ module _ (limit l t : ℕ) (s : LockState) where
           (HandOff bumping (hand_off.Store any none_left)) rights) { former = f })
           (lost (locks.handed t Exclusive (heir (Some u)) s) e rights is)
 
-  -- it leaves, and a bump enters again
+  -- the thread leaves, and a bump enters again
   pub leaves_fairly : (bumping to : Bool)
       → Tells (HandOff bumping (hand_off.Leave to)) (Out ∷ []) (in_hand_off bumping (next.End answer.Ok))
   leaves_fairly true true = quiet (HandOff true (hand_off.Leave true)) (Lock entries.Bump false First)

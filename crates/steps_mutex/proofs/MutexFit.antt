@@ -57,7 +57,7 @@ module _ (limit : ℕ) (s : Site) (t : ℕ) (h : IsSite (record { sort = Mutex; 
   wants_it true = inr refl
   wants_it false = inl refl
 
-  -- it enters, and its call ends
+  -- the thread enters, and its call ends
   comes_in : (retries : Bool) (a : _) → s.role t ≡ with_retry retries idle → s.lock.exclusive ≡ None
       → Does enter_deeds (Over a)
   comes_in retries a is free =
@@ -177,7 +177,7 @@ module _ (limit : ℕ) (s : Site) (t : ℕ) (h : IsSite (record { sort = Mutex; 
 
   -- ---------------------------------------------------------------- calls that release
 
-  -- its right is given up, by the bit that it saw
+  -- the thread's right is given up, by the bit that it saw
   left_mutex : s.role t ≡ owner → (b : Bool) → s.parked ≡ b → (after_deed r (Case (Leave Exclusive)) s t).role
       t ≡ record idle { wakes = seen_main b }
   left_mutex is b e = put_same s.role t _ ∙ (λ i. record (is i) {
@@ -197,7 +197,7 @@ module _ (limit : ℕ) (s : Site) (t : ℕ) (h : IsSite (record { sort = Mutex; 
     put_same (after_deed r (Case (Leave Exclusive)) s t).role t idle,
   )
 
-  -- it takes the first waiter, if there is one
+  -- the thread takes the first waiter, if there is one
   takes_first : (d : Role) → s.role t ≡ d → d.inside ≡ Some Main → d.carries ≡ false
       → ((d.wakes ≡ None) ⊎ (d.wakes ≡ Some Main)) → (whom : Option ℕ) (any none_left : Bool)
       → TakesFirst s whom any none_left → HasTakenNobody s.lock t
@@ -290,7 +290,7 @@ module _ (limit : ℕ) (s : Site) (t : ℕ) (h : IsSite (record { sort = Mutex; 
   bumps is true = (tt, is)
   bumps is false = (ends r s t refl (Some (Has Exclusive)) is, put_same s.role t idle)
 
-  -- it hands the mutex to the heir, and the store writes the bit anew
+  -- the thread hands the mutex to the heir, and the store writes the bit anew
   module _ (bumping any : Bool) where
     abbrev storing : Bool → Role
     storing none_left = record carrying {

@@ -56,7 +56,7 @@ module _ (limit : ℕ) (s : Site) (t l : ℕ) (site : IsSite (record { sort = Mu
   abbrev mutex : Rules
   mutex = record { sort = Mutex; limit = limit }
 
-  -- its right by its place
+  -- the thread's right by its place
   owns : (d : Role) → s.role t ≡ d → d.claims ≡ Some (Has Exclusive) → s.lock.exclusive ≡ Some t
   owns d role claims = site.held t (Has Exclusive) (ap (λ (x : Role). x.claims) role ∙ claims)
 

@@ -33,7 +33,7 @@ use Rattle.steps_mutex.specs.MutexSteps.{is_timed, mutex_act, mutex_next, mutex_
 
 -- ---------------------------------------------------------------- a thread at a place
 
--- its row: no call of a mutex brings waiters of a condition variable
+-- the row of a place: no call of a mutex brings waiters of a condition variable
 abbrev pub mutex_row : MutexPlace → Profile
 mutex_row p = bringing_nobody (mutex_profile p)
 
@@ -52,7 +52,7 @@ pub record IsAt (r : Rules) (s : Site) (t : ℕ) (p : MutexPlace) : Type 0 where
 
 -- ---------------------------------------------------------------- the notes that it may be told
 
--- it takes the first waiter, if there is one
+-- the thread takes the first waiter, if there is one
 pub record TakesFirst (s : Site) (whom : Option ℕ) (any none_left : Bool) : Type 0 where
   pub first : whom ≡ first_thread s.lock.queue
   pub some : any ≡ not (is_none whom)

@@ -46,7 +46,7 @@ entry_purpose l entry.Lock = Enters l Exclusive Patient
 entry_purpose l entry.LockTimed = Enters l Exclusive Timed
 entry_purpose l entry.Bump = Bumps l Exclusive
 
--- its ownership before, by what it owns now
+-- the thread's ownership before its release, by what it owns now
 abbrev pub before_release : ℕ → Bool → (ℕ → Rights) → ℕ → Rights
 before_release l released rights = if released then one_more_at l Exclusive rights else rights
 
@@ -174,7 +174,7 @@ mutex_profile (HandOff bumps at) =
 abbrev pub mutex_taker : MutexPlace → Option ℕ
 mutex_taker at = hand_owner (mutex_profile at).hand
 
--- its want, where it waits
+-- the want of the thread, where it waits
 abbrev pub mutex_wants : MutexPlace → Option Want
 mutex_wants at = (mutex_profile at).wants
 

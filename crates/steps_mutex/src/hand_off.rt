@@ -20,12 +20,12 @@ use steps_base::{Act, Next, Reply, Wakes, Whom};
 pub enum HandOffAt {
     Enter,
     Take,
-    /// It stores the word, and with it hands the mutex to the one that it took.
+    /// Stores the word, and thereby hands the mutex to the waiter that was taken.
     Store { any: bool, none_left: bool },
     Leave { any: bool },
 }
 
-/// Where an owner goes that saw `PARKED`.
+/// Returns where an owner goes that saw `PARKED`.
 pub(super) fn next_hand_off(at: HandOffAt, reply: Reply) -> Next<HandOffAt>
     ensures { result ≡ next_hand_off at reply }
 {
@@ -54,8 +54,8 @@ pub(super) fn looked(bumps: bool, saw_waiters: bool) -> Next<MutexPlace>
     }
 }
 
-/// The word that a hand-off leaves: unlocked where nobody was taken, and else locked, with `PARKED`
-/// where waiters are left.
+/// Returns the word that a hand-off leaves: unlocked where nobody was taken, and else locked, with
+/// `PARKED` where waiters are left.
 pub(super) fn hand_off_word(any: bool, none_left: bool) -> u64
     ensures { result ≡ hand_off_word any none_left }
 {

@@ -30,7 +30,7 @@ use steps_base::{Act, Check, Next, Owners, Reply, Wakes};
 pub enum Entry {
     Lock,
     LockTimed,
-    /// It has handed the mutex over.
+    /// The call has handed the mutex over.
     Bump,
 }
 
@@ -95,7 +95,7 @@ impl Entry {
     }
 }
 
-/// Where a thread that enters goes.
+/// Returns where a thread that enters goes.
 pub(super) fn next_lock(entry: Entry, at: LockAt, reply: Reply) -> Next<LockAt>
     ensures { result ≡ next_lock entry at reply }
 {
@@ -142,7 +142,7 @@ pub(super) fn next_lock(entry: Entry, at: LockAt, reply: Reply) -> Next<LockAt>
     }
 }
 
-/// Whether a thread retries after the reply.
+/// Returns whether a thread retries after the reply.
 pub(super) fn still_retries(retries: bool, reply: Reply) -> bool
     ensures { result ≡ still_retries retries reply }
 {

@@ -30,8 +30,8 @@ pub const NOT_PARKED: u64 = 18446744073709551613;
 /// Where a thread stands in a call of a mutex.
 #[derive(Clone, Copy, PartialEq, Eq)]
 pub enum MutexPlace {
-    /// It `retries` from a wake note on, until the thread stands in the queue again, owns the mutex
-    /// or the call ends.
+    /// Locks the mutex. The call `retries` from a wake note on, until the thread stands in the
+    /// queue again, owns the mutex or the call ends.
     Lock {
         entry: Entry,
         retries: bool,
@@ -50,7 +50,7 @@ pub enum MutexPlace {
     },
 }
 
-/// Whether somebody owns the mutex whose word this is.
+/// Returns whether somebody owns the mutex whose word this is.
 #[inline]
 pub fn is_locked(word: u64) -> bool
     ensures { result ≡ is_locked word }
@@ -58,7 +58,7 @@ pub fn is_locked(word: u64) -> bool
     word % 2 == 1
 }
 
-/// Whether somebody may stand in the queue of the mutex whose word this is.
+/// Returns whether somebody may stand in the queue of the mutex whose word this is.
 #[inline]
 pub fn is_parked(word: u64) -> bool
     ensures { result ≡ is_parked word }
@@ -66,7 +66,7 @@ pub fn is_parked(word: u64) -> bool
     word / 2 % 2 == 1
 }
 
-/// Whether a thread has the right that a call needs, of a mutex with these owners.
+/// Returns whether a thread has the right that a call needs, of a mutex with these owners.
 pub fn mutex_right(call: MutexCall, thread: usize, owners: Owners) -> bool
     ensures { result ≡ mutex_right call thread owners }
 {
@@ -79,7 +79,7 @@ pub fn mutex_right(call: MutexCall, thread: usize, owners: Owners) -> bool
 }
 
 impl MutexPlace {
-    /// Where a call begins; the mutex is a fair one or not.
+    /// Returns where a call begins; the mutex is a fair one or not.
     pub fn first(call: MutexCall, is_fair: bool) -> MutexPlace
         ensures { result ≡ mutex_first is_fair call }
     {
@@ -131,7 +131,7 @@ impl MutexPlace {
         }
     }
 
-    /// Where the reply leads the thread.
+    /// Returns where the reply leads the thread.
     pub fn next(self, reply: Reply) -> Next<MutexPlace>
         ensures { result ≡ mutex_next self reply }
     {
@@ -198,7 +198,7 @@ impl MutexPlace {
         }
     }
 
-    /// The thread that took this one from the queue, and has not left its section yet.
+    /// Returns the thread that took this one from the queue, and has not left its section yet.
     pub fn taker(self) -> Option<usize>
         ensures { result ≡ mutex_taker self }
     {
@@ -239,7 +239,7 @@ impl MutexPlace {
         }
     }
 
-    /// The queue in which the thread sleeps, where it may give up.
+    /// Returns the queue in which the thread sleeps, where it may give up.
     pub fn late_line(self) -> Option<Line>
         ensures { result ≡ mutex_late_line self }
     {
@@ -253,7 +253,7 @@ impl MutexPlace {
         }
     }
 
-    /// The queue on which the thread owes a wake.
+    /// Returns the queue on which the thread owes a wake.
     pub fn owes(self) -> Option<Line>
         ensures { result ≡ mutex_owes self }
     {
@@ -269,7 +269,7 @@ impl MutexPlace {
         }
     }
 
-    /// Whether the thread was woken and tries again.
+    /// Returns whether the thread was woken and tries again.
     pub fn retries(self) -> bool
         ensures { result ≡ mutex_retries self }
     {

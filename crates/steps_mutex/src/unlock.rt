@@ -19,7 +19,7 @@ use steps_base::{Act, Next, Reply, Wakes, Whom};
 #[derive(Clone, Copy, PartialEq, Eq)]
 pub enum UnlockAt {
     Subtract,
-    /// It saw `PARKED`.
+    /// The thread saw `PARKED`.
     Enter,
     Take,
     /// None is left in the queue.
@@ -27,7 +27,7 @@ pub enum UnlockAt {
     Leave { any: bool },
 }
 
-/// Where `unlock` goes.
+/// Returns where `unlock` goes.
 pub(super) fn next_unlock(at: UnlockAt, reply: Reply) -> Next<UnlockAt>
     ensures { result ≡ next_unlock at reply }
 {

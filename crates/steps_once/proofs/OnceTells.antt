@@ -79,7 +79,7 @@ module _ (r : Rules) (s : Site) (t l : ℕ) where
         by_call (Wait forced) f = (ap (λ (x : LockState). x.phase) now ∙ e, f, keeps)
         by_call WaitTimed f = (ap (λ (x : LockState). x.phase) now ∙ e, refl, keeps)
 
-    -- it looks on, at a place of the same row
+    -- the thread looks on, at a place of the same row
     looks_on : (seen : ℕ) → Tells (Look c retries look.Load) [] (At (Look c retries (look.Decide seen)))
     looks_on seen = record {
       one = tt;
@@ -274,7 +274,7 @@ module _ (r : Rules) (s : Site) (t l : ℕ) where
   turns c true = record { one = tt; may = tt; comes = λ rights is. recalls _ _ (same s.lock refl rights is) }
   turns c false = record { one = tt; may = tt; comes = λ rights is. recalls _ _ (same s.lock refl rights is) }
 
-  -- it leaves the queue
+  -- the thread leaves the queue
   removes : (retries none_left : Bool) → Tells (GiveUp retries give_up.Remove)
       (once_deeds (GiveUp retries give_up.Remove) (reply.Removed none_left))
       (once_next (GiveUp retries give_up.Remove) (reply.Removed none_left))

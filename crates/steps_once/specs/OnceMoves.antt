@@ -46,7 +46,7 @@ pub record RestsAfter (x : StepView) (hears : Hears) (check : Check) (want : Wan
   pub may : (r : Rules) (s : Site) (t : ℕ) (b : Bool) → b ≡ holds check (code r s)
       → standing t s.lock ≡ 0 → hears r s t None (Parked b)
 
--- it takes all that wait
+-- the thread takes all that wait
 pub record TakesAll (x : StepView) (hears : Hears) : Type 0 where
   pub was : location_of x ≡ inside_of Main
   pub deeds : (any none_left : Bool)
@@ -57,7 +57,7 @@ pub record TakesAll (x : StepView) (hears : Hears) : Type 0 where
   pub may : (r : Rules) (s : Site) (t : ℕ) (any none_left : Bool) → HasTakenNobody s.lock t
       → hears r s t None (Took any none_left)
 
--- its closure answers, and it stands nowhere before and after
+-- the closure of a thread answers, and the thread stands nowhere before and after
 pub record ClosureAnswers (x : StepView) : Type 0 where
   pub was : location_of x ≡ nowhere
   pub deeds : (succeeded : Bool) → x.deeds None (Closed succeeded) ≡ []

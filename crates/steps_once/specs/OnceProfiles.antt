@@ -21,7 +21,7 @@ use Rattle.steps_once.specs.OnceSteps.{is_timed, want_of}
 abbrev pub inside : Role
 inside = record idle { inside = Some Main }
 
--- its want again since it was woken
+-- the want of the thread again since it was woken
 abbrev pub with_retry : Option Want → Role → Role
 with_retry wanted d = record d { retries = wanted }
 
@@ -64,11 +64,11 @@ give_up_row give_up.Leave = late_row (record blank_row { role = inside; gave_up 
 abbrev pub running_role : Role
 running_role = record idle { claims = Some Runs }
 
--- its own run ended well, or not
+-- the thread's own run ended well, or not
 abbrev pub ran : Bool → Option Claim
 ran succeeded = if succeeded then Some Ran else None
 
--- it has cleared the bit beside waiters, that it takes
+-- the thread has cleared the bit beside waiters, that it takes
 abbrev pub taking_role : Bool → Role
 taking_role succeeded = record idle { wakes = Some Main; sets = true; claims = ran succeeded }
 
@@ -106,7 +106,7 @@ once_profile (GiveUp retries at) =
 abbrev pub once_taker : OncePlace → Option ℕ
 once_taker at = hand_owner (once_profile at).hand
 
--- its want, where it waits
+-- the want of the thread, where it waits
 abbrev pub once_wants : OncePlace → Option Want
 once_wants at = (once_profile at).wants
 

@@ -148,7 +148,7 @@ once_act l (GiveUp retries at) = give_up_act l at
 
 -- ---------------------------------------------------------------- where a reply leads
 
--- it has won the exchange by which its run begins
+-- the thread has won the exchange by which its run begins
 abbrev pub begins_run : OnceCall → LookAt → Reply → Bool
 begins_run c (look.Decide expected) (Value seen) = (seen == expected) && is_run (course_of c seen)
 begins_run c at reply = false

@@ -42,11 +42,11 @@ pub enum LookAt {
 #[derive(Clone, Copy, PartialEq, Eq)]
 pub enum Course {
     Ends(Answer),
-    /// It may run its closure.
+    /// The thread may run its closure.
     Runs,
-    /// It is to wait, and says so in the word.
+    /// The thread is to wait, and says so in the word.
     Marks,
-    /// It is to wait, and the word says so.
+    /// The thread is to wait, and the word says so.
     Parks,
 }
 
@@ -108,7 +108,7 @@ pub(super) fn course_of(call: OnceCall, seen: u64) -> Course
     }
 }
 
-/// The word of a run that begins: each thread that waits does so still.
+/// Returns the word of a run that begins: each thread that waits does so still.
 fn started(seen: u64) -> u64
     ensures { result ≡ started seen }
 {
@@ -121,7 +121,7 @@ fn marked(seen: u64) -> u64
     seen % PARKED + PARKED
 }
 
-/// Whether the thread has won the exchange by which its run begins.
+/// Returns whether the thread has won the exchange by which its run begins.
 pub(super) fn begins_run(call: OnceCall, at: LookAt, reply: Reply) -> bool
     ensures { result ≡ begins_run call at reply }
 {
@@ -143,7 +143,7 @@ pub(super) fn gives_up(call: OnceCall, at: LookAt, reply: Reply) -> bool
     }
 }
 
-/// Where a thread goes by a value that it saw.
+/// Returns where a thread goes by a value that it saw.
 fn looked(call: OnceCall, seen: u64) -> Next<LookAt>
     ensures { result ≡ looked call seen }
 {
@@ -181,7 +181,7 @@ pub(super) fn next_look(call: OnceCall, at: LookAt, reply: Reply) -> Next<LookAt
     }
 }
 
-/// Whether a thread retries after the reply.
+/// Returns whether a thread retries after the reply.
 pub(super) fn still_retries(retries: bool, reply: Reply) -> bool
     ensures { result ≡ still_retries retries reply }
 {
@@ -192,7 +192,7 @@ pub(super) fn still_retries(retries: bool, reply: Reply) -> bool
     }
 }
 
-/// The test by which a thread finds inside the section that it still has to wait.
+/// Returns the test by which a thread finds inside the section that it still has to wait.
 fn check(call: OnceCall) -> Check
     ensures { result ≡ check_of call }
 {

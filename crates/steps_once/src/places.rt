@@ -39,14 +39,14 @@ pub const NOT_PARKED: u64 = 18446744073709551607;
 /// Where a thread stands in a call of a `Once`.
 #[derive(Clone, Copy, PartialEq, Eq)]
 pub enum OncePlace {
-    /// It looks how far the `Once` has come, or waits. It `retries` from a wake note on, until the
-    /// thread stands in the queue again, runs its closure or the call ends.
+    /// Looks how far the `Once` has come, or waits. The call `retries` from a wake note on, until
+    /// the thread stands in the queue again, runs its closure or the call ends.
     Look {
         call: OnceCall,
         retries: bool,
         at: LookAt,
     },
-    /// It runs its closure, or ends its run.
+    /// Runs the closure, or ends the run.
     Run {
         forced: bool,
         at: RunAt,
@@ -59,7 +59,7 @@ pub enum OncePlace {
 }
 
 impl OncePlace {
-    /// Where a call begins.
+    /// Returns where a call begins.
     pub fn first(call: OnceCall) -> OncePlace
         ensures { result ≡ once_first call }
     {
@@ -99,7 +99,7 @@ impl OncePlace {
         }
     }
 
-    /// Where the reply leads the thread.
+    /// Returns where the reply leads the thread.
     pub fn next(self, reply: Reply) -> Next<OncePlace>
         ensures { result ≡ once_next self reply }
     {
@@ -137,7 +137,8 @@ impl OncePlace {
         }
     }
 
-    /// How far the `Once` has come after the thread's operation on the word, which saw this value.
+    /// Returns how far the `Once` has come after the thread's operation on the word, which saw this
+    /// value.
     pub fn owners_after(self, thread: usize, seen: u64, owners: Owners) -> Owners
         ensures { result ≡ once_owners self thread seen owners }
     {
@@ -157,7 +158,7 @@ impl OncePlace {
         }
     }
 
-    /// The thread that took this one from the queue, and has not left its section yet.
+    /// Returns the thread that took this one from the queue, and has not left its section yet.
     pub fn taker(self) -> Option<usize>
         ensures { result ≡ once_taker self }
     {
@@ -215,7 +216,7 @@ impl OncePlace {
         }
     }
 
-    /// The queue on which the thread owes a wake.
+    /// Returns the queue on which the thread owes a wake.
     pub fn owes(self) -> Option<Line>
         ensures { result ≡ once_owes self }
     {
@@ -233,7 +234,7 @@ impl OncePlace {
         }
     }
 
-    /// Whether the thread was woken and tries again.
+    /// Returns whether the thread was woken and tries again.
     pub fn retries(self) -> bool
         ensures { result ≡ once_retries self }
     {

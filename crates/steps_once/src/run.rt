@@ -24,7 +24,7 @@ pub enum RunAt {
     /// The run before failed, or there was none.
     Closure { poisoned: bool },
     Close { succeeded: bool },
-    /// It saw `PARKED`.
+    /// The thread saw `PARKED`.
     Enter { succeeded: bool },
     Take { succeeded: bool },
     Leave { succeeded: bool, any: bool },
@@ -55,7 +55,7 @@ pub(super) fn state_before(poisoned: bool) -> OnceState
     }
 }
 
-/// How far the `Once` has come after the run.
+/// Returns how far the `Once` has come after the run.
 pub(super) fn phase_afterwards(succeeded: bool) -> Phase
     ensures { result ≡ phase_afterwards succeeded }
 {
@@ -82,7 +82,7 @@ fn ended(succeeded: bool) -> Answer
     }
 }
 
-/// Where a run goes.
+/// Returns where a run goes.
 pub(super) fn next_run(at: RunAt, reply: Reply) -> Next<RunAt>
     ensures { result ≡ next_run at reply }
 {

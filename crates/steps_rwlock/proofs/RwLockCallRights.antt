@@ -62,7 +62,7 @@ pub recalls : (c : CallState) (f : ℕ → Rights) → ((k : ℕ) → f k ≡ c.
 recalls c f e = λ i. record c { former = λ k. e k i }
 
 module _ (l t : ℕ) (s s2 : LockState) (q : RwLockPurpose) where
-  -- it found what it had found
+  -- the thread found what it had found
   pub goes : (to to2 : RwLockAt) (rights : ℕ → Rights) → rights l ≡ rights_of s t
       → found q to2 (rights_of s2 t) ≡ found q to (rights_of s t) → (k : ℕ)
       → before q to2 l (rights_where l s2 t rights) k ≡ before q to l rights k
@@ -94,7 +94,7 @@ module _ (l t : ℕ) (s s2 : LockState) (q : RwLockPurpose) where
         (changed rights l (with_right y) (before q to l rights) _ had) e
 
     module _ (c : CallState) (former : c.former ≡ before q to l rights) where
-      -- it has entered, or turned one right into another
+      -- the thread has entered, or turned one right into another
       pub enters : (x : Want) (how : Patience) → Owns s2 t x → rights_of s2 t ≡ with_right x
           (found q to (rights_of s t)) → EntersAnswer v t c l x how (entered how)
       enters x Patient own e = (subst (λ z. Owns z t x) (sym now) own, rw former (gains x e))

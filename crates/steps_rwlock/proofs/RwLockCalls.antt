@@ -387,7 +387,7 @@ module _ (r : Rules) (a : Admission) (s : Site) (t l : ℕ) (op : Op) (admits : 
     }
     sets_aside was role false = settles (at.Count was) tt role (count_in v == 0)
 
-    -- it rolls back, and wakes others, or has given up
+    -- the thread rolls back, and wakes others, or has given up
     rolls : HasDeadline how → s.role t ≡ rwlock_role (writer at.RollBack) → (b : Bool)
         → Tells (writer at.RollBack) (does_and_wakes b (Case Rollback)) (if b then stays (writer at.RollBack)
         (wakes Main) else next.End No)
@@ -631,7 +631,7 @@ module _ (r : Rules) (a : Admission) (s : Site) (t l : ℕ) (op : Op) (admits : 
     beside_when : Owns s.lock t Upgradable → (count_in v == 1) ≡ false → (readers s.lock == 0) ≡ false
     beside_when own e = let c = tells.count in grind (arith, nat_tests)
 
-    -- it owns where it saw one reader, itself
+    -- the thread owns where it saw one reader, itself
     owns_it : (to : RwLockAt) → to ≡ at.GiveWay ⊎ ((was : ℕ) × (to ≡ at.Decide was))
         → Owns s.lock t Upgradable → (count_in v == 1) ≡ true
         → Tells (raiser to) (Case (Convert Upgradable Exclusive) ∷ End ∷ []) (next.End (entered how))
@@ -813,7 +813,7 @@ module _ (r : Rules) (a : Admission) (s : Site) (t l : ℕ) (op : Op) (admits : 
     abbrev trier : RwLockAt → RwLockPlace
     trier to = of (purpose.Upgrade Try) again to
 
-    -- it looks whether another shares beside it
+    -- the thread looks whether another shares beside it
     pub looks_up : (to : RwLockAt) → AtTry to → Owns s.lock t Upgradable → (b : Bool) → (count_in v == 1) ≡ b
         → Tells (trier to) (looked_deeds (if b then decisions.Take else decisions.Refuse No))
         (looked_by (trier to) v (if b then decisions.Take else decisions.Refuse No))

@@ -62,7 +62,7 @@ module _ (l : ℕ) (a : Admission) where
 
   -- ---------------------------------------------------------------- the word
 
-  -- it rests, wherever it goes
+  -- the thread rests, wherever it goes
   looks_rest : (p : RwLockPlace) (seen : ℕ) (d : Decision) → location_next (looked_by p seen d) ≡ nowhere
   looks_rest p seen (decisions.Refuse answer) = refl
   looks_rest p seen decisions.Take = refl

@@ -60,7 +60,7 @@ lock_after (changes.Upgrade false) t s = pending_for t true (without_owner t Upg
 lock_after (changes.RollBack false) t s = record s { pending = None }
 lock_after (changes.RollBack true) t s = with_owner t Upgradable (record s { pending = None })
 
--- it is read off the owners and the numbers of shares
+-- what the thread owns is read off the owners and the numbers of shares
 module _ (shared : List ℕ) (o : Owners) (main second : List Waiter) (taken : ℕ → Option Taken) (t : ℕ) where
   abbrev IsSeen : Change → Type 0
   IsSeen c =

@@ -70,7 +70,7 @@ module _ (r : Rules) (s : Site) (t : ℕ) (rw_sort : has_readers r.sort ≡ true
         ∙ put_same s.role t _ ∙ ap leaves is;
   }
 
-  -- it stands after the last, where it found what it waits for
+  -- the thread stands after the last, where it found what it waits for
   parks : (x : Want) (again : Option Want)
       → (has_parked (code r s) && is_blocked (is_recursive r.sort) x (code r s)) ≡ true → s.role t
       ≡ within Main again None → standing t s.lock ≡ 0 → Knows r.sort x → Follows r s t (Case (Park x) ∷ [])
@@ -88,7 +88,7 @@ module _ (r : Rules) (s : Site) (t : ℕ) (rw_sort : has_readers r.sort ≡ true
     role = grind (arith, nat_tests);
   }
 
-  -- it leaves the line
+  -- the thread leaves the line
   gives_up : (b : Bool) → is_empty (without t s.lock.queue) ≡ b → s.role t ≡ within Main None None
       → 1 ≤ times t s.lock.queue → Follows r s t (Case Late ∷ []) (if b then finding Main None
       else within Main None None)
@@ -105,11 +105,11 @@ module _ (r : Rules) (s : Site) (t : ℕ) (rw_sort : has_readers r.sort ≡ true
       → Follows r s t (Case Late ∷ []) (finding Second (Some (Pends b)))
   gives_up_aside b is stands = record { needed = grind (arith, nat_tests); role = grind (arith, nat_tests) }
 
-  -- it takes the threads that it is to wake
+  -- the thread takes the threads that it is to wake
   nobody_taken : (s.role t).carries ≡ false → HasTakenNobody s.lock t
   nobody_taken none u x e = let g = h.carried u _ e in cc
 
-  -- it has the right that it keeps
+  -- the thread has the right that it keeps
   keeps : (start : Option Want) → MayKeep start → (s.role t).claims ≡ kept_claim start
       → KeepsOwned s.lock t start
   keeps None may e = tt

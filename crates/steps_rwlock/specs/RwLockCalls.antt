@@ -104,7 +104,7 @@ StandsAt (purpose.Release x) again to = ReleasesAt x to
 StandsAt (purpose.Downgrade d) again to = DowngradesAt to
 StandsAt (purpose.Upgrade how) again to = UpgradesAt how again to
 
--- its decision by the value that it saw is not to refuse: then its call has ended
+-- the decision of the thread by the value that it saw is not to refuse: then its call has ended
 abbrev pub IsNoRefusal : Decision → Type 0
 IsNoRefusal (decisions.Refuse answer) = ⊥
 IsNoRefusal decision = Unit {0}

@@ -51,7 +51,7 @@ at_rest again claims = record idle { retries = again; claims = claims }
 abbrev pub within : Line → Option Want → Option Claim → Role
 within m again claims = record idle { inside = Some m; retries = again; claims = claims }
 
--- it has seen the queue empty
+-- the thread has seen the queue empty
 abbrev pub finding : Line → Option Claim → Role
 finding m claims = record idle { inside = Some m; empty = Some m; claims = claims }
 
@@ -130,7 +130,7 @@ role_at again q at.RollBack = at_rest None (pends q)
 role_at again q at.GiveWay = at_rest None (Some (Has (held_of q)))
 role_at again q (at.Wake m to) = waking_role (start_of q) m to
 
--- its want again since it was woken
+-- the want of the thread again since it was woken
 abbrev pub retried_want : RwLockPlace → Option Want
 retried_want p = if p.retries then Some (want_at p) else None
 

@@ -47,7 +47,7 @@ abbrev pub is_asleep : ParkAt → Bool
 is_asleep parking.Asleep = true
 is_asleep to = false
 
--- its time was up, and it has left the line
+-- the thread's time was up, and it has left the line
 abbrev pub is_late : ParkAt → Bool
 is_late parking.Remove = true
 is_late parking.Clear = true
@@ -155,7 +155,7 @@ is_waking to = false
 abbrev pub without_pending : ℕ → (ℕ → Rights) → ℕ → Rights
 without_pending l rights = putting rights l (record (rights l) { pending = (rights l).pending - 1 })
 
--- its ownership of each lock as its call began, by what it owns now
+-- the thread's ownership of each lock as its call began, by what it owns now
 abbrev pub before : RwLockPurpose → RwLockAt → ℕ → (ℕ → Rights) → ℕ → Rights
 before (purposes.Enter x how) to l rights =
     if is_pending to then without_pending l rights else rights

@@ -255,7 +255,7 @@ looked_by p seen decision = stays p (at.Decide seen)
 abbrev pub looked : Admission → RwLockPlace → ℕ → Next RwLockPlace
 looked a p seen = looked_by p seen (decided a p seen)
 
--- its exchange succeeded: a writer that enters is pending until it has looked for readers
+-- the exchange of the thread succeeded: a writer that enters is pending until it has looked for readers
 abbrev pub came_in_for : RwLockPlace → RwLockPurpose → Next RwLockPlace
 came_in_for p (purpose.Enter access.TheVariants.Exclusive how) = goes p at.Look false
 came_in_for p q = End (entered (patience_of q))

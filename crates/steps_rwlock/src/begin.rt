@@ -47,7 +47,7 @@ impl RwLockPurpose {
 }
 
 impl RwLockPlace {
-    /// Where a call begins.
+    /// Returns where a call begins.
     pub fn first(purpose: RwLockPurpose) -> RwLockPlace
         ensures { result ≡ rwlock_first purpose }
     {
@@ -59,7 +59,7 @@ impl RwLockPlace {
     }
 }
 
-/// Whether a thread has a right, where it shares so many times.
+/// Returns whether a thread has a right, where it shares so many times.
 pub fn has_access(access: Access, thread: usize, owners: Owners, shares: usize) -> bool
     ensures { result ≡ has_access access thread owners shares }
 {

@@ -138,7 +138,7 @@ impl RwLockPlace {
         Change::of(self, admission, seen).owners(thread, owners)
     }
 
-    /// How many shared rights the thread has then, where their number changes.
+    /// Returns how many shared rights the thread has then, where their number changes.
     pub fn shares_after(self, admission: Admission, seen: u64, shares: usize) -> Option<usize>
         ensures { result ≡ rwlock_shares admission self seen shares }
     {

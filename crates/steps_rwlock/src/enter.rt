@@ -89,7 +89,7 @@ pub(super) fn decided_act(lock: usize, decision: Decision, purpose: RwLockPurpos
     }
 }
 
-/// Where a writer goes that tried a word that is 0.
+/// Returns where a writer goes that tried a word that is 0.
 pub(super) fn next_first(place: RwLockPlace, seen: u64) -> Next<RwLockPlace>
     ensures { result ≡ first_next place seen }
 {
@@ -100,7 +100,7 @@ pub(super) fn next_first(place: RwLockPlace, seen: u64) -> Next<RwLockPlace>
     }
 }
 
-/// Where a thread goes by a value that it saw.
+/// Returns where a thread goes by a value that it saw.
 pub(super) fn looked(place: RwLockPlace, admission: Admission, seen: u64) -> Next<RwLockPlace>
     ensures { result ≡ looked admission place seen }
 {
@@ -110,8 +110,8 @@ pub(super) fn looked(place: RwLockPlace, admission: Admission, seen: u64) -> Nex
     }
 }
 
-/// Where a thread goes whose exchange succeeded: a writer is pending until it has looked for
-/// readers.
+/// Returns where a thread goes whose exchange succeeded: a writer is pending until it has looked
+/// for readers.
 fn came_in(place: RwLockPlace) -> Next<RwLockPlace>
     ensures { result ≡ came_in place }
 {

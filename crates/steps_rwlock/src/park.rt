@@ -52,7 +52,7 @@ impl ParkAt {
 }
 
 impl ParkAt {
-    /// Whether the thread is inside the section of the queue.
+    /// Returns whether the thread is inside the section of the queue.
     pub fn is_inside(self) -> bool
         ensures { result ≡ is_inside self }
     {
@@ -60,7 +60,7 @@ impl ParkAt {
     }
 }
 
-/// The operation that clears the parked bit of a queue.
+/// Returns the operation that clears the parked bit of a queue.
 pub(super) fn unparked(line: Line) -> Op
     ensures { result ≡ unparked line }
 {
@@ -70,7 +70,7 @@ pub(super) fn unparked(line: Line) -> Op
     }
 }
 
-/// A place of a thread on its way into a queue, or out of it.
+/// Returns a place of a thread on its way into a queue, or out of it.
 fn parks_at(line: Line, at: ParkAt) -> RwLockAt
     ensures { result ≡ parks_at line at }
 {
@@ -90,7 +90,7 @@ fn looks_again(line: Line) -> RwLockAt
     }
 }
 
-/// The test of the word inside the section.
+/// Returns the test of the word inside the section.
 fn check(admission: Admission, access: Access, line: Line) -> Check
     ensures { result ≡ park_check admission (wanted access) line }
 {
@@ -134,8 +134,8 @@ pub(super) fn park_act(
     }
 }
 
-/// Whether a thread that leaves nobody in a queue, or somebody, clears its parked bit: that of the
-/// second queue always.
+/// Returns whether a thread that leaves nobody in a queue, or somebody, clears its parked bit: that
+/// of the second queue always.
 pub(super) fn clears(line: Line, none_left: bool) -> bool
     ensures { result ≡ clears line none_left }
 {

@@ -31,7 +31,7 @@ pub(super) fn count_act(lock: usize, seen: u64) -> Act
     }
 }
 
-/// Where a pending writer goes by a value that it saw.
+/// Returns where a pending writer goes by a value that it saw.
 pub(super) fn counted(place: RwLockPlace, seen: u64) -> Next<RwLockPlace>
     ensures { result ≡ after_count place seen }
 {

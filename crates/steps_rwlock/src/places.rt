@@ -79,7 +79,7 @@ pub struct RwLockPlace {
 }
 
 impl Admission {
-    /// Whether a word keeps a thread out that wants this right.
+    /// Returns whether a word keeps a thread out that wants this right.
     #[inline(always)]
     pub fn blocks(self, access: Access, word: u64) -> bool
         ensures { result ≡ codes.is_blocked self.recursive (wanted access) word }
@@ -149,7 +149,7 @@ impl RwLockPlace {
         }
     }
 
-    /// Where the reply leads the thread.
+    /// Returns where the reply leads the thread.
     pub fn next(self, admission: Admission, reply: Reply) -> Next<RwLockPlace>
         ensures { result ≡ rwlock_next admission self reply }
     {
@@ -171,7 +171,7 @@ impl RwLockPlace {
         }
     }
 
-    /// The thread that took this one from a queue, and has not left its section yet.
+    /// Returns the thread that took this one from a queue, and has not left its section yet.
     pub fn taker(self) -> Option<usize>
         ensures { result ≡ rwlock_taker self }
     {
@@ -210,7 +210,7 @@ impl RwLockPlace {
         Some(RwLockPlace { at, ..self })
     }
 
-    /// The queue in which the thread sleeps, where it may give up.
+    /// Returns the queue in which the thread sleeps, where it may give up.
     pub fn late_line(self) -> Option<Line>
         ensures { result ≡ rwlock_late_line self }
     {
@@ -221,7 +221,7 @@ impl RwLockPlace {
         }
     }
 
-    /// The queue on which the thread owes a wake.
+    /// Returns the queue on which the thread owes a wake.
     pub fn owes(self) -> Option<Line>
         ensures { result ≡ rwlock_owes self }
     {

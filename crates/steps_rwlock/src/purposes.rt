@@ -40,7 +40,7 @@ pub fn token(access: Access) -> u64
     }
 }
 
-/// The want of a thread that waits for a right.
+/// Returns the want of a thread that waits for a right.
 #[inline]
 pub fn wanted(access: Access) -> Want
     ensures { result ≡ wanted access }
@@ -52,7 +52,7 @@ pub fn wanted(access: Access) -> Want
     }
 }
 
-/// The greater right of a downgrade.
+/// Returns the greater right of a downgrade.
 #[inline]
 pub fn greater(downgrade: Downgrade) -> Access
     ensures { result ≡ from_of downgrade }
@@ -63,7 +63,7 @@ pub fn greater(downgrade: Downgrade) -> Access
     }
 }
 
-/// The lesser one, which its thread keeps.
+/// Returns the lesser one, which its thread keeps.
 #[inline]
 pub fn lesser(downgrade: Downgrade) -> Access
     ensures { result ≡ to_of downgrade }
@@ -87,7 +87,7 @@ pub fn entered(patience: Patience) -> Answer
 }
 
 impl RwLockPurpose {
-    /// The right that the call waits for, or gives up.
+    /// Returns the right that the call waits for, or gives up.
     #[inline]
     pub fn access(self) -> Access
         ensures { result ≡ access_of self }
@@ -99,7 +99,7 @@ impl RwLockPurpose {
         }
     }
 
-    /// How long the call waits.
+    /// Returns how long the call waits.
     #[inline]
     pub fn patience(self) -> Patience
         ensures { result ≡ patience_of self }
@@ -110,7 +110,7 @@ impl RwLockPurpose {
         }
     }
 
-    /// The right that the thread keeps while it wakes others.
+    /// Returns the right that the thread keeps while it wakes others.
     pub fn start(self) -> Option<Want>
         ensures { result ≡ start_of self }
     {
@@ -132,7 +132,7 @@ impl RwLockPurpose {
         }
     }
 
-    /// The operation with which the thread gives its right up, or turns it into another.
+    /// Returns the operation with which the thread gives its right up, or turns it into another.
     #[inline]
     pub fn give_op(self) -> Op
         ensures { result ≡ give_op self }
@@ -148,7 +148,7 @@ impl RwLockPurpose {
         }
     }
 
-    /// The operation with which a pending writer falls back.
+    /// Returns the operation with which a pending writer falls back.
     pub(super) fn rollback_op(self) -> Op
         ensures { result ≡ rollback_op self }
     {
@@ -158,7 +158,7 @@ impl RwLockPurpose {
         }
     }
 
-    /// The word with the right that a thread takes which saw this.
+    /// Returns the word with the right that a thread takes which saw this.
     #[inline]
     pub fn taken(self, seen: u64) -> u64
         ensures { result ≡ word_taken self seen }

@@ -66,7 +66,7 @@ use Rattle.steps_rwlock_fair.proofs.FairTells.{hand_over_sections_tell, owns_at}
 
 -- ---------------------------------------------------------------- a bump enters again
 
--- its call, by that of one that enters
+-- the call of a bump, by that of one that enters
 abbrev lifted : ℕ → Want → CallState → CallState
 lifted l x c = record c { purpose = Some (Bumps l x); released = true; former = one_more_at l x c.former }
 
@@ -236,7 +236,7 @@ module _ (r : Rules) (a : Admission) (s : Site) (t l : ℕ) where
 
   -- ---------------------------------------------------------------- a thread that was handed the lock
 
-  -- it hadn't before what it has got in this call
+  -- the thread hadn't before what it has got in this call
   module _ (x : Want) (own : Owns s.lock t x) (v : LocksState) (rights : ℕ → Rights) (here : rights l
       ≡ rights_of s.lock t) (has : (k : ℕ) → rights_in v t k ≡ rights_where l s.lock t rights k) where
     had_before : (k : ℕ) → rights_in v t k ≡ one_more_at l x (one_less_at l x rights) k

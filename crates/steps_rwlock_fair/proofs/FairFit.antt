@@ -194,7 +194,7 @@ module _ (r : Rules) (a : Admission) (s : Site) (t l : ℕ) (op : Op) (admits : 
       freed expected fits clear is false e = rests r s t admits.0 h tells _ (is
           ∙ sym (freed_role x (wanted x) v))
 
-    -- its act, where there is room and where there isn't
+    -- the act of the thread, where there is room and where there isn't
     abbrev exchange_as : Bool → Taken → ℕ → Act
     exchange_as room k seen =
         if room then act.HandOver l (operation.Exchange seen (with_taken access.Upgradable k seen))

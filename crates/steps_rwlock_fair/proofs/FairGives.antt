@@ -82,7 +82,7 @@ pub handed_keeps : (a : Admission) (l : ℕ) (y : Access) (how : Patience) (b : 
 handed_keeps a l y how true to x h = let e : true ≡ false = h.1 in cc
 handed_keeps a l y how false to x h = h
 
--- it is of the right that the call is to give
+-- the right is the one that the call is to give
 right_is : (l : ℕ) (y : Want) (b released : Bool) (x : Want) → IsToGive (release_purpose b y l) released x
     → (y ≡ x) × (released ≡ false)
 right_is l y true released x h = (h.0, h.1)
@@ -219,7 +219,7 @@ module _ (r : Rules) (a : Admission) (s : Site) (t l : ℕ) (op : Op) (whom : Op
     exchanges b k expected call hand own acts = either (code r s == expected) refl
         (has_room a.limit k expected) refl
       where
-        -- its act, where there is room
+        -- the act of the thread, where there is room
         hands : has_room a.limit k expected ≡ true
             → act.HandOver l (operation.Exchange expected (with_taken access.Upgradable k expected))
             ≡ act.HandOver l op

@@ -92,7 +92,7 @@ module _ (a : Admission) (p : RwLockPlace) where
   exchanges_for was seen decisions.Park = looks_for seen (decided a p seen)
   exchanges_for was seen (decisions.Refuse answer) = looks_for seen (decided a p seen)
 
-  -- it ends, or goes on
+  -- the thread ends, or goes on
   ends_or : (b : Bool) (answer : Answer) (to : RwLockAt)
       → StaysFor p.purpose (if b then next.End answer else stays p to)
   ends_or true answer to = tt

@@ -116,7 +116,7 @@ module _ (r : Rules) (a : Admission) (s : Site) (t l : ℕ) where
       comes = λ rights e. rw was (recalls _ _ (goes l t s.lock s.lock (wanted x) false false rights e refl));
     }
 
-  -- it has given its right up, and ends, or enters again
+  -- the thread has given its right up, and ends, or enters again
   released_by : (x : Access) (b : Bool) → Owns s.lock t (wanted x) → (seen : ℕ) → (wanted x ≢ Shared)
       × (is_fair_bump (wanted x) ≡ true) → Tells (HandOver x b (handing.Free seen))
       (does_and_wakes b (Case (Leave (wanted x)))) (released x b)

@@ -42,12 +42,12 @@ pub record GivesToAll (s s2 : LockState) (t : ℕ) : Type 0 where
   pub all : (u : ℕ) (x : Want) → IsTaken s t u x → u < length s.shared → HasGot s s2 u x
   pub some : ((u : ℕ) × ((x : Want) × IsTaken s t u x)) ⊎ (s.queue ≡ [])
 
--- it lets the lock go: it had taken nobody, and the word tells of nobody that waits
+-- the thread lets the lock go: it had taken nobody, and the word tells of nobody that waits
 abbrev pub LetsGo : LockState → ℕ → ℕ → Type 0
 LetsGo s word t = HasTakenNobody s t × (has_parked word ≡ false)
 
--- those that it has taken of an upgradable right would pass the limit: they stay in its hand, and
--- it wakes them
+-- the threads that it has taken of an upgradable right would pass the limit: they stay in its hand, and it
+-- wakes them
 abbrev pub WakesThem : Rules → LockState → LockState → ℕ → Want → Type 0
 WakesThem r s s2 t x =
     (x ≡ Upgradable) × (s2.taken ≡ s.taken)

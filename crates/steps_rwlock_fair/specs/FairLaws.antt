@@ -80,7 +80,7 @@ pub record StandsToHandOver (r : Rules) (a : Admission) (s : Site) (t : ℕ) (c 
   pub is : in_hand_of c ≡ Some taken
   pub in_hand : HasInHand s.lock t taken whom
 
--- it does to the lock what its deeds say
+-- a hand-over does to the lock what its deeds say
 abbrev pub HandOversFollow : Type 0
 HandOversFollow =
     (r : Rules) (a : Admission) (s : Site) (t l : ℕ) (c : RwLockCallPlace) (op : Op)
@@ -201,7 +201,7 @@ with_claim (Pends falls_back) l rights =
     putting rights l (record (rights l) { pending = (rights l).pending + 1 })
 with_claim c l rights = rights
 
--- it is handed what it wants, and tries no longer
+-- a sleeper is handed what it wants, and tries no longer
 abbrev pub CallIsHanded : Admission → ℕ → RwLockCallPlace → ℕ → Bool → Type 0
 CallIsHanded a l c u alone =
     (c2 : RwLockCallPlace) (rights : ℕ → Rights) (x : Want) → (call_profile a c).wants ≡ Some x

@@ -119,7 +119,7 @@ hand_over_act l a x (handing.Exchange k seen) = exchange_act l a.limit x k seen
 hand_over_act l a x (handing.Leave any handed) =
     act.Leave (One (2 * l)) (wakes_taken any (note_by handed))
 
--- its exchange found another value
+-- the exchange of the thread found another value
 abbrev pub freed_next : Access → ℕ → HandOverAt
 freed_next access.Upgradable seen = looked seen
 freed_next x seen = handing.Enter

@@ -9,7 +9,7 @@ use steps_base::Owners;
 use steps_rwlock::places::WRITER;
 use steps_rwlock::{RwLockPlace, RwLockPurpose, has_access};
 
-/// Where a fair release begins.
+/// Returns where a fair release begins.
 fn release_first(access: Access) -> RwLockCallPlace
     ensures { result ≡ release_first access }
 {
@@ -26,14 +26,14 @@ fn release_first(access: Access) -> RwLockCallPlace
 }
 
 impl RwLockCallPlace {
-    /// Where a call begins that neither hands the lock over nor bumps.
+    /// Returns where a call begins that neither hands the lock over nor bumps.
     pub fn begin(purpose: RwLockPurpose) -> RwLockCallPlace
         ensures { result ≡ plain_first purpose }
     {
         RwLockCallPlace::Plain(RwLockPlace::first(purpose))
     }
 
-    /// Where a call begins.
+    /// Returns where a call begins.
     pub fn first(call: RwLockCall) -> RwLockCallPlace
         ensures { result ≡ call_first call }
     {
@@ -54,8 +54,8 @@ impl RwLockCallPlace {
     }
 }
 
-/// Whether a thread has the right that a call needs, of a lock with these owners, which it shares
-/// so many times.
+/// Returns whether a thread has the right that a call needs, of a lock with these owners, which it
+/// shares so many times.
 pub fn call_right(call: RwLockCall, thread: usize, owners: Owners, shares: usize) -> bool
     ensures { result ≡ call_right call thread owners shares }
 {

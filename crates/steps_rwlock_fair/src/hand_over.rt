@@ -54,7 +54,7 @@ pub enum HandOverAt {
 }
 
 impl HandOverAt {
-    /// Whether the operation on the word, which saw this value, gives the right up.
+    /// Returns whether the operation on the word, which saw this value, gives the right up.
     pub(super) fn gives_up(self, seen: u64) -> bool
         ensures { result ≡ lets_right_go self seen }
     {
@@ -67,8 +67,8 @@ impl HandOverAt {
         }
     }
 
-    /// Whether somebody may wait for the thread: from the step that saw so until it leaves the
-    /// section.
+    /// Returns whether somebody may wait for the thread: from the step that saw so until it leaves
+    /// the section.
     pub(super) fn owes(self) -> bool
         ensures { result ≡ owes_handing self }
     {
@@ -88,7 +88,7 @@ fn token_of(successor: Option<Want>) -> u64
     }
 }
 
-/// A word with `PARKED` where somebody is left in the queue.
+/// Returns a word with `PARKED` where somebody is left in the queue.
 fn parked_as(none_left: bool, word: u64) -> u64
     ensures { result ≡ parked_as none_left word }
 {
@@ -96,7 +96,7 @@ fn parked_as(none_left: bool, word: u64) -> u64
     if none_left { clear } else { clear + PARKED }
 }
 
-/// The word without a right.
+/// Returns the word without a right.
 fn without(access: Access, seen: u64) -> u64
     ensures { result ≡ word_without access seen }
 {
@@ -118,7 +118,7 @@ impl Taken {
         shared.wrapping_add(token_of(self.successor))
     }
 
-    /// Whether there is room for them once an upgradable owner has gone that saw this word.
+    /// Returns whether there is room for them once an upgradable owner has gone that saw this word.
     fn has_room(self, limit: u64, seen: u64) -> bool
         ensures { result ≡ has_room limit self seen }
     {
@@ -133,7 +133,7 @@ impl Taken {
         }
     }
 
-    /// The word in which all of them own, and the one with this right no longer.
+    /// Returns the word in which all of them own, and the one with this right no longer.
     fn handed(self, access: Access, seen: u64) -> u64
         ensures { result ≡ with_taken access self seen }
     {
@@ -144,7 +144,7 @@ impl Taken {
     }
 }
 
-/// An exchange hands the lock over where there is room, and else only gives the right up.
+/// Returns an exchange hands the lock over where there is room, and else only gives the right up.
 fn exchange_act(lock: usize, limit: u64, access: Access, taken: Taken, seen: u64) -> Act
     ensures { result ≡ exchange_act lock limit access taken seen }
 {
@@ -208,7 +208,7 @@ pub(super) fn hand_over_act(
     }
 }
 
-/// Where an upgradable owner goes by a value that it saw.
+/// Returns where an upgradable owner goes by a value that it saw.
 fn looked(seen: u64) -> HandOverAt
     ensures { result ≡ looked seen }
 {
@@ -219,7 +219,7 @@ fn looked(seen: u64) -> HandOverAt
     }
 }
 
-/// Where an owner goes whose exchange found another value.
+/// Returns where an owner goes whose exchange found another value.
 fn freed_next(access: Access, seen: u64) -> HandOverAt
     ensures { result ≡ freed_next access seen }
 {
@@ -239,7 +239,7 @@ fn took(access: Access, taken: Taken) -> HandOverAt
     }
 }
 
-/// Where a thread goes that has given its right up: a bump enters again.
+/// Returns where a thread goes that has given its right up: a bump enters again.
 fn released(access: Access, bumps: bool) -> Next<RwLockCallPlace>
     ensures { result ≡ released access bumps }
 {

@@ -32,7 +32,7 @@ pub(super) fn handed_act(lock: usize, access: Access, at: HandedAt) -> Act
     }
 }
 
-/// Where a thread goes at its wake: a writer beside readers is pending.
+/// Returns where a thread goes at its wake: a writer beside readers is pending.
 pub(super) fn handed_woken(
     access: Access,
     patience: Patience,

@@ -43,7 +43,7 @@ pub enum RwLockCallPlace {
     },
 }
 
-/// Where a thread stands in a call that enters.
+/// Returns where a thread stands in a call that enters.
 pub(super) fn entering(bumps: bool, place: RwLockPlace) -> RwLockCallPlace
     ensures { result ≡ entering bumps place }
 {
@@ -54,7 +54,7 @@ pub(super) fn entering(bumps: bool, place: RwLockPlace) -> RwLockCallPlace
     }
 }
 
-/// Where a bump enters again.
+/// Returns where a bump enters again.
 pub(super) fn enters_again(access: Access) -> RwLockCallPlace
     ensures { result ≡ enters_again access }
 {
@@ -64,7 +64,7 @@ pub(super) fn enters_again(access: Access) -> RwLockCallPlace
     }))
 }
 
-/// Where a thread of the main queue goes that was handed the lock.
+/// Returns where a thread of the main queue goes that was handed the lock.
 fn given(bumps: bool, place: RwLockPlace, reply: Reply) -> Option<RwLockCallPlace>
     ensures { result ≡ given bumps place reply }
 {
@@ -107,7 +107,7 @@ fn bump_next(purpose: RwLockPurpose, next: Next<RwLockPlace>) -> Next<RwLockCall
     }
 }
 
-/// Whether a bump gives its right up that saw this: where that may let somebody in.
+/// Returns whether a bump gives its right up that saw this: where that may let somebody in.
 fn gives_way(admission: Admission, access: Access, seen: u64) -> bool
     ensures { result ≡ gives_way admission access seen }
 {
@@ -117,7 +117,7 @@ fn gives_way(admission: Admission, access: Access, seen: u64) -> bool
     }
 }
 
-/// Where a bump gives its right up.
+/// Returns where a bump gives its right up.
 fn gives_up_at(access: Access) -> RwLockCallPlace
     ensures { result ≡ gives_up_at access }
 {
@@ -177,7 +177,7 @@ impl RwLockCallPlace {
         }
     }
 
-    /// Where the reply leads the thread.
+    /// Returns where the reply leads the thread.
     pub fn next(self, admission: Admission, reply: Reply) -> Next<RwLockCallPlace>
         ensures { result ≡ call_next admission self reply }
     {
@@ -231,7 +231,7 @@ impl RwLockCallPlace {
         }
     }
 
-    /// How many shared rights the thread has then, where their number changes.
+    /// Returns how many shared rights the thread has then, where their number changes.
     pub fn shares_after(self, admission: Admission, seen: u64, shares: usize) -> Option<usize>
         ensures { result ≡ call_shares admission self seen shares }
     {
@@ -243,7 +243,7 @@ impl RwLockCallPlace {
         }
     }
 
-    /// The thread that took this one from a queue, and has not left its section yet.
+    /// Returns the thread that took this one from a queue, and has not left its section yet.
     pub fn taker(self) -> Option<usize>
         ensures { result ≡ call_taker self }
     {
@@ -285,7 +285,7 @@ impl RwLockCallPlace {
         }
     }
 
-    /// The queue in which the thread sleeps, where it may give up.
+    /// Returns the queue in which the thread sleeps, where it may give up.
     pub fn late_line(self) -> Option<Line>
         ensures { result ≡ call_late_line self }
     {
@@ -295,7 +295,7 @@ impl RwLockCallPlace {
         }
     }
 
-    /// The queue on which the thread owes a wake.
+    /// Returns the queue on which the thread owes a wake.
     pub fn owes(self) -> Option<Line>
         ensures { result ≡ call_owes self }
     {
@@ -306,7 +306,7 @@ impl RwLockCallPlace {
         }
     }
 
-    /// Whether the thread was woken, and tries again.
+    /// Returns whether the thread was woken, and tries again.
     pub fn retries(self) -> bool
         ensures { result ≡ call_retries self }
     {

@@ -43,7 +43,7 @@ module _ (limit l t : ℕ) (s : LockState) where
   same_rights s2 stay rights is = λ i k. agree rights l (rights_where l s2 t rights) rights _ _ (λ k. refl)
       (unchanged rights l (rights_of s t) is) stay k i
 
-  -- its rights at the lock stay, and its call is what the event makes of it
+  -- the rights of the thread at the lock stay, and its call is what the event makes of it
   keeps : (at at2 : SemaphorePlace) (ds : List Deed) → AreOneCase ds → MayCome l (semaphore_profile at)
       (event_at l (semaphore_profile at) ds)
       → rights_of (after_event r (event_at l (semaphore_profile at) ds) s t) t ≡ rights_of s t
@@ -66,7 +66,7 @@ module _ (limit l t : ℕ) (s : LockState) where
   quiet at at2 ds one none same = keeps at at2 ds one (rw none tt) (rw none refl)
       (λ rights. rw none (same rights))
 
-  -- it has entered: what it holds then
+  -- the thread has entered: what it holds then
   module _ (v : LocksState) (rights : ℕ → Rights) (s2 : LockState) (is : rights l ≡ rights_of s t)
       (has : (k : ℕ) → rights_in v t k ≡ rights_where l s2 t rights k) where
     gains : rights_of s2 t ≡ with_right Shared (rights_of s t) → (k : ℕ) → rights_in v t k ≡ one_more_at l
@@ -82,7 +82,7 @@ module _ (limit l t : ℕ) (s : LockState) where
     loses e = agree rights l _ _ _ _ (changed rights l (with_right Shared) (rights_in v t) _ has)
         (unchanged rights l (rights_of s t) is) e
 
-  -- it gave its permit back
+  -- the thread gave its permit back
   lost : (s2 : LockState) → with_right Shared (rights_of s2 t) ≡ rights_of s t → (rights : ℕ → Rights)
       → rights l ≡ rights_of s t → one_more_at l Shared (rights_where l s2 t rights) ≡ rights
   lost s2 e rights is = λ i k. agree rights l (one_more_at l Shared (rights_where l s2 t rights)) rights _ _
@@ -175,7 +175,7 @@ module _ (limit l t : ℕ) (s : LockState) where
       (Acquire timed again acquire.GiveUp) (Case locks.Late ∷ []) tt (late_by timed h, refl) refl
       (λ rights. refl)
 
-  -- it has given up, and holds what it held
+  -- the thread has given up, and holds what it held
   pub gives_up : (timed again : Bool) → timed ≡ true → Tells (Acquire timed again acquire.GiveUp) (Out ∷ [])
       (next.End answer.No)
   gives_up true again h = record {
@@ -233,7 +233,7 @@ module _ (limit l t : ℕ) (s : LockState) where
         (left s t Shared own);
   }
 
-  -- it takes the first of the queue, or finds nobody
+  -- the thread takes the first of the queue, or finds nobody
   pub takes_one : (o : Option ℕ) (any b : Bool)
       → Tells (Release release.Take) (take_deeds o) (in_release (if b then next.At (release.Clear any)
       else next.At (release.Leave any)))
@@ -246,7 +246,7 @@ module _ (limit l t : ℕ) (s : LockState) where
   takes_one (Some u) any false = keeps (Release release.Take) (Release (release.Leave any))
       (take_deeds (Some u)) tt ((refl, tt), tt) refl (λ rights. refl)
 
-  -- it wakes the threads that it has taken
+  -- the thread wakes the threads that it has taken
   pub wakes_taken : (any : Bool) → Tells (Release (release.Leave any)) (Out ∷ []) (next.End answer.Ok)
   wakes_taken true = record {
     one = tt;

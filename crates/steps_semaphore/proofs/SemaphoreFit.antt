@@ -59,7 +59,7 @@ module _ (limit : ℕ) (s : Site) (t : ℕ) (h : IsSite (record { sort = Semapho
   wants_it true = inr refl
   wants_it false = inl refl
 
-  -- it takes a free permit, and its call ends
+  -- the thread takes a free permit, and its call ends
   comes_in : (retries : Bool) (a : _) → s.role t ≡ with_retry retries idle → 1 ≤ free_in limit s
       → Does enter_deeds (Over a)
   comes_in retries a is free =
@@ -196,7 +196,7 @@ module _ (limit : ℕ) (s : Site) (t : ℕ) (h : IsSite (record { sort = Semapho
 
   -- ---------------------------------------------------------------- releases
 
-  -- its permit is given back, by the bit that it saw
+  -- the thread's permit is given back, by the bit that it saw
   given_back : s.role t ≡ permit_holder → (b : Bool) → s.parked ≡ b
       → (after_deed r (Case (Leave Shared)) s t).role t ≡ record idle { wakes = seen_main b }
   given_back is b e = put_same s.role t _ ∙ ap (shares_less Semaphore s) is
@@ -214,7 +214,7 @@ module _ (limit : ℕ) (s : Site) (t : ℕ) (h : IsSite (record { sort = Semapho
     put_same (after_deed r (Case (Leave Shared)) s t).role t idle,
   )
 
-  -- it takes the first waiter, if there is one
+  -- the thread takes the first waiter, if there is one
   takes_first : (d : Role) → s.role t ≡ d → d.inside ≡ Some Main → d.carries ≡ false → d.wakes ≡ Some Main
       → (whom : Option ℕ) (any none_left : Bool) → TakesFirst s whom any none_left → HasTakenNobody s.lock t
       → AllNeeded r (take_deeds whom) s t × ((after_all r (take_deeds whom) s t).role t ≡ record d {

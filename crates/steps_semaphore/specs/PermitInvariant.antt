@@ -31,7 +31,7 @@ StepsKeepTended =
     → s.role t ≡ semaphore_role p → MayReply (semaphore permits) s t p whom told
     → IsTended permits (after_all (semaphore permits) (semaphore_deeds p whom told) s t)
 
--- it holds of a new one, whose word says that all permits are free
+-- a new semaphore, whose word says that all permits are free, is tended
 abbrev pub NewOnesAreTended : Type 0
 NewOnesAreTended = (permits threads : ℕ) → IsTended permits (opening_site threads)
     × (code (semaphore permits) (opening_site threads) ≡ 2 * permits)

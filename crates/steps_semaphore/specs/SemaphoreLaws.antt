@@ -51,7 +51,7 @@ pub record IsAt (r : Rules) (s : Site) (t : ℕ) (p : SemaphorePlace) : Type 0 w
 
 -- ---------------------------------------------------------------- the notes that it may be told
 
--- it takes the first waiter, if there is one
+-- the thread takes the first waiter, if there is one
 pub record TakesFirst (s : Site) (whom : Option ℕ) (any none_left : Bool) : Type 0 where
   pub first : whom ≡ first_thread s.lock.queue
   pub some : any ≡ not (is_none whom)

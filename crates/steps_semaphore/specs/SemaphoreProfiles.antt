@@ -35,7 +35,7 @@ with_retry retries d = record d { retries = if retries then Some Shared else Non
 abbrev pub patience : Bool → Patience
 patience timed = if timed then Timed else Patient
 
--- its time was up, and it owes as anybody inside does
+-- the thread's time was up, and it owes as anybody inside does
 abbrev pub late_row : Profile → Profile
 late_row row = record row { owes = Some Main; late = true }
 
@@ -69,7 +69,7 @@ acquiring timed retries row = record row {
 
 -- ---------------------------------------------------------------- a thread that gives one back
 
--- its permits before, by what it holds now
+-- the thread's permits before its release, by what it holds now
 abbrev pub before_release : ℕ → Bool → (ℕ → Rights) → ℕ → Rights
 before_release l released rights = if released then one_more_at l Shared rights else rights
 
@@ -112,7 +112,7 @@ semaphore_profile (Release at) = releasing (release_row at)
 abbrev pub semaphore_taker : SemaphorePlace → Option ℕ
 semaphore_taker at = hand_owner (semaphore_profile at).hand
 
--- its want, where it waits
+-- the want of the thread, where it waits
 abbrev pub semaphore_wants : SemaphorePlace → Option Want
 semaphore_wants at = (semaphore_profile at).wants
 

@@ -52,7 +52,7 @@ fn acquired(timed: bool) -> Answer
     if timed { Answer::Yes } else { Answer::Ok }
 }
 
-/// Where a thread that waits for a permit goes.
+/// Returns where a thread that waits for a permit goes.
 pub(super) fn next_acquire(timed: bool, at: AcquireAt, reply: Reply) -> Next<AcquireAt>
     ensures { result ≡ next_acquire timed at reply }
 {
@@ -90,7 +90,7 @@ pub(super) fn next_acquire(timed: bool, at: AcquireAt, reply: Reply) -> Next<Acq
     }
 }
 
-/// Whether a thread retries after the reply.
+/// Returns whether a thread retries after the reply.
 pub(super) fn still_retries(retries: bool, reply: Reply) -> bool
     ensures { result ≡ still_retries retries reply }
 {
@@ -155,7 +155,7 @@ fn decided(lock: usize, seen: u64) -> Act
     Act::Enter(Keys::One(main_key(lock)))
 }
 
-/// How many permits a thread holds after an operation on the word that saw this value.
+/// Returns how many permits a thread holds after an operation on the word that saw this value.
 pub(super) fn acquire_shares(at: AcquireAt, seen: u64, shares: usize) -> Option<usize>
     ensures { result ≡ acquire_shares at seen shares }
 {

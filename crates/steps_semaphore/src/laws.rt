@@ -32,7 +32,7 @@ pub fn semaphore_steps_keep_tended()
     ensures { StepsKeepTended }
 {}
 
-/// It holds of a new one.
+/// A new semaphore is tended.
 pub fn new_semaphores_are_tended()
     ensures { NewOnesAreTended }
 {}

@@ -31,20 +31,20 @@ pub const ONE_FREE: u64 = 2;
 /// Where a thread stands in a call of a semaphore.
 #[derive(Clone, Copy, PartialEq, Eq)]
 pub enum SemaphorePlace {
-    /// It waits for a permit, up to a deadline where it is `timed`. It `retries` from a wake note
-    /// on, until the thread stands in the queue again, holds a permit or the call ends.
+    /// Waits for a permit, up to a deadline where the call is `timed`. The call `retries` from a
+    /// wake note on, until the thread stands in the queue again, holds a permit or the call ends.
     Acquire {
         timed: bool,
         retries: bool,
         at: AcquireAt,
     },
-    /// It takes a permit where one is free.
+    /// Takes a permit where one is free.
     Try(TryAt),
-    /// It gives a permit back.
+    /// Gives a permit back.
     Release(ReleaseAt),
 }
 
-/// How many permits are free by this word.
+/// Returns how many permits are free by this word.
 #[inline]
 pub fn free_permits(word: u64) -> u64
     ensures { result ≡ free_permits word }
@@ -52,7 +52,7 @@ pub fn free_permits(word: u64) -> u64
     word / ONE_FREE
 }
 
-/// Whether a permit is free by this word.
+/// Returns whether a permit is free by this word.
 #[inline]
 pub(crate) fn is_free(word: u64) -> bool
     ensures { result ≡ is_free word }
@@ -60,7 +60,7 @@ pub(crate) fn is_free(word: u64) -> bool
     free_permits(word) != 0
 }
 
-/// Whether a thread that holds so many permits has what a call needs.
+/// Returns whether a thread that holds so many permits has what a call needs.
 pub fn semaphore_right(call: SemaphoreCall, shares: usize) -> bool
     ensures { result ≡ semaphore_right call shares }
 {
@@ -71,7 +71,7 @@ pub fn semaphore_right(call: SemaphoreCall, shares: usize) -> bool
 }
 
 impl SemaphorePlace {
-    /// Where a call begins.
+    /// Returns where a call begins.
     pub fn first(call: SemaphoreCall) -> SemaphorePlace
         ensures { result ≡ semaphore_first call }
     {
@@ -116,7 +116,7 @@ impl SemaphorePlace {
         }
     }
 
-    /// Where the reply leads the thread.
+    /// Returns where the reply leads the thread.
     pub fn next(self, reply: Reply) -> Next<SemaphorePlace>
         ensures { result ≡ semaphore_next self reply }
     {
@@ -140,8 +140,8 @@ impl SemaphorePlace {
         }
     }
 
-    /// How many permits the thread holds after its operation on the word, which saw this value,
-    /// where their number changes.
+    /// Returns how many permits the thread holds after its operation on the word, which saw this
+    /// value, where their number changes.
     pub fn shares_after(self, seen: u64, shares: usize) -> Option<usize>
         ensures { result ≡ semaphore_shares self seen shares }
     {
@@ -152,7 +152,7 @@ impl SemaphorePlace {
         }
     }
 
-    /// The thread that took this one from the queue, and has not left its section yet.
+    /// Returns the thread that took this one from the queue, and has not left its section yet.
     pub fn taker(self) -> Option<usize>
         ensures { result ≡ semaphore_taker self }
     {
@@ -193,7 +193,7 @@ impl SemaphorePlace {
         }
     }
 
-    /// The queue in which the thread sleeps, where it may give up.
+    /// Returns the queue in which the thread sleeps, where it may give up.
     pub fn late_line(self) -> Option<Line>
         ensures { result ≡ semaphore_late_line self }
     {
@@ -207,7 +207,7 @@ impl SemaphorePlace {
         }
     }
 
-    /// The queue on which the thread owes a wake.
+    /// Returns the queue on which the thread owes a wake.
     pub fn owes(self) -> Option<Line>
         ensures { result ≡ semaphore_owes self }
     {
@@ -222,7 +222,7 @@ impl SemaphorePlace {
         }
     }
 
-    /// Whether the thread was woken and tries again.
+    /// Returns whether the thread was woken and tries again.
     pub fn retries(self) -> bool
         ensures { result ≡ semaphore_retries self }
     {

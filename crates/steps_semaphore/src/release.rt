@@ -20,7 +20,7 @@ use steps_base::{Act, Next, Reply, Wakes, Whom};
 #[derive(Clone, Copy, PartialEq, Eq)]
 pub enum ReleaseAt {
     Add,
-    /// It saw `PARKED`.
+    /// The thread saw `PARKED`.
     Enter,
     Take,
     /// None is left in the queue.
@@ -28,7 +28,7 @@ pub enum ReleaseAt {
     Leave { any: bool },
 }
 
-/// Where a release goes.
+/// Returns where a release goes.
 pub(super) fn next_release(at: ReleaseAt, reply: Reply) -> Next<ReleaseAt>
     ensures { result ≡ next_release at reply }
 {
@@ -76,7 +76,7 @@ pub(super) fn release_act(lock: usize, at: ReleaseAt) -> Act
     }
 }
 
-/// How many permits the thread holds after an operation on the word.
+/// Returns how many permits the thread holds after an operation on the word.
 pub(super) fn release_shares(at: ReleaseAt, shares: usize) -> Option<usize>
     ensures { result ≡ release_shares at shares }
 {

@@ -20,7 +20,7 @@ pub enum TryAt {
     Decide(u64),
 }
 
-/// Where a thread goes by a value that it saw.
+/// Returns where a thread goes by a value that it saw.
 fn looked(seen: u64) -> Next<TryAt>
     ensures { result ≡ looked seen }
 {
@@ -31,7 +31,7 @@ fn looked(seen: u64) -> Next<TryAt>
     }
 }
 
-/// Where a thread that tries goes.
+/// Returns where a thread that tries goes.
 pub(super) fn next_try(at: TryAt, reply: Reply) -> Next<TryAt>
     ensures { result ≡ next_try at reply }
 {
@@ -65,7 +65,7 @@ pub(super) fn try_act(lock: usize, at: TryAt) -> Act
     }
 }
 
-/// How many permits the thread holds after an operation on the word that saw this value.
+/// Returns how many permits the thread holds after an operation on the word that saw this value.
 pub(super) fn try_shares(at: TryAt, seen: u64, shares: usize) -> Option<usize>
     ensures { result ≡ try_shares at seen shares }
 {

@@ -166,7 +166,7 @@ impl AnyRwLock {
         }
     }
 
-    /// Whether anybody has the lock.
+    /// Returns whether anybody has the lock.
     pub fn is_locked(&self, token: &mut Token) -> bool
         requires { IsTokenOf (lot_of self.now) token.old }
         ensures { IsTokenOf (lot_of self.now) token.new }
@@ -177,7 +177,7 @@ impl AnyRwLock {
         }
     }
 
-    /// Whether somebody writes.
+    /// Returns whether somebody writes.
     pub fn is_locked_exclusive(&self, token: &mut Token) -> bool
         requires { IsTokenOf (lot_of self.now) token.old }
         ensures { IsTokenOf (lot_of self.now) token.new }

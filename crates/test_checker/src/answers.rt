@@ -48,7 +48,8 @@ fn without(had: Rights, access: Access) -> Option<Rights> {
     }
 }
 
-/// Whether the answer says that the thread entered, by its patience: none where it says neither.
+/// Returns whether the answer says that the thread entered, by its patience: none where it says
+/// neither.
 fn entered(patience: Patience, answer: Answer) -> Option<bool> {
     match (patience, answer) {
         (Patience::Patient, Answer::Ok) => Some(true),
@@ -169,7 +170,7 @@ pub fn rights_after(call: Call, answer: Answer, had: Rights) -> Option<Rights> {
     }
 }
 
-/// Whether the call has a deadline.
+/// Returns whether the call has a deadline.
 fn is_timed(call: Call) -> bool {
     match call {
         Call::Mutex { call, .. } => call == MutexCall::LockTimed,
@@ -188,7 +189,7 @@ fn is_timed(call: Call) -> bool {
     }
 }
 
-/// Whether the call is a try that a free word would let in.
+/// Returns whether the call is a try that a free word would let in.
 fn is_refused_free(call: Call, answer: Answer, seen: &SeenLock) -> bool {
     if answer != Answer::No {
         return false;
@@ -209,7 +210,7 @@ fn is_refused_free(call: Call, answer: Answer, seen: &SeenLock) -> bool {
     }
 }
 
-/// Whether a notification tells the number of waiters that it moved.
+/// Returns whether a notification tells the number of waiters that it moved.
 fn is_number(call: CondvarCall, answer: Answer, moved: usize) -> bool {
     match (call, answer) {
         (CondvarCall::Notify { all: false }, Answer::Yes) => moved == 1,
@@ -219,7 +220,7 @@ fn is_number(call: CondvarCall, answer: Answer, moved: usize) -> bool {
     }
 }
 
-/// Whether a `Once` is as a call of it is told.
+/// Returns whether a `Once` is as a call of it is told.
 fn is_state(answer: Answer, begun: Begun, word: u64) -> bool {
     match answer {
         Answer::Ok | Answer::Yes => word & 1 != 0,
@@ -229,7 +230,7 @@ fn is_state(answer: Answer, begun: Begun, word: u64) -> bool {
     }
 }
 
-/// Whether as many threads share the lock as it admits.
+/// Returns whether as many threads share the lock as it admits.
 fn is_full(shown: &SeenLock) -> bool {
     match shown.kind {
         Kind::RwLock { limit } | Kind::Recursive { limit } => shown.count() as u64 >= limit,

@@ -17,9 +17,9 @@ struct Picks {
 }
 
 impl Picks {
-    /// Whether the next waiter is let in: a thread that wants to share is, up to the stop; of the
-    /// others the first is, where nothing more is kept. Where that one is a writer of a lock that
-    /// isn't recursive, the stop stands after it.
+    /// Returns whether the next waiter is let in: a thread that wants to share is, up to the stop;
+    /// of the others the first is, where nothing more is kept. Where that one is a writer of a lock
+    /// that isn't recursive, the stop stands after it.
     fn takes(&mut self, want: Want) -> bool {
         if self.has_stopped {
             return false;
@@ -36,8 +36,8 @@ impl Picks {
     }
 }
 
-/// Whether a thread keeps more than a shared right while it wakes others. Fair releases and bumps hand
-/// theirs over.
+/// Returns whether a thread keeps more than a shared right while it wakes others. Fair releases and
+/// bumps hand theirs over.
 fn keeps_more(call: RwLockCall, rights: Rights) -> bool {
     match call {
         RwLockCall::ReleaseFair(_) | RwLockCall::Bump(_) => false,
@@ -45,7 +45,7 @@ fn keeps_more(call: RwLockCall, rights: Rights) -> bool {
     }
 }
 
-/// Whether the mover took the thread of a queue.
+/// Returns whether the mover took the thread of a queue.
 fn is_taken(new: &SeenLock, thread: usize, mover: usize, after: &Seen) -> bool {
     !new.queues(thread) && after.taker(thread) == Some(mover)
 }

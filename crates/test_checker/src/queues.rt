@@ -19,7 +19,7 @@ pub fn check_queues(before: &Seen, mover: usize, after: &Seen) -> Result<(), Vio
     Ok(())
 }
 
-/// Those that stay keep their order, and new ones stand after them.
+/// Checks that waiters that stay keep their order, and that new ones stand after them.
 fn check_order(lock: usize, old: &SeenLock, new: &SeenLock) -> Result<(), Violation> {
     let mut kept = old.main.iter().filter(|waiter| new.queues(waiter.thread));
     let mut is_after = false;
@@ -35,7 +35,7 @@ fn check_order(lock: usize, old: &SeenLock, new: &SeenLock) -> Result<(), Violat
     Ok(())
 }
 
-/// Whether a thread that left the queue was taken or moved, and didn't go by itself.
+/// Returns whether a thread that left the queue was taken or moved, and didn't go by itself.
 fn was_passed_on(waiter: &SeenWaiter, new: &SeenLock, mover: usize) -> bool {
     waiter.thread != mover && !new.queues(waiter.thread)
 }
@@ -70,15 +70,15 @@ fn check_turns(
     Ok(())
 }
 
-/// Whether a mutex of the world has the thread in its queue.
+/// Returns whether a mutex of the world has the thread in its queue.
 fn waits_for_a_mutex(seen: &Seen, thread: usize) -> bool {
     seen.locks
         .iter()
         .any(|shown| shown.kind == Kind::Mutex && shown.queues(thread))
 }
 
-/// Whether a thread may leave a queue: awake by its own act, into the mover's hand, or from a condition
-/// variable to a mutex.
+/// Returns whether a thread may leave a queue: awake by its own act, into the mover's hand, or from a
+/// condition variable to a mutex.
 fn may_leave(before: &Seen, kind: Kind, thread: usize, mover: usize, after: &Seen) -> bool {
     if thread == mover {
         return before.standing(thread) == Standing::Awake;

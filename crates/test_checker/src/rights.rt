@@ -16,7 +16,7 @@ pub fn check_rights(before: &Seen, mover: usize, after: &Seen) -> Result<(), Vio
     Ok(())
 }
 
-/// Whether the rights of a thread are others, and none of the former ones is gone.
+/// Returns whether the rights of a thread are others, and none of the former ones is gone.
 fn has_gained(old: Rights, new: Rights) -> bool {
     old != new
         && old.is_exclusive <= new.is_exclusive

@@ -84,7 +84,7 @@ impl SeenLock {
         self.owners.iter().any(|owner| owner.right == right)
     }
 
-    /// Whether a thread has the right.
+    /// Returns whether a thread has the right.
     pub fn gives(&self, right: Right, thread: usize) -> bool {
         self.owners
             .iter()
@@ -114,12 +114,12 @@ impl SeenLock {
             .count()
     }
 
-    /// Whether a thread stands in the main queue.
+    /// Returns whether a thread stands in the main queue.
     pub fn queues(&self, thread: usize) -> bool {
         self.main.iter().any(|waiter| waiter.thread == thread)
     }
 
-    /// Whether a thread stands aside.
+    /// Returns whether a thread stands aside.
     pub fn has_aside(&self, thread: usize) -> bool {
         self.aside.iter().any(|other| *other == thread)
     }

@@ -41,7 +41,7 @@ fn check_owners(lock: usize, shown: &SeenLock) -> Result<(), Violation> {
     Ok(())
 }
 
-/// Whether a lock of this kind can give the right.
+/// Returns whether a lock of this kind can give the right.
 fn has_right(kind: Kind, right: Right) -> bool {
     match kind {
         Kind::Mutex | Kind::Fair => right == Right::Exclusive,
@@ -52,7 +52,7 @@ fn has_right(kind: Kind, right: Right) -> bool {
     }
 }
 
-/// Whether a waiter of a lock of this kind can want this.
+/// Returns whether a waiter of a lock of this kind can want this.
 fn has_want(kind: Kind, want: Want) -> bool {
     match kind {
         Kind::Mutex | Kind::Fair => want == Want::Exclusive,
@@ -107,7 +107,7 @@ fn parked_bits(kind: Kind) -> u64 {
     }
 }
 
-/// Whether the word, without what it tells of waiters, is the code of the owners.
+/// Returns whether the word, without what it tells of waiters, is the code of the owners.
 fn is_code(shown: &SeenLock, bare: u64) -> bool {
     let exclusive = u64::from(shown.has(Right::Exclusive));
     let pending = u64::from(shown.has(Right::Pending));
@@ -157,8 +157,8 @@ fn check_marks(lock: usize, shown: &SeenLock) -> Result<(), Violation> {
     }
 }
 
-/// Whether nobody bars the way of one that waits in the main queue. A lock whose readers once were as
-/// many as its limit is left out.
+/// Returns whether nobody bars the way of one that waits in the main queue. A lock whose readers once
+/// were as many as its limit is left out.
 fn is_open(shown: &SeenLock) -> bool {
     match shown.kind {
         Kind::Mutex | Kind::Fair => !shown.has(Right::Exclusive),
@@ -174,13 +174,13 @@ fn is_open(shown: &SeenLock) -> bool {
     }
 }
 
-/// Whether the waiter has somebody to wake it, where its way is open: of a `Once` only one that would
-/// run it.
+/// Returns whether the waiter has somebody to wake it, where its way is open: of a `Once` only one
+/// that would run it.
 fn needs_a_debtor(waiter: &SeenWaiter) -> bool {
     waiter.want != Want::Wait
 }
 
-/// Whether a thread that is awake owes a wake on the lock, or was woken and tries again.
+/// Returns whether a thread that is awake owes a wake on the lock, or was woken and tries again.
 fn has_debtor(seen: &Seen, shown: &SeenLock) -> bool {
     let is_awake = |thread: &usize| seen.standing(*thread) == Standing::Awake;
     shown.owing.iter().any(is_awake) || shown.retrying.iter().any(is_awake)

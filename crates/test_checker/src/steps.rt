@@ -52,8 +52,8 @@ fn check_size(before: &Seen, after: &Seen) -> Result<(), Violation>
     Ok(())
 }
 
-/// Whether a turn may change owners, and where it does so words or queues. A look again changes no word,
-/// but may show a pending writer that no reader is left.
+/// Returns whether a turn may change owners, and where it does so words or queues. A look again changes
+/// no word, but may show a pending writer that no reader is left.
 fn may_touch(turn: Turn, changes_more: bool) -> bool {
     match turn {
         Turn::Go | Turn::Ok | Turn::Err => true,
@@ -106,7 +106,8 @@ fn check_standings(before: &Seen, mover: usize, after: &Seen) -> Result<(), Viol
     Ok(())
 }
 
-/// Whether a thread comes into the mover's hand from a queue, leaves it awake, or stays where it is.
+/// Returns whether a thread comes into the mover's hand from a queue, leaves it awake, or stays
+/// where it is.
 fn is_hand_kept(before: &Seen, mover: usize, after: &Seen, thread: usize) -> bool {
     let came = before
         .locks
@@ -130,7 +131,7 @@ fn check_lock(lock: usize, old: &SeenLock, new: &SeenLock) -> Result<(), Violati
     }
 }
 
-/// Whether two lists agree about a thread.
+/// Returns whether two lists agree about a thread.
 fn agree(old: &[usize], new: &[usize], thread: usize) -> bool {
     old.iter().any(|other| *other == thread) == new.iter().any(|other| *other == thread)
 }

@@ -1,4 +1,7 @@
 //! Names for what no world may show.
+//!
+//! The meaning of a violation is in its comment, and a test prints its name: a text for each variant of
+//! a large enum is dear to prove.
 
 use std::fmt;
 use std::fmt::{Debug, Formatter, Write};

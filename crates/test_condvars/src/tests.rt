@@ -27,7 +27,7 @@ fn check(rt: &impl Abort, truth: bool) {
     assert!(rt; truth);
 }
 
-// Whether the clock came to a time, and has not been looked at often since.
+// Returns whether the clock came to a time, and has not been looked at often since.
 fn is_just_past(clock: &TickClock, time: u64) -> bool
     requires { time ≤ 10000 }
 {

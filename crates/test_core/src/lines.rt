@@ -9,7 +9,7 @@ use core_queues::{bits_for, bucket_among};
 use parking_lot_core::{Key, Keys, Note, ParkingLot, QueuePlace, Section, Ticket, Token, Want};
 use std::sync::Wait;
 
-/// Whether two keys have different buckets in a lot of so many seats.
+/// Returns whether two keys have different buckets in a lot of so many seats.
 pub fn lie_apart(seats: usize, one: Key, other: Key) -> bool
     requires { seats ≤ 1024 }
 {

@@ -23,7 +23,7 @@ pub fn try_lock(lot: &ParkingLot, token: &mut Token, word: Word) -> Option<Right
     Some(lot.split_right(token, word, Want::Exclusive))
 }
 
-/// Gives a mutex up. It answers the value before.
+/// Gives a mutex up. Returns the value before.
 pub fn unlock(lot: &ParkingLot, token: &mut Token, right: Right) -> u64
     requires { IsTokenOf lot.now token.old × IsRightOf lot.now.words right
         × (right.word.kind ≡ Mutex)

@@ -30,7 +30,7 @@ fn check(rt: &impl Abort, truth: bool) {
     assert!(rt; truth);
 }
 
-// Whether each of the answers is this one.
+// Returns whether each of the answers is this one.
 fn all_are<T: PartialEq + Drop>(answers: &[T], wanted: &T) -> bool {
     answers.iter().all(|answer| answer == wanted)
 }

@@ -1,6 +1,7 @@
 //! Programs, and what a search of all their schedules finds.
 mod damaged;
 mod grains;
+mod language;
 mod loops;
 mod packs;
 mod programs;
@@ -10,7 +11,7 @@ mod walks;
 
 use core_base::Queues;
 use lot_explore::{Walk, Wrong, explore};
-use lot_program::{Deadlines, Program};
+use lot_program::{Deadlines, Grain, Program};
 use lot_program_text::{TextError, parse};
 use state_search::{Limits, NoRoom, Unobserved, Verdict};
 use std::alloc::Global;
@@ -57,18 +58,9 @@ fn check_eq<T: PartialEq + Debug + Drop>(rt: &impl Abort, found: T, wanted: T) {
     assert_eq!(rt; found, wanted);
 }
 
-/// Where turns end.
-#[derive(Clone, Copy)]
-enum Turns {
-    Steps,
-    Whole,
-    Calls,
-    CutCalls,
-}
-
 /// Returns what a search of a text by steps finds within these limits.
 fn search_of<Q: Queues + Drop>(alloc: Global, text: &str, limits: Limits) -> Found {
-    search_by::<Q>(alloc, text, limits, Turns::Steps, Deadlines::Pass)
+    search_by::<Q>(alloc, text, limits, Grain::Steps, Deadlines::Pass)
 }
 
 /// Returns what a search of a text by such turns finds within these limits.
@@ -76,23 +68,14 @@ fn search_by<Q: Queues + Drop>(
     alloc: Global,
     text: &str,
     limits: Limits,
-    turns: Turns,
+    grain: Grain,
     deadlines: Deadlines,
 ) -> Found {
     let Ok(mut parsed) = parse(alloc, text) else {
         return Found::NoProgram;
     };
     parsed.program.deadlines = deadlines;
-    match turns {
-        Turns::Steps => {}
-        Turns::Whole => parsed.program.by_turns(),
-        Turns::Calls => parsed.program.by_calls(alloc),
-        Turns::CutCalls => {
-            if parsed.program.by_cut_calls(alloc).is_err() {
-                return Found::NoMemory(0);
-            }
-        }
-    }
+    parsed.program.grain = grain;
     match explore::<Q, _>(alloc, &parsed.program, limits, &mut Unobserved) {
         Ok(Verdict::Holds { states, depth: _ }) => Found::Nothing(states),
         Ok(Verdict::Limited { states, depth: _ }) => Found::Limit(states),

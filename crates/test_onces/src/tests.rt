@@ -129,7 +129,7 @@ fn faults_of_a_once_say_what_was(rt: HostRuntime) {
     );
 }
 
-// Its closure fails.
+// Calls with a closure that fails.
 fn fail<R: Wait>(rt: &R, once: &Once, token: &mut Token) -> &'static str
     requires { IsTokenOf (lot_of once.now) token.old }
     ensures { IsTokenOf (lot_of once.now) token.new }

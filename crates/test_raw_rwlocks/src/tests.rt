@@ -86,7 +86,7 @@ fn goes_writing<R: Wait>(
     }
 }
 
-// Whether a try to read gets the lock.
+// Returns whether a try to read gets the lock.
 fn reads<R: Wait>(rt: &R, lock: &AnyRwLock, token: &mut Token) -> bool
     requires { IsTokenOf (lot_of lock.now) token.old }
     ensures { IsTokenOf (lot_of lock.now) token.new }
@@ -95,7 +95,7 @@ fn reads<R: Wait>(rt: &R, lock: &AnyRwLock, token: &mut Token) -> bool
     matches!(goes(rt, lock, token, came), Some(true))
 }
 
-// Whether a try to come in with the upgradable right gets it.
+// Returns whether a try to come in with the upgradable right gets it.
 fn comes_upgradable<R: Wait>(rt: &R, lock: &AnyRwLock, token: &mut Token) -> bool
     requires { IsTokenOf (lot_of lock.now) token.old }
     ensures { IsTokenOf (lot_of lock.now) token.new }
@@ -104,7 +104,7 @@ fn comes_upgradable<R: Wait>(rt: &R, lock: &AnyRwLock, token: &mut Token) -> boo
     matches!(goes_upgradable(rt, lock, token, came), Some(true))
 }
 
-// Whether a try to own the lock alone gets it.
+// Returns whether a try to own the lock alone gets it.
 fn writes<R: Wait>(rt: &R, lock: &AnyRwLock, token: &mut Token) -> bool
     requires { IsTokenOf (lot_of lock.now) token.old }
     ensures { IsTokenOf (lot_of lock.now) token.new }
@@ -261,7 +261,8 @@ fn try_to_upgrade<R: Wait>(rt: &R, lock: &AnyRwLock, token: &mut Token) -> (bool
     look_and_go(rt, lock, token, turned)
 }
 
-// Whether a try to upgrade fails beside another reader, keeps its right, and succeeds alone.
+// Returns whether a try to upgrade fails beside another reader, keeps its right, and succeeds
+// alone.
 fn tries_to_upgrade<R: Wait>(rt: &R, lock: &AnyRwLock, token: &mut Token) -> bool
     requires { IsTokenOf (lot_of lock.now) token.old }
     ensures { IsTokenOf (lot_of lock.now) token.new }
@@ -274,7 +275,7 @@ fn tries_to_upgrade<R: Wait>(rt: &R, lock: &AnyRwLock, token: &mut Token) -> boo
     beside == (false, UPGRADABLE) && try_to_upgrade(rt, lock, token) == (true, WRITTEN)
 }
 
-// Whether all rights of a lock keep out the threads that they are to.
+// Returns whether all rights of a lock keep out the threads that they are to.
 fn sees_all(sort: Sort, rt: &impl Wait, alloc: Global) -> Result<bool, Fault> {
     let (lock, mut token) = lock_alone(sort, alloc, 10)?;
     let held = sees_readers(rt, &lock, &mut token)
@@ -291,7 +292,7 @@ fn rights_keep_out_the_others(rt: HostRuntime) -> Result<(), Fail> {
     Ok(())
 }
 
-// Whether the lock has as many readers as may share it.
+// Returns whether the lock has as many readers as may share it.
 fn is_full<R: Wait>(rt: &R, lock: &AnyRwLock, token: &mut Token) -> bool
     requires { IsTokenOf (lot_of lock.now) token.old }
     ensures { IsTokenOf (lot_of lock.now) token.new }
@@ -305,7 +306,7 @@ fn is_full<R: Wait>(rt: &R, lock: &AnyRwLock, token: &mut Token) -> bool
     }
 }
 
-// Whether two readers fill a lock, the second with the upgradable right, and one doesn't.
+// Returns whether two readers fill a lock, the second with the upgradable right, and one doesn't.
 fn fills<R: Wait>(rt: &R, lock: &AnyRwLock, token: &mut Token) -> bool
     requires { IsTokenOf (lot_of lock.now) token.old }
     ensures { IsTokenOf (lot_of lock.now) token.new }

@@ -241,7 +241,7 @@ fn what_was_written_is_read(rt: HostRuntime) {
     check_eq(&rt, lock.into_inner(), 20);
 }
 
-// Whether a try to read comes in.
+// Returns whether a try to read comes in.
 fn reads<R: Wait>(rt: &R, lock: &Lock, token: &mut Token) -> bool
     requires { IsTokenOf (lot_of_rwlock lock.now) token.old }
     ensures { IsTokenOf (lot_of_rwlock lock.now) token.new }
@@ -255,7 +255,7 @@ fn reads<R: Wait>(rt: &R, lock: &Lock, token: &mut Token) -> bool
     }
 }
 
-// Whether a try to read and to write later does.
+// Returns whether a try to read and to write later does.
 fn comes_upgradable<R: Wait>(rt: &R, lock: &Lock, token: &mut Token) -> bool
     requires { IsTokenOf (lot_of_rwlock lock.now) token.old }
     ensures { IsTokenOf (lot_of_rwlock lock.now) token.new }
@@ -269,7 +269,7 @@ fn comes_upgradable<R: Wait>(rt: &R, lock: &Lock, token: &mut Token) -> bool
     }
 }
 
-// Whether a try to write does.
+// Returns whether a try to write does.
 fn writes<R: Wait>(rt: &R, lock: &Lock, token: &mut Token) -> bool
     requires { IsTokenOf (lot_of_rwlock lock.now) token.old }
     ensures { IsTokenOf (lot_of_rwlock lock.now) token.new }

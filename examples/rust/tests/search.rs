@@ -24,7 +24,7 @@ fn a_deadlock_is_found_and_replayed() {
         .unwrap();
     assert!(matches!(verdict, Verdict::Found(_)));
     assert!(
-        verdict.text().starts_with("deadlock after 6 turns, grain auto\n"),
+        verdict.text().starts_with("deadlock after 6 turns, grain call\n"),
         "{}",
         verdict.text()
     );
@@ -45,7 +45,7 @@ fn one_order_of_forks_goes_well() {
         .unwrap();
     assert_eq!(
         verdict,
-        Verdict::Nothing("nothing found: 152 states, all of them, grain auto\n".to_string())
+        Verdict::Nothing("nothing found: 2073 states by turns; no schedule of single steps goes wrong\n".to_string())
     );
 }
 

@@ -73,7 +73,7 @@ module _ (w : State) (t l : ℕ) (a : Admission) (p : RwLockPlace) where
   abbrev plainly : Place
   plainly = RwLock l a (Plain p)
 
-  -- its place in a call that only enters
+  -- the thread's place in a call that only enters
   abbrev pub as_plain : State
   as_plain = put w t plainly
 
@@ -501,7 +501,7 @@ module _ (t l : ℕ) (a : Admission) (x : Access) where
         by_possible true able step = by_next n refl able (sym told_bump ∙ step)
         by_possible false able step = absurd cc
 
-  -- its runs come to the same
+  -- the thread's runs come to the same
   same_run : (k : ℕ) (w : State) (retries : Bool) (to : RwLockAt) (last : Outcome) → Again w retries to
       → SameEnd (solo k (as_plain w t l a (of (purpose.Enter x Patient) retries to)) t last) (solo k w t last)
   unfolding solo
@@ -526,7 +526,7 @@ module _ (t l : ℕ) (a : Admission) (x : Access) where
 -- ---------------------------------------------------------------- it comes to rest
 
 module _ (t l : ℕ) (a : Admission) where
-  -- its place in a call that only enters is as good
+  -- the thread's place in a call that only enters is as good
   plain_inductive : (w : State) (p : RwLockPlace) → IsInductive w → t < length w.places → place_at w t
       ≡ RwLock l a (Bump p)
       → Admits (rules_in w l) a → MayStand a p → IsInductive (put w t (RwLock l a (Plain p)))

@@ -149,7 +149,7 @@ module _ (w : State) (t l : ℕ) (a : Admission) (x : Access) (holds : IsWorld w
   began : (call_at w t).former ≡ (λ k. rights_of (lock_state w k) t)
   began = ap (λ p. (call_state p (λ k. rights_of (lock_state w k) t)).former) is
 
-  -- it ends with its right
+  -- the thread ends with its right
   ends_owning : o ≡ outcome.End answer.Ok → Owns (lock_state v2 l) t (wanted x)
   ends_owning told = (subst (λ p. HasAnswered t p (call_at w t).former answer.Ok (locks_of v2)) called
       (answered run.told (locks_of w) (locks_of v2) t answer.Ok
@@ -274,7 +274,7 @@ module _ (w : State) (t l : ℕ) (a : Admission) (x : Access) (holds : IsWorld w
     plain : StepsAlone plain_w t l (RwLock l a (Plain entry)) e.word e.queues
     plain = plain_alone t l a between entry e.word e.queues e.shares (first_may t l a x) e.alone
 
-    -- it enters no section there
+    -- the thread enters no section there
     unbarred : IsBarred between t → ⊥
     unbarred b = by_access x (subst (λ p. EntersSection (key_of b.lock b.line) (act_of p)) e.alone.place
         b.enters)

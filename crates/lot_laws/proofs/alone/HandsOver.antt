@@ -130,7 +130,7 @@ module _ (t l : ℕ) (a : Admission) where
         | inr barred ↦ leads_barred w t (Ends b x w) (k + 1) barred
       ]
 
-  -- it has given its right up
+  -- the thread has given its right up
   released_rests : (x : Access) (b : Bool) (v : ℕ) (w : State) (q : Line → List Waiter) → Shares w
       → Comes w t l (rwlock_goes l a (released x b)) (outcome_of (rwlock_does l a (released x b))) v q
       → Leads 12 w t (Ends b x w)
@@ -265,7 +265,7 @@ module _ (t l : ℕ) (a : Admission) where
   enters_rest x b fits v w q shares f = enters b x 15 v w q (HandOver x b handing.Enter)
       (HandOver x b handing.Take) Main shares f refl refl refl refl (λ s g. take_rests x b fits v _ q s g)
 
-  -- it tries the word as it is
+  -- the thread tries the word as it is
   free_now : (x : Access) (b : Bool) (v : ℕ) (w : State) (q : Line → List Waiter) → Shares w
       → Alone w (HandOver x b (handing.Free v)) v q → Leads 12 w t (Ends b x w)
   free_now x b v w q shares f = released_rests x b (apply (op.Exchange v (word_without x v)) v) w q shares

@@ -48,7 +48,7 @@ LockEnds t l entry (Some u) q v x = (x ≡ outcome.TheVariants.Sleep) × (owner_
     × (queue_at v (2 * l) ≡ q ++ waiter (2 * l) t Exclusive ∷ [])
 
 module _ (t l : ℕ) (entry : Entry) (q : List Waiter) where
-  -- it parks
+  -- the thread parks
   sleep_leads : (retries : Bool) (u : ℕ) (w : State)
       → Facing w t l (Mutex l (Lock entry retries (Leave true))) 3 (Some u) (Some t)
       (q ++ waiter (2 * l) t Exclusive ∷ [])
@@ -72,7 +72,7 @@ module _ (t l : ℕ) (entry : Entry) (q : List Waiter) where
   decide_full retries u s w f = faces_into w t l _ 3 (Some u) s q f (LockEnds t l entry (Some u) q) 2 refl
       refl refl (λ h. check_full retries u _ h)
 
-  -- it decides by the word as it is
+  -- the thread decides by the word as it is
   decide_leads : (retries : Bool) (v : ℕ) (o : Option ℕ) → IsMutexWord v o → (s : Option ℕ) (w : State)
       → Facing w t l (Mutex l (Lock entry retries (Decide v))) v o s q → Leads 4 w t (LockEnds t l entry o q)
   decide_leads retries = by_code (λ v o. (s : Option ℕ) (w : State)
@@ -182,7 +182,7 @@ module _ (t l : ℕ) (entry : Entry) where
       either false h = leads_more 2 3 w t (λ x y. Rests y) (omega arith) (leads_step w t (λ x y. Rests y) 1
           h.0 (gives_up_rests retries v o s _ _ h.1))
 
-  -- it decides by a value that the word has no longer, or still
+  -- the thread decides by a value that the word has no longer, or still
   decide_rests : (retries : Bool) (x v : ℕ) (o s : Option ℕ) (q : List Waiter) (w : State)
       → Facing w t l (Mutex l (Lock entry retries (Decide x))) v o s q → Leads 8 w t (λ a y. Rests y)
   decide_rests retries x v o s q w f = elim (cases_eq v x) [

@@ -29,7 +29,7 @@ module _ (t l m : ℕ) (keeps : Keeps t) where
   abbrev Alone : State → Bool → NotifyAt → Type 0
   Alone w all at = GoesAlone w t l m (Notify all m at)
 
-  -- it ends with so many, and these are left
+  -- the thread ends with so many, and these are left
   abbrev pub Ends : Bool → ℕ → List Queued → State → Outcome → Type 0
   Ends all number q v o = (o ≡ outcome.End (notified all number)) × ((lock_state v l).queue ≡ q)
 
@@ -151,7 +151,7 @@ module _ (t l m : ℕ) (keeps : Keeps t) where
     abbrev Moves : State → Outcome → Type 0
     Moves = Ends all (moved_number all q) (left_then all q)
 
-    -- it exchanges what the word is
+    -- the thread exchanges what the word is
     sets_now : (w : State) → (lock_state w l).queue ≡ q → Alone w all (notify.Set (word_at w m))
         → Leads 4 w t Moves
     sets_now w e g = goes w all (notify.Set (word_at w m)) g Moves 3 refl (rw (same (word_at w m))
@@ -212,7 +212,7 @@ module _ (t l m : ℕ) (keeps : Keeps t) where
     hides w e g = goes w all notify.Hide g Moves 5 refl
         (λ h. inr (refl, begins_marking (after w (go_of t)) (queue_is w all notify.Hide g refl ∙ e) h))
 
-    -- it looks again, and sees its mutex
+    -- the thread looks again, and sees its mutex
     sees : (w : State) → is_shown (word_at w l) m ≡ true → (lock_state w l).queue ≡ q
         → Alone w all notify.Again
         → Leads 7 w t Moves
@@ -245,7 +245,7 @@ module _ (t l m : ℕ) (keeps : Keeps t) where
             ∙ ap (λ b. (after_condvar_deeds (if b then SeeAgain m ∷ [] else MissIt m ∷ []) (condvar_of w l)
             t).waiters) shown ∙ e
 
-  -- it enters both sections, or is barred
+  -- the thread enters both sections, or is barred
   module _ (w : State) (all : Bool) (g : Alone w all notify.Enter) where
     abbrev BothFree : Type 0
     BothFree = can_do w (notify_act all l m notify.Enter) ≡ true

@@ -67,7 +67,7 @@ module _ (t l m : ℕ) (keeps : Keeps t) (w : State) (all : Bool) (g : GoesAlone
 
   -- ---------------------------------------------------------------- the law
 
-  -- it is settled, where nobody is inside its section
+  -- a condition variable is settled, where nobody is inside its section
   settled : section_at w (2 * l) ≡ None → IsSettledAt (lock_state w l).shown (condvar_of w l)
   settled free = subst (IsAsInside (condvar_of w l)) (free_inside w t l (Look all) g.world.inductive g.place
       (ap is_none free))

@@ -38,7 +38,7 @@ module _ (t l : ℕ) where
   abbrev RestsIn : ℕ → State → Type 0
   RestsIn k w = Leads k w t (λ v o. Rests o)
 
-  -- it goes on, and rests after
+  -- the thread goes on, and rests after
   goes : (k v : ℕ) (w : State) (q : Queues) (p : OncePlace) (told : Outcome) → told ≡ outcome.Step
       → Comes w t l (Once l p) told v q
       → (Alone (after w (go_of t)) p v q → RestsIn k (after w (go_of t))) → RestsIn (k + 1) w
@@ -136,7 +136,7 @@ module _ (t l : ℕ) where
             (park_comes w t l _ v q f (2 * l) (check_of c) (want_of c) false refl e)
             (λ g. leaves (again && not false) false v _ _ g)
 
-    -- it has looked at the word, wherever it came from
+    -- the thread has looked at the word, wherever it came from
     looked_rests : (again : Bool) (v : ℕ) (w : State) (q : Queues) (p : OncePlace) → Alone w p v q
         → Looked t l again w q c v
         → RestsIn 5 w
@@ -152,7 +152,7 @@ module _ (t l : ℕ) where
         (decides t l again w q c (site_of w l).parked (lock_state w l).phase
         (subst (λ x. Alone w (Look c again (look.Decide x)) x q) (told_by_word w t l _ v q f) f))
 
-    -- it saw another value than the word has now
+    -- the thread saw another value than the word has now
     module _ (again : Bool) (seen v : ℕ) (w : State) (q : Queues) (other : (v == seen) ≡ false)
         (f : Alone w (Look c again (look.Decide seen)) v q) where
       sees : once_next (Look c again (look.Decide seen)) (Value v) ≡ in_look c again (looked c v)

@@ -43,11 +43,11 @@ module _ (t l : ℕ) where
   abbrev Alone : State → OncePlace → ℕ → Queues → Type 0
   Alone w p v q = StepsAlone w t l (Once l p) v q
 
-  -- it sleeps as the last of the queue
+  -- the thread sleeps as the last of the queue
   abbrev pub Sleeps : OnceCall → Queues → State → Outcome → Type 0
   Sleeps c q v o = (o ≡ outcome.Sleep) × (queue_at v (2 * l) ≡ q Main ++ waiter (2 * l) t (want_of c) ∷ [])
 
-  -- its closure begins
+  -- the thread's closure begins
   abbrev pub Starts : Bool → State → Outcome → Type 0
   Starts poisoned v o = (o ≡ outcome.Closure (state_before poisoned))
       × ((lock_state v l).phase ≡ InProgress t)
@@ -116,7 +116,7 @@ module _ (t l : ℕ) where
   Ended q WaitTimed New = Sleeps WaitTimed q
   Ended q WaitTimed (InProgress u) = Sleeps WaitTimed q
 
-  -- it decides by the word as it is
+  -- the thread decides by the word as it is
   module _ (again : Bool) (w : State) (q : Queues) where
     abbrev pub Deciding : OnceCall → ℕ → Type 0
     Deciding c v = Alone w (Look c again (look.Decide v)) v q
@@ -188,7 +188,7 @@ module _ (t l : ℕ) where
     decides WaitTimed true IsDone f = answers_again WaitTimed 9 answer.Yes refl refl f
     decides WaitTimed false IsDone f = answers_again WaitTimed 1 answer.Yes refl refl f
 
-  -- it has looked at the word as it is, and ends or decides by it
+  -- the thread has looked at the word as it is, and ends or decides by it
   module _ (again : Bool) (w : State) (q : Queues) where
     abbrev pub Looked : OnceCall → ℕ → Type 0
     Looked c v = Comes w t l (once_goes l (in_look c again (looked c v)))

@@ -98,7 +98,7 @@ module _ (t l m : ℕ) (keeps : Keeps t) (timed late : Bool) where
   decides_full w again full g = enters w again 3 2 g refl refl (λ e h. checks_full (after w (go_of t)) again
       (e ∙ full) h)
 
-  -- it decides by the word as it is
+  -- the thread decides by the word as it is
   decides_now : (w : State) (again : Bool) → Alone w again (lock.Decide (word_at w m)) → RestsIn 4 w
   decides_now w again g = by_code (λ v o. word_at w m ≡ v → Alone w again (lock.Decide v) → RestsIn 4 w)
       (λ e h. goes w again (lock.Decide 0) h 3 refl (subst (λ v. Left w again (lock.Decide 0) h 3 (Value v))
@@ -115,7 +115,7 @@ module _ (t l m : ℕ) (keeps : Keeps t) (timed late : Bool) where
       (λ u e h. leads_more 3 4 w t (λ v o. Rests o) (omega arith) (decides_full w again e h))
       (word_at w m) (owner_at w m) (mutex_coded w again (lock.Decide (word_at w m)) g) refl g
 
-  -- it has looked
+  -- the thread has looked
   decides_step : (v : ℕ) → outcome_of (decided m v) ≡ outcome.Step
   decides_step v = either (is_locked v) (v == 1)
     where
@@ -164,7 +164,7 @@ module _ (t l m : ℕ) (keeps : Keeps t) (timed late : Bool) where
       can : can_do w (lock_act m (lock.Decide seen)) ≡ true
       can = rw is refl
 
-  -- it decides by a value that the word has no longer, or still
+  -- the thread decides by a value that the word has no longer, or still
   decides_by : (w : State) (again : Bool) (seen : ℕ) → Alone w again (lock.Decide seen) → RestsIn 8 w
   decides_by w again seen g = elim (cases_eq (word_at w m) seen) [
     | inl e ↦ leads_more 4 8 w t (λ v o. Rests o) (omega arith)

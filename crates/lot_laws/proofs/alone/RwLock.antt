@@ -49,7 +49,7 @@ module _ (t l : ℕ) (a : Admission) where
   abbrev to : RwLockPlace → RwLockAt → RwLockPlace
   to p at = record p { at = at }
 
-  -- it ends, or goes on from another place
+  -- the thread ends, or goes on from another place
   module _ (w : State) (P : State → Outcome → Type 0) where
     ends : (v : ℕ) (q : Line → List Waiter) (answer : Answer) (n : Next RwLockPlace) → n ≡ End answer
         → Comes w t l (plain_goes l a n) (outcome_of (plain_does l a n)) v q
@@ -73,7 +73,7 @@ module _ (t l : ℕ) (a : Admission) where
 
   -- ---------------------------------------------------------------- into a line
 
-  -- it sleeps, as the last of the line
+  -- the thread sleeps, as the last of the line
   abbrev pub Sleeps : Line → RwLockPlace → (Line → List Waiter) → State → Outcome → Type 0
   Sleeps m p q v x = (x ≡ outcome.Sleep) × (queue_at v (key_of l m) ≡ q m ++ waiter (key_of l m) t (want_at p)
       ∷ [])
@@ -95,7 +95,7 @@ module _ (t l : ℕ) (a : Admission) where
         c.1.queue Second ∙ last,
       )
 
-  -- its way is barred, or readers are left
+  -- the thread's way is barred, or readers are left
   check_sleeps : (p : RwLockPlace) (v : ℕ) (w : State) (q : Line → List Waiter)
       → bars a.recursive (want_at p) v ≡ true → Alone w (to p (at.Park parking.Check)) v q
       → Leads 2 w t (Sleeps Main p q)
@@ -238,7 +238,7 @@ module _ (t l : ℕ) (a : Admission) where
   counts_step v true = refl
   counts_step v false = refl
 
-  -- it owns where nobody shares, and else it sleeps aside
+  -- the thread owns where nobody shares, and else it sleeps aside
   abbrev pub Settles : Bool → RwLockPlace → (Line → List Waiter) → State → Outcome → Type 0
   Settles true p q v x = x ≡ outcome.End (entered (patience_of p.purpose))
   Settles false p q v x = Sleeps Second p q v x
@@ -346,7 +346,7 @@ module _ (t l : ℕ) (a : Admission) where
       (parks_leads p v w q e f)
   fresh_leads p v w q small (decisions.Refuse answer) h e f = absurd h
 
-  -- it has looked at the word as it is
+  -- the thread has looked at the word as it is
   looked_leads : (p : RwLockPlace) (v : ℕ) (w : State) (q : Line → List Waiter) (n : Next RwLockPlace)
       → v < 2 ^ 64 → n ≡ looked a p v → Comes w t l (plain_goes l a n) (outcome_of (plain_does l a n)) v q
       → Leads 7 w t (Decides (decided a p v) p v q)
@@ -510,7 +510,7 @@ module _ (t l : ℕ) (a : Admission) where
   wakes_end p m (waking.Leave any) v w q f = leads_more 1 5 w t (Ends p.purpose) (omega arith)
       (wakes_leave p m any v w q f)
 
-  -- it gives its right up, and wakes those that it saw
+  -- the thread gives its right up, and wakes those that it saw
   gave_ends : (p : RwLockPlace) (m : Line) (b : Bool) (answer : Answer) (v : ℕ) (w : State) (q : Line
       → List Waiter) → answer ≡ ends_with p.purpose
       → Comes w t l (plain_goes l a (if b then At (again p (at.Wake m waking.Enter) p.retries)
@@ -605,7 +605,7 @@ module _ (t l : ℕ) (a : Admission) where
       leads_so 6 w t (Upgrades (count_in v == 1) how retries v q) Resting (upgrades_so (count_in v == 1) how
       retries v q) (upgrade_leads how retries v w q f)
 
-  -- its time is up
+  -- the thread's time is up
   gives_up_rests : (m : Line) (p : RwLockPlace) (v : ℕ) (w : State) (q : Line → List Waiter)
       → IsWaiting p.purpose → Alone w (to p (parks_at m parking.GiveUp)) v q → Leads 7 w t Resting
   gives_up_rests Main p v w q waits f = leads_more 1 7 w t Resting (omega arith)
@@ -636,7 +636,7 @@ module _ (t l : ℕ) (a : Admission) where
   remove_rests Second p v w q waits f = let c = remove_comes w t l _ v q f (2 * l + 1) refl
       in leads_step w t Resting 8 c.0 (clear_rests Second p v _ _ waits c.1)
 
-  -- it stands in the line, or looks again
+  -- the thread stands in the line, or looks again
   leave_rests : (m : Line) (p : RwLockPlace) (b : Bool) (v : ℕ) (w : State) (q : Line → List Waiter)
       → v < 2 ^ 64 → Alone w (to p (parks_at m (parking.Leave b))) v q → Leads 8 w t Resting
   leave_rests Main p true v w q small f = leads_more 1 8 w t Resting (omega arith)
@@ -681,7 +681,7 @@ module _ (t l : ℕ) (a : Admission) where
   parks_rests m p parking.GiveUp v w q waits up small f = leads_more 7 9 w t Resting (omega arith)
       (gives_up_rests m p v w q waits f)
 
-  -- it decides by a value that the word has no longer, or still
+  -- the thread decides by a value that the word has no longer, or still
   stale_next : (p : RwLockPlace) (x v : ℕ) (d : Decision) → (v == x) ≡ false → (d ≡ decisions.Park → ⊥)
       → exchanged_next a (decides p x) x v d ≡ looked a (decides p x) v
   stale_next p x v decisions.Take e h =

@@ -131,7 +131,7 @@ module _ (w : State) (t l : ℕ) (a : Admission) (inductive : IsInductive w) (ad
   abbrev respins_from : RwLockPurpose → RwLockAt → RwLockPlace
   respins_from q at = place_for t l a q false at
 
-  -- its answer holds
+  -- the thread's answer holds
   holds : (q : RwLockPurpose) (at : RwLockAt) → place_at w t ≡ RwLock l a (Plain (respins_from q at))
       → (answer : Answer)
       → x ≡ outcome.End answer → HasAnswered t (Some (purpose_by q l)) (call_at w t).former answer

@@ -35,7 +35,7 @@ module _ (t l : ℕ) where
   abbrev RestsIn : ℕ → State → Type 0
   RestsIn k w = Leads k w t (λ v o. Rests o)
 
-  -- it goes on, and rests after
+  -- the thread goes on, and rests after
   goes : (k v : ℕ) (w : State) (q : Queues) (p : SemaphorePlace) (told : Outcome) → told ≡ outcome.Step
       → Comes w t l (Semaphore l p) told v q
       → (Alone (after w (go_of t)) p v q → RestsIn k (after w (go_of t))) → RestsIn (k + 1) w
@@ -86,7 +86,7 @@ module _ (t l : ℕ) where
             (park_comes w t l _ v q f (2 * l) (WordIs 1) Shared false refl e)
             (λ g. leaves (again && not false) false v _ _ g)
 
-    -- it saw another value than the word has now
+    -- the thread saw another value than the word has now
     module _ (again : Bool) (seen v : ℕ) (w : State) (q : Queues) (other : (v == seen) ≡ false)
         (f : Alone w (Acquire timed again (acquire.Decide seen)) v q) where
       sees : semaphore_next (Acquire timed again (acquire.Decide seen)) (Value v)
@@ -174,7 +174,7 @@ module _ (t l : ℕ) where
       refl f)
   try_rests (tries.Decide seen) v w q f = either (v == seen) (is_free seen) refl refl
     where
-      -- it saw another value, or one by which none was free
+      -- the thread saw another value, or one by which none was free
       anew : (o : Op) → act_of (Semaphore l (Try (tries.Decide seen))) ≡ act.Word l o → apply o v ≡ v
           → ((v == seen) && is_free v) ≡ false → RestsIn 2 w
       anew o is same_word not_so = looks_rest v w q

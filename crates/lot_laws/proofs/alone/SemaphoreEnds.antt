@@ -66,7 +66,7 @@ pub goes_inside : (l seen : ℕ) → is_free seen ≡ false → (seen == 0) ≡ 
 goes_inside l seen none parked = none_is_free l seen none
     ∙ ap (λ (b : Bool). if b then act.Word l (op.Exchange 0 1) else act.Enter (One (2 * l))) parked
 
--- its call goes on, by any act
+-- the thread's call goes on, by any act
 pub steps_on : (l seen : ℕ) → outcome_of (decided l seen) ≡ outcome.Step
 steps_on l seen = either (is_free seen) (seen == 0)
   where
@@ -91,7 +91,7 @@ module _ (t l : ℕ) where
   abbrev Alone : State → SemaphorePlace → ℕ → Queues → Type 0
   Alone w p v q = StepsAlone w t l (Semaphore l p) v q
 
-  -- it sleeps as the last of the queue
+  -- the thread sleeps as the last of the queue
   abbrev pub Sleeps : Queues → State → Outcome → Type 0
   Sleeps q v o = (o ≡ outcome.Sleep) × (queue_at v (2 * l) ≡ q Main ++ waiter (2 * l) t Shared ∷ [])
 
@@ -134,7 +134,7 @@ module _ (t l : ℕ) where
     Ended q true = Answers (acquired timed)
     Ended q false = Sleeps q
 
-    -- it decides by the word as it is
+    -- the thread decides by the word as it is
     module _ (again : Bool) (w : State) (q : Queues) where
       abbrev pub Deciding : ℕ → Type 0
       Deciding v = Alone w (Acquire timed again (acquire.Decide v)) v q
@@ -298,7 +298,7 @@ module _ (w : State) (t l : ℕ) (inductive : IsInductive w) (sort : (rules_in w
   abbrev queues : Line → List Waiter
   queues m = queue_at w (key_of l m)
 
-  -- its answer holds
+  -- the thread's answer holds
   holds : (p : SemaphorePlace) → place_at w t ≡ Semaphore l p → (answer : Answer) → x ≡ outcome.End answer
       → HasAnswered t (Some ((semaphore_profile p).purpose l)) (call_at w t).former answer (locks_of v2)
   holds p is answer e = subst (λ q. HasAnswered t q (call_at w t).former answer (locks_of v2)) called

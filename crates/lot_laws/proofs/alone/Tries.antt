@@ -102,7 +102,7 @@ unbarred w t world (inr none) b = rests_idle (place_at w t) (rights_in (locks_of
 
 -- ---------------------------------------------------------------- a call from its beginning
 
--- it begins as one that tries, and reads no queue
+-- the thread begins as one that tries, and reads no queue
 abbrev Begins : State → ℕ → Kind → Call → Type 0
 Begins w t k c = OnlyTries (purpose_of k c)
     → ((rights : ℕ → Rights) → IsTry (call_state (first_place k c) rights).purpose)
@@ -167,7 +167,7 @@ begins_trying w t (call.Once l c) = of_once w t l (kind_at w l) c
 begins_trying w t (call.Condvar l c) = of_condvar w t l (kind_at w l) c
 begins_trying w t (call.Semaphore l c) = of_semaphore w t l (kind_at w l) c
 
--- it reads no queue, and nobody bars its run
+-- the thread reads no queue, and nobody bars its run
 pub tries_freely : (w : State) (t : ℕ) (c : Call) → IsWorld w → place_at w t
     ≡ first_place (kind_at w (lock_in c)) c
     → OnlyTries (purpose_at (locks_of w) c) → (n : ℕ) (last : Outcome)

@@ -118,7 +118,7 @@ module _ (w : State) (t l : ℕ) (p : Place) (v : ℕ) (q : Line → List Waiter
           (ap (state_after_act w t p) is ∙ ap (λ b. state_after_hand_over_by b w t p l x) e)
           (ap (reply_to w t) is ∙ ap Value f.word) (word b) (queue b)
 
-  -- it was handed the lock
+  -- the thread was handed the lock
   pub accept_comes : act_of p ≡ act.Accept → Comes w t l (next_place p Done) (outcome_of (next_act p Done)) v
       q
   accept_comes is = comes w Done v q (rw is refl) (ap (state_after_act w t p) is) (ap (reply_to w t) is)
@@ -162,7 +162,7 @@ module _ (w : State) (t l : ℕ) (p : Place) (v : ℕ) (q : Line → List Waiter
           ∙ ap (λ c. if c then record w { queues = queues_with_last w.queues key t x } else w) e)
           (ap (reply_to w t) is ∙ ap Parked e) f.word (λ m. refl)
 
-  -- it leaves its line, or takes others of one
+  -- the thread leaves its line, or takes others of one
   pub remove_comes : (key : ℕ) → act_of p ≡ act.Remove key
       → Comes w t l (next_place p (reply_to w t (act.Remove key)))
       (outcome_of (next_act p (reply_to w t (act.Remove key)))) v
@@ -220,7 +220,7 @@ module _ (w : State) (t l : ℕ) (p : Place) (v : ℕ) (q : Line → List Waiter
             (ap (λ x. (location x).inside) f.place ∙ outside) in cc;
       })
 
-  -- it goes on from there, or is barred
+  -- the thread goes on from there, or is barred
   pub leads_into : (P : State → Outcome → Type 0) (k : ℕ) (m : Line) → act_of p ≡ act.Enter (One (key_of l m))
       → (location p).inside ≡ None → outcome_of (next_act p Done) ≡ outcome.Step
       → (StepsAlone (after w (go_of t)) t l (next_place p Done) v q → Leads k (after w (go_of t)) t P)

@@ -236,7 +236,7 @@ module _ (t l m : ℕ) (keeps : Keeps t) (timed : Bool) where
                 (refuses (after w (go_of t)) h),
           )
 
-  -- it enters the section, or is barred
+  -- the thread enters the section, or is barred
   pub into_section : (w : State) (g : Alone w wait.Enter) (P : State → Outcome → Type 0)
       → (can_do w (wait_act l m wait.Enter) ≡ true → Leads 17 w t P) → Leads 17 w t P
   into_section w g P on = elim (free_here t l m keeps w (Wait m timed wait.Enter) g refl refl) [

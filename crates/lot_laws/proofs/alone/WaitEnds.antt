@@ -84,7 +84,7 @@ module _ (t l m : ℕ) (keeps : Keeps t) (timed : Bool) where
       owner_then w s at g can (owner_kept w s at g other j.1),
     )
 
-    -- it stands in that queue
+    -- the thread stands in that queue
     module _ (last : 1 ≤ times t q) where
       listed : (v : State) (at : WaitAt) → Alone v at → LetGo v → (wait_row m at).listed ≡ false → ⊥
       listed v at g j none = let here : times t (lock_state v l).queue ≡ 0 =
@@ -126,7 +126,7 @@ module _ (t l m : ℕ) (keeps : Keeps t) (timed : Bool) where
 
   -- ---------------------------------------------------------------- from its beginning
 
-  -- it stands after the last
+  -- the thread stands after the last
   abbrev after_last : List Queued → List Queued
   after_last q = q ++ (record { thread = t; want = WaitHere }) ∷ []
 

@@ -93,7 +93,7 @@ looks_to_come : (w : State) (p : Place) (k : ℕ) → mutex_to_come w p ≡ Some
 looks_to_come w (Condvar c (Look all)) k e = tt
 looks_to_come w p k e = let f : ◌≡◌ {A = Option ℕ} None (Some k) = e in absurd cc
 
--- it names such locks alone, and is to look for no mutex
+-- the thread names such locks alone, and is to look for no mutex
 abbrev NamesOnly : (ℕ → Type 0) → Place → Type 0
 NamesOnly Named p = ((k : ℕ) → NamesLock p k → Named k) × (IsLook p → ⊥)
 
@@ -209,7 +209,7 @@ module _ (w : State) (t : ℕ) (world : IsWorld w) (way : IsUnobstructed w t) wh
       by_place (Once l at) is = otherwise (Once l at) is (λ h. h)
       by_place (Semaphore l at) is = otherwise (Semaphore l at) is (λ h. h)
 
-  -- it has its way on
+  -- the thread has its way on
   way_after : IsUnobstructed (after w (go_of t)) t
   way_after = either (is_possible w (go_of t)) refl
     where

@@ -37,7 +37,7 @@ module _ (w : State) (t l : ℕ) (inductive : IsInductive w) (there : t < length
   abbrev here : Site
   here = lock_by w l r
 
-  -- it stands at the lock as the row says, and in no line elsewhere
+  -- the thread stands at the lock as the row says, and in no line elsewhere
   pub record StandsAs : Type 0 where
     pub location : location_at (place_at w t) l ≡ location_of x
     pub taken : taken_at (place_at w t) l ≡ taken_from x.row.hand x.row.wants true
@@ -91,7 +91,7 @@ module _ (w : State) (t l : ℕ) (inductive : IsInductive w) (there : t < length
         (own_by (End ∷ []) does))
         (f.location ∙ goes ∙ sym s.location))
 
-    -- it does nothing, and stays
+    -- the thread does nothing, and stays
     pub turns : x.deeds None told ≡ [] → location_then x told ≡ location_of x → (location_of x).hand ≡ None
         → Goes w (put w t p2) l (acts t (x.deeds None told))
     turns does goes free = subst (λ ds. Goes w (put w t p2) l (acts t ds)) (sym does)

@@ -67,7 +67,7 @@ pub record Tied (w : State) (l : ℕ) (p : Place) (v : Says) : Type 0 where
   pub row : profile p ≡ v.row
   pub comes : (told : Reply) → ComesBy l (v.comes told) (next_place p told) (next_act p told)
   pub fits : (told : Reply) → MayCome w l v told → FitsItsLock w (next_place p told)
-  -- it is told of a closure exactly where its run begins
+  -- the thread is told of a closure exactly where its run begins
   pub begins : (t : ℕ) → IsInductive w → can_do w (act_of p) ≡ true
       → Calls.MayCome l v.row (event_by l
       (case_of v.row.carries (v.deeds (whom_by w (act_of p)) (reply_to w t (act_of p)))))
@@ -181,14 +181,14 @@ module _ (w : State) (t l : ℕ) (p : Place) (inductive : IsInductive w) (shape 
 
   -- ---------------------------------------------------------------- each act
 
-  -- its deeds as it goes on, what they make of its call, and of those of the others
+  -- the thread's deeds as it goes on, what they make of its call, and of those of the others
   pub record GoesFrom (q : Place) (y : Act) : Type 0 where
     pub goes : Goes w (put (state_after_act w t p y) t (next_place q (reply_to w t y))) l
         (acts t (x.deeds (whom_by w y) (reply_to w t y)))
     pub tells : CallFollows r here.lock t l x.row (x.deeds (whom_by w y) (reply_to w t y))
         (v.comes (reply_to w t y))
     pub others : WakesOwn x.row.carries y (case_of x.row.carries (x.deeds (whom_by w y) (reply_to w t y)))
-    -- it is in nobody's hand then
+    -- the thread is in nobody's hand then
     pub free : (location_then x (reply_to w t y)).hand ≡ None
 
   tells_by : (who : Option ℕ) (told : Reply) → told ≢ Late → v.hears r here t who told
@@ -459,11 +459,11 @@ module _ (w : State) (t l : ℕ) (p : Place) (inductive : IsInductive w) (shape 
     by_act (act.Closure state) e g can = absurd cc
     by_act y e g can = absurd g
 
-    -- its deeds are what the place and the reply say
+    -- the thread's deeds are what the place and the reply say
     pub goes_on : can_do w (act_of p) ≡ true → GoesFrom p (act_of p)
     goes_on can = subst (λ q. GoesFrom q (act_of p)) is (by_act (act_of p) refl k.page.moves can)
 
-  -- its time is up
+  -- the thread's time is up
   pub goes_late : (m : Line) → x.row.late_line ≡ Some m → section_is_free w (key_of l m) ≡ true
       → Goes w (state_after_late_under w t (key_of l m)) l (acts t (x.deeds None Late))
   goes_late m e free = goes_in w t l inductive there own r refl x same_row v.hears m Late

@@ -75,7 +75,7 @@ module _ (w : State) (t l : ℕ) (p : Place) (inductive : IsInductive w) (shape 
   then_there = get_or-set_same (state_after_act w t p (act_of p)).places t _ Idle
       (rw (performed_counts w t p (act_of p)).0 there)
 
-  -- it does something, sleeps where it stands about the lock, or runs its closure inside its run
+  -- the thread does something, sleeps where it stands about the lock, or runs its closure inside its run
   rests : (q : Place) → place_at afterwards t ≡ q → called_lock q ≡ Some l → (profile q).hand ≡ None
       → GoesAs afterwards t l (outcome_of (act_of q))
   rests q e called unheld = by_act (act_of q) refl

@@ -173,8 +173,8 @@ happens_sending w v t c m all owned number ds before after f apart sent brought 
 
 -- ---------------------------------------------------------------- the calls
 
--- it is told of a step; that it sleeps, where it stands about the lock; or of its closure, where its run is
--- on
+-- the thread is told of a step; that it sleeps, where it stands about the lock; or of its closure, where its
+-- run is on
 abbrev pub GoesAs : State → ℕ → ℕ → Outcome → Type 0
 GoesAs v t l o =
     (o ≡ outcome.TheVariants.Step)
@@ -294,7 +294,8 @@ begins_nothing w l row (Some case) o runs may told = by_case case o may told
 
 -- ---------------------------------------------------------------- a step is one event
 
--- its call has come to what the event made of it, and it is told so; or it has ended, with a true answer
+-- the thread's call has come to what the event made of it, and it is told so; or it has ended, with a true
+-- answer
 abbrev pub CallLed : State → State → ℕ → Event → CallState → Outcome → Type 0
 CallLed w v t e call o =
     ((call_state (place_at v t) (rights v t) ≡ woken (locks_of w) t e t (going_on e call))
@@ -437,7 +438,7 @@ module _ (w v : State) (t l : ℕ) (c : Option LockCase) (h : IsEvent w v t (eve
     goes_by may n o comes leads others begins = goes_with w v t (event_by l c) h call_then
         (called_by (rights w t)) o (may_happen may) (λ e. cc) (led n comes leads) others begins
       where
-        -- it is in no hand of its own
+        -- the thread is in no hand of its own
         unwoken : (c : Option LockCase) (x : CallState) → woken (locks_of w) t (event_by l c) t x ≡ x
         unwoken (Some locks.Wake) x = rw (own_hand w h.before t l (subst IsSingle (sym is) single)) refl
         unwoken (Some (HandOff y z)) x = rw (own_hand w h.before t l (subst IsSingle (sym is) single)) refl

@@ -238,7 +238,7 @@ condvar_no_mutex w l (condvars.Wait m timed at) other r of = other of
 condvar_no_mutex w l (condvars.Look all) other r of = other of
 condvar_no_mutex w l (condvars.Notify all m at) other r of = other of
 
--- its call goes on by what it sees there
+-- the thread's call goes on by what it sees there
 module _ (w : State) (t : ℕ) (shape : IsWellFormed w) (inductive : IsInductive w) (there : t
     < length w.places)
     (q : Place)
@@ -299,7 +299,7 @@ module _ (w : State) (t : ℕ) (shape : IsWellFormed w) (inductive : IsInductive
 module _ (w : State) (t : ℕ) (shape : IsWellFormed w) (inductive : IsInductive w) (there : t
     < length w.places)
   where
-    -- its closure has answered, and its run ends by the next act
+    -- the thread's closure has answered, and its run ends by the next act
     closed_does : (succeeded : Bool) → can_close w t succeeded ≡ true
         → (((locks_of w).stances t).in_closure ≡ true)
         × Closes (locks_of w) t (run_ending succeeded) (close_outcome w t succeeded)

@@ -43,7 +43,7 @@ load_untouched : (w : State) (t l : ℕ) (p : Place) (a : Act) → a ≡ Word l 
 load_untouched w t l p a loads = subst (λ x. KeepsWordsAndQueues w (state_after_act w t p x)) (sym loads)
     ((λ k. set_keeps (λ x. x.word) w.locks l k _ (unlocked kind.TheVariants.Mutex) refl), λ key. refl)
 
--- it has come on in the same call, beside the same mutex
+-- the thread has come on in the same call, beside the same mutex
 pub fits_on : (w : State) (l : ℕ) (at at2 : CondvarPlace) → FitsCondvar w l at → IsReached at2
     → mutex_beside at2 ≡ mutex_beside at → FitsCondvar w l at2
 fits_on w l at at2 f reached beside = record {
@@ -70,7 +70,7 @@ looks_on (Wait m timed (wait.Lock late (mutex.Lock e again to))) at2 is reached 
 looks_on (Wait m timed (wait.Lock late to)) at2 is reached = absurd cc
 looks_on at at2 is reached = absurd cc
 
--- it is in the same call, of a lock of its sort
+-- the thread is in the same call, of a lock of its sort
 calls_on : (w : State) (p q : Place) → respins_from p ≡ Some q → FitsItsLock w p → FitsItsLock w q
 calls_on w Idle q is calls = absurd cc
 calls_on w (Condvar l at) q is calls = by_place (condvar_looking at) refl is
@@ -281,7 +281,7 @@ module _ (w : State) (t : ℕ) (there : t < length w.places) (q : Place)
     pub here : place_at looked t ≡ q
     here = get_or-set_same w.places t q Idle there
 
-    -- it may look now
+    -- the thread may look now
     pub looks_now : can_go looked t ≡ true
     looks_now = rw (here, looks.loads) refl
 

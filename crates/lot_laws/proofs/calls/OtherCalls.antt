@@ -217,7 +217,7 @@ module _ (w : State) (t : ℕ) (p2 : Place) where
 
 -- ---------------------------------------------------------------- those in its hand are told
 
--- it is taken there by the one in whose hand it is
+-- the thread is taken there by the one in whose hand it is
 pub taken_by_hand : (w : State) (p : Place) (t l : ℕ) → FitsItsLock w p → hand_at p l ≡ hand t false
     → is_taken_by t (taken_at p l) ≡ true
 taken_by_hand w (Condvar k at) t l calls h = waiter_taken_by k at t l h
@@ -310,7 +310,7 @@ module _ (w : State) (t l : ℕ) (inductive : IsInductive w) (is_of : IsOf l (pl
   told_at b reply places u ne = get_or-set_other _ t u p2 Idle ne ∙ get_or-map (place_after_telling t reply)
       b.places u Idle ∙ ap (λ (xs : List Place). place_after_telling t reply (get_or xs u Idle)) places
 
-  -- it has taken them
+  -- the thread has taken them
   pub delivers : (b : State) (reply : Reply) → b.places ≡ w.places → carried_at (place_at w t) l ≡ Some false
       → Befalls w (put (state_after_telling b t reply) t p2) t l reply
   delivers b reply places carries u ne = told_at b reply places u ne
@@ -333,7 +333,7 @@ module _ (w : State) (t l : ℕ) (inductive : IsInductive w) (is_of : IsOf l (pl
       ∙ sym (ap (λ c. if c then next_place (place_at w u) reply else place_at w u)
       (unless_held w inductive t l u (λ h. let e = inductive.stands.hands.taken t u l false h in cc)))
 
-  -- it has handed them the lock: their calls are as they were
+  -- the thread has handed them the lock: their calls are as they were
   pub tells_handed : (b : State) → b.places ≡ w.places → carried_at (place_at w t) l ≡ Some true → (u : ℕ)
       → u ≢ t
       → (r : ℕ → Rights)

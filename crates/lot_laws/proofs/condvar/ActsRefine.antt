@@ -150,7 +150,7 @@ module _ (w : State) (t l : ℕ) (shape : IsWellFormed w) (inductive : IsInducti
     fits_notified = fits_next notifies is m refl (condvar_next notifies told) (reaches notifies is m refl can)
         (names_notified (next_notify all m p told))
 
-    -- it stands where it stood, and goes on from there
+    -- the thread stands where it stood, and goes on from there
     goes_there : next_place (place_at (state_after_act w t (Condvar l notifies) (notify_act all l m p)) t)
         told
         ≡ condvar_goes l (condvar_next notifies told)
@@ -250,7 +250,7 @@ module _ (w : State) (t l : ℕ) (shape : IsWellFormed w) (inductive : IsInducti
       others_waiting = wait_others w t l m timed inductive (sort_m waits is m refl) there apart_w p
           (fits waits is m refl).reached is can _ happened_waiting
 
-      -- it goes on from where it stood, unless it wakes itself
+      -- the thread goes on from where it stood, unless it wakes itself
       module _ (still : stood ≡ Condvar l waits) (unwoken : IsUnwoken w t l m timed p) where
         goes_there_waiting : place_at waited t ≡ condvar_goes l (condvar_next waits heard)
         goes_there_waiting = get_or-set_same (state_after_act w t (Condvar l waits) (wait_act l m p)).places t
@@ -330,7 +330,7 @@ module _ (w : State) (t l : ℕ) (shape : IsWellFormed w) (inductive : IsInducti
         (apart w t l releases inductive is m refl) sort_of_m (plain releases is m refl)
         (line_of releases is m refl m n.1) (section_of releases is m refl m n.1) s a is
 
-    -- it has come to a place of its call
+    -- the thread has come to a place of its call
     taken_reached : (none_left : Bool)
         → IsReachedNext (condvar_next (Wait m timed (releasing (stands.InHand t) unlock.Take))
         (Took true none_left))
@@ -419,7 +419,7 @@ module _ (w : State) (t l : ℕ) (shape : IsWellFormed w) (inductive : IsInducti
           → IsLeft t s a → Goes
       stays_on still free = waits_still m timed (releasing s a) is can fits_left still (stays_unwoken free)
 
-  -- it has taken itself
+  -- the thread has taken itself
   module _ (m : ℕ) (timed : Bool) (is : place_at w t ≡ Condvar l
       (Wait m timed (releasing stands.Moved unlock.Take)))
       (can : can_do w (unlock_act m unlock.Take) ≡ true) where
@@ -462,7 +462,7 @@ module _ (w : State) (t l : ℕ) (shape : IsWellFormed w) (inductive : IsInducti
             (ap (condvar_next (Wait m timed (releasing stands.Moved unlock.Take))) e)
             (goes_by (Took true false) e) (told_by (Took true false) e) tt (λ c. c) (λ r. refl) calm
 
-  -- it wakes itself
+  -- the thread wakes itself
   module _ (m : ℕ) (timed : Bool) (is : place_at w t ≡ Condvar l
       (Wait m timed (releasing (stands.InHand t) (unlock.Leave true))))
       (can : can_do w (unlock_act m (unlock.Leave true)) ≡ true) where
@@ -602,7 +602,7 @@ module _ (w : State) (t l : ℕ) (shape : IsWellFormed w) (inductive : IsInducti
 
   -- ---------------------------------------------------------------- whatever it does
 
-  -- it goes on in the abstract locks
+  -- the thread goes on in the abstract locks
   pub condvar_on : (at : CondvarPlace) → place_at w t ≡ Condvar l at → can_do w (condvar_act l at) ≡ true
       → GoesOn (locks_of w) t (going_outcome w t (Condvar l at))
       (locks_of (state_after_going w t (Condvar l at)))

@@ -18,7 +18,7 @@ use Rattle.lot_laws.proofs.condvar.CondvarPromises.{StandsAt, stands_at}
 use Rattle.lot_laws.proofs.machine.Parts.{differ, same}
 use Rattle.lot_laws.proofs.mutex.MutexRows.{decided_awake, unlock_awake}
 
--- it was handed its mutex by a thread that wakes it yet
+-- the thread was handed its mutex by a thread that wakes it yet
 pub record WasHandedBeside (k : ℕ) (at : CondvarPlace) : Type 0 where
   pub mutex : ℕ
   pub by : ℕ

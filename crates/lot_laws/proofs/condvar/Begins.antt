@@ -42,7 +42,7 @@ untaken_first l (condvar_call.Notify all) k = refl
 -- ---------------------------------------------------------------- it begins
 
 module _ (w : State) (t l : ℕ) where
-  -- its thread has the right that it needs
+  -- the thread's thread has the right that it needs
   right_held : (c : CondvarCall) → (names_mutex_there w (mutex_named c) && holds_right w t (call.Condvar l c))
       ≡ true
       → HasRight (locks_of w) t (Some (condvar_purpose l c))

@@ -108,7 +108,7 @@ condvar_sort : (k : Kind) → is_condvar k ≡ true → (rules_of k).sort ≡ lo
 condvar_sort kind.Condvar h = refl
 condvar_sort k h = absurd cc
 
--- it may begin where it names a plain mutex that its thread owns
+-- a wait may begin where it names a plain mutex that its thread owns
 module _ (w : State) (t l : ℕ) (inductive : IsInductive w) (there : t < length w.places) (is : place_at w t
     ≡ Idle) where
   pub condvar_begins : (c : CondvarCall) → is_open_to w t (call.Condvar l c) ≡ true
@@ -146,7 +146,7 @@ module _ (w : State) (t l : ℕ) (inductive : IsInductive w) (there : t < length
 
 module _ (w : State) (t l m : ℕ) (inductive : IsInductive w) (there : t < length w.places) (apart : m ≢ l)
   where
-    -- it leaves the queue of the condition variable
+    -- the thread leaves the queue of the condition variable
     module _ (sort : (rules_in w l).sort ≡ locks.Condvar) (is : place_at w t
         ≡ Condvar l (Wait m true (wait.Asleep stands.Listed)))
         (fits : FitsItsLock w (Condvar l (Wait m true wait.Remove))) where

@@ -39,13 +39,13 @@ SeesBy w t l m o v c =
 
 -- ---------------------------------------------------------------- places
 
--- it is about to release its mutex, whose word has the parked bit
+-- the thread is about to release its mutex, whose word has the parked bit
 abbrev SeesAt : State → CondvarPlace → ℕ → Line → Type 0
 SeesAt w (Wait n timed (wait.Release s (mutex.Unlock unlock.Subtract))) l m = (n ≡ l) × (m ≡ Main)
     × (is_parked (word_at w n) ≡ true)
 SeesAt w at l m = ⊥
 
--- it enters the section of its mutex next
+-- the thread enters the section of its mutex next
 abbrev EntersNext : Next CondvarPlace → ℕ → Line → Type 0
 EntersNext (At p) l m = EntersAt p l m
 EntersNext (Over answer) l m = ⊥
@@ -71,7 +71,7 @@ module _ (w : State) (t k : ℕ) where
   abbrev next_of : CondvarPlace → CondvarPlace → Next CondvarPlace
   next_of at q = condvar_next q (reply_to w t (condvar_act k at))
 
-  -- it enters the section next only from its release, where that saw the bit
+  -- the thread enters the section next only from its release, where that saw the bit
   release_enters : (n : ℕ) (timed : Bool) (s s2 : WaiterFate) (at : MutexPlace)
       → IsReached (Wait n timed (wait.Release s at))
       → (l : ℕ) (m : Line)
@@ -178,7 +178,7 @@ on_its_way k at r e = absurd e
 abbrev has_released_at : ℕ → Next CondvarPlace → (ℕ → Rights) → Bool
 has_released_at k n r = (call_state (condvar_goes k n) r).released
 
--- it is about to release its mutex
+-- the thread is about to release its mutex
 abbrev IsReleasingNow : WaitAt → Type 0
 IsReleasingNow (wait.Release s (mutex.Unlock unlock.Subtract)) = Unit {0}
 IsReleasingNow at = ⊥
@@ -240,7 +240,7 @@ module _ (w : State) (t k : ℕ) (at : CondvarPlace) (inductive : IsInductive w)
   tells = ap (λ p. outcome_of (next_act p (reply_to w t (condvar_act k at)))) still.1
 
   module _ (l : ℕ) (m : Line) where
-    -- its call does what it sees there
+    -- the thread's call does what it sees there
     sees_by : (o : Outcome) → SeesAt w at l m → o ≡ told.Step → (call_at v t).released ≡ true
         → ((j : ℕ) → LooksFirst (call_at v t).purpose j → ⊥)
         → SeesBy w t l m o v (call_state (Condvar k at) (rights w t))
@@ -325,7 +325,7 @@ module _ (w : State) (t k : ℕ) (at : CondvarPlace) (inductive : IsInductive w)
           ])
         ]
 
-  -- it owes what it is inside, and what it has seen
+  -- the thread owes what it is inside, and what it has seen
   pub went_owing : IsInductive v → (l : ℕ) (m : Line)
       → Owes v t l m ↔ (IsInside v t l m ⊎ SeesWaiters w t l m (going_outcome w t (Condvar k at)) v)
   went_owing afterwards l m = subst (λ o. Owes v t l m ↔ (IsInside v t l m ⊎ SeesWaiters w t l m o v))

@@ -76,12 +76,12 @@ unlisted all m (notify.Leave any number) = refl
 
 -- ---------------------------------------------------------------- at each of its locks
 
--- it stands in a line of the lock, or was taken from one
+-- the thread stands in a line of the lock, or was taken from one
 abbrev pub StandsAt : Place → ℕ → Type 0
 StandsAt p l = ((location_at p l).stands ≢ None) ⊎ (taken_at p l ≢ None)
 
 module _ (k : ℕ) where
-  -- it tries its mutex again, and nothing else
+  -- the thread tries its mutex again, and nothing else
   tries_mutex : (m l : ℕ) (b : Bool) → (((m == l) && b) || false) ≡ true ↔ (if b then Some m else None)
       ≡ Some l
   tries_mutex m l b = either (m == l) b refl
@@ -103,7 +103,7 @@ module _ (k : ℕ) where
   two_retry (Notify all m at) l r = tries_mutex m l (mutex_side (Notify all m at)).retries
   two_retry (Look all) l r = (λ h. absurd cc, λ h. absurd cc)
 
-  -- it owes, and stands, in no second line
+  -- the thread owes, and stands, in no second line
   main_owed : (a b c d : Bool) → or_else (if a then in_line b Main else None) (if c then in_line d Main
       else None) ≡ Some Second
       → ⊥
@@ -218,7 +218,7 @@ two_know w k (Wait m timed at) fits =
 two_know w k (Notify all m at) fits = fits.sort
 two_know w k (Look all) fits = fits.sort
 
--- it stands at one of its locks at most
+-- the thread stands at one of its locks at most
 module _ (w : State) (k m : ℕ) (timed : Bool) (at : WaitAt)
     (fits : FitsItsLock w (Condvar k (Wait m timed at))) where
   apart : k ≢ m

@@ -117,7 +117,7 @@ mutex_goes_on (mutex.HandOff bumps a) r h = (mutex.HandOff bumps a, ap (in_hand_
     hands a (Woken n) h = refl
     hands a r h = absurd h
 
--- it goes on there, and says the same
+-- the thread goes on there, and says the same
 pub record SaysTheSame (p : CondvarPlace) (r : Reply) : Type 0 where
   pub place : CondvarPlace
   pub goes : condvar_next p r ≡ next.At place

@@ -39,7 +39,7 @@ module _ (w : State) (inductive : IsInductive w) (t : ℕ) where
   fits_at : (l : ℕ) (at : CondvarPlace) → place_at w t ≡ Condvar l at → FitsCondvar w l at
   fits_at l at is = subst (FitsItsLock w) is (inductive.stands.calls t)
 
-  -- its lock is that of the place
+  -- the lock of a call is that of the thread's place
   pub call_lock : of_purpose (call_at w t).purpose ≡ called_lock (place_at w t)
   call_lock = by_place (place_at w t) refl
     where
@@ -231,7 +231,7 @@ module _ (w : State) (s : Step) (shape : IsWellFormed w) (inductive : IsInductiv
   step : IsTurn (locks_of w) s (step_outcome w s) (locks_of v)
   step = after_step w s shape inductive counted condvars
 
-  -- its call is of the lock that it was of, or it has ended
+  -- the thread's call is of the lock that it was of, or it has ended
   abbrev pub StaysOf : Type 0
   StaysOf = (called_lock (place_at v t) ≡ called_lock (place_at w t)) ⊎ (called_lock (place_at v t) ≡ None)
 

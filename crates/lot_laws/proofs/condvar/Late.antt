@@ -39,7 +39,7 @@ condvar_acts k (Notify all m at) = notify_acts all k m at
 
 -- ---------------------------------------------------------------- its time is up
 
--- it sleeps in the queue of one of its locks, and is awake after
+-- the thread sleeps in the queue of one of its locks, and is awake after
 pub record IsLate (k : ℕ) (at : CondvarPlace) (key : ℕ) : Type 0 where
   pub lock : ℕ
   pub there : (n : ℕ) → PlaceFits n (Condvar k at) → lock < n

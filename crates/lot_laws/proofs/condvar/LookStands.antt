@@ -58,7 +58,7 @@ module _ (w : State) (t l : ℕ) (all : Bool) (inductive : IsInductive w) (is_th
         taken = b.2 ∙ sym a.2;
       })
 
-  -- it sees what is shown, and goes on
+  -- the thread sees what is shown, and goes on
   pub looks : FitsItsLock w p2 → Goes w (put (state_after_act w t (Condvar l (Look all)) (act.Word l op.Load))
       t p2) l (acts t [])
   looks fits = acting.word_goes w t l inductive is_there (rules_in w l) refl p2 (λ k ne. alike k) fits

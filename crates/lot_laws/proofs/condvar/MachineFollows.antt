@@ -162,7 +162,7 @@ module _ (w : State) (t l : ℕ) (at : CondvarPlace) (shape : IsWellFormed w) (i
     shows true = refl
     shows false = refl
 
-    -- it locks its mutex again
+    -- the thread locks its mutex again
     module _ (late again : Bool) where
       abbrev relocks : LockAt → CondvarPlace
       relocks a = Wait m timed (wait.Lock late (mutex.Lock entry.Lock again a))

@@ -62,7 +62,7 @@ module _ (w : State) (l m : ℕ) (apart : m ≢ l) (timed : Bool) where
     fits = fits;
   }
 
-  -- it has come to the next place too
+  -- the thread has come to the next place too
   comes : (p p2 : WaitAt) → FitsCondvar w l (waits p) → (IsReached (waits p) → IsReached (waits p2))
       → FitsItsLock w (Condvar l (waits p2))
   comes p p2 fits reached = record { sort = fits.sort; reached = reached fits.reached; mutex = fits.mutex }
@@ -146,7 +146,7 @@ module _ (w : State) (t l m : ℕ) (inductive : IsInductive w) (apart : m ≢ l)
         let b : Some u ≡ Some t = sym a ∙ held in let c : u ≡ t = cc in let d : Condvar l (Wait m timed p)
         ≡ Condvar l this = sym at ∙ ap (place_at w) c ∙ is in cc
 
-    -- it sleeps, or releases its mutex still
+    -- the thread sleeps, or releases its mutex still
     module _ (P : Place → Type 0)
         (sleeps : (timed : Bool) → FitsCondvar w l (Wait m timed (wait.Asleep stands.Listed))
         → P (Condvar l (Wait m timed (wait.Asleep stands.Listed))))
@@ -189,7 +189,7 @@ module _ (w : State) (t l m : ℕ) (inductive : IsInductive w) (apart : m ≢ l)
     waits_across = each_waiter (WaitsAcross w t l m) (λ timed fits. sleeper w l m apart timed t fits)
         (λ timed at fits. releaser w l m apart timed t at fits)
 
-    -- its call knows then that it was moved
+    -- the thread's call knows then that it was moved
     abbrev KnowsIt : Reply → Place → Type 0
     KnowsIt reply p = (r : ℕ → Rights) → call_state (next_place p reply) r ≡ record (call_state p r)
         { recalls = WasMoved }

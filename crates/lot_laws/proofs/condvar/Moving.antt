@@ -28,7 +28,7 @@ pub record GoesAcross (w : State) (c m : ℕ) (p p2 : Place) (at_m : Location �
   pub alike : (k : ℕ) → k ≢ c → k ≢ m → Alike k p p2
   pub fits : FitsItsLock w p2
 
--- it stands in the list of c, and nowhere at m
+-- the thread stands in the list of c, and nowhere at m
 pub record WaitsAcross (w : State) (t c m : ℕ) (p : Place) : Type 0 where
   pub stands : (location_at p c).stands ≡ Some Main
   pub out : (location_at p m).stands ≡ None

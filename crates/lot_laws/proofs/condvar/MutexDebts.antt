@@ -63,8 +63,8 @@ debtor_beside sort c at l m debt = by_lock (c == l) (mutex_beside at) refl debt
 
 -- ---------------------------------------------------------------- its acts
 
--- it has the debt at its mutex, is awake, and stands nowhere, or is a wait that has released the mutex and
--- owes there
+-- the thread has the debt at its mutex, is awake, and stands nowhere, or is a wait that has released the
+-- mutex and owes there
 pub record LooksBeside (c : ℕ) (at : CondvarPlace) (m : ℕ) : Type 0 where
   pub debt : (((condvar_row at).owes_mutex ≡ true) × ((sort : Sort) (gave_up : Option ℕ)
       → WakesWaiters sort (Some (condvar_place_purpose at c)) gave_up (condvar_recalls at) m))

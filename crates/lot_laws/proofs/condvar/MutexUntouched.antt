@@ -156,7 +156,7 @@ module _ (w : State) (t l m : ℕ) (at : CondvarPlace) (inductive : IsInductive 
           (condvar_next at told) of beside k ne nm)
     ]
 
-    -- it goes into the section
+    -- the thread goes into the section
     pub enters_there : (line : key_of l Main < length w.sections) → section_at w (key_of l Main) ≡ None
         → (there at).inside ≡ None → there_then at told ≡ record (there at) { inside = Some Main }
         → Goes w (put (state_with_sections w (One (key_of l Main)) (Some t)) t p2) l (acts t (In Main ∷ []))
@@ -173,7 +173,7 @@ module _ (w : State) (t l m : ℕ) (at : CondvarPlace) (inductive : IsInductive 
         (ap (λ (y : Location). y.inside) was ∙ within) (Out ∷ []) (λ h. tt) (out_steps within goes)
         (then_is ∙ goes ∙ sym (ap (λ (y : Location). record y { inside = None }) was))
 
-    -- it stands in no line of another lock
+    -- the thread stands in no line of another lock
     module _ (out_m : (location_at (place_at w t) m).stands ≡ None) where
       out : (k : ℕ) → k ≢ l → (location_at (place_at w t) k).stands ≡ None
       out k ne = elim (cases_eq k m) [
@@ -182,7 +182,7 @@ module _ (w : State) (t l m : ℕ) (at : CondvarPlace) (inductive : IsInductive 
             ∙ ap (λ (y : Location). y.stands) (nothing_there l m apart (next.At at) of k ne nm)
       ]
 
-      -- it stands after the last of the list
+      -- the thread stands after the last of the list
       pub stands_there : (line : key_of l Main < length w.queues) → there at ≡ inside_of Main
           → there_then at told ≡ record (inside_of Main) {
             stands = Some Main;
@@ -239,7 +239,7 @@ module _ (w : State) (t l m : ℕ) (at : CondvarPlace) (inductive : IsInductive 
               let taken : one_if_some (taken_at (place_at w t) l) ≡ 0 = ap one_if_some untaken in
               omega arith
 
-      -- its time is up, and it leaves the list
+      -- the thread's time is up, and it leaves the list
       pub leaves_list : there at ≡ record (inside_of Main) {
         stands = Some Main;
         waits = Some WaitHere;

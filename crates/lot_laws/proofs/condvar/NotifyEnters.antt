@@ -153,7 +153,7 @@ module _ (w : State) (t l m : ℕ) (all : Bool) (inductive : IsInductive w) (is_
 
   -- ---------------------------------------------------------------- and out of them
 
-  -- it is inside the section of the mutex, whatever waiters it has moved
+  -- the thread is inside the section of the mutex, whatever waiters it has moved
   pub inside_leave : (any : Bool) (number : ℕ) → (notify_row all m (notify.Leave any number)).role.inside
       ≡ Some Main
   inside_leave any number = by_number (number == 0)

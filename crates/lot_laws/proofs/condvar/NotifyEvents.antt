@@ -39,7 +39,7 @@ names_notify : (all : Bool) (m : ℕ) (n : Next NotifyAt) → NamesStill m (in_n
 names_notify all m (next.At at) = refl
 names_notify all m (next.End answer) = tt
 
--- it never sleeps
+-- the thread never sleeps
 steps_on : (all : Bool) (l m : ℕ) (q : NotifyAt) → outcome_of (notify_act all l m q)
     ≡ outcome.TheVariants.Step
 steps_on all l m notify.Enter = refl
@@ -87,7 +87,7 @@ module _ (w v : State) (t l m : ℕ) (all : Bool) (p : NotifyAt) (inductive : Is
   stays k ds at_k keep = locks_led w v t l m apart_m inductive after done f elsewhere k (acts t ds) at_k
       ∙ deeds_by (rules_in w k) t ds (site_of w k) ∙ kept (rules_in w k) t ds (site_of w k) keep
 
-  -- it has nobody in hand but by its place
+  -- the thread has nobody in hand but by its place
   nobody_there : HasTakenNobody (lock_state w l) t
   nobody_there = taken_nobody w inductive t l (rw (is, same l) refl)
 
@@ -229,7 +229,7 @@ module _ (w : State) (t l m : ℕ) (all : Bool) (p : NotifyAt) (inductive : IsIn
     (condvar_holds : IsCondvar (condvar_of w l))
     (aside : WaitsAside (condvar_of w l) (site_of w m) m) (is : place_at w t ≡ Condvar l (Notify all m p))
   where
-    -- it moves waiters of this mutex, which stand nowhere there
+    -- the thread moves waiters of this mutex, which stand nowhere there
     may_move : (owned : Bool) → p ≡ notify.Move owned → (n : ℕ) → n ≢ 0
         → n ≡ length (moved_of all (lock_state w l).queue)
         → MayMove (locks_of w) t l m all owned n

@@ -72,7 +72,7 @@ module _ (w : State) (t l m : ℕ) (all : Bool) (inductive : IsInductive w) (is_
     ]
   ]
 
-  -- it stands in no line and no hand, and has somebody in hand at the mutex alone
+  -- the thread stands in no line and no hand, and has somebody in hand at the mutex alone
   carries_here : CarriesAt m (place_at w t)
   carries_here k ne = by_lock (λ k y. k ≢ m → y.carries ≡ None) (λ h. refl) (λ h. absurd (h refl))
       (λ k h. refl) k ne

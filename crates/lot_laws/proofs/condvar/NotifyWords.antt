@@ -209,7 +209,7 @@ module _ (w : State) (t l m : ℕ) (all : Bool) (inductive : IsInductive w) (is_
     marks_it is fits = works_beside notify.Mark is op.Load refl refl (marked_there (is_locked seen) seen)
         (marked_beside (is_locked seen) seen) (marked_taken (is_locked seen) seen) refl refl tt refl fits
 
-    -- it is marked, or not as it was seen
+    -- the word of the mutex is marked, or not as it was seen
     abbrev set_next : Bool → Next NotifyAt
     set_next b = if b then At (notify.Move true) else At (marks seen)
 

@@ -256,7 +256,7 @@ module _ (w : State) (t l m : ℕ) (timed : Bool) (inductive : IsInductive w) (p
     abbrev afterwards : WaitAt → Place → State
     afterwards p p2 = put (state_after_act w t (Condvar l (waits p)) (wait_act l m p)) t p2
 
-    -- it wakes the threads that it took
+    -- the thread wakes the threads that it took
     wakes : (s : WaiterFate) → place_at w t
         ≡ Condvar l (waits (wait.Release s (mutex.Unlock (unlock.Leave true)))) → (p2 : Place)
         → IsEvent w (afterwards (wait.Release s (mutex.Unlock (unlock.Leave true))) p2) t

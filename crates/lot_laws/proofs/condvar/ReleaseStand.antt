@@ -22,11 +22,11 @@ use Rattle.lot_laws.proofs.condvar.WaitWakes.{not_given}
 abbrev pub releasing : WaiterFate → UnlockAt → WaitAt
 releasing s at = wait.Release s (mutex.Unlock at)
 
--- it isn't in the hand that it opens
+-- the thread isn't in the hand that it opens
 abbrev pub IsLeft : ℕ → WaiterFate → UnlockAt → Type 0
 IsLeft t s at = at ≡ unlock.Leave true → is_thread t (taker_of s) ≡ false
 
--- it was the first of the queue, to which it was moved
+-- the thread was the first of the queue, to which it was moved
 pub record TookItself (w : State) (t m : ℕ) (s s2 : WaiterFate) (at : UnlockAt) : Type 0 where
   pub takes : at ≡ unlock.Take
   pub moved : s ≡ stands.Moved
@@ -34,7 +34,7 @@ pub record TookItself (w : State) (t m : ℕ) (s s2 : WaiterFate) (at : UnlockAt
   pub none_left : Bool
   pub told : reply_to w t (unlock_act m unlock.Take) ≡ Took true none_left
 
--- it was in its own hand, and leaves the section
+-- the thread was in its own hand, and leaves the section
 pub record WokeItself (t : ℕ) (s s2 : WaiterFate) (at : UnlockAt) : Type 0 where
   pub leaves : at ≡ unlock.Leave true
   pub in_hand : s ≡ stands.InHand t
@@ -95,7 +95,7 @@ module _ (w : State) (t l m : ℕ) (timed : Bool) (inductive : IsInductive w) (h
   Told s = place_at (acted s (unlock.Leave true)) t ≡ place_after_telling t (Woken note.Normal)
       (place_of s (unlock.Leave true))
 
-  -- it opens its hand
+  -- the thread opens its hand
   leaves : (s : WaiterFate) → place_at w t ≡ place_of s (unlock.Leave true) → LeftAt s (unlock.Leave true)
   leaves s is = by_stand s (not_given w t l m timed inductive here apart sort plain section true s is)
       (get_or-map (place_after_telling t (Woken note.Normal)) w.places t Idle

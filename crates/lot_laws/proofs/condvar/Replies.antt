@@ -227,7 +227,7 @@ module _ (w : State) (t l : ℕ) (at : CondvarPlace) (inductive : IsInductive w)
           any_first [] = refl
           any_first (x ∷ q) = refl
 
-      -- it stands nowhere there
+      -- the thread stands nowhere there
       nowhere_beside : (mutex_side at).stands ≡ None → (mutex_side at).hand ≡ None → standing t there.lock ≡ 0
       nowhere_beside out free =
           let main : locks.times t (map queued_of (queue_at w (2 * m))) ≡ 0 =

@@ -14,7 +14,7 @@ use Rattle.lot_laws.proofs.calls.Closings.{closing, is_after}
 use Rattle.lot_laws.proofs.calls.Closures.{RunsOne}
 use Rattle.lot_laws.proofs.condvar.CondvarRows.{names_of, row_says, stage_of}
 
--- it leaves what is shown, and the waiters
+-- the thread leaves the mutex that is shown, and the waiters
 abbrev pub Kept : LockState → LockState → Type 0
 Kept s s2 = (s2.shown ≡ s.shown) × (s2.queue ≡ s.queue)
 

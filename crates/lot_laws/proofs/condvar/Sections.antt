@@ -125,7 +125,7 @@ condvar_lines c (Notify all m at) reached = notify_lines c m all at
 module _ (w : State) (t c : ℕ) (at : CondvarPlace) (inductive : IsInductive w) (is : place_at w t
     ≡ Condvar c at)
     (fits : FitsItsLock w (Condvar c at)) where
-  -- it holds each section in which its row has it
+  -- the thread holds each section in which its row has it
   pub holds_key : (key : ℕ) → IsInsideKey c at key → section_at w key ≡ Some t
   holds_key key (inl h) = ap (section_at w) h.0 ∙ (inductive.stands.sections t c Main).0
       (ap (λ (s : Location). s.inside) (location_there w inductive.stands t c at is) ∙ h.1)

@@ -25,7 +25,7 @@ no_sleep m (mutex.Unlock at) h e = unlock_awake m at e
 no_sleep m at h e = absurd h
 
 module _ (r : ℕ → Rights) where
-  -- it was neither notified nor has it given up
+  -- a wait was neither notified nor has it given up
   abbrev IsOn : Place → Type 0
   IsOn p = ((call_state p r).gave_up ≡ None) × (IsNotified (call_state p r).recalls → ⊥)
 

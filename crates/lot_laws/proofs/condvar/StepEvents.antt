@@ -110,12 +110,12 @@ abbrev pub NamesStill : ℕ → Next CondvarPlace → Type 0
 NamesStill m (next.At q) = mutex_beside q ≡ Some m
 NamesStill m (next.End answer) = Unit {0}
 
--- it is told of its next act, and stands somewhere if it is told to sleep; or of its answer
+-- the thread is told of its next act, and stands somewhere if it is told to sleep; or of its answer
 abbrev pub ToldSo : State → ℕ → Next CondvarPlace → Outcome → Type 0
 ToldSo v t (next.At q) o = (l : ℕ) × GoesAs v t l o
 ToldSo v t (next.End answer) o = o ≡ outcome.TheVariants.End answer
 
--- its call is that of its place at both locks
+-- the thread's call is that of its place at both locks
 pub call_named : (w : State) (t l m : ℕ) (p : CondvarPlace) → place_at w t ≡ Condvar l p → mutex_beside p
     ≡ Some m
     → call_at w t ≡ calls.condvar_call_by l m p (rights w t)
@@ -183,7 +183,7 @@ runs_nothing_here l (Wait m timed at) = tt
 runs_nothing_here l (Look all) = tt
 runs_nothing_here l (Notify all m at) = tt
 
--- it runs no closure
+-- the thread runs no closure
 pub begins_two : (w : LocksState) (l : ℕ) (p : CondvarPlace) (e : Event) (o : Outcome)
     → MayComeOfTwo l (condvar_profile p) e
     → is_closure o ≡ false → Begins w e o

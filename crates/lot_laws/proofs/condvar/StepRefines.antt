@@ -44,7 +44,7 @@ own_event w t l m p = wait_event l m p (taken_by_wait w m p) (reply_to w t (wait
 abbrev pub own_call : State → ℕ → ℕ → ℕ → Bool → WaitAt → CallState
 own_call w t l m timed p = condvar_call_by l m (Wait m timed p) (rights w t)
 
--- its act does not wake it
+-- the act of the thread does not wake it
 abbrev pub IsUnwoken : State → ℕ → ℕ → ℕ → Bool → WaitAt → Type 0
 IsUnwoken w t l m timed p = woken (locks_of w) t (own_event w t l m p) t (going_on (own_event w t l m p)
     (own_call w t l m timed p)) ≡ going_on (own_event w t l m p) (own_call w t l m timed p)
@@ -131,7 +131,7 @@ module _ (w v : State) (t l : ℕ) (shape : IsWellFormed w) (inductive : IsInduc
               (taken_from h (mutex_side (Notify all m p)).wants true)) (no_hand all m p)
           either false = refl
 
-  -- its first step, which looks
+  -- the first step of a notification, which looks
   pub look_step : (all : Bool) → place_at w t ≡ Condvar l (Look all) → v ≡ state_after_going w t
       (Condvar l (Look all))
       → ((k : ℕ) → all_deeds k ≡ []) → OthersFollow w v t (look_event l (word_at w l))

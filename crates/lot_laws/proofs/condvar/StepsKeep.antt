@@ -53,7 +53,7 @@ module _ (w v : State) (t l : ℕ) (at : CondvarPlace) (shape : IsWellFormed w) 
   fits : FitsCondvar w l at
   fits = subst (FitsItsLock w) is (inductive.stands.calls t)
 
-  -- it goes on
+  -- the thread goes on by an act that it can do
   goes_on : v ≡ state_after_going w t (Condvar l at) → can_do w (condvar_act l at) ≡ true
       → IsCondvar (condvar_of v l)
   goes_on led can = condvar_stays w v t l at (reply_to w t (condvar_act l at)) inductive.stands stands_then is
@@ -63,7 +63,7 @@ module _ (w v : State) (t l : ℕ) (at : CondvarPlace) (shape : IsWellFormed w) 
       (ap (λ (x : State). (lock_state x l).shown) led ∙ (goes_led w t l at shape inductive is lt can).0)
       (ap (λ (x : State). (lock_state x l).queue) led ∙ (goes_led w t l at shape inductive is lt can).1)
 
-  -- it goes into the section of the queue where it slept
+  -- the thread goes into the section of the queue where it slept
   slept : (p : CondvarPlace) (key : ℕ) → at ≡ p → v ≡ state_after_late_on w t (Some key)
       → MayReply (condvar_of w l) t p Late
       → (lock_state v l).shown ≡ (after_condvar_deeds (condvar_deeds p Late) (condvar_of w l) t).shown
@@ -75,7 +75,7 @@ module _ (w v : State) (t l : ℕ) (at : CondvarPlace) (shape : IsWellFormed w) 
       there ∙ ap (λ q. next_place q Late) (is ∙ ap (Condvar l) e))
       (alike_same (condvar_next p Late)) condvar hears says section shown waiters
 
-  -- its time is up
+  -- the thread's time is up
   late : v ≡ state_after_late_on w t (late_key (Condvar l at)) → is_free_under w (late_key (Condvar l at))
       ≡ true
       → IsCondvar (condvar_of v l)

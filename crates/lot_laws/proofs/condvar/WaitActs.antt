@@ -50,7 +50,7 @@ module _ (w : State) (t l m : ℕ) (timed : Bool) (inductive : IsInductive w) (i
   same_beside at is n beside e = subst (λ q. Alike m q (condvar_goes l n)) (sym is)
       (alike_beside l m apart (At (waits at)) n refl beside e)
 
-  -- it stands in no line there
+  -- the thread stands in no line there
   outside : (at : WaitAt) → place_at w t ≡ Condvar l (waits at)
       → (location_by (row_beside (At (waits at)))).stands ≡ None
       → (location_at (place_at w t) m).stands ≡ None
@@ -81,7 +81,7 @@ module _ (w : State) (t l m : ℕ) (timed : Bool) (inductive : IsInductive w) (i
       fits (same_beside wait.GiveUp is (condvar_next (waits wait.GiveUp) Done) refl (refl, refl, refl))
       section refl refl
 
-  -- its time is up, and it leaves the list; whether anybody is left there
+  -- the thread's time is up, and it leaves the list; whether anybody is left there
   removed_next : (b : Bool) → Beside m (in_wait m timed (if b then At wait.Hide else At wait.GiveUp))
   removed_next true = refl
   removed_next false = refl

@@ -173,7 +173,7 @@ module _ (w : State) (t l m : ℕ) where
 
 -- ---------------------------------------------------------------- the step
 
--- its deed at the condition variable changes nobody's rights
+-- the deed of a wait at the condition variable changes nobody's rights
 pub there_rights : (ds : List CondvarDeed) (r : Rules) (s : Site) (t : ℕ)
     → rights_of (after_all r (there_deeds ds) s t).lock t ≡ rights_of s.lock t
 there_rights [] r s t = refl
@@ -211,7 +211,7 @@ module _ (w v : State) (t l m : ℕ) (timed : Bool) (p : WaitAt) (inductive : Is
   apart_m : m ≢ l
   apart_m = apart w t l (Wait m timed p) inductive is m refl
 
-  -- it has nobody in hand but by its place
+  -- the thread has nobody in hand but by its place
   nobody_there : HasTakenNobody (lock_state w l) t
   nobody_there = taken_nobody w inductive t l (rw (is, same l) refl)
 
@@ -225,7 +225,7 @@ module _ (w v : State) (t l m : ℕ) (timed : Bool) (p : WaitAt) (inductive : Is
       one.there
       one.beside nobody_there nobody_beside one.alone
 
-  -- its mutex after it
+  -- the mutex of the wait after the step
   abbrev afterwards : LockState
   afterwards = (after_all (rules_in w m) (waiter_deeds p whom told) (site_of w m) t).lock
 
@@ -261,7 +261,7 @@ module _ (w v : State) (t l m : ℕ) (timed : Bool) (p : WaitAt) (inductive : Is
       can)
       (waiter_hears w t l m timed p inductive is can) reached
 
-  -- its call
+  -- the call of the thread
   abbrev pub call : CallState
   call = calls.condvar_call_by l m (Wait m timed p) (rights w t)
 

@@ -137,7 +137,7 @@ module _ (w : State) (t l m : ℕ) (timed : Bool) (inductive : IsInductive w) (i
   abbrev relocks : Bool → Bool → LockAt → WaitAt
   relocks late retries at = wait.Lock late (mutex.Lock entry.Lock retries at)
 
-  -- its call of the mutex ends the wait, or goes on: neither is a deed of the condition variable that a site
+  -- the call of the mutex ends the wait, or goes on: neither is a deed of the condition variable that a site
   -- has
   no_deeds : (n : Next MutexPlace) → there_deeds (relocked_deeds n) ≡ []
   no_deeds (At at) = refl

@@ -65,7 +65,7 @@ module _ (w : State) (t l m : ℕ) (timed : Bool) (inductive : IsInductive w) (i
       role = hears.role_beside w t l (waits at) inductive is m refl;
     }
 
-    -- it takes nobody, and isn't woken by its own step
+    -- the thread takes nobody, and isn't woken by its own step
     module _ (a : Act) (acts_so : wait_act l m at ≡ a) (can : can_do w a ≡ true)
         (nobody : taken_by_wait w m at ≡ None)
         (stays : StaysThere w t l m timed inductive is_there apart sort at
@@ -105,7 +105,7 @@ module _ (w : State) (t l m : ℕ) (timed : Bool) (inductive : IsInductive w) (i
     untaken e = stands_as.taken ∙ at_lock.free_is (row_beside (At (waits at))).hand
         (row_beside (At (waits at))).wants e
 
-    -- it stands in no other line
+    -- the thread stands in no other line
     stands_out : (there (waits at)).stands ≡ None → (k : ℕ) → k ≢ m → (location_at (place_at w t) k).stands
         ≡ None
     stands_out out k ne = ap (λ q. (location_at q k).stands) is ∙ elim (cases_eq k l) [
@@ -191,7 +191,7 @@ module _ (w : State) (t l m : ℕ) (timed : Bool) (inductive : IsInductive w) (i
       (λ d. ap (λ o. wakened t o d) (untaken (wait.GiveUpMoved none_left) is refl)) fits) Main section tt refl
       refl refl refl
 
-  -- it was handed the mutex, and its call is over
+  -- the thread was handed the mutex, and its call is over
   pub accepts : (late retries : Bool) → place_at w t ≡ Condvar l (waits (relocks late retries lock.Accept))
       → FitsNext (relocks late retries lock.Accept) act.Accept → Kept (relocks late retries lock.Accept)
       act.Accept
@@ -203,7 +203,7 @@ module _ (w : State) (t l m : ℕ) (timed : Bool) (inductive : IsInductive w) (i
 
   -- ---------------------------------------------------------------- the line
 
-  -- its time is up, and it leaves the line to which it was moved
+  -- the thread's time is up, and it leaves the line to which it was moved
   pub leaves_line : place_at w t ≡ Condvar l (waits wait.RemoveMoved) → FitsNext wait.RemoveMoved
       (act.Remove (2 * m))
       → Kept wait.RemoveMoved (act.Remove (2 * m))

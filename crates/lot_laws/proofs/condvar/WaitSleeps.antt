@@ -20,7 +20,7 @@ use Rattle.lot_laws.proofs.condvar.Replies.{fits_here, location_beside, taken_be
 use Rattle.lot_laws.proofs.condvar.Sites.{location_there}
 use Rattle.lot_laws.proofs.promises.PlacePromises.{standing_by}
 
--- its own step leads to no sleep of one that was handed its mutex, or told so
+-- the own step of a wait leads to no sleep of one that was handed its mutex, or told so
 abbrev pub IsSettled : WaitAt → Type 0
 IsSettled (wait.Asleep (stands.Handed by)) = ⊥
 IsSettled (wait.Asleep (stands.Noted n)) = ⊥

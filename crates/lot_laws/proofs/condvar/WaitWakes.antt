@@ -179,7 +179,7 @@ module _ (w : State) (t l m : ℕ) (timed : Bool) (inductive : IsInductive w) (i
     follows = beside.follows w t l m timed inductive is_there apart sort (leaving any s) is None Done
         (waiter_hears w t l m timed (leaving any s) inductive is refl)
 
-    -- it has nobody in hand elsewhere
+    -- the thread has nobody in hand elsewhere
     carries_here : CarriesAt m (place_at w t)
     carries_here k ne = ap (λ q. carried_at q k) is ∙ elim (cases_eq k l) [
       | inl e ↦ subst (λ j. carried_at (Condvar l (waits (leaving any s))) j ≡ None) (sym e)

@@ -108,7 +108,7 @@ module _ (w : State) (t l m : ℕ) (timed : Bool) (inductive : IsInductive w) (i
   KeepsOthers at = condvar_owners (waits at) t (word_at w m) (owners_at w m) ≡ with_exclusive (owners_at w m)
       (condvar_owners (waits at) t (word_at w m) (owners_at w m)).exclusive
 
-  -- it stays in its line, its section and its hand
+  -- the thread stays in its line, its section and its hand
   abbrev pub StaysBeside : WaitAt → Next CondvarPlace → Type 0
   StaysBeside at n =
       (location_by (row_beside n) ≡ location_by (row_beside (At (waits at))))
@@ -178,7 +178,7 @@ module _ (w : State) (t l m : ℕ) (timed : Bool) (inductive : IsInductive w) (i
   relocks late retries at = wait.Lock late (mutex.Lock entry.Lock retries at)
 
   module _ (lt : m < length w.locks) where
-    -- it owns the mutex no more; waiters are seen, or its release is over
+    -- the thread owns the mutex no more; waiters are seen, or its release is over
     module _ (s : WaiterFate) where
       abbrev subtracted : Bool → Next CondvarPlace
       subtracted b = At (waits (released s (in_unlock (if b then At unlock.Enter else Over answer.Ok))))
@@ -227,7 +227,7 @@ module _ (w : State) (t l m : ℕ) (timed : Bool) (inductive : IsInductive w) (i
         refl,
       ) fits tt refl
 
-    -- it locks it again
+    -- the thread locks it again
     module _ (late retries : Bool) where
       abbrev locked : Bool → LockAt → Next CondvarPlace
       locked b at = in_wait m timed (relocked timed late
@@ -269,7 +269,7 @@ module _ (w : State) (t l m : ℕ) (timed : Bool) (inductive : IsInductive w) (i
         refl,
       ) fits tt refl
 
-      -- it has seen the word before: its exchange finds it so, or not
+      -- the thread has seen the word before: its exchange finds it so, or not
       abbrev decided_next : Bool → Bool → Next CondvarPlace
       decided_next same locked = in_wait m timed
           (relocked timed late (in_lock entry.Lock retries (if not same then At (lock.Decide seen)

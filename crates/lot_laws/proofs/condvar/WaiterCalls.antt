@@ -137,7 +137,7 @@ wait_handed k l t alone timed (wait.Lock late (Lock e again (lock.Taken by))) h 
     waiters_are_told k l timed (wait.Lock late (Lock e again (lock.Taken by))) (HandedBy t alone) tt free r
 wait_handed k l t alone timed at h free r = absurd cc
 
--- it claims nothing where it has released its mutex, or owns that
+-- the thread claims nothing where it has released its mutex, or owns that
 wait_claims : (l t : ℕ) (timed : Bool) (at : WaitAt) → IsReached (Wait l timed at)
     → (mutex_side (Wait l timed at)).hand ≡ hand t false
     → ((mutex_side (Wait l timed at)).role.claims ≡ None)

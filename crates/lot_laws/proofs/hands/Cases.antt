@@ -128,7 +128,7 @@ abbrev pub wanting_more : List Queued → ℕ
 wanting_more [] = 0
 wanting_more (x ∷ xs) = (if wants_shared x.want then 0 else 1) + wanting_more xs
 
--- it is among them, and wants more
+-- the thread is among them, and wants more
 abbrev HasMore : ℕ → List Queued → Type 0
 HasMore u [] = ⊥
 HasMore u (x ∷ xs) = ((x.thread ≡ u) × (wants_shared x.want ≡ false)) ⊎ HasMore u xs
@@ -189,7 +189,7 @@ one_has_more u v (x ∷ xs) few (inr h) (inl k) =
 one_has_more u v (x ∷ xs) few (inr h) (inr k) =
     one_has_more u v xs (rest_few (wants_shared x.want) (wanting_more xs) few) h k
 
--- it has one of them in hand at most
+-- the thread has one of them in hand at most
 abbrev pub OneMore : (ℕ → Option Taken) → ℕ → Type 0
 OneMore taken t = (u v : ℕ) (x y : Want) → taken u ≡ Some (record { by = t; want = x }) → x ≢ Shared
     → taken v ≡ Some (record { by = t; want = y }) → y ≢ Shared → u ≡ v

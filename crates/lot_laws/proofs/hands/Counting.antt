@@ -110,7 +110,7 @@ none_is k o e f = let g : ◌≡◌ {A = Option Counted} None (Some k) = sym e �
 
 pub record HasCounted (l : ℕ) (p : Place) : Type 0 where
   pub of : IsOf l p
-  -- it is in nobody's hand
+  -- the thread is in nobody's hand
   pub unheld : held p ≡ None
   -- a thread that it has in hand it has handed nothing yet
   pub any : Bool

@@ -155,7 +155,7 @@ module _ (w : State) (t : ℕ) (inductive : IsInductive w) (counted : AreCounted
           either true = released_bare
           either false = freed_bare (word_at w l) x
 
-      -- it found another value
+      -- the exchange found another value
       exchange_counts : (m : Counted) (expected : ℕ) → place_at w t ≡ at (handing.Exchange m expected)
           → Counts (handing.Exchange m expected)
       exchange_counts m expected is k = by_room (has_room a.limit m expected)
@@ -288,7 +288,7 @@ two_bare w t inductive there two l = ap (λ p. counted_on (place_at (state_after
 module _ (w : State) (t : ℕ) (inductive : IsInductive w) (counted : AreCounted w) (there : t
     < length w.places)
   where
-    -- it looks at the word once more
+    -- the thread looks at the word once more
     spun_counts : (p : Option Place) → respins_from (place_at w t) ≡ p → (l : ℕ) (k : Counted)
         → counted_on (place_at (state_after_look w t p) t) l ≡ Some k → IsCountOfHand (state_after_look w t p)
         t

@@ -128,7 +128,7 @@ module _ (w : State) (t l : ℕ) (a : Admission) (x : Access) (b : Bool) (induct
   still = told_stays t (TakenBy t) (RwLock l a (HandOver x b handing.Take)) refl
       (threads_of (lock_picked None a.recursive (queue_at w (2 * l)))) w.places is
 
-  -- its own place is in no hand, before and after
+  -- the place of the thread is in no hand, before and after
   same_wants : (u : ℕ) → wanted_of t (held (place_at state_then u)) ≡ wanted_of t
       (held (place_at taken_all u))
   same_wants u = ap (wanted_of t) (set_keeps held taken_all.places t u place_then Idle

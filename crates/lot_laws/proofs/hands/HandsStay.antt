@@ -729,7 +729,7 @@ module _ (w : State) (t l : ℕ) (inductive : IsInductive w) (own : IsOf l (plac
         held_before : carried_at (place_at w t) l ≡ in_hand_if any false
         held_before = ap (λ (y : Location). y.carries) (location_here l (place_at w t) own) ∙ carried
 
-        -- it has somebody in hand after it exactly where it had before
+        -- the thread has somebody in hand after it exactly where it had before
         some_held : (b : Bool) → (location p2).carries ≡ Some b → (b ≡ true) × ((u : ℕ) × (is_told u ≡ true))
         some_held b e = by_any any refl (sym carries_now ∙ e)
           where

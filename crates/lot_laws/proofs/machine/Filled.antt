@@ -17,7 +17,7 @@ use Rattle.steps_base.specs.declared.acts.Whom as whom
 use Rattle.lot_machine.specs.declared.locks.Lock.{Lock}
 use Rattle.lot_laws.proofs.sites.OneStep.{fills_by, noted}
 
--- it is as it was, or its word says whether it fills up
+-- a lock is as it was, or its word says whether it fills up
 abbrev MarksLock : Lock → Lock → Type 0
 MarksLock before now = (now.filled ≡ before.filled)
     ⊎ (now.filled ≡ (before.filled || fills (rules_of now.kind) now.word))

@@ -57,11 +57,11 @@ GoesOnTaken p = (by : ℕ) (rights : ℕ → Rights) → call_state (next_place 
 
 -- at a place where its thread does this next
 pub record Hears (l : ℕ) (p : Place) (a : Act) : Type 0 where
-  -- it stays where it stands, if it tells others something
+  -- the thread stays where it stands, if it tells others something
   pub deaf : tells a ≡ true → (r : Reply) → Befalls r → next_place p r ≡ p
-  -- it sleeps on, if it sleeps
+  -- the thread sleeps on, if it sleeps
   pub sleeps_on : a ≡ Sleep → (r : Reply) → Quiet r → act_of (next_place p r) ≡ Sleep
-  -- its call goes on as it is where it is taken
+  -- the thread's call goes on as it is where it is taken
   pub taken : GoesOnTaken p
   -- A thread that is woken out of a hand tries the lock again.
   pub woken : TriesAgain l p
@@ -224,11 +224,11 @@ none_given b q again m to (TakenBy u) h = refl
 none_given b q again m to (MovedTo key) h = refl
 none_given b q again m to r h = absurd h
 
--- it sleeps on in a call of the lock
+-- the thread sleeps on in a call of the lock
 abbrev Stays : ℕ → Admission → RwLockPlace → Reply → Type 0
 Stays l a p r = (q : RwLockPlace) × ((rwlock_next a p r ≡ At q) × (rwlock_act l a q ≡ Sleep))
 
--- it stays where it stands, and is handed nothing
+-- the thread stays where it stands, and is handed nothing
 abbrev IsDeaf : Admission → RwLockPlace → Reply → Type 0
 IsDeaf a p r = (rwlock_next a p r ≡ At p) × ((bumps : Bool) → given bumps p r ≡ None)
 

@@ -212,7 +212,7 @@ blank_beside (Once k at) single = refl
 blank_beside (Semaphore k at) single = refl
 blank_beside (Condvar k at) single = absurd single
 
--- so that all that is said of it is said of its lock
+-- all that is said of a place that is of one lock is said of its lock
 pub single_location : (p : Place) (l : ℕ) → IsSingle p → location_at p l ≡ (if calls p l then location p
     else nowhere)
 single_location p l single = ap (λ o. if calls p l then location p else if is_lock l o then location_by
@@ -498,7 +498,7 @@ calls_other : (l k : ℕ) (o : Option ℕ) → IsLock l o → k ≢ l → is_loc
 calls_other l k None h ne = refl
 calls_other l k (Some j) h ne = differ j k (λ e. ne (sym e ∙ h))
 
--- it does nothing about another lock
+-- the thread does nothing about another lock
 pub role_elsewhere : (l k : ℕ) (p : Place) → IsOf l p → k ≢ l → role_on p k ≡ idle
 role_elsewhere l k p h ne = single_role p k (of_single l p h) ∙ ap (λ b. if b then (profile p).role else idle)
     (calls_other l k (called_lock p) (of_lock_of l p h) ne)
@@ -579,7 +579,7 @@ told_in t reply (p ∷ ps) (suc u) held only = λ i. ap (λ b. if b then next_pl
 abbrev pub WantsAlone : ℕ → Place → Type 0
 WantsAlone t p = is_thread t (taker p) ≡ true → wants p ≡ Some Exclusive
 
--- it does not want to share
+-- the thread does not want to share
 no_sharer : (t : ℕ) (p : Place) → WantsAlone t p → shares_in_hand t (held p) ≡ false
 no_sharer t p alone = by_hand (taker p) (wants p) alone
   where

@@ -99,11 +99,11 @@ pub record IsSilent (row : Profile) : Type 0 where
 -- The facts of a place of a call of one lock, which readers share or not.
 pub record PlaceFacts (shared : Bool) (l : ℕ) (row : Profile) (a : Act) : Type 0 where
   pub by_row : RowFacts row a
-  -- it says nothing of a condition variable
+  -- the row says nothing of a condition variable
   pub silent : IsSilent row
   -- one that is in a hand has nobody in hand
   pub bare : (row.hand ≡ None) ⊎ (row.carries ≡ None)
-  -- its act is on a line of the lock
+  -- the thread's act is on a line of the lock
   pub line : IsLineAct l (location_by row) a
   -- on the main one, where there is no other
   pub main : shared ≡ false → (key : ℕ) → EntersSection key a → 2 * l ≡ key

@@ -497,7 +497,7 @@ module _ (w : State) (t : ℕ) where
     there_is : (key : ℕ) → IsOfLine l key → key < length w.sections
     there_is key h = subst (λ k. k < length w.sections) (sym h.1) (key_there w l h.0 shape lt)
 
-    -- it enters or leaves the section of one line alone, and leaves it only from inside
+    -- the thread enters or leaves the section of one line alone, and leaves it only from inside
     act_sections : (p : Place) (a : Act) → can_do w a ≡ true → IsLineAct l (location (place_at w t)) a
         → (key : ℕ)
         → SectionChanges (section_at w key) t (section_at (state_after_act w t p a) key)
@@ -536,7 +536,7 @@ module _ (w : State) (t : ℕ) where
             held.1
         beside_there (Look all) e held = absurd cc
 
-    -- it enters sections that are free, and leaves those that it is inside
+    -- the thread enters sections that are free, and leaves those that it is inside
     two_sections : (p : Place) (a : Act) → can_do w a ≡ true → IsActOfTwo c at a → (key : ℕ)
         → SectionChanges (section_at w key) t (section_at (state_after_act w t p a) key)
     two_sections p (Enter (One k)) can h key = filled_changes k (Some t) (key_is k h)

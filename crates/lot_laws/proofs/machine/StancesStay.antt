@@ -261,7 +261,7 @@ lock_spins l m timed late (Some at) = refl
 abbrev Stands : Place → Reply → Type 0
 Stands p r = stance_of (next_place p r) ≡ stance_of p
 
--- it stays where it stands
+-- the thread stays where it stands
 stays_there : (p : Place) (r : Reply) → next_place p r ≡ p → Stands p r
 stays_there p r e = ap stance_of e
 

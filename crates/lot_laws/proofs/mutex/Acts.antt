@@ -140,7 +140,7 @@ module _ (w : State) (t m : ℕ) (inductive : IsInductive w) (is_there : t < len
   -- ---------------------------------------------------------------- sections
 
   module _ (line : key_of m Main < length w.sections) where
-    -- it goes into the section
+    -- the thread goes into the section
     pub goes_in_at : section_at w (key_of m Main) ≡ None → (location_at (place_at w t) m).inside ≡ None
         → laws.AllNeeded r (In Main ∷ []) here t → (laws.after_all r (In Main ∷ []) here t).role t
         ≡ role_on p2 m
@@ -216,7 +216,7 @@ module _ (w : State) (t m : ℕ) (inductive : IsInductive w) (is_there : t < len
         (steps_by r m (parts_at w m) (parts_at w m) (place_at w) t p2 (FindNobody Main ∷ []) (needed.0, tt)
         (tt, tt) same_hand refl refl refl refl (sym role)) same_location
 
-    -- it stands after the last
+    -- the thread stands after the last
     pub stands_at : acting.IsOut w t m inductive is_there r refl p2 alike fits
         → (location_at (place_at w t) m).stands ≡ None → laws.AllNeeded r (Case (Park Exclusive) ∷ []) here t
         → role_on p2 m ≡ record (role_on (place_at w t) m) { retries = None; empty = None }
@@ -235,7 +235,7 @@ module _ (w : State) (t m : ℕ) (inductive : IsInductive w) (is_there : t < len
         Exclusive
         (needed.0, tt) role) goes
 
-    -- its time is up, and it leaves the line
+    -- the thread's time is up, and it leaves the line
     pub leaves_line_at : acting.IsOut w t m inductive is_there r refl p2 alike fits
         → (location_at (place_at w t) m).stands ≡ Some Main → laws.AllNeeded r (Case locks.Late ∷ []) here t
         → (laws.after_all r (Case locks.Late ∷ []) here t).role t ≡ role_on p2 m
@@ -254,7 +254,7 @@ module _ (w : State) (t m : ℕ) (inductive : IsInductive w) (is_there : t < len
         not_aside : times t (queue_at w (key_of m Second)) ≡ 0
         not_aside = inductive.stands.lines t m Second ∙ ap (λ o. stood_in o Second) stands
 
-  -- it was handed the mutex, and its call goes on
+  -- the thread was handed the mutex, and its call goes on
   pub accepts_at : laws.AllNeeded r (End ∷ []) here t → (laws.after_all r (End ∷ []) here t).role t
       ≡ role_on p2 m
       → location_at p2 m ≡ location_at (place_at w t) m → taken_at (place_at w t) m ≡ taken_at p2 m

@@ -30,7 +30,7 @@ locked_by l (Some k) h = ap Some (eqb-true k l h)
 
 -- ---------------------------------------------------------------- a thread that has a waiter in its hand
 
--- it owns the mutex, or is in a plain unlock
+-- the thread owns the mutex, or is in a plain unlock
 mutex_owner : (at : MutexPlace) → (mutex_profile at).carries ≡ Some false
     → ((mutex_profile at).role.claims ≡ Some (Has Exclusive)) ⊎
     ((k : ℕ) (r : ℕ → Rights) → ReleasesFairly (call_state (Mutex k at) r).purpose k → ⊥)
@@ -100,7 +100,7 @@ module _ (w : State) (l : ℕ) (sort : (rules_in w l).sort ≡ locks.Mutex) wher
 
 module _ (w : State) (h : IsWorld w) (l : ℕ) (sort : (rules_in w l).sort ≡ locks.Mutex)
     (fairly : IsGivenUpFairly w l) where
-  -- it is owned while somebody is in a hand
+  -- the mutex is owned while somebody is in a hand
   pub in_hand : (t : ℕ) (x : Taken) → (lock_state w l).taken t ≡ Some x → (lock_state w l).exclusive ≢ None
   in_hand t x e =
       let carries = h.inductive.stands.hands.taken x.by t l false (taken_held (place_at w t) x.by l x.want e)

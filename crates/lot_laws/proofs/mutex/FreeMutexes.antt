@@ -62,7 +62,7 @@ comes_closer t before now order some once still =
 
 -- ---------------------------------------------------------------- one lock
 
--- it is free still, or those in hands stay
+-- the mutex is free still, or the threads in hands stay
 abbrev Gets : LockState → LockState → Type 0
 Gets s v = (v.exclusive ≡ None) ⊎ (v.taken ≡ s.taken)
 

@@ -39,7 +39,7 @@ mutex_move p = record {
 abbrev pub mutex_hears : MutexPlace → Hears
 mutex_hears p r s t whom told = MayReply r s t p whom told
 
--- it works on the word, and stays where it is
+-- the thread works on the word, and stays where it is
 pub record Works (x : StepView) (hears : Hears) : Type 0 where
   pub free : (location_of x).hand ≡ None
   pub deeds : (seen : ℕ) → IsOfWord (x.deeds None (reply.Value seen))

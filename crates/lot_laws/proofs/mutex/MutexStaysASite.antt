@@ -171,13 +171,13 @@ module _ (w : State) (t l : ℕ) (at : MutexPlace) (inductive : IsInductive w) (
   abbrev Then : Place → Act → State
   Then q y = put (state_after_act w t (Mutex l at) y) t (next_place q (reply_to w t y))
 
-  -- it hands the mutex over to its heir, and a waiter in its hand is told of it
+  -- the thread hands the mutex over to its heir, and a waiter in its hand is told of it
   abbrev HandsOn : Place → Act → Option ℕ → Type 0
   HandsOn q y who = (alone : Bool)
       × (case_at who (reply_to w t y) ≡ Some (locks.HandOff Exclusive (heir who)))
       × Befalls w (Then q y) t l (HandedBy t alone) × (taken_at (place_at w t) l ≡ None)
 
-  -- its deeds as it goes on from a place, what they make of its call, and of those of the others
+  -- the thread's deeds as it goes on from a place, what they make of its call, and of those of the others
   pub record GoesFrom (q : Place) (y : Act) : Type 0 where
     pub whom : Option ℕ
     pub goes : Goes w (Then q y) l (acts t (deeds_of whom (reply_to w t y)) ++ claims_at at whom)
@@ -385,12 +385,12 @@ module _ (w : State) (t l : ℕ) (at : MutexPlace) (inductive : IsInductive w) (
     by_act act.Sleep e g can = absurd cc
     by_act y e g can = absurd g
 
-    -- its deeds are what the place and the reply say
+    -- the thread's deeds are what the place and the reply say
     goes_plainly : can_do w (mutex_act l at) ≡ true → GoesFrom (Mutex l at) (mutex_act l at)
     goes_plainly can = subst (λ q. GoesFrom q (mutex_act l at)) is (by_act (mutex_act l at) refl
         (mutex_acts_move l at timed nothing) can)
 
-  -- its time is up
+  -- the thread's time is up
   pub mutex_goes_late : (m : Line) → mutex_late_line at ≡ Some m → is_free_in w (key_of l m) ≡ true
       → Goes w (state_after_late_under w t (key_of l m)) l (acts t (deeds_of None Late))
   mutex_goes_late m e free = goes_in w t l inductive there own r refl (mutex_move at) same_row

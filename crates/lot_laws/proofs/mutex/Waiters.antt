@@ -35,7 +35,7 @@ pub record IsTold (l : ℕ) (p q : Place) (may : Type 0) (goes : Location → Lo
   pub others : AlikeBeside l p q
   pub fits : may → (w : State) → FitsItsLock w p → FitsItsLock w q
 
--- it stands in the main line, asleep or releasing the mutex still, and may be taken
+-- the thread stands in the main line, asleep or releasing the mutex still, and may be taken
 pub record SleepsAt (l : ℕ) (p : Place) : Type 0 where
   pub free : hand_at p l ≡ None
   pub untaken : taken_at p l ≡ None

@@ -133,7 +133,7 @@ module _ (parked : Bool) (phase : Phase) (fine : word parked phase ≢ 9) where
 
 -- ---------------------------------------------------------------- an act
 
--- it leaves the word of a `Once` unmarked where that is done
+-- the act leaves the word of a `Once` unmarked where that is done
 abbrev Leaves : State → Act → Type 0
 Leaves w (act.Word l f) = kind_at w l ≡ kinds.Once → apply f (word_at w l) ≢ 9
 Leaves w (act.HandOver l f) = kind_at w l ≡ kinds.Once → apply f (word_at w l) ≢ 9

@@ -105,7 +105,7 @@ module _ (w : State) (t l : ℕ) (inductive : IsInductive w) (there : t < length
 
   -- ---------------------------------------------------------------- the queue
 
-  -- it stays where it is, and does nothing
+  -- the thread stays where it is, and does nothing
   rests_there : (told : Reply) (p2 : Place) (s : Location) → location (place_at w t) ≡ s → s.hand ≡ None
       → x.deeds None told ≡ []
       → location p2 ≡ s → Followed told p2 → Goes w (put w t p2) l (acts t (x.deeds None told))

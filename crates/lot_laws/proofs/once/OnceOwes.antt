@@ -18,7 +18,7 @@ use Rattle.steps_once.specs.OnceSteps.{still_retries}
 use Rattle.lot_laws.proofs.once.OnceRows.{gives_up_quietly, lets_nobody, look_owes}
 use Rattle.lot_laws.proofs.promises.RowPromises.{RowOwesNext, RowOwesThen, owes_then}
 
--- it looks nowhere first
+-- a call of a `Once` looks nowhere first
 tells_so : (l : ℕ) (at : OncePlace) (m : Line) (v : ℕ)
     → tells_by locks.Once (Some ((once_profile at).purpose l)) m v ≡ tells_of locks.Once m v
 tells_so l (Look (CallOnce forced) again at) m v = refl
@@ -57,7 +57,7 @@ RunOwes l word forced at n =
     RowOwesNext locks.Once l word (once_profile (Run forced at)) (outcome_of (once_does l (in_run forced n)))
     (profile (once_goes l (in_run forced n)))
 
--- it has swapped its word in, and saw whether somebody may wait
+-- the thread has swapped its word in, and saw whether somebody may wait
 closes_owing : (l word : ℕ) (forced succeeded b : Bool) → is_marked word ≡ b
     → RunOwes l word forced (run.Close succeeded) (if b then next.At (run.Enter succeeded) else next.End
     (ended succeeded))

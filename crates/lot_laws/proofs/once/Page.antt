@@ -42,7 +42,7 @@ role_is (next.End answer) = refl
 
 -- ---------------------------------------------------------------- its word
 
--- it has no second line
+-- a `Once` has no second line
 module _ (r : Rules) (s : Site) (t : ℕ) where
   abbrev StaysAside : List Deed → Type 0
   StaysAside ds = (laws.after_all r ds s t).aside_parked ≡ s.aside_parked
@@ -204,7 +204,7 @@ course_steps l v Runs = refl
 course_steps l v Marks = refl
 course_steps l v Parks = refl
 
--- its closure is told how far the `Once` has come
+-- the thread's closure is told how far the `Once` has come
 told_so : (r : Rules) (s : Site) (c : OnceCall) → r.sort ≡ locks.Once → course_of c (code r s) ≡ Runs
     → state_before (is_poisoned (code r s)) ≡ state_told s.lock.phase
 told_so r s c sort runs = ap (λ v. state_before (is_poisoned v)) (words.coded r s sort)
@@ -221,7 +221,7 @@ told_so r s c sort runs = ap (λ v. state_before (is_poisoned v)) (words.coded r
     by_phase parked IsDone h = absurd h
 
 module _ (w : LocksState) (l v : ℕ) where
-  -- it is told of a step
+  -- the thread is told of a step
   steps_on : (o : Outcome) → o ≡ outcome.Step → Begins w Nothing o
   steps_on o e = subst (Begins w Nothing) (sym e) tt
 
@@ -314,7 +314,7 @@ module _ (w : State) (t l : ℕ) (at : OncePlace) (inductive : IsInductive w) (s
   by_place (GiveUp again give_up.Clear) h = tt
   by_place (GiveUp again give_up.Leave) h = tt
 
-  -- it is told of its closure exactly where its run begins
+  -- the thread is told of its closure exactly where its run begins
   begins_so : can_do w (once_act l at) ≡ true
       → Begins (locks_of w) (event_by l (case_of (once_profile at).carries
       (once_deeds at (reply_to w t (once_act l at)))))
@@ -325,7 +325,7 @@ comes_by : (l : ℕ) (n : Next OncePlace) → ComesBy l (next_row n) (once_goes 
 comes_by l (next.At q) = (refl, refl, refl, tt)
 comes_by l (next.End answer) = (refl, refl)
 
--- it hands nothing over
+-- a call of a `Once` hands nothing over
 pub keeps_all : (l : ℕ) (p : OncePlace) (j : ℕ) (op : Op) → once_act l p ≢ act.HandOver j op
 keeps_all l p j op e = subst (OnceMoves l (once_move p) (once_hears p)) e (once_acts_move l p)
 

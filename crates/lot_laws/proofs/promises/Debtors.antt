@@ -79,7 +79,7 @@ owes_beside (Wait m timed at) reached = inl refl
 
 -- ---------------------------------------------------------------- at each of its two locks
 
--- it enters the section of this line of this mutex next
+-- the thread enters the section of this line of this mutex next
 abbrev pub EntersAt : CondvarPlace → ℕ → Line → Type 0
 EntersAt at l m = (mutex_beside at ≡ Some l) × (m ≡ Main) × IsEntering at
 
@@ -103,7 +103,7 @@ module _ (k : ℕ) (at : CondvarPlace) (apart : (l : ℕ) → mutex_beside at �
   inside_by b c = (if b then location (Condvar k at) else if c then location_by (mutex_side at)
       else nowhere).inside
 
-  -- it owes where it is inside, but for the mutex whose section it enters next
+  -- the thread owes where it is inside, but for the mutex whose section it enters next
   owes_where : (l : ℕ) → (line_owed (Condvar k at) l ≡ (location_at (Condvar k at) l).inside)
       ⊎ EntersAt at l Main
   owes_where l = by_lock (k == l) (is_lock l (mutex_beside at)) refl refl
@@ -140,7 +140,7 @@ module _ (k : ℕ) (at : CondvarPlace) (apart : (l : ℕ) → mutex_beside at �
     entering_outside : (location_at (Condvar k at) l).inside ≡ None
     entering_outside = (λ i. inside_by (other i) (beside i)) ∙ (owes_outside at enters.2).inside
 
--- it does so by its act, in a wait that has released its mutex
+-- the thread does so by its act, in a wait that has released its mutex
 entering_acts : (k : ℕ) (at : CondvarPlace) (l : ℕ) (m : Line) → EntersAt at l m
     → act_of (Condvar k at) ≡ Enter (One (key_of l m))
 entering_acts k (Wait n timed (wait.Release s (mutex.Unlock unlock.Enter))) l m e = let here : n ≡ l = cc

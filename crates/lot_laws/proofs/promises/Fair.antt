@@ -339,7 +339,7 @@ module _ (w : State) (t l : ℕ) (shape : IsWellFormed w) (inductive : IsInducti
 module _ (w : State) (t l : ℕ) (shape : IsWellFormed w) (inductive : IsInductive w) (own : owner_at w l
     ≡ Some t)
     (of_mutex : is_mutex (kind_at w l) ≡ true) where
-  -- it looks at the word once more, and goes on from there
+  -- the thread looks at the word once more, and goes on from there
   spin_gives : t < length w.places → IsFairRelease (call_state (place_at w t) (rights w t)).purpose l
       → (o : Option Place)
       → respins_from (place_at w t) ≡ o → ComesTo w t l (state_after_look w t o)

@@ -13,7 +13,7 @@ use Rattle.lot_laws.proofs.machine.PlaceTest.{IsLineAct, IsOfLine, IsWithinLine,
 use Rattle.lot_laws.proofs.machine.PlaceTest.{mutex_row_facts, once_facts, semaphore_facts}
 use Rattle.lot_laws.proofs.machine.Parts.{IsOf, location_here, location_elsewhere, IsSingle, single_late}
 
--- it takes each thread of a line of the lock
+-- the thread takes each thread of a line of the lock
 abbrev pub TakesHere : ℕ → Act → Type 0
 TakesHere l (act.Take key x) = IsOfLine l key
 TakesHere l a = Unit {0}
@@ -80,7 +80,7 @@ key_there w l Main shape lt = let n : length w.sections ≡ 2 * length w.locks =
 key_there w l Second shape lt = let n : length w.sections ≡ 2 * length w.locks = shape.sections in omega arith
 
 module _ (w : State) (t l : ℕ) (inductive : IsInductive w) (is_of : IsOf l (place_at w t)) where
-  -- it holds the section of the line
+  -- the thread holds the section of the line
   pub holds_line : (key : ℕ) → IsWithinLine l (location (place_at w t)) key → section_at w key ≡ Some t
   holds_line key h = ap (section_at w) h.2 ∙ (inductive.stands.sections t l h.0).0
       (ap (λ (x : Location). x.inside) (location_here l (place_at w t) is_of) ∙ h.1)

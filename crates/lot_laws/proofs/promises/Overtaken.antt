@@ -166,7 +166,7 @@ module _ (w : State) (s : Step) (h : IsWorld w) (n l t : ℕ) (size : length w.p
       let new : newly_owned (Some a) (Some b) ≡ passed (Some a) (Some b) = refl in
       omega arith
 
--- those that have yet to come before it are so many
+-- how many threads have yet to come before this one
 abbrev to_come : State → ℕ → ℕ → ℕ → ℕ
 to_come w n l t =
     ahead t (lock_state w l).queue + before_it (owner_at w l) (in_hands n (lock_state w l).taken)

@@ -127,7 +127,7 @@ module _ (w v : State) (t : ℕ) (inductive : IsInductive w) (afterwards : IsInd
     row_then h = ap (λ p. (profile p).owes) (sym at_q)
         ∙ sym (owed_own (place_at v t) l (owes_own (place_at v t) l m single_then h) single_then) ∙ h
 
-  -- it goes on by the reply to its act
+  -- the thread goes on by the reply to its act
   go_owes : place_at v t ≡ next_place (place_at w t) (go_reply w t) → (l : ℕ) (m : Line)
       → Owes v t l m ↔ (IsInside v t l m
       ⊎ SeesWaiters w t l m (outcome_of (next_act (place_at w t) (go_reply w t))) v)
@@ -188,7 +188,7 @@ module _ (w v : State) (t : ℕ) (inductive : IsInductive w) (afterwards : IsInd
               (sym (call_own v t afterwards l single_then own_then)) (subst (λ p. RowLooks l (profile p))
               (sym at_q) looks)
 
-  -- it owes nothing but what it is inside, and lets nobody in
+  -- the thread owes nothing but what it is inside, and lets nobody in
   quiet_owes : (q : Place) → place_at v t ≡ q → ((m : Line) → (profile q).owes ≡ Some m
       → (profile q).role.inside ≡ Some m)
       → ((l : ℕ) → LetsOthersIn w t l → ⊥)
@@ -284,7 +284,7 @@ module _ (w : State) (t : ℕ) (shape : IsWellFormed w) (inductive : IsInductive
         here : place_at (state_after_late_on w t (Some key)) t ≡ next_place (place_at w t) Late
         here = get_or-set_same w.places t (next_place (place_at w t) Late) Idle there
 
-    -- it looks at the word once more, and is in its call as before
+    -- the thread looks at the word once more, and is in its call as before
     spun_owing : (o : Option Place) → respins_from (place_at w t) ≡ o → is_some o ≡ true
         → IsInductive (state_after_look w t o)
         → (l : ℕ) (m : Line)
@@ -300,7 +300,7 @@ module _ (w : State) (t : ℕ) (shape : IsWellFormed w) (inductive : IsInductive
         (rw (length-set w.places t q) there)
         afterwards l m)
 
-    -- its closure has answered, and it is in its call as before
+    -- the thread's closure has answered, and it is in its call as before
     closed_owing : (succeeded : Bool) (one : RunsOne (place_at w t))
         → IsInductive (state_after_close w t succeeded)
         → (l : ℕ) (m : Line)

@@ -430,7 +430,7 @@ module _ (w : State) (inductive : IsInductive w) where
       after = in_line l (called_some (lock_state w l).queue called) (subst (λ s. IsOpen s (lock_state w l))
           (sym once) (called, rests)) (inductive.sites.unfilled l (ap has_readers once))
 
-      -- it is in no wait, whose mutex is none
+      -- the thread is in no wait, whose mutex is none
       rests_nowhere : (k : ℕ) → standing after.debtor (lock_state w k) ≡ 0
       rests_nowhere k = elim (after.stands_nowhere k) [
         | inl none ↦ none

@@ -48,7 +48,7 @@ downgrades_for (Notifies k all) l h = absurd h
 
 -- ---------------------------------------------------------------- a step
 
--- its call lets others in, and the word says that somebody may wait in the line
+-- the thread's call lets others in, and the word says that somebody may wait in the line
 abbrev pub RowSees : Sort → ℕ → ℕ → Profile → Line → Type 0
 RowSees sort l word row m =
     LetsIn sort l row × (line_let_in sort (Some (row.purpose l)) ≡ m) × (tells_of sort m word ≡ true)
@@ -67,7 +67,7 @@ RowFinds sort l word row m =
     LetsIn sort l row × (line_let_in sort (Some (row.purpose l)) ≡ m)
     × (tells_by sort (Some (row.purpose l)) m word ≡ true)
 
--- it only looked
+-- the thread only looked
 abbrev pub RowLooks : ℕ → Profile → Type 0
 RowLooks l row = LooksFirst (Some (row.purpose l)) l × (row.released ≡ false)
 

@@ -82,7 +82,7 @@ module _ (r : Rules) (shared : has_readers r.sort ≡ true) (a : Admission) (l w
   ended : (c : RwLockCallPlace) (answer : Answer) → Owing c (next.End answer)
   ended c answer = record { since = λ m h. absurd cc; sees = λ m s step looks. absurd cc }
 
-  -- it owes nothing then, and saw nothing, or only looked
+  -- the thread owes nothing then, and saw nothing, or only looked
   rests : (c : RwLockCallPlace) (n : Next RwLockCallPlace) → (then_row n).owes ≡ None
       → ((m : Line) → RowFinds r.sort l word (call_profile a c) m → (RowLooks l (then_row n)
       → call_does l a n ≡ act.Enter (One (key_of l m))) → ⊥)
@@ -98,7 +98,7 @@ module _ (r : Rules) (shared : has_readers r.sort ≡ true) (a : Admission) (l w
   abbrev tells_at : RwLockCallPlace → Line → Bool
   tells_at c m = tells_by r.sort (Some ((call_profile a c).purpose l)) m word
 
-  -- it owes on the line that it lets in, since it saw somebody wait there, or inside
+  -- the thread owes on the line that it lets in, since it saw somebody wait there, or inside
   owes_on : (c : RwLockCallPlace) (n : Next RwLockCallPlace) (m : Line) → (then_row n).owes ≡ Some m
       → line_by c ≡ m
       → ((then_row n).role.inside ≡ Some m)
@@ -111,7 +111,7 @@ module _ (r : Rules) (shared : has_readers r.sort ≡ true) (a : Admission) (l w
     sees = λ k s step looks. owes ∙ ap Some (sym line ∙ s.1);
   }
 
-  -- its word tells of nobody
+  -- the thread's word tells of nobody
   dark : (c : RwLockCallPlace) (m : Line) → line_by c ≡ m → tells_at c m ≡ false → (k : Line)
       → RowFinds r.sort l word (call_profile a c) k → ⊥
   dark c m line none k s = let e : tells_at c m ≡ true =

@@ -44,7 +44,7 @@ IsKeeping at.RollBack = ⊥
 IsKeeping (at.Wake m to) = ⊥
 IsKeeping to = Unit {0}
 
--- it never gives up
+-- a call that waits for ever never gives up
 never_gives_up : (x : Access) (again : Bool) (to : RwLockAt) → StandsAt (purpose.Enter x Patient) again to
     → late_at has_given_up (purpose.Enter x Patient) to ≡ false
 never_gives_up x again to stands = by_place to (parks x to stands)
@@ -110,7 +110,7 @@ module _ (r : Rules) (a : Admission) (l : ℕ) (admits : Admits r a) where
     abbrev row : Profile
     row = call_profile a (Bump p)
 
-    -- it lets in the threads that the plain call does
+    -- the thread lets in the threads that the plain call does
     lets_plain : LetsIn r.sort l row → LetsIn r.sort l (rwlock_profile a p)
     lets_plain (inl h) = absurd (let e : true ≡ false = h.1 in cc)
     lets_plain (inr h) = inr (h.0, elim h.1 [ inl less ↦ absurd less | inr left ↦ inr left ])
@@ -205,7 +205,7 @@ module _ (r : Rules) (a : Admission) (l : ℕ) (admits : Admits r a) where
     abbrev its_row : Profile
     its_row = call_profile a (Bump leaves)
 
-    -- it owes on the second line alone
+    -- the thread owes on the second line alone
     second_alone : (to : RwLockAt) → StandsAt (purpose.Release access.Shared) false to → (m : Line)
         → (rwlock_profile a (of (purpose.Release access.Shared) false to)).owes ≡ Some m → m ≡ Second
     second_alone at.GiveWay fits m h = absurd cc

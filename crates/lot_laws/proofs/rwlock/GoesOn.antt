@@ -44,7 +44,7 @@ use Rattle.lot_laws.proofs.sites.LawsKept.{parked_read}
 
 -- ---------------------------------------------------------------- a place
 
--- it goes on to an act that no thread sleeps at, and its call doesn't end
+-- the thread goes on to an act that no thread sleeps at, and its call doesn't end
 abbrev Onward : ℕ → Admission → Next RwLockPlace → Type 0
 Onward k a (next.At q) = outcome_of (act_at k a q q.at) ≡ told.Step
 Onward k a (next.End answer) = ⊥
@@ -695,7 +695,7 @@ module _ (w : State) (t : ℕ) (inductive : IsInductive w) (l : ℕ) (lets : Let
   then_takes = call_takes w t l here.admission here.call here.stands own_rights lets_here
       (λ e. main (inside_so Main e)) outside
 
-  -- so it does as it goes on
+  -- the thread takes the waiters of the line as it goes on
   goes_takes : t < length w.places → IsInductive (state_after_go w t) → IsInside (state_after_go w t) t l Main
       → TakesNext (state_after_go w t) t l (kept_by (call_at w t).purpose)
   goes_takes there after inside =

@@ -9,7 +9,7 @@ use Rattle.core_base.specs.declared.keys.Line.{Line}
 use Rattle.steps_base.specs.declared.acts.Reply.TheVariants as reply
 use Rattle.steps_base.specs.declared.acts.Next.TheVariants as next
 
--- it sleeps in a line, and stands there still
+-- the thread sleeps in a line, and stands there still
 late_place : (a : Admission) (p : RwLockPlace) (m : Line) → rwlock_late_line p ≡ Some m
     → (p2 : RwLockPlace) × (rwlock_next a p reply.Late ≡ next.At p2) × (rwlock_hand p.at ≡ None)
     × (rwlock_hand p2.at ≡ None)
@@ -48,7 +48,7 @@ call_late a (PeekQueue x) m h = absurd cc
 call_late a (HandOver x b to) m h = absurd cc
 call_late a (Handed x how b to) m h = absurd cc
 
--- its line stands in its row
+-- the thread's line stands in its row
 pub late_row : (a : Admission) (c : RwLockCallPlace) → (call_profile a c).late_line ≡ call_late_line c
 late_row a (Plain p) = refl
 late_row a (BumpCall p) = refl

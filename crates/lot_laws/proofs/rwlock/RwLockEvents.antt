@@ -257,7 +257,7 @@ rwlock_purpose_is (kind.RwLock limit) l c h = refl
 rwlock_purpose_is (kind.Recursive limit) l c h = refl
 rwlock_purpose_is k l c h = absurd cc
 
--- it has the right that it needs
+-- the thread has the right that it needs
 module _ (w : State) (t l : ℕ) where
   some_shared : (n : ℕ) → not (n == 0) ≡ true → 1 ≤ n
   some_shared n h = grind (arith, nat_tests)
@@ -295,7 +295,7 @@ module _ (w : State) (t l : ℕ) where
   rwlock_right_needed (rwlock_call.ReleaseFair x) h = owned x h
   rwlock_right_needed (rwlock_call.Bump x) h = owned x h
 
--- it has done nothing yet
+-- the thread has done nothing yet
 module _ (l : ℕ) (a : Admission) (c : RwLockCall) where
   opens : CallOpens a c
   opens = calls_open a c

@@ -255,7 +255,7 @@ module _ (l : ℕ) (a : Admission) (r : Reply) (k : ℕ) where
   handed_next_owes x how b to (reply.HandedBy v c) h = nothing (l == k)
   handed_next_owes x how b to r h = absurd h
 
-  -- it stays where it stands
+  -- the thread stays where it stands
   stays_owing : (x : Access) (b : Bool) (to : HandOverAt) (r : Reply) → Befalls r
       → hand_over_next a x b to r ≡ next.At (HandOver x b to)
   stays_owing x b handing.Load (reply.Woken n) h = refl
@@ -284,7 +284,7 @@ module _ (l : ℕ) (a : Admission) (r : Reply) (k : ℕ) where
 
 -- ---------------------------------------------------------------- the thread of the step
 
--- it owes only where it is inside
+-- the thread owes only where it is inside
 abbrev pub IsWithin : Next RwLockPlace → Type 0
 IsWithin (next.At p) = (m : Line) → owes_at p.at ≡ Some m → (rwlock_role p).inside ≡ Some m
 IsWithin (next.End x) = Unit {0}
@@ -301,7 +301,7 @@ quiet_within q again (at.Aside to) h m e = parking_inside Second _ (pends q) to 
 quiet_within q again (at.Wake n to) h m e = absurd h
 quiet_within q again to h m e = absurd cc
 
--- it goes on to no wake
+-- the thread goes on to no wake
 abbrev pub IsQuietNext : Next RwLockPlace → Type 0
 IsQuietNext (next.At p) = IsQuiet p.at
 IsQuietNext (next.End x) = Unit {0}
@@ -445,7 +445,7 @@ module _ (r : Rules) (readers : has_readers r.sort ≡ true) (a : Admission) (l 
   ended : (p : RwLockPlace) (x : Answer) → OwesNext r a l word p (next.End x)
   ended p x = record { since = λ m h. absurd cc; sees = λ m s step. absurd cc }
 
-  -- it has given way, or has given up, and wakes others where it saw them
+  -- the thread has given way, or has given up, and wakes others where it saw them
   frees : (q : RwLockPurpose) (again : Bool) (to : RwLockAt) (m : Line)
       → LetsIn r.sort l (row_of a q again to)
       → line_let_in r.sort (Some (purpose_by q l)) ≡ m → (x : Answer) (b : Bool) → tells_of r.sort m word ≡ b
@@ -520,7 +520,7 @@ module _ (r : Rules) (readers : has_readers r.sort ≡ true) (a : Admission) (l 
   line_wake (purpose.Upgrade Timed) again Second to stands = absurd stands
   line_wake (purpose.Upgrade Try) again Second to stands = absurd stands
 
-  -- it goes on inside the section of the line that it wakes
+  -- the thread goes on inside the section of the line that it wakes
   goes_on : (q : RwLockPurpose) (again : Bool) (m : Line) (to then_at : WakeAt)
       → StandsAt q again (at.Wake m to)
       → (rwlock_role (of q again (at.Wake m then_at))).inside ≡ Some m

@@ -63,7 +63,7 @@ rwlock_known l (purpose.Upgrade how) sort_of e = (
   knows (sort_of l) e access.Exclusive,
 )
 
--- it is no bump
+-- the call is no bump
 pub no_bump : (l : ℕ) (q : RwLockPurpose) (m : Line) → WakesAside (Some (purpose_by q l)) l m → ⊥
 no_bump l q Main h = h
 no_bump l (purpose.Enter x how) Second h = h
@@ -415,7 +415,7 @@ module _ (r : Rules) (readers : has_readers r.sort ≡ true) (a : Admission) (l 
   again_debt (purpose.Downgrade d) true to waits h = absurd waits
   again_debt q false to waits h = absurd cc
 
-  -- it does nothing but try again
+  -- the thread does nothing but try again
   tries : (q : RwLockPurpose) (again : Bool) (to : RwLockAt) → Waits q → IsAwakeAt to → stands_at to ≡ None
       → parked_hand to ≡ None → (m : Line) (claims : Option Claim) → IsDebtorIn r.sort (record idle {
         retries = retried_want (of q again to);
@@ -433,7 +433,7 @@ module _ (r : Rules) (readers : has_readers r.sort ≡ true) (a : Admission) (l 
   }
   tries q again to waits awake stands hand Second claims d = absurd cc
 
-  -- it wakes others
+  -- the thread wakes others
   wakes_on : (q : RwLockPurpose) (again : Bool) (n m : Line) (to : WakeAt) → n ≡ m
       → act_at l a (of q again (at.Wake n to)) (at.Wake n to) ≢ Sleep
       → RowLooksAfter r.sort l (row_of a q again (at.Wake n to)) (act_at l a (of q again (at.Wake n to))

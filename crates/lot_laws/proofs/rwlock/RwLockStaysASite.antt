@@ -300,7 +300,7 @@ module _ (w : State) (t l : ℕ) (a : Admission) (c : RwLockCallPlace) (inductiv
 
   -- ---------------------------------------------------------------- each act
 
-  -- its deeds as it goes on from a place, what they make of its call, and of those of the others
+  -- the thread's deeds as it goes on from a place, what they make of its call, and of those of the others
   pub record GoesFrom (q : Place) (y : Act) : Type 0 where
     pub whom : Option ℕ
     pub goes : Goes w (put (state_after_act w t (RwLock l a c) y) t (next_place q (reply_to w t y))) l
@@ -317,7 +317,7 @@ admits_by (kinds.RwLock limit) h = (refl, refl, refl)
 admits_by (kinds.Recursive limit) h = (refl, refl, refl)
 admits_by k h = absurd cc
 
--- it begins where it fits its lock
+-- the thread begins where it fits its lock
 pub first_fits : (w : State) (l : ℕ) (a : Admission) (c : RwLockCall) → Admits (rules_in w l) a
     → FitsItsLock w (RwLock l a (call_first c))
 first_fits w l a c admits = (admits, (calls_open a c).stands)

@@ -69,8 +69,8 @@ module _ (w : State) (t l : ℕ) (a : Admission) (c : RwLockCallPlace) where
   abbrev pub case_by : Option ℕ → Act → Option LockCase
   case_by whom y = case_of (call_profile a c).carries (deeds_by whom y)
 
-  -- its deeds are one event of the lock, which its call allows, and by which it goes on with those of the
-  -- others
+  -- the thread's deeds are one event of the lock, which its call allows, and by which it goes on with those
+  -- of the others
   pub record GoesOnBy (y : Act) : Type 0 where
     pub whom : Option ℕ
     pub tells : CallTells (rules_in w l) a (lock_by w l (rules_in w l)) t l c whom (reply_to w t y)
@@ -112,7 +112,7 @@ module _ (w : State) (t l : ℕ) (a : Admission) (c : RwLockCallPlace) (inductiv
     own_happened : IsEvent w (then_by w t l a c y) t (event_by l own_case)
     own_happened = happens_by y from.whom from.goes from.tells
 
-    -- those in its hand are woken, and nobody else's call changes
+    -- the threads in the hand are woken, and nobody else's call changes
     own_others : OthersFollow w (then_by w t l a c y) t (event_by l own_case)
     own_others = others_follow w (then_by w t l a c y) t l own_case own_happened
         (hands_nothing w (then_by w t l a c y) t l own_case own_happened (call_profile a c).carries y own_case

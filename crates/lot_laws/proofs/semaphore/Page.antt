@@ -42,7 +42,7 @@ role_is (next.End answer) = refl
 
 -- ---------------------------------------------------------------- its word
 
--- it has no second line, and nothing but the holders of permits changes
+-- a semaphore has no second line, and nothing but the holders of permits changes
 module _ (r : Rules) (s : Site) (t : ℕ) where
   pub record OnlyPermits (ds : List Deed) : Type 0 where
     pub aside : (laws.after_all r ds s t).aside_parked ≡ s.aside_parked
@@ -82,7 +82,7 @@ module _ (r : Rules) (s : Site) (t : ℕ) where
   only_permits l (Release (release.Clear any)) op v e = record { aside = refl; lock = refl }
   only_permits l (Release at) op v e = absurd cc
 
-  -- it sees the word as it is
+  -- the thread sees the word as it is
   sees_word : (l : ℕ) (p : SemaphorePlace) (op : Op) → semaphore_act l p ≡ act.Word l op
       → MayReply r s t p None (Value (code r s))
   sees_word l (Acquire timed again acquire.Load) op e = refl
@@ -200,7 +200,7 @@ comes_by : (l : ℕ) (n : Next SemaphorePlace) → ComesBy l (next_row n) (semap
 comes_by l (next.At q) = (refl, refl, refl, tt)
 comes_by l (next.End answer) = (refl, refl)
 
--- it hands nothing over
+-- a call of a semaphore hands nothing over
 pub keeps_all : (l : ℕ) (p : SemaphorePlace) → LateIsTimed p → (j : ℕ) (op : Op) → semaphore_act l p
     ≢ act.HandOver j op
 keeps_all l p timed j op e = subst (SemaphoreMoves l (semaphore_move p) (semaphore_hears p)) e

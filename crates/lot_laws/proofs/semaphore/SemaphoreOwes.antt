@@ -15,7 +15,7 @@ use Rattle.steps_semaphore.specs.declared.places.SemaphorePlace.TheVariants.{Try
 use Rattle.steps_semaphore.specs.SemaphoreSteps.{still_retries}
 use Rattle.lot_laws.proofs.promises.RowPromises.{RowOwesNext, RowOwesThen, owes_then}
 
--- it looks nowhere first
+-- a call of a semaphore looks nowhere first
 tells_so : (l : ℕ) (at : SemaphorePlace) (m : Line) (v : ℕ)
     → tells_by locks.Semaphore (Some ((semaphore_profile at).purpose l)) m v ≡ tells_of locks.Semaphore m v
 tells_so l (Acquire timed retries at) m v = refl
@@ -57,7 +57,7 @@ ReleaseOwes l word at n =
     RowOwesNext locks.Semaphore l word (semaphore_profile (Release at))
     (outcome_of (semaphore_does l (in_release n))) (profile (semaphore_goes l (in_release n)))
 
--- it saw whether somebody may wait
+-- the thread saw whether somebody may wait
 adds_owing : (l word : ℕ) (b : Bool) → has_parked word ≡ b
     → ReleaseOwes l word release.Add (if b then next.At release.Enter else next.End answer.Ok)
 adds_owing l word true parked = record {

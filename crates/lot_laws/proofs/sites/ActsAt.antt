@@ -79,7 +79,7 @@ module _ (w : State) (t l : ℕ) (inductive : IsInductive w) (there : t < length
   places_put : (v : State) → v.places ≡ set w.places t p2 → place_at v ≡ putting (place_at w) t p2
   places_put v ep = ap (λ (xs : List Place). λ u. get_or xs u Idle) ep ∙ put_places w t p2 past
 
-  -- its place changes, and the waiters in the lines of the lock
+  -- the thread's place changes, and the waiters in the lines of the lock
   lines_move : (v : State) (m s : List Waiter) → v.locks ≡ w.locks → v.shares ≡ w.shares → v.places
       ≡ set w.places t p2
       → queue_at v (2 * l) ≡ m → queue_at v (2 * l + 1) ≡ s
@@ -205,7 +205,7 @@ module _ (w : State) (t l : ℕ) (inductive : IsInductive w) (there : t < length
   nobody_inside m free u h = let a : section_at w (key_of l m) ≡ Some u = (inductive.stands.sections u l m).0
       (sym (inside_is (place_at w u) l) ∙ h) in let b : ◌≡◌ {A = Option ℕ} None (Some u) = sym free ∙ a in cc
 
-  -- it does one deed that leaves the lock and its bits as they are
+  -- the thread does one deed that leaves the lock and its bits as they are
   module _ (hand : taken_at (place_at w t) l ≡ taken_at p2 l) where
     pub goes_into : (m : Line) → ActsNeeded r (acts t (In m ∷ [])) (lock_by w l r) → role_on p2 l
         ≡ record (role_on (place_at w t) l) { inside = Some m } → Steps r l (parts_at w l) (parts_at w l)
@@ -337,7 +337,7 @@ module _ (w : State) (t l : ℕ) (inductive : IsInductive w) (there : t < length
   pub stood_here : (n : Line) → times t (queue_at w (key_of l n)) ≡ stood_in was.stands n
   stood_here n = stood l n
 
-  -- it stands in no line of another lock
+  -- the thread stands in no line of another lock
   abbrev pub IsOut : Type 0
   IsOut = (k : ℕ) → k ≢ l → (location_at (place_at w t) k).stands ≡ None
 
@@ -366,7 +366,7 @@ module _ (w : State) (t l : ℕ) (inductive : IsInductive w) (there : t < length
       (inductive.stands.waits l m) (λ u g. part_else (λ y. y.waits) l (place_at w) t p2 alike u l
       (λ h i. out (subst (λ j. 1 ≤ times j (queue_at w (key_of l m))) h g)))
 
-  -- it stands after the last of a line
+  -- the thread stands after the last of a line
   pub park_goes : IsOut → (m : Line) (x : Want) (ds : List Deed) → (has_readers r.sort ≡ true → NoHandOff ds)
       → key_of l m < length w.queues → was.stands ≡ None
       → Steps r l (parts_at w l) (with_line (parts_at w l) m (queue_at w (key_of l m) ++ waiter (key_of l m) t
@@ -416,7 +416,7 @@ module _ (w : State) (t l : ℕ) (inductive : IsInductive w) (there : t < length
       own_count n (inr ne) = ap (times t) (others (key_of l n) (other_line l m n ne)) ∙ absent out nowhere l n
           ∙ sym (stood_other m n ne)
 
-  -- it leaves the line in which it stands
+  -- the thread leaves the line in which it stands
   pub remove_goes : IsOut → (m : Line) (ds : List Deed) → (has_readers r.sort ≡ true → NoHandOff ds)
       → was.stands ≡ Some m
       → Steps r l (parts_at w l) (with_line (parts_at w l) m (without t (queue_at w (key_of l m))))

@@ -31,7 +31,7 @@ module _ (w : State) (t l : ℕ) (inductive : IsInductive w) (own : IsOf l (plac
   same_here : location p2 ≡ location (place_at w t) → location_at p2 l ≡ location_at (place_at w t) l
   same_here e = is_here ∙ e ∙ sym was_here
 
-  -- it stands at no other lock
+  -- the thread stands at no other lock
   out : (k : ℕ) → k ≢ l → (location_at (place_at w t) k).stands ≡ None
   out k ne = ap (λ (x : Location). x.stands) (location_elsewhere l k (place_at w t) own ne)
 

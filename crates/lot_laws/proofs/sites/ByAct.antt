@@ -124,7 +124,7 @@ module _ (w : State) (t l : ℕ) (inductive : IsInductive w) (shape : IsWellForm
     pub told : hears r here t who (reply_to w t y)
     pub brief : IsBrief (reply_to w t y)
     pub others : WakesOwn x.row.carries y (case_of x.row.carries (x.deeds who (reply_to w t y)))
-    -- it is in nobody's hand then
+    -- the thread is in nobody's hand then
     pub free : (location_then x (reply_to w t y)).hand ≡ None
 
   calm_by : (ds : List Deed) {more : List Deed} → more ≡ ds → AreCalm ds → IsCalm (case_of x.row.carries more)

@@ -259,7 +259,7 @@ with_line a Second q = record a { second = q }
 module _ (r : Rules) (l : ℕ) (a : Parts) (p : ℕ → Place) (t : ℕ) (p2 : Place)
     (site : IsSite r (seen_in r l a p))
     (hand : taken_at (p t) l ≡ taken_at p2 l) where
-  -- it stands after the last of the main line
+  -- the thread stands after the last of the main line
   pub parks : (key : ℕ) (x : Want) → ActsNeeded r (acts t (Case (locks.Park x) ∷ [])) (seen_in r l a p)
       → role_on p2 l ≡ record (role_on (p t) l) { retries = None; empty = None }
       → Steps r l a (with_line a Main (a.main ++ waiter key t x ∷ [])) p t p2 (Case (locks.Park x) ∷ [])
@@ -268,7 +268,7 @@ module _ (r : Rules) (l : ℕ) (a : Parts) (p : ℕ → Place) (t : ℕ) (p2 : P
       (λ i. record (lock_in a (λ u. taken_at (p u) l)) { queue = queued_after key t x a.main i }) refl refl
       (noted r (seen_in r l a p) site) (own ∙ sym (put_here (λ u. role_on (p u) l) t _))
 
-  -- it stands aside, alone
+  -- the thread stands aside, alone
   pub asides : (key : ℕ) (x : Want) → a.second ≡ [] → ActsNeeded r (acts t (Case locks.Aside ∷ []))
       (seen_in r l a p) → role_on p2 l ≡ record (role_on (p t) l) { retries = None; empty = None }
       → Steps r l a (with_line a Second (a.second ++ waiter key t x ∷ [])) p t p2 (Case locks.Aside ∷ [])
@@ -278,7 +278,7 @@ module _ (r : Rules) (l : ℕ) (a : Parts) (p : ℕ → Place) (t : ℕ) (p2 : P
       (λ u. taken_at (p u) l)) nobody) refl refl (noted r (seen_in r l a p) site) (own
       ∙ sym (put_here (λ u. role_on (p u) l) t _))
 
-  -- its time is up, and it leaves the line in which it stands
+  -- the thread's time is up, and it leaves the line in which it stands
   pub lates : (m : Line) (q : List Waiter) → map queued_of (with_line a m q).main ≡ locks.without t
       (map queued_of a.main)
       → first_of (with_line a m q).second ≡ locks.aside_without t (first_of a.second)

@@ -296,7 +296,7 @@ module _ (w : State) (t l : ℕ) (inductive : IsInductive w) (there : t < length
           (location_here l (place_at w t) own ∙ location_is) ∙ ap (λ o. stood_in o n) out
 
   module _ (hears : Hears) (m : Line) where
-    -- it stands after the last of a line, which nobody else stands aside in
+    -- the thread stands after the last of a line, which nobody else stands aside in
     parks_by : (n : Line) → m ≡ n → (want : Want) (p2 : Place) → key_of l n < length w.queues
         → location_of x ≡ inside_of n → x.deeds None (Parked true) ≡ parks_in n want ∷ []
         → location_then x (Parked true) ≡ record (inside_of n) {
@@ -410,7 +410,7 @@ module _ (w : State) (t l : ℕ) (inductive : IsInductive w) (there : t < length
       (location_here l (place_at w t) own ∙ location_is) ∙ ap (λ o. stood_in o n) h
 
   module _ (hears : Hears) where
-    -- its time is up, and it leaves the line in which it stands
+    -- the thread's time is up, and it leaves the line in which it stands
     leaves_by : (m : Line) (b : Bool) (p2 : Place) → LeavesLine x hears m
         → (map queued_of (with_line (parts_at w l) m (without t (queue_at w (key_of l m)))).main
         ≡ locks.without t (map queued_of (queue_at w (2 * l))))
@@ -650,7 +650,7 @@ module _ (w : State) (t l : ℕ) (inductive : IsInductive w) (there : t < length
             calls_l) ∙ ap (λ (y : Profile). y.role) z.row) ∙ a.1.1) in
             subst (λ o. IsSomePending o u) (sym pends) refl
 
-    -- it stands there alone
+    -- the thread stands there alone
     alone_aside : (y : Waiter) (rest : List Waiter) → queue_at w (2 * l + 1) ≡ y ∷ rest → rest ≡ []
     alone_aside y [] e = refl
     alone_aside y (z ∷ rest) e = absurd (

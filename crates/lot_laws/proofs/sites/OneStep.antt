@@ -303,7 +303,7 @@ meets r l b p t p2 v hand lock parked aside full own others = λ i. record {
       | inr ne ↦ rw (put_other p t p2 u ne) (sym (others u ne))
     ]
 
--- it goes from where it stands to p2, by deeds that are allowed, and the lock has these parts then
+-- the thread goes from where it stands to p2, by deeds that are allowed, and the lock has these parts then
 pub record Steps (r : Rules) (l : ℕ) (a b : Parts) (p : ℕ → Place) (t : ℕ) (p2 : Place)
     (ds : List Deed) : Type 0 where
   pub site : seen_in r l b (putting p t p2) ≡ after_acts r (acts t ds) (seen_in r l a p)

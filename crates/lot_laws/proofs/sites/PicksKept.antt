@@ -136,7 +136,7 @@ module _ (w : State) (t l : ℕ) (inductive : IsInductive w) (own : IsOf l (plac
   past : (n : ℕ) → n ≡ length w.places → n ≤ t → p2 ≡ Idle
   past n e h = absurd (omega arith)
 
-  -- those that are picked of the main queue
+  -- the waiters of the main queue that are picked
   module _ (start : Option Want) (some_line : 2 * l < length w.queues) where
     abbrev pub picks : List Waiter
     picks = lock_picked start (is_recursive r.sort) (queue_at w (2 * l))

@@ -155,7 +155,7 @@ module _ (w : State) (t l : ℕ) (at : MutexPlace) (inductive : IsInductive w) (
   pub own : IsOf l (place_at w t)
   own = rw is refl
 
-  -- it is in nobody's hand itself
+  -- the thread is in nobody's hand itself
   pub not_own : (mutex_location at).hand ≡ None → (u : ℕ) (b : Bool) → hand_at (place_at w u) l ≡ hand t b
       → u ≢ t
   not_own free u b held e = let a : hand_at (place_at w t) l ≡ hand t b =

@@ -267,7 +267,7 @@ module _ (w : State) (t l : ℕ) (inductive : IsInductive w) (there : t < length
   stood_there u n h ng = inductive.stands.lines u l n ∙ ap (λ o. stood_in o n) (splits.sleeps u h).stands
       ∙ stood_other m n ng
 
-  -- those that are left stand in the line
+  -- the waiters that are left stand in the line
   lines_now : (queue : ℕ → List Waiter) → queue (key_of l m) ≡ left → ((key : ℕ) → key ≢ key_of l m
       → queue key ≡ queue_at w key)
       → Lines (locations_of places_now) queue
@@ -288,7 +288,7 @@ module _ (w : State) (t l : ℕ) (inductive : IsInductive w) (there : t < length
       at_line false h (inr ng) = rw h (ap (times u) (others (key_of l n) (other_line l m n ng))
           ∙ inductive.stands.lines u l n)
 
-  -- Those that are left wait as before.
+  -- The waiters that are left wait as before.
   waits_now : (queue : ℕ → List Waiter) → queue (key_of l m) ≡ left → ((key : ℕ) → key ≢ key_of l m
       → queue key ≡ queue_at w key)
       → AllAreWaiting (locations_of places_now) queue

@@ -70,7 +70,7 @@ module _ (w : State) (t l : ℕ) (inductive : IsInductive w) (own : IsOf l (plac
   waits_out : (p : Place) → (location p).stands ≡ None → (location p).waits ≡ None
   waits_out p e = ap (λ o. want_in_line o (profile p).wants) e
 
-  -- its location, but for the threads that it carries
+  -- the thread's location, but for the threads that it carries
   now : (location p2).inside ≡ (location (place_at w t)).inside → (location p2).stands ≡ None
       → (location p2).hand ≡ None → location_at p2 l ≡ record (after_take t (member t taken)
       (location_at (place_at w t) l)) { carries = (location p2).carries }

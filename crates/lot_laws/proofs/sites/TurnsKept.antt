@@ -65,7 +65,7 @@ module _ (w : State) (t : ℕ) (inductive : IsInductive w) (shape : IsWellFormed
 module _ (w : State) (t : ℕ) (inductive : IsInductive w) (shape : IsWellFormed w) (there : t
     < length w.places)
   where
-    -- it begins, with the claim that the call needs
+    -- the thread begins, with the claim that the call needs
     begin_kept : (l : ℕ) (at : MutexPlace) (c : Option Claim) → is_mutex (kind_at w l) ≡ true → place_at w t
         ≡ Idle → taken_at (Mutex l at) l ≡ None → mutex_role at ≡ record idle { claims = c }
         → HasClaim (lock_state w l) t c → mutex_location at ≡ nowhere → Goes w (put w t (Mutex l at)) l
@@ -131,7 +131,7 @@ module _ (w : State) (t : ℕ) (inductive : IsInductive w) (shape : IsWellFormed
         (idle_is (place_at w t) parts.0)
         (calls_readers (kind_at w l) l c right.0) right.1)
 
-    -- it looks at the word once more
+    -- the thread looks at the word once more
     spun_kept : AreCounted w → AreCondvars w → (o : Option Place) → respins_from (place_at w t) ≡ o
         → IsInductive (state_after_look w t o)
     spun_kept counted condvars None is = inductive
@@ -141,7 +141,7 @@ module _ (w : State) (t : ℕ) (inductive : IsInductive w) (shape : IsWellFormed
         (looking_counted w t there q is counted) (looking_condvars w t q there is condvars)
         (looks_now w t there q is)
 
-    -- its time is up, and it goes into the section of its line
+    -- the thread's time is up, and it goes into the section of its line
     rwlock_late : (l : ℕ) (a : Admission) (c : RwLockCallPlace) → place_at w t ≡ RwLock l a c → l
         < length w.locks
         → (m : Option Line) → call_late_line c ≡ m → is_free_under w (key_in (Some l) m) ≡ true
@@ -195,7 +195,7 @@ module _ (w : State) (t : ℕ) (inductive : IsInductive w) (shape : IsWellFormed
             fits
             is (booked w t l (Once l at) inductive is tt (same l)) (same l) m e h)
 
-    -- its closure has answered, and it goes on after it
+    -- the thread's closure has answered, and it goes on after it
     closed_kept : AreCounted w → AreCondvars w → (succeeded : Bool) → can_close w t succeeded ≡ true
         → IsInductive (state_after_close w t succeeded)
     closed_kept counted condvars succeeded can =

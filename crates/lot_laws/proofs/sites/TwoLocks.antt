@@ -100,7 +100,7 @@ module _ (w v : State) (inductive : IsInductive w) (q : ℕ → Place) (places :
 
 -- -------------------------------------------------------- sections alone change, and the place of one thread
 
--- it goes from where it stands by deeds at both locks
+-- the thread goes from where it stands by deeds at both locks
 module _ (w v : State) (inductive : IsInductive w) (t : ℕ) (there : t < length w.places) (p2 : Place)
     (c m : ℕ)
     (apart : m ≢ c)

@@ -84,7 +84,7 @@ fn locks_by(lot: &Arc<ParkingLot>, ticket: Ticket) -> Result<(Locks, Token), Fau
     }
 }
 
-// Whether a reader sees another that reads at the same time.
+// Returns whether a reader sees another that reads at the same time.
 fn meets<R: Wait>(rt: &R, lock: &RwLock<u64>, ticket: Ticket, arrived: &AtomicUsize) -> bool
     requires { IsTicketOf (lot_of_rwlock lock.now) ticket }
 {
@@ -109,7 +109,7 @@ fn sees_all(arrived: &AtomicUsize) -> bool {
     false
 }
 
-// The value that is read of what was written before.
+// Returns the value that is read of what was written before.
 fn write_and_read<R: Wait>(rt: &R, lock: &RwLock<u64>, token: &mut Token) -> Result<u64, Fault>
     requires { IsTokenOf (lot_of_rwlock lock.now) token.old }
     ensures { IsTokenOf (lot_of_rwlock lock.now) token.new }
@@ -132,8 +132,8 @@ fn count<R: Wait>(rt: &R, total: &Mutex<u64>, ticket: Ticket)
     drop(token.leave());
 }
 
-// Whether two readers met. A thread that the system refuses is told as such, and its call is not run
-// in another's place.
+// Returns whether two readers met. A thread that the system refuses is told as such, and its call is
+// not run in another's place.
 fn met<R: Threads + Wait + Sync>(
     rt: &R,
     lock: &RwLock<u64>,

@@ -31,7 +31,7 @@ impl Line {
         self.inside >= self.most
     }
 
-    // Whether there is none to take yet, and one may come.
+    // Returns whether there is none to take yet, and one may come.
     fn is_blank(&self) -> bool {
         self.inside == 0 && self.to_come != 0
     }
@@ -223,8 +223,8 @@ fn pipe_for<A: Abort>(
     (pipe, others)
 }
 
-// Whether all numbers are taken that are sent, and their sum is right: by so many senders and
-// receivers, through so many places.
+// Returns whether all numbers are taken that are sent, and their sum is right: by so many senders
+// and receivers, through so many places.
 fn passes<R: Threads + Wait + Abort + Sync>(
     rt: &R,
     alloc: Global,

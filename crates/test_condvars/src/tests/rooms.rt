@@ -98,8 +98,8 @@ fn take_part<R: Wait>(
     }
 }
 
-// Whether so many threads were content with their parts, and what the number came to. Nobody waits
-// after them.
+// Returns whether so many threads were content with their parts, and what the number came to.
+// Nobody waits after them.
 pub(super) fn play<R: Threads + Wait + Abort + Sync>(
     rt: &R,
     alloc: Global,

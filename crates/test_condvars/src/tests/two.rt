@@ -35,7 +35,8 @@ fn await_flag<R: Wait>(rt: &R, flag: &AtomicBool) {
     }
 }
 
-// Whether one came to wait for the mutex, or on the condition variable, by the key of its queue.
+// Returns whether one came to wait for the mutex, or on the condition variable, by the key of its
+// queue.
 fn is_waited_for<R: Wait>(rt: &R, lot: &ParkingLot, token: &mut Token, key: usize) -> bool
     requires { IsTokenOf lot.now token.old }
     ensures { IsTokenOf lot.now token.new }

@@ -21,7 +21,7 @@ use std::process::Abort;
 use std::sync::Wait;
 use std::test::Fail;
 
-// Whether a thread has its number, and has left no section.
+// Returns whether a thread has its number, and has left no section.
 fn is_new(ticket: Ticket, number: usize) -> bool {
     let token = ticket.enter();
     let new = (token.number(), token.last_section()) == (number, None);
@@ -246,7 +246,7 @@ fn a_section_takes_in_order(rt: HostRuntime) {
 
 const SHARED_OR_NOT: (Want, Want, Want) = (Want::Shared, Want::Exclusive, Want::Shared);
 
-// Whether the first two of three were taken, with their wants, and how many stay.
+// Returns whether the first two of three were taken, with their wants, and how many stay.
 fn first_two(section: &Section) -> (bool, bool, usize)
     requires { section.now.keys ≡ One 6 }
 {

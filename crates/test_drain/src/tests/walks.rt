@@ -34,7 +34,7 @@ fn steps_of<Q: Queues + Drop>(alloc: Global, world: &World<Q>) -> Option<Vec<Ste
     world.drain(alloc).ok()
 }
 
-/// Whether nobody is in a call or waits, nobody owns the lock, and its word is 0.
+/// Returns whether nobody is in a call or waits, nobody owns the lock, and its word is 0.
 fn is_over<Q: Queues + Drop>(world: &World<Q>) -> bool {
     for thread in 0..world.threads() {
         if !world.place(thread).is_idle() {
@@ -160,7 +160,7 @@ fn call_of(dice: &mut Dice, kind: Kind, owns: bool) -> Call {
     }
 }
 
-/// Whether a thread owns the lock.
+/// Returns whether a thread owns the lock.
 fn owns<Q: Queues + Drop>(world: &World<Q>, thread: usize) -> bool {
     if world.locks() == 0 {
         return false;

@@ -6,12 +6,18 @@ use std::alloc::{AllocError, Global};
 use std::process::Abort;
 use std::test::Fail;
 
-/// A program with each form of line.
+/// Programs with each form of line.
 const WHOLE: &str = "threads 2\nlock m mutex\nlock c condvar\nlock o once\nvar full 0\n\
     thread 0\nrepeat 2\nlock m\nwhile full = 1\nwait c m\nend\nset full 1\nnotify_one c\nunlock m\nend\n\
     call_once o\nok\nif ok\nadd full 1\nelse\nloop\nassert full < 2\nend\nend\n\
     thread 1\nlock_timed m\nif yes\nunlock m\nend\n\
     always full <= 2\nfinally full = 2\nnever 0 at 8 1 at 26\nends 1\n";
+
+const NAMED: &str = "const two 2\nlock s semaphore two\nvar full 0\n\
+    thread taker two\nown i 0\nwhile i < two and full < 9 or full = 9\n\
+    either\nacquire s\nrelease s\nor\nadd i 1\nor\nbreak\nend\nend\n\
+    thread other\nset full two\nassert full = 2 or full = 3\n\
+    always full <= 2 or full = two and full < 3\nnever taker 1 at 8 other at 17\nends taker 2\n";
 
 /// A short one, of which each byte is changed.
 const SHORT: &str =
@@ -51,7 +57,17 @@ fn line_of(error: &TextError) -> u32 {
             word: _,
             expected: _,
         }
-        | TextError::Short { line, expected: _ } => *line,
+        | TextError::Short { line, expected: _ }
+        | TextError::Unanswered {
+            line,
+            answer: _,
+            can: _,
+        }
+        | TextError::Twice {
+            line,
+            thread: _,
+            first: _,
+        } => *line,
         TextError::NoMemory => 0,
     }
 }
@@ -87,10 +103,13 @@ fn joined(alloc: Global, lines: &[&str]) -> Result<String, AllocError> {
 
 #[test]
 fn a_program_with_a_damaged_line_is_told_in_one_line(rt: HostRuntime) -> Result<(), Fail> {
-    for number in 0..WHOLE.lines().count() {
-        for damage in [Damage::Cut, Damage::Doubled, Damage::Swapped] {
-            let text = damaged(rt.alloc(), WHOLE, number, damage)?;
-            check_eq(&rt, flaw_of(rt.alloc(), text.as_str())?, "");
+    for whole in [WHOLE, NAMED] {
+        check_eq(&rt, parse(rt.alloc(), whole).is_ok(), true);
+        for number in 0..whole.lines().count() {
+            for damage in [Damage::Cut, Damage::Doubled, Damage::Swapped] {
+                let text = damaged(rt.alloc(), whole, number, damage)?;
+                check_eq(&rt, flaw_of(rt.alloc(), text.as_str())?, "");
+            }
         }
     }
     Ok(())

@@ -1,9 +1,9 @@
 //! Programs with what is found of them by turns of each grain.
 
-use super::{Found, Turns, check_eq, search_by};
+use super::{Found, check_eq, search_by};
 use core_base::ListQueues;
 use lot_explore::{Walk, explore_from, explore_in};
-use lot_program::Deadlines;
+use lot_program::{Deadlines, Grain};
 use lot_program_text::parse;
 use state_search::{Limits, Unobserved, Verdict};
 use std::alloc::Global;
@@ -17,12 +17,10 @@ const ROOM: Limits = Limits {
     bytes: None,
 };
 
-/// What is found of a program by calls, by calls that are cut where one of its calls can see that, by whole turns
-/// and by steps.
+/// What is found of a program by calls, by whole turns and by steps.
 struct Grained {
     text: &'static str,
     calls: Found,
-    cut_calls: Found,
     turns: Found,
     steps: Found,
 }
@@ -35,7 +33,6 @@ const PROGRAMS: &[Grained] = &[
                thread 1\nlock b\nlock c\nunlock c\nunlock b\n\
                thread 2\nlock a\nlock c\nunlock c\nunlock a\n",
         calls: Found::Nothing(152),
-        cut_calls: Found::Nothing(152),
         turns: Found::Nothing(2073),
         steps: Found::Nothing(8200),
     },
@@ -44,7 +41,6 @@ const PROGRAMS: &[Grained] = &[
                thread 0\nupgradable r\nupgrade r\nunlock_exclusive r\n\
                thread 1\nread r\nupgradable r\nunlock_upgradable r\nunlock_shared r\n",
         calls: Found::Deadlock(4),
-        cut_calls: Found::Deadlock(4),
         turns: Found::Deadlock(11),
         steps: Found::Deadlock(19),
     },
@@ -53,7 +49,6 @@ const PROGRAMS: &[Grained] = &[
                thread 0\nlock m\nwait c m\nunlock m\n\
                thread 1\nlock m\nnotify_one c\nunlock m\n",
         calls: Found::Deadlock(5),
-        cut_calls: Found::Deadlock(6),
         turns: Found::Deadlock(8),
         steps: Found::Deadlock(14),
     },
@@ -63,7 +58,6 @@ const PROGRAMS: &[Grained] = &[
                thread 0\nlock m\nwhile ready = 0\nwait c m\nend\nunlock m\n\
                thread 1\nlock m\nset ready 1\nnotify_one c\nunlock m\n",
         calls: Found::Nothing(23),
-        cut_calls: Found::Nothing(44),
         turns: Found::Nothing(170),
         steps: Found::Nothing(314),
     },
@@ -75,7 +69,6 @@ const PROGRAMS: &[Grained] = &[
                thread 1 2\nlock m\nwhile full = 0\nwait c m\nend\n\
                set full 0\nnotify_one c\nunlock m\nfinally full = 0\n",
         calls: Found::Deadlock(24),
-        cut_calls: Found::Deadlock(28),
         turns: Found::Deadlock(50),
         steps: Found::Deadlock(72),
     },
@@ -86,7 +79,6 @@ const PROGRAMS: &[Grained] = &[
                thread 1 2\nlock m\nwhile full = 0\nwait c m\nend\n\
                set full 0\nnotify_all c\nunlock m\nfinally full = 0\n",
         calls: Found::Nothing(566),
-        cut_calls: Found::Nothing(2440),
         turns: Found::Nothing(21617),
         steps: Found::Nothing(44202),
     },
@@ -94,7 +86,6 @@ const PROGRAMS: &[Grained] = &[
     Grained {
         text: "threads 2\nlock r rwlock\nthread 0 1\nupgradable r\nupgrade r\nunlock_exclusive r\n",
         calls: Found::Nothing(18),
-        cut_calls: Found::Nothing(18),
         turns: Found::Nothing(90),
         steps: Found::Nothing(209),
     },
@@ -102,7 +93,6 @@ const PROGRAMS: &[Grained] = &[
     Grained {
         text: "threads 2\nlock r rwlock\nthread 0 1\nread r\nwrite r\n",
         calls: Found::Deadlock(3),
-        cut_calls: Found::Deadlock(3),
         turns: Found::Deadlock(11),
         steps: Found::Deadlock(18),
     },
@@ -112,7 +102,6 @@ const PROGRAMS: &[Grained] = &[
                thread 0\nlock a\nlock b\nunlock b\nunlock a\n\
                thread 1\nlock b\nlock a\nunlock a\nunlock b\n",
         calls: Found::Deadlock(4),
-        cut_calls: Found::Deadlock(4),
         turns: Found::Deadlock(10),
         steps: Found::Deadlock(18),
     },
@@ -121,7 +110,6 @@ const PROGRAMS: &[Grained] = &[
                thread 0\nlock g\nlock a\nlock b\nunlock b\nunlock a\nunlock g\n\
                thread 1\nlock g\nlock b\nlock a\nunlock a\nunlock b\nunlock g\n",
         calls: Found::Nothing(36),
-        cut_calls: Found::Nothing(36),
         turns: Found::Nothing(123),
         steps: Found::Nothing(342),
     },
@@ -129,7 +117,6 @@ const PROGRAMS: &[Grained] = &[
     Grained {
         text: TIMED,
         calls: Found::Nothing(58),
-        cut_calls: Found::Nothing(58),
         turns: Found::Nothing(291),
         steps: Found::Nothing(673),
     },
@@ -138,7 +125,6 @@ const PROGRAMS: &[Grained] = &[
         text: "threads 3\nlock r recursive\nthread 0 1\nloop\nread r\nunlock_shared r\nend\n\
                thread 2\nwrite r\nunlock_exclusive r\n",
         calls: Found::Nothing(81),
-        cut_calls: Found::Nothing(81),
         turns: Found::Nothing(1701),
         steps: Found::Nothing(4626),
     },
@@ -151,7 +137,6 @@ const PROGRAMS: &[Grained] = &[
                thread 1\nwrite_timed r\nif yes\nunlock_exclusive r\nend\n\
                if no\nlock b\nlock a\nunlock a\nunlock b\nend\n",
         calls: Found::Nothing(105),
-        cut_calls: Found::Deadlock(14),
         turns: Found::Deadlock(28),
         steps: Found::Deadlock(43),
     },
@@ -163,7 +148,6 @@ const PROGRAMS: &[Grained] = &[
                if no\nread r\nunlock_shared r\ntry_write r\n\
                if yes\nunlock_exclusive r\nend\nif no\nlock a\nlock a\nend\nend\n",
         calls: Found::Nothing(30),
-        cut_calls: Found::Deadlock(14),
         turns: Found::Deadlock(21),
         steps: Found::Deadlock(35),
     },
@@ -174,7 +158,6 @@ const PROGRAMS: &[Grained] = &[
                thread 1\nnotify_one v\nif yes\ntry_lock m\nif yes\nunlock m\nend\n\
                if no\nlock m\nlock g\nunlock g\nunlock m\nend\nend\n",
         calls: Found::Nothing(60),
-        cut_calls: Found::Deadlock(14),
         turns: Found::Deadlock(29),
         steps: Found::Deadlock(43),
     },
@@ -185,22 +168,20 @@ const PROGRAMS: &[Grained] = &[
                thread 1\nlock_timed f\nif yes\nunlock f\nend\n\
                if no\ntry_lock f\nif yes\nlock a\nunlock a\nunlock f\nend\nend\n",
         calls: Found::Nothing(65),
-        cut_calls: Found::Deadlock(14),
         turns: Found::Deadlock(24),
         steps: Found::Deadlock(39),
     },
 ];
 
 #[test]
-fn calls_are_cut_where_a_call_of_the_program_sees_it(rt: HostRuntime) {
+fn whole_turns_find_what_steps_find(rt: HostRuntime) {
     for program in PROGRAMS {
-        let found = |turns: Turns| {
-            search_by::<ListQueues>(rt.alloc(), program.text, ROOM, turns, Deadlines::Pass)
+        let found = |grain: Grain| {
+            search_by::<ListQueues>(rt.alloc(), program.text, ROOM, grain, Deadlines::Pass)
         };
-        check_eq(&rt, found(Turns::Calls), program.calls);
-        check_eq(&rt, found(Turns::CutCalls), program.cut_calls);
-        check_eq(&rt, found(Turns::Whole), program.turns);
-        check_eq(&rt, found(Turns::Steps), program.steps);
+        check_eq(&rt, found(Grain::Calls), program.calls);
+        check_eq(&rt, found(Grain::Turns), program.turns);
+        check_eq(&rt, found(Grain::Steps), program.steps);
     }
 }
 
@@ -212,7 +193,7 @@ const TIMED: &str = "threads 2\nlock a mutex\nlock b mutex\n\
 #[test]
 fn where_no_deadline_passes_a_timed_call_waits_for_ever(rt: HostRuntime) {
     let found = |deadlines: Deadlines| {
-        search_by::<ListQueues>(rt.alloc(), TIMED, ROOM, Turns::CutCalls, deadlines)
+        search_by::<ListQueues>(rt.alloc(), TIMED, ROOM, Grain::Calls, deadlines)
     };
     check_eq(&rt, found(Deadlines::Pass), Found::Nothing(58));
     check_eq(&rt, found(Deadlines::Never), Found::Deadlock(4));

@@ -3,9 +3,9 @@ use super::check_eq;
 use core_base::ListQueues;
 use lot_explore::Walk;
 use lot_loops::{FairLoop, find_loop};
-use lot_program::Program;
+use lot_program::{Grain, Program};
 use lot_program_text::{ProgramText, parse};
-use state_search::{NoRoom, Unobserved};
+use state_search::{Limits, NoRoom, Unobserved};
 use std::alloc::Global;
 
 /// What is found of a thread's end.
@@ -23,16 +23,16 @@ enum Ending {
     NoProgram,
 }
 
-/// Returns the program of a text, in whose turns calls are cut where the program sees it.
-fn by_cut_calls(alloc: Global, text: &str) -> Option<ProgramText> {
+/// Returns the program of a text, by calls.
+fn by_calls(alloc: Global, text: &str) -> Option<ProgramText> {
     let mut parsed = parse(alloc, text).ok()?;
-    parsed.program.by_cut_calls(alloc).ok()?;
+    parsed.program.grain = Grain::Calls;
     Some(parsed)
 }
 
 /// Returns what is found of a thread's end within so many states.
-fn ending_of(alloc: Global, text: &str, thread: usize, most: usize) -> Ending {
-    let Some(parsed) = by_cut_calls(alloc, text) else {
+fn ending_of(alloc: Global, text: &str, thread: usize, most: u32) -> Ending {
+    let Some(parsed) = by_calls(alloc, text) else {
         return Ending::NoProgram;
     };
     match looked_for(alloc, &parsed.program, thread, most) {
@@ -45,16 +45,20 @@ fn looked_for(
     alloc: Global,
     program: &Program,
     thread: usize,
-    most: usize,
+    most: u32,
 ) -> Result<Ending, NoRoom> {
     if !program.is_fit() {
         return Ok(Ending::NoProgram);
     }
     let walk = Walk::<ListQueues>::new(alloc, program)?;
-    let looked = find_loop(alloc, &walk, thread, most, &mut Unobserved)?;
+    let limits = Limits {
+        states: most,
+        bytes: None,
+    };
+    let looked = find_loop(alloc, &walk, thread, limits, &mut Unobserved)?;
     match looked.found {
         Some(found) => ending_by(walk, thread, &found),
-        None if looked.is_whole => Ok(Ending::NoLoop(looked.states)),
+        None if looked.cut.is_none() => Ok(Ending::NoLoop(looked.states)),
         None => Ok(Ending::NoneYet(looked.states)),
     }
 }
@@ -107,8 +111,17 @@ fn a_thread_that_nobody_tells_looks_for_ever(rt: HostRuntime) {
     check_eq(
         &rt,
         ending_of(rt.alloc(), NOT_TOLD, 0, 3),
-        Ending::NoneYet(5),
+        Ending::NoneYet(3),
     );
+}
+
+/// One that may choose for ever to look again.
+const CHOOSES: &str = "threads 1\nvar x 0\nthread 0\nwhile x = 0\neither\nset x 1\nor\nend\nend\n";
+
+#[test]
+fn a_thread_may_choose_one_branch_for_ever(rt: HostRuntime) {
+    let endless = Ending::Loop { way: 0, lap: 3 };
+    check_eq(&rt, ending_of(rt.alloc(), CHOOSES, 0, 1000), endless);
 }
 
 #[test]

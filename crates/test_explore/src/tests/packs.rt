@@ -29,7 +29,8 @@ fn known_row<S: System>(
     }
 }
 
-/// Whether the start of a system is known before it is packed, and is packed into the same row after.
+/// Returns whether the start of a system is known before it is packed, and is packed into the same
+/// row after.
 fn known_start<S: System>(alloc: Global, system: &mut S) -> Result<[bool; 2], NoRoom> {
     let start = system.start(alloc)?;
     let before = known_row(alloc, system, &start)?;

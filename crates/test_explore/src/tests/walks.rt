@@ -2,7 +2,7 @@
 use crate::tests::{Found, check_eq};
 use core_base::ListQueues;
 use lot_explore::{Walk, shrink, walk_at_random};
-use lot_program::Program;
+use lot_program::{Grain, Program};
 use lot_program_text::{ProgramText, parse};
 use state_search::NoRoom;
 use std::alloc::Global;
@@ -24,7 +24,7 @@ const CONTROL: &str = "threads 2\nlock a mutex\nlock b mutex\n\
 
 fn by_calls(alloc: Global, text: &str) -> Option<ProgramText> {
     let mut parsed = parse(alloc, text).ok()?;
-    parsed.program.by_calls(alloc);
+    parsed.program.grain = Grain::Calls;
     Some(parsed)
 }
 

@@ -120,7 +120,7 @@ fn look<Q: Queues + Drop>(alloc: Global, world: &World<Q>) -> Result<Seen, Alloc
     Ok(Seen { threads, locks })
 }
 
-/// Whether a world of so many threads may have locks of these kinds.
+/// Returns whether a world of so many threads may have locks of these kinds.
 fn all_fit(kinds: &[Kind], threads: usize) -> bool
     ensures { IsTrue result → All (λ kind. fits kind threads ≡ true) kinds.now }
 {

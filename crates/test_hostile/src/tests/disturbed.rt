@@ -40,8 +40,8 @@ fn disturbing(lines: &[Line], thread: usize, disturbance: Disturbance) -> Option
     Some(Line { thread, deed })
 }
 
-/// Plays a schedule with this line between those before and those after, and then each thread alone. It
-/// answers how many steps were checked.
+/// Plays a schedule with this line between those before and those after, and then each thread
+/// alone. Returns how many steps were checked.
 fn disturbed<Q: Queues + Drop>(
     alloc: Global,
     script: &Script,

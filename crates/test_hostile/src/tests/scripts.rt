@@ -9,11 +9,11 @@ use std::alloc::{AllocError, Global};
 /// The deed that a line asks of a thread.
 #[derive(Clone, Copy)]
 pub enum Deed {
-    /// It begins a call and goes on alone until it rests.
+    /// The thread begins a call and goes on alone until it rests.
     Does(Call),
-    /// It takes a turn.
+    /// The thread takes a turn.
     Takes(Turn),
-    /// It goes on alone until it rests.
+    /// The thread goes on alone until it rests.
     GoesOn,
 }
 

@@ -181,8 +181,8 @@ fn walk<Q: Queues + Drop>(
     Ok(checked.possible)
 }
 
-/// No step is wrong in so many walks over worlds of these locks, by a list and by buckets each. It
-/// answers how many turns were possible.
+/// No step is wrong in so many walks over worlds of these locks, by a list and by buckets each.
+/// Returns how many turns were possible.
 fn walks<A: Abort>(rt: &A, alloc: Global, kinds: &[Kind], threads: usize, count: u64) -> usize
     requires some { 1 ≤ threads }
 {

@@ -80,7 +80,7 @@ fn locked<'a, T, R: Wait + Abort>(
     }
 }
 
-// Whether a try gets the mutex, and what it got.
+// Tries the mutex once, and returns the guard that the try got, if any.
 fn tried<'a, T, R: Wait + Abort>(
     rt: &R,
     mutex: &'a ReentrantMutex<T>,

@@ -88,7 +88,8 @@ fn pass<R: Wait>(
     told
 }
 
-// Whether a thread enters and leaves a section while another stays in one of another bucket.
+// Returns whether a thread enters and leaves a section while another stays in one of another
+// bucket.
 fn both_enter<R: Threads + Wait + Sync + Abort>(rt: &R, alloc: Global, seats: usize) -> (bool, bool)
     requires { (1 < seats) × (seats ≤ 1024) }
 {

@@ -64,7 +64,7 @@ fn a_section_is_not_left_with_another_token(rt: HostRuntime) -> Result<(), Fail>
         }
         yield_now();
     }
-    // It has time to leave.
+    // The other thread has time to leave.
     delay(TURNS);
     check_eq(&rt, steps.load(SeqCst), 1);
     Ok(())

@@ -132,7 +132,7 @@ pub fn wake_early<R: Wait>(rt: &R, lot: &ParkingLot, token: &mut Token, word: Wo
     }
 }
 
-// Whether a thread is woken by a note. A right that it is handed is given up.
+// Returns whether a thread is woken by a note. A right that it is handed is given up.
 fn is_woken<'a, R: Wait>(
     rt: &R,
     lot: &'a ParkingLot,
@@ -153,8 +153,8 @@ fn is_woken<'a, R: Wait>(
     }
 }
 
-// Whether the thread is woken as it is to be: by a note, and then by a right. It is late to its
-// sleep, so that it finds its note without parking, and its parker returns early the next time.
+// Returns whether the thread is woken as it is to be: by a note, and then by a right. It is late to
+// its sleep, so that it finds its note without parking, and its parker returns early the next time.
 fn sleeps_late<R: Wait>(rt: &R, lot: &ParkingLot, token: &mut Token, word: Word) -> bool
     requires { IsTokenOf lot.now token.old × IsWordOf lot.now.words word × (word.kind ≡ Mutex) }
     ensures { IsSameThread lot.now token.old token.new }

@@ -86,8 +86,8 @@ fn take_part<R: Wait>(rt: &R, lot: &ParkingLot, hall: &Hall, token: &mut Token, 
     true
 }
 
-// Whether so many threads of a lot of so many seats were content with their parts, and what the
-// numbers came to.
+// Returns whether so many threads of a lot of so many seats were content with their parts, and what
+// the numbers came to.
 fn play<R: Threads + Wait + Abort + Sync>(
     rt: &R,
     alloc: Global,

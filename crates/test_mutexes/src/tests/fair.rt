@@ -24,7 +24,7 @@ pub(super) fn wait_until<R: Wait>(rt: &R, flag: &AtomicBool) {
     }
 }
 
-// Whether a thread came to wait under a key.
+// Returns whether a thread came to wait under a key.
 pub(super) fn is_waited_for<R: Wait>(rt: &R, lot: &ParkingLot, key: Key, token: &mut Token) -> bool
     requires { IsTokenOf lot.now token.old }
     ensures { IsTokenOf lot.now token.new }
@@ -38,7 +38,7 @@ pub(super) fn is_waited_for<R: Wait>(rt: &R, lot: &ParkingLot, key: Key, token: 
     false
 }
 
-// Whether a try gets the mutex, which is unlocked then.
+// Returns whether a try gets the mutex, which is unlocked then.
 fn gets<R: Wait>(rt: &R, mutex: &Mutex<u64>, token: &mut Token) -> bool
     requires { IsTokenOf (lot_of mutex.now) token.old }
     ensures { IsTokenOf (lot_of mutex.now) token.new }
@@ -52,7 +52,7 @@ fn gets<R: Wait>(rt: &R, mutex: &Mutex<u64>, token: &mut Token) -> bool
     }
 }
 
-// Whether the mutex refuses every try.
+// Returns whether the mutex refuses every try.
 fn refuses_tries<R: Wait>(rt: &R, mutex: &Mutex<u64>, token: &mut Token) -> bool
     requires { IsTokenOf (lot_of mutex.now) token.old }
     ensures { IsTokenOf (lot_of mutex.now) token.new }

@@ -32,7 +32,7 @@ pub(super) fn take_in_turn<R: Wait>(
     });
 }
 
-// Whether the mutex refuses every try.
+// Returns whether the mutex refuses every try.
 fn refuses<R: Wait>(rt: &R, mutex: &FairMutex<u64>, token: &mut Token) -> bool
     requires { IsTokenOf (lot_of mutex.now) token.old }
     ensures { IsTokenOf (lot_of mutex.now) token.new }

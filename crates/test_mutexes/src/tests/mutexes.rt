@@ -80,8 +80,8 @@ fn a_guard_lends_its_value(rt: HostRuntime) {
     check_eq(&rt, mutex.into_inner().as_slice(), [3].as_slice());
 }
 
-// Whether the mutex is locked and a try gets it: before another try that gets it, under that one's
-// guard, and after.
+// Returns whether the mutex is locked and a try gets it: before another try that gets it, under
+// that one's guard, and after.
 fn tries<R: Wait>(rt: &R, mutex: &Mutex<u8>, token: &mut Token) -> Option<[(bool, bool); 3]>
     requires { IsTokenOf (lot_of mutex.now) token.old }
 {

@@ -164,7 +164,7 @@ fn try_once<R: Wait>(rt: &R, mutex: &RawMutex, token: &mut Token, tried: &Atomic
     give_back(rt, mutex, token, guard)
 }
 
-// Whether a try gets the mutex, which is locked then and free afterwards.
+// Returns whether a try gets the mutex, which is locked then and free afterwards.
 fn try_alone<R: Wait>(rt: &R, mutex: &RawMutex, token: &mut Token) -> bool
     requires { IsTokenOf (lot_of mutex.now) token.old }
     ensures { IsTokenOf (lot_of mutex.now) token.new }

@@ -10,7 +10,7 @@ use std::time::Duration;
 
 const FAR: u64 = 1000;
 
-// Whether it gets any mutex within so many nanoseconds.
+// Returns whether it gets any mutex within so many nanoseconds.
 fn gets_within<M: lock_api::RawMutexTimed, R: Wait>(
     rt: &R,
     mutex: &lock_api::Mutex<M, u64>,
@@ -30,7 +30,7 @@ fn gets_within<M: lock_api::RawMutexTimed, R: Wait>(
     }
 }
 
-// Whether it gets any mutex before the clock comes to a time.
+// Returns whether it gets any mutex before the clock comes to a time.
 fn gets_before<M: lock_api::RawMutexTimed, R: Wait>(
     rt: &R,
     mutex: &lock_api::Mutex<M, u64>,
@@ -59,7 +59,7 @@ fn far_clock() -> TickClock {
     clock
 }
 
-// Whether the clock came to a time, and has not been looked at often since.
+// Returns whether the clock came to a time, and has not been looked at often since.
 fn is_just_past(clock: &TickClock, time: u64) -> bool
     requires { time ≤ 10000 }
 {

@@ -15,11 +15,11 @@ use std::thread::yield_now;
 // How a thread asks for the value, where nobody has made it.
 #[derive(Clone, Copy)]
 enum Ask {
-    /// It makes the value of how many have made it before.
+    /// The thread makes the value of how many have made it before.
     Makes,
     /// Making it fails.
     Fails,
-    /// It makes the value by a closure that can't fail.
+    /// The thread makes the value by a closure that can't fail.
     MakesSurely,
 }
 

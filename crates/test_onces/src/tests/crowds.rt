@@ -91,8 +91,8 @@ fn take_part<R: Wait>(
     }
 }
 
-// Whether so many threads were content with their parts, whether the `Once` is done then, and how
-// many runs they counted.
+// Returns whether so many threads were content with their parts, whether the `Once` is done then,
+// and how many runs they counted.
 pub(super) fn play<R: Threads + Wait + Abort + Sync>(
     rt: &R,
     alloc: Global,

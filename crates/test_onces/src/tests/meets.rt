@@ -57,7 +57,7 @@ pub(super) fn wait_beside<R: Wait>(rt: &R, once: &Once, token: &mut Token, told:
     once.wait(rt, token).is_ok()
 }
 
-// Whether so many came to wait under a key.
+// Returns whether so many came to wait under a key.
 pub(super) fn come_to_wait<R: Wait>(
     rt: &R,
     lot: &ParkingLot,

@@ -51,7 +51,7 @@ fn has_free(rt: &impl Abort, semaphore: &Semaphore, token: &mut Token, wanted: u
     check_eq(rt, semaphore.available(token), wanted);
 }
 
-// Whether a try gets a permit. It is given back.
+// Returns whether a try gets a permit. It is given back.
 fn tries<R: Wait>(rt: &R, semaphore: &Semaphore, token: &mut Token) -> bool
     requires { IsTokenOf (lot_of semaphore.now) token.old }
     ensures { IsTokenOf (lot_of semaphore.now) token.new }
@@ -94,7 +94,7 @@ fn permit_within<'a, R: Wait>(
     }
 }
 
-// Whether such a wait gets a permit. It is given back.
+// Returns whether such a wait gets a permit. It is given back.
 fn waits<R: Wait>(
     rt: &R,
     semaphore: &Semaphore,

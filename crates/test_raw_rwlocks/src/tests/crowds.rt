@@ -56,7 +56,8 @@ fn take_part<R: Wait>(
     }
 }
 
-// Whether all threads were content with their parts, and none found another where none may be.
+// Returns whether all threads were content with their parts, and none found another where none may
+// be.
 pub(super) fn play<R: Threads + Wait + Sync>(
     sort: Sort,
     rt: &R,

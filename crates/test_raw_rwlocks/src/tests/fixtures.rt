@@ -96,7 +96,7 @@ pub(super) fn await_flag<R: Wait>(rt: &R, flag: &AtomicBool) {
     }
 }
 
-/// Whether a number came to be so great.
+/// Returns whether a number came to be so great.
 pub(super) fn comes_to(number: &AtomicUsize, least: usize) -> bool {
     for _ in 0..TURNS {
         if least <= number.load(SeqCst) {
@@ -107,8 +107,8 @@ pub(super) fn comes_to(number: &AtomicUsize, least: usize) -> bool {
     false
 }
 
-/// Whether so many came to stand in the main queue of a lock, and in that of the writer that waits
-/// for the last readers.
+/// Returns whether so many came to stand in the main queue of a lock, and in that of the writer
+/// that waits for the last readers.
 pub(super) fn queue_up<R: Wait>(
     rt: &R,
     lot: &ParkingLot,

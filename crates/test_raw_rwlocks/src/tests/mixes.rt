@@ -213,7 +213,7 @@ fn write_fairly<R: Wait>(rt: &R, lock: &AnyRwLock, token: &mut Token, inside: &I
     lock.unlock_exclusive_fair(rt, token, guard);
 }
 
-// One turn of a thread, by a number.
+// Takes one turn of a thread, by a number.
 fn turn<R: Wait>(rt: &R, lock: &AnyRwLock, token: &mut Token, inside: &Inside, number: usize)
     requires { IsTokenOf (lot_of lock.now) token.old }
     ensures { IsTokenOf (lot_of lock.now) token.new }

@@ -27,12 +27,12 @@ fn soon() -> Duration {
     Duration::from_nanos(EARLY)
 }
 
-// Whether a thread that gave up did so long before twice its time was up.
+// Returns whether a thread that gave up did so long before twice its time was up.
 fn gave_up_soon(clock: &TickClock) -> bool {
     clock.now() < 2 * EARLY - 10
 }
 
-// Whether a reader that waits gives up, and soon.
+// Returns whether a reader that waits gives up, and soon.
 fn reads_in_vain<R: Wait>(rt: &R, lock: &AnyRwLock, token: &mut Token, until: bool) -> bool
     requires { IsTokenOf (lot_of lock.now) token.old }
     ensures { IsTokenOf (lot_of lock.now) token.new }
@@ -79,7 +79,7 @@ fn writes_in_vain<R: Wait>(rt: &R, lock: &AnyRwLock, token: &mut Token, until: b
     !goes_writing(rt, lock, token, taken) && gave_up_soon(&clock)
 }
 
-// Whether the waits for each right end without it, and soon.
+// Returns whether the waits for each right end without it, and soon.
 fn waits_in_vain<R: Wait>(rt: &R, lock: &AnyRwLock, token: &mut Token, until: bool) -> bool
     requires { IsTokenOf (lot_of lock.now) token.old }
     ensures { IsTokenOf (lot_of lock.now) token.new }
@@ -90,7 +90,7 @@ fn waits_in_vain<R: Wait>(rt: &R, lock: &AnyRwLock, token: &mut Token, until: bo
     read && read_upgradable && written
 }
 
-// Whether a thread that waits beside a writer gives up, and leaves the lock as it is.
+// Returns whether a thread that waits beside a writer gives up, and leaves the lock as it is.
 fn gives_up_beside_a_writer<R: Wait>(rt: &R, lock: &AnyRwLock, token: &mut Token) -> bool
     requires { IsTokenOf (lot_of lock.now) token.old }
     ensures { IsTokenOf (lot_of lock.now) token.new }
@@ -122,7 +122,7 @@ fn give_up_beside<R: Wait>(
     }
 }
 
-// Whether a writer that waits beside a reader gives up, and readers come in then.
+// Returns whether a writer that waits beside a reader gives up, and readers come in then.
 fn gives_up_beside_a_reader<R: Wait>(rt: &R, lock: &AnyRwLock, token: &mut Token) -> bool
     requires { IsTokenOf (lot_of lock.now) token.old }
     ensures { IsTokenOf (lot_of lock.now) token.new }
@@ -136,7 +136,8 @@ fn gives_up_beside_a_reader<R: Wait>(rt: &R, lock: &AnyRwLock, token: &mut Token
     beside == READ && look(rt, lock, token) == FREE
 }
 
-// Whether an upgrade beside a reader gives up soon and keeps its right, and one alone doesn't.
+// Tries whether an upgrade beside a reader gives up soon and keeps its right, and one alone
+// doesn't.
 fn upgrades_in_time<R: Wait>(rt: &R, lock: &AnyRwLock, token: &mut Token) -> Option<Seen>
     requires { IsTokenOf (lot_of lock.now) token.old }
     ensures { IsTokenOf (lot_of lock.now) token.new }

@@ -67,7 +67,7 @@ fn malformed_after(alloc: Global, len: usize) -> Result<Vec<u8>, AllocError> {
     Ok(told)
 }
 
-/// Whether a line of the run ends after so many bytes, with its line feed or but for it.
+/// Returns whether a line of the run ends after so many bytes, with its line feed or but for it.
 fn is_end(input: &[u8], len: usize) -> bool {
     len == 0 || input.get(len - 1) == Some(&b'\n') || input.get(len) == Some(&b'\n')
 }

@@ -333,7 +333,7 @@ fn begins_of(rt: &impl Abort, line: &str, call: NamedCall, lock: &str) {
     }
 }
 
-// It begins this call of the lock m.
+// A line begins this call of the lock m.
 fn begins(rt: &impl Abort, line: &str, call: NamedCall) {
     begins_of(rt, line, call, "m");
 }
@@ -428,7 +428,7 @@ fn calls_of_a_semaphore_have_their_meaning(rt: HostRuntime) {
     }
 }
 
-// It waits on the condition variable c with the mutex m.
+// A line waits on the condition variable c with the mutex m.
 fn waits(rt: &impl Abort, line: &str, timed: bool) {
     match Name::from_word(b"m") {
         Some(mutex) => begins_of(rt, line, NamedCall::Wait { mutex, timed }, "c"),
@@ -450,8 +450,8 @@ fn calls_of_a_condition_variable_have_their_meaning(rt: HostRuntime) {
     mean_nothing(&rt, MALFORMED_WAITS);
 }
 
-// Whether a name has the text of its word, and is another than that of all letters and digits but
-// the last.
+// Returns whether a name has the text of its word, and is another than that of all letters and
+// digits but the last.
 fn is_told_apart(word: &str) -> bool {
     let Some(name) = Name::from_word(word.as_bytes()) else {
         return false;

@@ -117,7 +117,7 @@ fn add_often<R: Wait>(rt: &R, lock: &Lock, token: &mut Token, way: Way, times: u
     well
 }
 
-// Whether a thread writes next: one time in ten, by numbers that are the same in each run.
+// Returns whether a thread writes next: one time in ten, by numbers that are the same in each run.
 fn writes_next(number: &mut u64) -> bool {
     *number = number
         .wrapping_mul(6364136223846793005)
@@ -143,7 +143,7 @@ fn come_often<R: Wait>(rt: &R, lock: &Lock, token: &mut Token, written: &AtomicU
     whole
 }
 
-// Whether a thread that reads finds the value whole.
+// Returns whether a thread that reads finds the value whole.
 fn is_whole<R: Wait>(rt: &R, lock: &Lock, token: &mut Token) -> bool
     requires { IsTokenOf (lot_of_rwlock lock.now) token.old }
     ensures { IsTokenOf (lot_of_rwlock lock.now) token.new }
@@ -238,8 +238,8 @@ fn take_part<R: Wait>(
     }
 }
 
-// Whether so many threads of a lot of so many seats were content with their part, and what the value
-// came to.
+// Returns whether so many threads of a lot of so many seats were content with their part, and what
+// the value came to.
 pub(super) fn play<R: Threads + Wait + Abort + Sync>(
     rt: &R,
     alloc: Global,

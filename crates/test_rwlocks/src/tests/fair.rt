@@ -15,7 +15,8 @@ use std::sync::Wait;
 use std::sync::atomic::AtomicBool;
 use std::thread::Threads;
 
-// Whether a reader saw a writer come for which it gave the lock up, or which it let in by a bump.
+// Returns whether a reader saw a writer come for which it gave the lock up, or which it let in by a
+// bump.
 fn give_as_reader<R: Wait>(
     rt: &R,
     lot: &ParkingLot,
@@ -96,7 +97,7 @@ pub(super) enum Giver {
     Writer,
 }
 
-// Whether a writer waited, and had written by the time at which the giver read again.
+// Returns whether a writer waited, and had written by the time at which the giver read again.
 pub(super) fn give<R: Wait>(
     rt: &R,
     lot: &ParkingLot,

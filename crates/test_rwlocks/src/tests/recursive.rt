@@ -60,7 +60,7 @@ fn value_of<R: Wait>(rt: &R, lock: &RecursiveRwLock<u64>, token: &mut Token) -> 
     Some(value)
 }
 
-// Whether a reader reads again, after a writer that gave up in time.
+// Returns whether a reader reads again, after a writer that gave up in time.
 fn reads_again<R: Wait>(rt: &R, lock: &RecursiveRwLock<u64>, token: &mut Token) -> bool
     requires { IsTokenOf (lot_of_rwlock lock.now) token.old }
 {

@@ -20,12 +20,12 @@ fn soon() -> Duration {
     Duration::from_nanos(EARLY)
 }
 
-// Whether somebody waited until almost twice its time was up.
+// Returns whether somebody waited until almost twice its time was up.
 fn waited_long(clock: &TickClock) -> bool {
     2 * EARLY - 10 <= clock.now()
 }
 
-// Whether a reader that waits comes in, or gives up late.
+// Returns whether a reader that waits comes in, or gives up late.
 fn reads_in_time<R: Wait>(rt: &R, lock: &Lock, token: &mut Token, until: bool) -> bool
     requires { IsTokenOf (lot_of_rwlock lock.now) token.old }
     ensures { IsTokenOf (lot_of_rwlock lock.now) token.new }
@@ -124,7 +124,7 @@ fn goes_upgraded<'l, R: Wait>(
     }
 }
 
-// Whether an upgrade becomes the writer, where it doesn't give up late.
+// Returns whether an upgrade becomes the writer, where it doesn't give up late.
 fn upgrades_in_time<R: Wait>(rt: &R, lock: &Lock, token: &mut Token, until: bool) -> Option<bool>
     requires { IsTokenOf (lot_of_rwlock lock.now) token.old }
     ensures { IsTokenOf (lot_of_rwlock lock.now) token.new }

@@ -79,7 +79,7 @@ fn waited_for(owner: usize, waiter: usize) -> Shown {
     }
 }
 
-/// Whether a line goes as it says, and what its thread is told, if it has one.
+/// Returns whether a line goes as it says, and what its thread is told, if it has one.
 fn goes<Q: Queues + Drop>(world: &mut World<Q>, line: Line) -> (bool, Option<Outcome>) {
     let (told, wanted) = match line {
         Line::Calls(thread, call, wanted) => (call_alone(world, thread, call), wanted),

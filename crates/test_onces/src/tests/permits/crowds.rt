@@ -102,7 +102,7 @@ fn count_in_time<R: Wait>(rt: &R, semaphore: &Semaphore, token: &mut Token, told
     }
 }
 
-// Whether a flag was seen.
+// Returns whether a flag was seen.
 fn sees(flag: &AtomicBool) -> bool {
     for _ in 0..TURNS {
         if flag.load(SeqCst) {
@@ -184,8 +184,8 @@ fn take_part<R: Wait>(
     true
 }
 
-// Whether so many threads were content with their parts at a semaphore of so many permits, how many
-// held one at once at most, and what they counted. All permits are free then.
+// Returns whether so many threads were content with their parts at a semaphore of so many permits,
+// how many held one at once at most, and what they counted. All permits are free then.
 fn play<R: Threads + Wait + Abort + Sync>(
     rt: &R,
     alloc: Global,

@@ -163,7 +163,7 @@ fn hold_upgradable<R: Wait>(
     }
 }
 
-// Whether a reader comes in, which goes then.
+// Returns whether a reader comes in, which goes then.
 fn read<R: Wait>(rt: &R, lock: &AnyRwLock, token: &mut Token) -> bool
     requires { IsTokenOf (lot_of lock.now) token.old }
     ensures { IsTokenOf (lot_of lock.now) token.new }

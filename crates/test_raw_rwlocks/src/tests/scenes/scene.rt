@@ -84,12 +84,12 @@ impl Told {
         }
     }
 
-    /// Whether a thread that asks is the first that does.
+    /// Returns whether a thread that asks is the first that does.
     pub(super) fn comes_first(&self) -> bool {
         self.begun.fetch_add(1, SeqCst) == 0
     }
 
-    /// Whether anybody has come in.
+    /// Returns whether anybody has come in.
     pub(super) fn has_come(&self) -> bool {
         self.came.load(SeqCst) != 0
     }

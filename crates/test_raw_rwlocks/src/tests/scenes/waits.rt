@@ -27,7 +27,7 @@ fn meet<R: Wait>(rt: &R, lock: &AnyRwLock, ticket: Ticket, met: &AtomicUsize) ->
     seen
 }
 
-// Whether all readers of these tickets met.
+// Returns whether all readers of these tickets met.
 fn all_meet<R: Threads + Wait + Sync>(sort: Sort, rt: &R, alloc: Global) -> Result<bool, Fault> {
     let (_lot, lock, tickets) = seats(sort, alloc, 2, 1000)?;
     let (shared, met) = (&lock, &AtomicUsize::new(0));
