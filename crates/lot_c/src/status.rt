@@ -1,4 +1,7 @@
 //! How a call ends.
+//!
+//! Status 5 is the library's own; 4 is for memory that was refused for the text, as for a device that
+//! failed there.
 
 /// All schedules were searched, and nothing was found.
 pub const NOTHING: u8 = 0;

@@ -1,4 +1,7 @@
 //! Walks that go wrong, with fewer moves.
+//!
+//! Threads are left out first, then blocks of turns, half as long each time; turns that are impossible
+//! then are passed over. A shorter walk counts only where it goes wrong in the same way.
 ghost use Rattle.std.specs.Prelude.{◌<◌};
 ghost use Rattle.lot_program.specs.Programs.{IsFit};
 
@@ -157,7 +160,7 @@ fn leave_out_blocks<Q: Queues + Drop>(
     moves
 }
 
-/// Takes moves but for some, and passes over those that are impossible then. It answers which were taken,
+/// Takes moves but for some, and passes over those that are impossible then. Returns which were taken,
 /// where they go wrong in the same way and are fewer.
 fn moves_without<Q: Queues + Drop>(
     alloc: Global,

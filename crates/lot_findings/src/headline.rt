@@ -59,7 +59,7 @@ pub enum Headline<'a> {
         word: &'a str,
         turns: usize,
         grain: GrainName,
-        /// That of the walk that found it.
+        /// The seed of the walk that found the schedule.
         seed: Option<u64>,
     },
     /// After so many turns so many others come again and again, and keep a thread from its end.

@@ -131,7 +131,7 @@ pub(crate) fn test_of_turn(walk: &Walk<'_, ListQueues>, by: usize) -> Option<Tes
 ///
 /// # Errors
 ///
-/// Those of the writer.
+/// The errors of the writer.
 pub fn write_readings<W: Write>(
     out: &mut W,
     between: &str,

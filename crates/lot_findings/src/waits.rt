@@ -24,7 +24,7 @@ pub struct Waiting {
     pub failed: Option<Test>,
     /// The locks that it owns or shares.
     pub has: Vec<usize>,
-    /// Those at which it is the writer that waits for the last readers, and has no right yet.
+    /// The locks at which it is the writer that waits for the last readers, and has no right yet.
     pub pending: Vec<usize>,
     pub waits_for: Option<usize>,
     /// Whether that is a condition variable.

@@ -102,7 +102,7 @@ struct ThreadReport<'a> {
 ///
 /// # Errors
 ///
-/// Those of the writer, and `OutOfMemory`.
+/// The errors of the writer, and `OutOfMemory`.
 pub fn write_headline<W: Write>(
     alloc: Global,
     out: &mut W,
@@ -116,7 +116,7 @@ pub fn write_headline<W: Write>(
 ///
 /// # Errors
 ///
-/// Those of the writer, and `OutOfMemory`.
+/// The errors of the writer, and `OutOfMemory`.
 pub fn write_remarked<'h, W: Write>(
     alloc: Global,
     out: &mut W,
@@ -156,7 +156,7 @@ pub fn write_remarked<'h, W: Write>(
 ///
 /// # Errors
 ///
-/// Those of the writer, and `OutOfMemory`.
+/// The errors of the writer, and `OutOfMemory`.
 pub fn write_json<W: Write>(
     alloc: Global,
     out: &mut W,

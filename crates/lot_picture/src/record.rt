@@ -51,7 +51,7 @@ pub enum ColumnKind {
 /// A line that takes steps, or a turn.
 #[derive(Drop)]
 pub struct Column {
-    /// Its number among those lines or turns, from 1.
+    /// The number of the column among those lines or turns, from 1.
     pub number: u64,
     pub line: Vec<u8>,
     /// The answer, or nothing where it says no more than that a step was taken.

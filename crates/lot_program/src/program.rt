@@ -1,4 +1,8 @@
 //! Programs of lock calls: for each thread a list of instructions.
+//!
+//! Looks once more are moves too: they add no state in programs that were tried. A timed sleep is given
+//! up at any time, or never (`Deadlines`): a program has no clock. A refused call is a verdict, and no
+//! turn that changes nothing.
 ghost use Rattle.std.specs.Prelude.{◌≡◌, ◌<◌, ◌-◌, ◌^◌, IfSome, All, true, false, length};
 ghost use Rattle.lot_program.specs.Programs.{told_by, told_number, number_of, holds, compares, all_hold, is_met};
 ghost use Rattle.lot_program.specs.Programs.{branch_of, instruction_at, branch_at, line_at, IsFit};
@@ -136,7 +140,7 @@ impl Drop for Program {
 }
 
 impl Instruction {
-    /// The step of the world that it takes, if it takes one.
+    /// Takes the step of the world that it takes, if it takes one.
     pub fn step(self, thread: usize) -> Option<Step>
         ensures { result ≡ step_by self thread }
     {
@@ -169,7 +173,7 @@ impl Instruction {
 }
 
 impl Told {
-    /// What an answer tells.
+    /// Returns what an answer tells.
     pub fn by(answer: Answer) -> Told
         ensures { result ≡ told_by answer }
     {
@@ -187,7 +191,7 @@ impl Told {
         }
     }
 
-    /// A number for each.
+    /// Returns a number for each.
     pub fn number(self) -> u32
         ensures { result ≡ told_number self }
     {
@@ -208,7 +212,7 @@ impl Told {
 }
 
 impl Comparison {
-    /// Whether two numbers compare so.
+    /// Returns whether two numbers compare so.
     pub fn compares(self, first: u32, second: u32) -> bool
         ensures { result ≡ compares self first second }
     {
@@ -223,7 +227,7 @@ impl Comparison {
     }
 }
 
-/// What a variable has. One that isn't there has 0.
+/// Returns what a variable has. One that isn't there has 0.
 pub fn variable_in(variables: &[u32], variable: usize) -> u32
     ensures { result ≡ number_of variables.now (Value.Variable variable) }
 {
@@ -280,14 +284,14 @@ impl Condition {
 }
 
 impl Program {
-    /// How many threads there are.
+    /// Returns how many threads there are.
     pub fn threads(&self) -> usize
         ensures { result ≡ length self.now.code.items }
     {
         self.code.len()
     }
 
-    /// The instruction of a thread with this number.
+    /// Returns the instruction of a thread with this number.
     pub fn instruction(&self, thread: usize, at: usize) -> Option<Instruction>
         ensures instruction { result ≡ instruction_at self.now thread at }
         ensures few { IfSome result (λ _. at < 2 ^ 64 - 1) }
@@ -313,7 +317,7 @@ impl Program {
         }
     }
 
-    /// The line of an instruction of a thread, by its number.
+    /// Returns the line of an instruction of a thread, by its number.
     pub fn line(&self, thread: usize, at: usize) -> Option<u32>
         ensures { result ≡ line_at self.now thread at }
     {
@@ -328,8 +332,8 @@ impl Program {
         }
     }
 
-    /// Whether it can be searched: it has 1 to 8 threads, at most 4,096 variables, and locks that a
-    /// world may have.
+    /// Returns whether it can be searched: it has 1 to 8 threads, at most 4,096 variables, and
+    /// locks that a world may have.
     pub fn is_fit(&self) -> bool
         ensures fit { result ≡ true → IsFit self.now }
         ensures unfit { result ≡ false → IsFit self.now → ⊥ }

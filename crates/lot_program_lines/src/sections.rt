@@ -10,9 +10,9 @@ pub const MOST_CODE: usize = 65536;
 /// What becomes of a thread where a condition fails.
 #[derive(Clone, Copy)]
 pub enum Failing {
-    /// It leaves the block that was opened last.
+    /// The thread leaves the block that was opened last.
     Leaves,
-    /// Its assertion fails.
+    /// The assertion of the thread fails.
     Asserts,
 }
 

@@ -323,7 +323,7 @@ impl Parser {
         Err(self.wrong(line, word, expected))
     }
 
-    // The name that a word spells, which nothing has yet.
+    // Returns the name that a word spells, which nothing has yet.
     fn new_name(&self, line: u32, word: &str) -> Result<Name, TextError>
         ensures { IfOk result (λ name. lock_named self.now.locks.names name ≡ None) }
     {

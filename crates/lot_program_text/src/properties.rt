@@ -32,7 +32,7 @@ impl Stations<'_> {
         }
     }
 
-    // The property of a line `never T at LINE U at LINE`.
+    // Returns the property of a line `never T at LINE U at LINE`.
     fn never(&self, words: &[&str]) -> Result<Property, TextError> {
         let StationWords {
             station: first,

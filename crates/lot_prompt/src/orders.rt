@@ -1,4 +1,6 @@
 //! Orders, each a line.
+//!
+//! Orders are lines of standard input, so that a list of orders is repeated by a file.
 use core_base::ListQueues;
 use lot_explore::Walk;
 use lot_program_text::Shown;
@@ -7,13 +9,13 @@ use thiserror::Error;
 /// The turn of a thread.
 #[derive(Clone, Copy, Debug, PartialEq, Eq)]
 pub enum TurnSort {
-    /// It goes on.
+    /// The thread goes on.
     Go,
-    /// It takes the other branch of its line.
+    /// The thread takes the other branch of its line.
     Or,
-    /// It looks at the word once more.
+    /// The thread looks at the word once more.
     Look,
-    /// It gives up a timed sleep.
+    /// The thread gives up a timed sleep.
     Late,
 }
 
@@ -26,7 +28,7 @@ pub enum Order {
     Back { turns: usize },
     /// The locks and the variables are shown.
     Show,
-    /// It is told which thread has what, and waits for what.
+    /// The user asks which thread has what, and waits for what.
     Waits,
     /// All schedules from here on are searched.
     Search,

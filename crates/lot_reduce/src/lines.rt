@@ -31,11 +31,11 @@ pub(crate) enum LineSort {
     /// The last line of a block.
     Closes,
     Acquires,
-    /// It turns a right into another, or gives it up for a while.
+    /// The call turns a right into another, or gives it up for a while.
     Converts,
     Releases,
     Asserts,
-    /// It changes a variable, waits or notifies.
+    /// The line changes a variable, waits or notifies.
     Acts,
 }
 

@@ -37,7 +37,7 @@ pub(crate) fn parts_at(line: Line<'_>) -> &'static [Part] {
             Part::Thread(6),
             Part::Thread(7),
         ],
-        // Its lines alone, so that the other threads keep their numbers.
+        // The lines of the thread go alone, so that the other threads keep their numbers.
         LineSort::Named => &[Part::Thread(0)],
         LineSort::Property | LineSort::Never | LineSort::Asserts | LineSort::Declared => &[
             Part::Line,

@@ -29,7 +29,7 @@ pub enum Coverage {
     NotAsked,
     /// There are too many states.
     Skipped,
-    /// It is not known, since not all states were seen once more.
+    /// Nothing is known, since not all states were seen once more.
     Unknown(Cut),
     /// The lines that no schedule reaches, and the threads that end with a right.
     Known {
@@ -173,7 +173,7 @@ impl Remarks<'_> {
     ///
     /// # Errors
     ///
-    /// Those of the output.
+    /// The errors of the output.
     pub fn write<W: Write>(&self, out: &mut W, source: Source<'_>) -> io::Result<()> {
         write_looks(out, source, self.looks.as_slice(), self.stopped)?;
         match &self.coverage {

@@ -11,7 +11,7 @@ use std::io::Write;
 ///
 /// # Errors
 ///
-/// Those of the output.
+/// The errors of the output.
 pub fn write_story<W: Write>(alloc: Global, out: &mut W, finding: &Finding<'_>) -> io::Result<()> {
     let source = finding.source;
     if let Some(line) = finding.property_line() {

@@ -68,7 +68,7 @@ pub struct TurnTold<'a> {
 ///
 /// # Errors
 ///
-/// Those of the writer, and `OutOfMemory`.
+/// The errors of the writer, and `OutOfMemory`.
 pub fn write_turns<W: Write>(alloc: Global, out: &mut W, finding: &Finding<'_>) -> io::Result<()> {
     let Ok(mut telling) = Telling::new(alloc, finding.source) else {
         return writeln!(out, "no memory to tell the turns");
@@ -84,7 +84,7 @@ impl TurnTold<'_> {
     ///
     /// # Errors
     ///
-    /// Those of the writer.
+    /// The errors of the writer.
     pub fn write<W: Write>(&self, out: &mut W) -> io::Result<()> {
         let TurnTold {
             number,
@@ -203,7 +203,7 @@ impl<'a> Telling<'a> {
     ///
     /// # Errors
     ///
-    /// Those of the writer.
+    /// The errors of the writer.
     pub fn turn<W: Write>(&mut self, alloc: Global, out: &mut W, by: usize) -> io::Result<()> {
         match self.tell(alloc, by) {
             Ok(told) => told.write(out),

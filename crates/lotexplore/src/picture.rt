@@ -12,7 +12,7 @@ use std::{fs, io};
 ///
 /// # Errors
 ///
-/// Those of the file, and `OutOfMemory`.
+/// The errors of the file, and `OutOfMemory`.
 pub fn draw_turns(
     rt: &HostRuntime,
     path: &str,
@@ -29,7 +29,7 @@ pub fn draw_turns(
 ///
 /// # Errors
 ///
-/// Those of the file, and `OutOfMemory`.
+/// The errors of the file, and `OutOfMemory`.
 pub fn draw_steps(
     rt: &HostRuntime,
     path: &str,

@@ -105,7 +105,7 @@ pub fn say(rt: &HostRuntime, asked: Arguments<'_>, headline: &Headline<'_>) -> i
 ///
 /// # Errors
 ///
-/// Those of the output, and `OutOfMemory`.
+/// The errors of the output, and `OutOfMemory`.
 pub fn say_with(
     rt: &HostRuntime,
     source: Source<'_>,
