@@ -2,7 +2,7 @@
 use super::check_eq;
 use core_base::ListQueues;
 use lot_explore::Walk;
-use lot_loops::{FairLoop, find_loop};
+use lot_loops::{Answer, FairLoop, find_loops};
 use lot_program::{Grain, Program};
 use lot_program_text::{ProgramText, parse};
 use state_search::{Limits, NoRoom, Unobserved};
@@ -55,11 +55,14 @@ fn looked_for(
         states: most,
         bytes: None,
     };
-    let looked = find_loop(alloc, &walk, thread, limits, &mut Unobserved)?;
-    match looked.found {
-        Some(found) => ending_by(walk, thread, &found),
-        None if looked.cut.is_none() => Ok(Ending::NoLoop(looked.states)),
-        None => Ok(Ending::NoneYet(looked.states)),
+    let mut looks = find_loops(alloc, &walk, &[thread], limits, &mut Unobserved)?;
+    let Some(looked) = looks.pop() else {
+        return Ok(Ending::NoMemory);
+    };
+    match looked.answer {
+        Answer::Loop(found) => ending_by(walk, thread, &found),
+        Answer::NoLoop => Ok(Ending::NoLoop(looked.states)),
+        Answer::Cut(_) => Ok(Ending::NoneYet(looked.states)),
     }
 }
 
