@@ -234,8 +234,9 @@ def number_in(path, pattern):
     return int(found.group(1).replace("_", "")) if found else None
 
 
-WORDS = {81: "Eighty-one", 82: "Eighty-two", 83: "Eighty-three", 84: "Eighty-four", 85: "Eighty-five", 86: "Eighty-six",
-         87: "Eighty-seven", 88: "Eighty-eight", 79: "Seventy-nine", 80: "Eighty", 78: "Seventy-eight", 77: "Seventy-seven"}
+TENS = {7: "Seventy", 8: "Eighty", 9: "Ninety"}
+UNITS = ["", "-one", "-two", "-three", "-four", "-five", "-six", "-seven", "-eight", "-nine"]
+WORDS = {10 * ten + unit: TENS[ten] + UNITS[unit] for ten in TENS for unit in range(10)}
 FIRST_PAGE = [f"crates/spec_locks/specs/{name}.antt" for name in ["Guarantees", "EachState", "EachStep", "CallTable"]]
 # Pages, what they say, and where the number is from.
 FACTS = [
