@@ -5,6 +5,11 @@
  * gcc -O2 -DSAFETY -DNOREDUCE -o pan pan.c
  * ./pan -m1000000 -w24
  *
+ * For the end of a thread, under weak fairness:
+ * spin -o1 -o2 -o3 -DN=3 -DR=1 -DENDS -DASKED -a mutex.pml
+ * gcc -O2 -DNFAIR=4 -o pan pan.c
+ * ./pan -a -f -m10000000 -w26
+ *
  * Both count the same states. The -o flags keep SPIN from leaving variables out. */
 #define LOCKED 1
 #define PARKED 2
@@ -20,6 +25,20 @@ mtype place[N] = Out;
 /* from its wake on, until it owns the mutex or is queued again */
 bit retries[N];
 
+/* With ENDS the first thread takes the mutex for ever, with ASKED till the second asks; does the second come to
+ * its end in each fair run? To look once more is left out then: SPIN would take it for a step of its own. */
+#ifdef ENDS
+bit asked = 0;
+#define COUNT skip
+#define IS_LAST (_pid == 1)
+#define MAY_BEGIN (_pid == 1 || !asked)
+ltl comes_to_its_end { <> (place[1] == Through) }
+#else
+#define COUNT rounds++
+#define IS_LAST (rounds == R)
+#define MAY_BEGIN true
+#endif
+
 active [N] proctype Thread() {
   byte seen = 0;
   byte took = 0;
@@ -27,7 +46,11 @@ active [N] proctype Thread() {
 end:
   do
   /* a call begins by a move of its own */
-  :: atomic { place[_pid] == Out -> place[_pid] = First }
+  :: atomic { place[_pid] == Out && MAY_BEGIN -> 
+#ifdef ASKED
+       if :: _pid == 1 -> asked = 1 :: else -> skip fi;
+#endif
+       place[_pid] = First }
   :: atomic { place[_pid] == First ->
        if :: word == 0 -> word = LOCKED; place[_pid] = In
           :: else -> place[_pid] = Load fi }
@@ -40,7 +63,9 @@ end:
   :: atomic { place[_pid] == Decide && seen == LOCKED ->
        if :: word == LOCKED -> word = LOCKED + PARKED; seen = LOCKED + PARKED
           :: else -> seen = word fi }
+#ifndef ENDS
   :: atomic { place[_pid] == Decide && seen == LOCKED -> seen = 0; place[_pid] = Load }
+#endif
   :: atomic { place[_pid] == Decide && seen == LOCKED + PARKED && section == 0 ->
        section = 1; seen = 0; place[_pid] = Check }
   :: atomic { place[_pid] == Check ->
@@ -53,8 +78,8 @@ end:
   :: atomic { place[_pid] == In -> place[_pid] = Subtract }
   :: atomic { place[_pid] == Subtract ->
        if :: word == LOCKED + PARKED -> place[_pid] = Enter
-          :: else -> rounds++;
-             if :: rounds == R -> place[_pid] = Through
+          :: else -> COUNT;
+             if :: IS_LAST -> place[_pid] = Through
                 :: else -> place[_pid] = Out fi
        fi;
        word = word - LOCKED }
@@ -73,8 +98,8 @@ end:
        section = 0;
        if :: took != 0 -> place[took - 1] = Load; retries[took - 1] = 1; took = 0
           :: else -> skip fi;
-       rounds++;
-       if :: rounds == R -> place[_pid] = Through
+       COUNT;
+       if :: IS_LAST -> place[_pid] = Through
           :: else -> place[_pid] = Out fi }
   od
 }
