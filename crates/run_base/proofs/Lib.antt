@@ -22,6 +22,7 @@ pub mod RwLockBeginning
 pub mod Courses
 pub mod Standing
 pub mod Tellings
+pub mod Waking
 pub mod Turning
 pub mod TurnsOn
 pub mod Coming
