@@ -46,7 +46,7 @@ IsSlept lot _ word wanted (Handed right) = IsWoken lot word wanted (Handed right
 IsSlept lot token _ _ (Late section key place) = IsLate lot token (Late section key place)
 
 -- what a thread was told, of the right that lay in its record: a note alone leaves it there, and else
--- it is out, and for this word and want
+-- the right is out, and for this word and want
 abbrev pub HasTold : Word → Want → Option Right → Option Right → Slept → Type 0
 HasTold _ _ old new (Woken _) = new ≡ old
 HasTold word wanted old new (Handed right) = (old ≡ Some right) × (new ≡ None) × IsFor word wanted right

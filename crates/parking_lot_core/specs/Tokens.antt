@@ -34,7 +34,7 @@ out_of token = token.seat.me.0.out
 abbrev pub last_of : Token → Option SectionRecord
 last_of token = if token.expected.unlocked == 0 then None else Some token.record
 
--- so many steps
+-- a number of steps
 abbrev pub counted : ℕ → StepCount
 counted number = record { number = number }
 

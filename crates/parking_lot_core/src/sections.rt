@@ -54,7 +54,7 @@ pub struct Section<'a> {
     pub(crate) keys: Keys,
     // The thread that is inside.
     pub(crate) thread: usize,
-    // How many steps on words it had taken as it entered.
+    // How many steps on words that thread had taken as it entered.
     pub(crate) since: StepCount,
     pub(crate) did: Did,
     // How many it moved to another queue.

@@ -171,7 +171,7 @@ impl ParkingLot {
         unreachable!()
     }
 
-    /// Sleeps so, and tells the thread that it did.
+    /// Sleeps as `sleep` does, and notes the sleep among the thread's tellings.
     #[tactic(auto, unfolding(crate::specs::Tokens::view_of))]
     pub fn sleep_told<'a, R: Wait, C: Clock>(
         &'a self,

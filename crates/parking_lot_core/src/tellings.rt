@@ -39,15 +39,15 @@ pub enum Telling {
     Left {
         thread: usize,
     },
-    /// The thread was inside the section of these keys, from after so many of its steps on words till
-    /// after so many. What the section told stands before. Those that it took got this note.
+    /// The thread was inside the section of these keys, and had taken `from` steps on words as it entered
+    /// and `to` as it left. What the section told stands before. The waiters that it took got this note.
     Visited {
         keys: Keys,
         from: StepCount,
         to: StepCount,
         note: Note,
     },
-    /// The thread slept, after so many of its steps on words, and its sleep ended.
+    /// The thread slept, after so many steps on words, and its sleep ended.
     Slept {
         after: StepCount,
     },

@@ -167,7 +167,7 @@ impl Token {
         self.number
     }
 
-    /// Counts the steps on words that the thread has taken. Nothing of the count is left in a program.
+    /// Counts the steps on words that the thread has taken, for proofs alone.
     #[inline]
     pub(crate) fn step_count(&self) -> StepCount
         ensures { result ≡ count_of self.now }

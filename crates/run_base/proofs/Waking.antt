@@ -28,7 +28,7 @@ keys_viewed (Some inside) = inside.keys
 module _ (me : ℕ) (old : Token) (inside : Section) (key : ℕ)
     (late : section_view (Some inside) ≡ entered_now (One key)) (untold : told_in inside ≡ [])
     (since : inside.since ≡ count_of old) where
-  -- it is inside the section of the key where it stands
+  -- the thread is inside the section of the key where it stands
   pub entered_late : HasWokenLate me key Late old old (Some inside)
   entered_late = (
     did_enter (One key) ∷ [],
@@ -38,7 +38,7 @@ module _ (me : ℕ) (old : Token) (inside : Section) (key : ℕ)
     refl,
   )
 
-  -- it has left that queue, and the section
+  -- the thread has left that queue, and the section
   pub left_late : (new : Token) (later : Section) (sn : Option Section) → section_view sn ≡ None
       → later.keys ≡ inside.keys → later.since ≡ inside.since
       → told_in later ≡ told_in inside ++ telling.Left me ∷ [] → steps_of new ≡ steps_of old

@@ -39,13 +39,13 @@ use Rattle.run_base.specs.declared.driver.Stop.TheVariants.{Ended, Paused}
 pub data PathItem : Type 0 where
   -- a step on a word
   did_step : WordStep → PathItem
-  -- it enters the section of these keys
+  -- the entry of the section of these keys
   did_enter : Keys → PathItem
-  -- an act on the queues of the section that it is inside
+  -- an act on the queues of the section that the thread is inside
   did_act : Telling → PathItem
-  -- it leaves that section, and those that it took there get this note
+  -- the exit from that section: the waiters that the thread took there get this note
   did_leave : Note → PathItem
-  -- it sleeps, and its sleep ends
+  -- a sleep, to its end
   did_sleep : PathItem
 
 -- a visit that goes on: the keys of the section, and the thread's steps as it entered
@@ -65,11 +65,11 @@ pub record Trail : Type 0 where
 abbrev pub trail_inside : List WordStep → List Telling → Option OpenVisit → Trail
 trail_inside steps told inside = record { steps = steps; told = told; inside = inside }
 
--- that of a thread outside all sections
+-- the trail of a thread outside all sections
 abbrev pub trail : List WordStep → List Telling → Trail
 trail steps told = trail_inside steps told None
 
--- how many steps it has taken
+-- the number of these steps
 abbrev pub count_in : List WordStep → StepCount
 count_in steps = counted (length steps)
 
@@ -79,7 +79,7 @@ visited None to note = []
 visited (Some visit) to note = telling.TheVariants.Visited visit.keys visit.from to note ∷ []
 
 -- a thread records what it does. A visit is told as it ends, with the number of steps before it and after
--- it, and so is each sleep with the number of steps before it
+-- it, and each sleep with the number of steps before it
 abbrev pub recorded : Trail → PathItem → Trail
 recorded x (did_step one) = trail_inside (x.steps ++ one ∷ []) x.told x.inside
 recorded x (did_enter keys) = trail_inside x.steps x.told (Some (open_visit keys (count_in x.steps)))
@@ -283,7 +283,7 @@ abbrev pub HasSlept : ℕ → Reply → Token → Token → Option Section → T
 HasSlept me reply old new sn = (items : List PathItem)
     × (trail_of new sn ≡ recorded_all (trail_of old None) items) × Sleeps me reply items
 
--- the time of one that slept is up, while it stands under a key
+-- the time of a sleeper is up, while it stands under a key
 abbrev pub HasWokenLate : ℕ → ℕ → Reply → Token → Token → Option Section → Type 0
 HasWokenLate me key reply old new sn = (items : List PathItem)
     × (trail_of new sn ≡ recorded_all (trail_of old None) items) × WakesLate me key reply items

@@ -146,7 +146,7 @@ struct Flags {
 }
 
 // Sleeps past a deadline while another thread is inside the section, and takes this one there.
-// Whether it was woken.
+// Returns whether this thread was woken.
 fn is_woken_past_it<R: Wait>(
     rt: &R,
     lot: &ParkingLot,
@@ -201,7 +201,7 @@ fn a_taken_waiter_is_not_late(rt: HostRuntime) {
 }
 
 // Sleeps past a deadline while another thread is inside the section of two keys, and moves this one
-// there. Whether it was late under the further key.
+// there. Returns whether this thread was late under the other key.
 fn is_late_where_moved<R: Wait>(
     rt: &R,
     lot: &ParkingLot,
@@ -221,8 +221,8 @@ fn is_late_where_moved<R: Wait>(
     begun && told == Err((FURTHER, Some(FURTHER)))
 }
 
-// Moves the one that stands in the line, once that thread has asked its clock, and has had time to read
-// under which key it stands.
+// Moves the thread in the line, once it has asked its clock and has had time to read under which key it
+// stands.
 fn move_once_asked<R: Wait>(rt: &R, lot: &ParkingLot, ticket: Ticket, flags: &Flags) -> bool
     requires { IsTicketOf lot.now ticket }
 {
