@@ -35,12 +35,12 @@ abbrev pub last_of : Token → Option SectionRecord
 last_of token = if token.expected.unlocked == 0 then None else Some token.record
 
 -- a number of steps
-abbrev pub counted : ℕ → StepCount
-counted number = record { number = number }
+abbrev pub as_count : ℕ → StepCount
+as_count number = record { number = number }
 
 -- how many steps on words it has taken
 abbrev pub count_of : Token → StepCount
-count_of token = counted (length (view_of token).steps)
+count_of token = as_count (length (view_of token).steps)
 
 -- what its sections and sleeps have told it
 abbrev pub told_of : Token → List Telling

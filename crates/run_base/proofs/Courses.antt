@@ -14,8 +14,8 @@ use Rattle.lot_steps.specs.declared.places.Place.{Place}
 use Rattle.parking_lot_core.specs.Tokens.{told_of}
 use Rattle.parking_lot_core.specs.declared.tellings.Telling.{Telling}
 use Rattle.parking_lot_core.specs.declared.tokens.Token.{Token}
-use Rattle.run_base.specs.Courses.{BringsBy, ComesBy, Course, Courses, CoursesAfterReply, Does, PathItem}
-use Rattle.run_base.specs.Courses.{Sleeps, Trail, did_act, did_acts, did_enter, did_leave, did_sleep, did_step}
+use Rattle.run_base.specs.Courses.{BringsBy, ComesBy, Course, Courses, CoursesAfterReply, PathItem, Performs}
+use Rattle.run_base.specs.Courses.{SleepsBy, Trail, did_act, did_acts, did_enter, did_leave, did_sleep, did_step}
 use Rattle.run_base.specs.Courses.{did_steps, goes, recorded, recorded_all, rests, sees, steps_in, trail}
 use Rattle.run_base.specs.Courses.{trail_of}
 use Rattle.run_base.specs.Paths.{GoesFrom, step, word}
@@ -60,7 +60,7 @@ acts_no_step : (t : List Telling) → steps_in (did_acts t) ≡ []
 acts_no_step [] = refl
 acts_no_step (one ∷ t) = acts_no_step t
 
-sleeps_no_step : (me : ℕ) (reply : Reply) (items : List PathItem) → Sleeps me reply items → steps_in items ≡ []
+sleeps_no_step : (me : ℕ) (reply : Reply) (items : List PathItem) → SleepsBy me reply items → steps_in items ≡ []
 sleeps_no_step me (Woken note) items (inl woken) = ap steps_in woken
 sleeps_no_step me (Woken note) items (inr late) = ap steps_in late.1
 sleeps_no_step me Late items late = ap steps_in late.1
@@ -68,7 +68,7 @@ sleeps_no_step me (MovedTo to) items moved = ap steps_in moved
 sleeps_no_step me reply items none = absurd none
 
 -- beside its step on a word an act takes none
-does_no_step : (me : ℕ) (a : Act) (reply : Reply) (items : List PathItem) → Does me a reply items
+does_no_step : (me : ℕ) (a : Act) (reply : Reply) (items : List PathItem) → Performs me a reply items
     → steps_in items ≡ []
 does_no_step me (act.TheVariants.Enter keys) reply items does = ap steps_in does
 does_no_step me (act.TheVariants.Leave keys wakes) reply items does = ap steps_in does
@@ -170,7 +170,7 @@ module _ (at : ℕ → ℕ) (me : ℕ) where
     [],
     refl,
     word p l op seen is,
-    subst (λ a. Does me a (Value seen) []) (sym is) ([], refl, refl),
+    subst (λ a. Performs me a (Value seen) []) (sym is) ([], refl, refl),
     (
       λ needs. absurd (false≢true (subst (λ a. needs_place a ≡ true) is needs)),
       λ queued. absurd (false≢true (sym calm ∙ queued)),

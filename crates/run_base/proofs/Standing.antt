@@ -12,7 +12,7 @@ use Rattle.steps_base.specs.declared.acts.Reply.TheVariants.{Done, Late, MovedTo
 use Rattle.steps_base.specs.declared.acts.Reply.TheVariants.{Requeued, Took, Woken}
 use Rattle.parking_lot_core.specs.declared.tellings.Telling.{Telling}
 use Rattle.parking_lot_core.specs.declared.tellings.Telling.TheVariants as telling
-use Rattle.run_base.specs.Courses.{BringsBy, Course, Does, EachSleepStands, PathItem, Sleeps, SleepersStood}
+use Rattle.run_base.specs.Courses.{BringsBy, Course, EachSleepStands, PathItem, Performs, SleepersStood, SleepsBy}
 use Rattle.run_base.specs.Courses.{did_act, did_acts, did_enter, did_leave, did_sleep}
 use Rattle.run_base.specs.Courses.{did_step, did_steps, goes, rests, sees, stands_by}
 use Rattle.run_base.specs.Queued.{gets_place, is_queued, needs_place, spends_place}
@@ -61,7 +61,7 @@ acts_sleep b [] = tt
 acts_sleep b (one ∷ t) = acts_sleep (stands_by one b) t
 
 module _ (me : ℕ) (b : Bool) where
-  slept : (reply : Reply) (t : List PathItem) → Sleeps me reply t → b ≡ true → EachSleepStands b t
+  slept : (reply : Reply) (t : List PathItem) → SleepsBy me reply t → b ≡ true → EachSleepStands b t
   slept (Woken note) t (inl woken) stands = subst (EachSleepStands b) (sym woken) (stands, tt)
   slept (Woken note) t (inr late) stands = subst (EachSleepStands b) (sym late.1) (stands, tt)
   slept Late t late stands = subst (EachSleepStands b) (sym late.1) (stands, tt)
@@ -69,7 +69,7 @@ module _ (me : ℕ) (b : Bool) where
   slept reply t none stands = absurd none
 
   -- what an act does
-  sleeps_by : (a : Act) (reply : Reply) (t : List PathItem) → Does me a reply t
+  sleeps_by : (a : Act) (reply : Reply) (t : List PathItem) → Performs me a reply t
       → (needs_place a ≡ true → b ≡ true) → EachSleepStands b t
   sleeps_by (act.Enter _) reply t does needs = subst (EachSleepStands b) (sym does) tt
   sleeps_by (act.Leave _ _) reply t does needs = subst (EachSleepStands b) (sym does) tt
@@ -91,7 +91,7 @@ module _ (me : ℕ) (b : Bool) where
   told : {t : List PathItem} {s u : List Telling} → t ≡ did_acts s → s ≡ u → t ≡ did_acts u
   told done same = done ∙ ap did_acts same
 
-  stands_so : (a : Act) (reply : Reply) (t : List PathItem) → Does me a reply t
+  stands_so : (a : Act) (reply : Reply) (t : List PathItem) → Performs me a reply t
       → (gets_place a reply ≡ true) ⊎ ((spends_place a reply ≡ false) × (b ≡ true)) → stands_after b t ≡ true
   stands_so (act.Park _ _ _ _) (Parked true) t does by = ap (stands_after b) (told does.1 does.2)
   stands_so (act.Park _ _ _ _) (Parked false) t does by = same_done (told does.1 does.2) refl by

@@ -22,10 +22,10 @@ use Rattle.parking_lot_core.specs.declared.tellings.Telling.{Telling}
 use Rattle.parking_lot_core.specs.declared.tellings.Telling as telling
 use Rattle.parking_lot_core.specs.declared.tokens.Did as did
 use Rattle.parking_lot_core.specs.declared.tokens.Token.{Token}
-use Rattle.run_base.specs.Courses.{Does, HasGone, OpenVisit, PathItem, TellsFound, TellsIn, Trail, count_in}
+use Rattle.run_base.specs.Courses.{HasRecorded, OpenVisit, PathItem, Performs, TellsFound, TellsIn, Trail}
 use Rattle.run_base.specs.Courses.{did_acts, did_enter, did_leave, did_steps, leaving, moving, open_visit}
 use Rattle.run_base.specs.Courses.{recorded_all, taking, told_by, told_within, trail_inside, trail_of}
-use Rattle.run_base.specs.Courses.{visit_within, visited}
+use Rattle.run_base.specs.Courses.{steps_counted, visit_within, visited}
 use Rattle.run_base.specs.Paths.{Told}
 use Rattle.run_base.specs.Queued.{StaysQueued}
 use Rattle.run_base.specs.Stages.{ActNeeds, Adds, Became, HasKey, SectionView, TookBy, is_there}
@@ -106,7 +106,7 @@ module _ (me : ℕ) (old new : Token) (so sn : Option Section) where
   -- an act did these things beside its step
   abbrev pub HasDone : Act → Reply → Type 0
   HasDone a reply = (done : List PathItem) × (trail_of new sn ≡ recorded_all Stepped done)
-      × Does me a reply done
+      × Performs me a reply done
 
   -- told within the section alone
   inside : (more : List Telling) → told_of new ≡ told_of old → told_within sn ≡ told_within so ++ more
@@ -126,7 +126,7 @@ module _ (me : ℕ) (old new : Token) (so sn : Option Section) where
   -- with the step of the act, that is a turn
   pub gone : (at : ℕ → ℕ) (p : Place) (reply : Reply) → Told at p reply (steps_of old) (steps_of new)
       → HasDone (act_of p) reply → StaysQueued p reply
-      → HasGone at me p reply (trail_of old so) (trail_of new sn)
+      → HasRecorded at me p reply (trail_of old so) (trail_of new sn)
   gone at p reply steps done stays = (
     did_steps steps.0 ++ done.0,
     done.1 ∙ (ap (λ (x : Trail). recorded_all x done.0)
@@ -183,7 +183,7 @@ module _ (me : ℕ) (old new : Token) (so sn : Option Section) where
       did_enter keys ∷ [],
       same_trail refl (by_within new sn ∙ (ap (λ (l : List Telling). told_of new ++ l) t.1
           ∙ (append-nil (told_of new) ∙ (t.0 ∙ sym (by_outside old so needs.1)))))
-          (t.2 ∙ ap (λ (l : List WordStep). Some (open_visit keys (count_in l))) (sym e)),
+          (t.2 ∙ ap (λ (l : List WordStep). Some (open_visit keys (steps_counted l))) (sym e)),
       refl,
     )
     has_done (act.TheVariants.Stand key want) Done needs b e q t =
@@ -199,10 +199,10 @@ module _ (me : ℕ) (old new : Token) (so sn : Option Section) where
     has_done (act.TheVariants.Leave keys wakes) Done needs b e q t = (
       did_leave (note_of wakes) ∷ [],
       same_trail refl (by_outside new sn b.1 ∙ (t ∙ (sym (append_assoc (told_of old) (told_within so)
-          (visited (visit_within so) (count_in (steps_of old)) (note_of wakes)))
-          ∙ (ap (λ (l : List Telling). l ++ visited (visit_within so) (count_in (steps_of old))
+          (visited (visit_within so) (steps_counted (steps_of old)) (note_of wakes)))
+          ∙ (ap (λ (l : List Telling). l ++ visited (visit_within so) (steps_counted (steps_of old))
           (note_of wakes)) (sym (by_within old so)) ∙ ap (λ (l : List WordStep). told_by old so
-          ++ visited (visit_within so) (count_in l) (note_of wakes)) (sym e)))))
+          ++ visited (visit_within so) (steps_counted l) (note_of wakes)) (sym e)))))
           (no_visit sn b.1),
       refl,
     )

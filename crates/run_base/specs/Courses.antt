@@ -20,7 +20,7 @@ use Rattle.spec_locks.specs.declared.outcomes.Answer.{Answer}
 use Rattle.lot_steps.specs.Steps.{act_of, respins_from, next_act, next_place}
 use Rattle.lot_steps.specs.declared.places.Place.{Place}
 use Rattle.parking_lot_core.specs.Sections.{told_in}
-use Rattle.parking_lot_core.specs.Tokens.{counted, told_of}
+use Rattle.parking_lot_core.specs.Tokens.{as_count, told_of}
 use Rattle.parking_lot_core.specs.declared.sections.Section.{Section}
 use Rattle.parking_lot_core.specs.declared.step_counts.StepCount.{StepCount}
 use Rattle.parking_lot_core.specs.declared.tellings.Telling.{Telling}
@@ -70,8 +70,8 @@ abbrev pub trail : List WordStep → List Telling → Trail
 trail steps told = trail_inside steps told None
 
 -- the number of these steps
-abbrev pub count_in : List WordStep → StepCount
-count_in steps = counted (length steps)
+abbrev pub steps_counted : List WordStep → StepCount
+steps_counted steps = as_count (length steps)
 
 -- a visit that ends after so many steps, with this note
 abbrev pub visited : Option OpenVisit → StepCount → Note → List Telling
@@ -82,11 +82,11 @@ visited (Some visit) to note = telling.TheVariants.Visited visit.keys visit.from
 -- it, and each sleep with the number of steps before it
 abbrev pub recorded : Trail → PathItem → Trail
 recorded x (did_step one) = trail_inside (x.steps ++ one ∷ []) x.told x.inside
-recorded x (did_enter keys) = trail_inside x.steps x.told (Some (open_visit keys (count_in x.steps)))
+recorded x (did_enter keys) = trail_inside x.steps x.told (Some (open_visit keys (steps_counted x.steps)))
 recorded x (did_act one) = trail_inside x.steps (x.told ++ one ∷ []) x.inside
-recorded x (did_leave note) = trail_inside x.steps (x.told ++ visited x.inside (count_in x.steps) note) None
+recorded x (did_leave note) = trail_inside x.steps (x.told ++ visited x.inside (steps_counted x.steps) note) None
 recorded x did_sleep =
-    trail_inside x.steps (x.told ++ telling.TheVariants.Slept (count_in x.steps) ∷ []) x.inside
+    trail_inside x.steps (x.told ++ telling.TheVariants.Slept (steps_counted x.steps) ∷ []) x.inside
 
 -- all of these, one after the other
 abbrev pub recorded_all : Trail → List PathItem → Trail
@@ -185,19 +185,19 @@ WakesLate me key (Woken note) items = items ≡ leaving_late me key
 WakesLate me key reply items = ⊥
 
 -- a thread sleeps, until another one woke it or its time is up
-abbrev pub Sleeps : ℕ → Reply → List PathItem → Type 0
-Sleeps me (Woken note) items =
+abbrev pub SleepsBy : ℕ → Reply → List PathItem → Type 0
+SleepsBy me (Woken note) items =
     (items ≡ did_sleep ∷ []) ⊎ ((key : ℕ) × (items ≡ did_sleep ∷ leaving_late me key))
-Sleeps me Late items = (key : ℕ) × (items ≡ did_sleep ∷ did_enter (One key) ∷ [])
-Sleeps me (MovedTo to) items = items ≡ did_sleep ∷ []
-Sleeps me reply items = ⊥
+SleepsBy me Late items = (key : ℕ) × (items ≡ did_sleep ∷ did_enter (One key) ∷ [])
+SleepsBy me (MovedTo to) items = items ≡ did_sleep ∷ []
+SleepsBy me reply items = ⊥
 
 -- what an act of this thread does beside its step on a word
-abbrev pub Does : ℕ → Act → Reply → List PathItem → Type 0
-Does me (act.TheVariants.Enter keys) reply items = items ≡ did_enter keys ∷ []
-Does me (act.TheVariants.Leave keys wakes) reply items = items ≡ did_leave (note_of wakes) ∷ []
-Does me act.TheVariants.Sleep reply items = Sleeps me reply items
-Does me a reply items = (tellings : List Telling) × (items ≡ did_acts tellings) × Tells me a reply tellings
+abbrev pub Performs : ℕ → Act → Reply → List PathItem → Type 0
+Performs me (act.TheVariants.Enter keys) reply items = items ≡ did_enter keys ∷ []
+Performs me (act.TheVariants.Leave keys wakes) reply items = items ≡ did_leave (note_of wakes) ∷ []
+Performs me act.TheVariants.Sleep reply items = SleepsBy me reply items
+Performs me a reply items = (tellings : List Telling) × (items ≡ did_acts tellings) × Tells me a reply tellings
 
 -- the trail of a thread, which is inside a section or outside all
 abbrev pub trail_of : Token → Option Section → Trail
@@ -206,12 +206,12 @@ trail_of token section = trail_inside (steps_of token) (told_by token section) (
 -- these bring the reply at a place, a step on the word first; and the thread stays queued or not
 abbrev pub BringsBy : (ℕ → ℕ) → ℕ → Place → List PathItem → Reply → Type 0
 BringsBy at me p items reply = (stepped : List WordStep) × (done : List PathItem)
-    × (items ≡ did_steps stepped ++ done) × Brings at p stepped reply × Does me (act_of p) reply done
+    × (items ≡ did_steps stepped ++ done) × Brings at p stepped reply × Performs me (act_of p) reply done
     × StaysQueued p reply
 
 -- the turn of a thread at a place, with this reply
-abbrev pub HasGone : (ℕ → ℕ) → ℕ → Place → Reply → Trail → Trail → Type 0
-HasGone at me p reply old new =
+abbrev pub HasRecorded : (ℕ → ℕ) → ℕ → Place → Reply → Trail → Trail → Type 0
+HasRecorded at me p reply old new =
     (items : List PathItem) × (new ≡ recorded_all old items) × BringsBy at me p items reply
 
 -- these lead from one place to another
@@ -281,7 +281,7 @@ SleepersStood = (at : ℕ → ℕ) (me : ℕ) (p : Place) (path : List PathItem)
 -- a thread was outside all sections, and slept
 abbrev pub HasSlept : ℕ → Reply → Token → Token → Option Section → Type 0
 HasSlept me reply old new sn = (items : List PathItem)
-    × (trail_of new sn ≡ recorded_all (trail_of old None) items) × Sleeps me reply items
+    × (trail_of new sn ≡ recorded_all (trail_of old None) items) × SleepsBy me reply items
 
 -- the time of a sleeper is up, while it stands under a key
 abbrev pub HasWokenLate : ℕ → ℕ → Reply → Token → Token → Option Section → Type 0
@@ -312,9 +312,9 @@ TellsIn me (act.TheVariants.Remove key) reply old so new sn = (told_of new ≡ t
     × (told_within sn ≡ told_within so ++ leaving me key (length (line_in key sn)))
     × (visit_within sn ≡ visit_within so)
 TellsIn me (act.TheVariants.Enter keys) reply old so new sn = (told_of new ≡ told_of old)
-    × (told_within sn ≡ []) × (visit_within sn ≡ Some (open_visit keys (count_in (steps_of old))))
+    × (told_within sn ≡ []) × (visit_within sn ≡ Some (open_visit keys (steps_counted (steps_of old))))
 TellsIn me (act.TheVariants.Leave keys wakes) reply old so new sn = told_of new
-    ≡ told_of old ++ (told_within so ++ visited (visit_within so) (count_in (steps_of old)) (note_of wakes))
+    ≡ told_of old ++ (told_within so ++ visited (visit_within so) (steps_counted (steps_of old)) (note_of wakes))
 TellsIn me act.TheVariants.Sleep reply old so new sn =
     HasSlept me reply old new sn
 TellsIn me a reply old so new sn = (told_of new ≡ told_of old) × (told_within sn ≡ told_within so)

@@ -12,7 +12,7 @@ use Rattle.parking_lot_core.specs.declared.lot.ParkingLot.{ParkingLot}
 use Rattle.parking_lot_core.specs.declared.sections.Section.{Section}
 use Rattle.parking_lot_core.specs.declared.tokens.Token.{Token}
 use Rattle.run_base.specs.Fitting.{AreWordsFor, Fits, IsOver, Reached, call_purpose}
-use Rattle.run_base.specs.Courses.{Courses, HasGone, trail_of}
+use Rattle.run_base.specs.Courses.{Courses, HasRecorded, trail_of}
 use Rattle.run_base.specs.Stages.{IsSectionOf, stage_of}
 use Rattle.run_base.specs.Words.{AreWordsOf, at_in, kind_in}
 use Rattle.run_base.specs.declared.words.Words.{Words}
@@ -28,7 +28,7 @@ IsAtPlace up lot words p token section = IsTokenOf lot token × AreWordsOf lot w
 abbrev pub HasTurned : Type 0 → ParkingLot → Words → Place → Reply → Token → Option Section → Token
     → Option Section → Type 0
 HasTurned up lot words p reply old section new now = IsSameThread lot old new × IsSectionOf lot now
-    × HasGone (at_in words) old.number p reply (trail_of old section) (trail_of new now)
+    × HasRecorded (at_in words) old.number p reply (trail_of old section) (trail_of new now)
     × ((base : List Ownership) → Fits up base p (stage_of old section)
     → Reached up base p reply (stage_of new now))
 

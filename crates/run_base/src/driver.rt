@@ -18,7 +18,7 @@ ghost use Rattle.run_base.specs.Fitting.{answer_of, call_purpose};
 ghost use Rattle.run_base.specs.MutexFitting.{IsMutexOver};
 ghost use Rattle.run_base.specs.Queued.{HasPlace, is_queued};
 ghost use Rattle.run_base.specs.Paths.{closure_of, mutex_at, GoesFrom};
-ghost use Rattle.run_base.specs.Courses.{HasGone, RunsCourse, trail_of};
+ghost use Rattle.run_base.specs.Courses.{HasRecorded, RunsCourse, trail_of};
 ghost use Rattle.run_base.specs.Words.{AreWordsOf, kind_in, at_in};
 ghost use Rattle.run_base.specs.Stages.{IsSectionOf, stage_of};
 ghost use Rattle.run_base.specs.Telling.{TellsQueues, owns_of, steps_of};
@@ -159,7 +159,7 @@ fn turn<'a, R: Wait, C: Clock>(
     requires no_closure { closure_of (act_of place) ≡ None }
     ensures own { IsSameThread lot.now token.old token.new × IsSectionOf lot.now section.new }
     ensures queues { TellsQueues act result token.old.number section.old section.new }
-    ensures gone { HasGone (at_in words) token.old.number place result
+    ensures recorded { HasRecorded (at_in words) token.old.number place result
         (trail_of token.old section.old) (trail_of token.new section.new) }
     ensures queued { IsTrue (is_queued (next_place place result))
         → HasPlace lot.now token.new.number queue.new }

@@ -10,7 +10,7 @@ use Rattle.run_base.specs.Paths.{closure_of}
 use Rattle.run_base.specs.Queued.{is_queued}
 use Rattle.run_base.specs.Stages.{stage_of, section_view}
 use Rattle.run_base.specs.Words.{kind_in, at_in}
-use Rattle.run_base.specs.Courses.{ComesBy, Courses, HasGone, Trail, trail_of}
+use Rattle.run_base.specs.Courses.{ComesBy, Courses, HasRecorded, Trail, trail_of}
 use Rattle.run_base.proofs.Courses.{arrives, begins, begins_from, goes_on}
 use Rattle.run_base.proofs.Tellings.{outside_trail}
 use Rattle.run_base.proofs.Ending.{closed, closes_outside, end_of, ended, outside}
@@ -58,9 +58,9 @@ loop-preserved g c = let p = c.loop.place in let t = c.turn-reply in let reply =
     (subst (λ (q : Place). Fits (IsUp g.C.Clock.tells c.args.limit) base q
     (stage_of c.turn-reply.new.token c.turn-reply.new.section)) (sym next) (reached base fits).0) in
     let me = c.args.token.now.number in
-    let gone = subst (λ (n : ℕ). HasGone (at_in c.args.words) n c.loop.place c.turn-reply.result
+    let gone = subst (λ (n : ℕ). HasRecorded (at_in c.args.words) n c.loop.place c.turn-reply.result
     (trail_of c.loop.token c.loop.section) (trail_of c.turn-reply.new.token c.turn-reply.new.section))
-    before.own.0.1 t.ensures.gone in record {
+    before.own.0.1 t.ensures.recorded in record {
       turns = (tt, tt);
       own = ((t.ensures.own.0.0, t.ensures.own.0.1 ∙ before.own.0.1), t.ensures.own.1);
       path = begins_from (at_in c.args.words) me c.args.start c.advance_in_place-act.new.self
@@ -90,9 +90,9 @@ returns-in-Some-answer_of-clause-path g c = let p = c.loop.place in let t = c.tu
     (before.fits start.0 start.1)) in
     let none = outside (IsUp g.C.Clock.tells c.args.limit) start.0 (view_of new).owns (call_purpose p) answer
     (section_view t.new.section) (last_of new) (view_of new).steps over in
-    let gone = subst (λ (n : ℕ). HasGone (at_in c.args.words) n c.loop.place c.turn-reply.result
+    let gone = subst (λ (n : ℕ). HasRecorded (at_in c.args.words) n c.loop.place c.turn-reply.result
     (trail_of c.loop.token c.loop.section) (trail_of c.turn-reply.new.token c.turn-reply.new.section))
-    before.own.0.1 t.ensures.gone in
+    before.own.0.1 t.ensures.recorded in
     subst (λ (x : Trail). Courses (at_in c.args.words) c.args.token.now.number c.args.start
     (trail_of c.args.token.now c.args.inside) x c.in-Some-answer_of.answer) (outside_trail new t.new.section
     none)

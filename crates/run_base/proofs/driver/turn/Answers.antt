@@ -24,8 +24,8 @@ perform-requires-clause-needs g c = let words = c.args.words in let st = stage_o
     (places_lead (IsUp g.C.Clock.tells c.args.limit) (kind_in words) (at_in words) fits.0 c.args.place st
     c.requires.words fits.1).0
 
-pub returns-clause-gone : goal.returns-clause-gone
-returns-clause-gone g c = let words = c.args.words in let n = c.args.token.now.number in let p = c.args.place
+pub returns-clause-recorded : goal.returns-clause-recorded
+returns-clause-recorded g c = let words = c.args.words in let n = c.args.token.now.number in let p = c.args.place
     in let st = stage_of c.args.token.now c.args.section.now in let fits = c.requires.fits in
     let old = (view_of c.args.token.now).steps in let new = (view_of c.perform.new.token).steps in
     let adds = subst (λ (a : Act). Adds (at_in c.args.words) a c.perform.result
