@@ -1,5 +1,6 @@
 -- Courses that go on.
-use Rattle.std.proofs.Common.{ℕ, ◌≡◌, true, false, List, [], ◌∷◌, ◌++◌, None, inl, inr, sym, refl, ap, ◌∙◌, subst}
+use Rattle.std.proofs.Common.{ℕ, ◌≡◌, true, false, List, [], ◌∷◌, ◌++◌, None, inl, inr, sym, refl, ap}
+use Rattle.std.proofs.Common.{◌∙◌, subst}
 use Rattle.std.proofs.lemmas.Bool.{false≢true}
 use Rattle.std.proofs.lemmas.List.{append_assoc, append-nil}
 use Rattle.core_base.specs.declared.ops.Op.{Op}
@@ -15,9 +16,9 @@ use Rattle.parking_lot_core.specs.Tokens.{told_of}
 use Rattle.parking_lot_core.specs.declared.tellings.Telling.{Telling}
 use Rattle.parking_lot_core.specs.declared.tokens.Token.{Token}
 use Rattle.run_base.specs.Courses.{BringsBy, ComesBy, Course, Courses, CoursesAfterReply, PathItem, Performs}
-use Rattle.run_base.specs.Courses.{SleepsBy, Trail, did_act, did_acts, did_enter, did_leave, did_sleep, did_step}
-use Rattle.run_base.specs.Courses.{did_steps, goes, recorded, recorded_all, rests, sees, steps_in, trail}
-use Rattle.run_base.specs.Courses.{trail_of}
+use Rattle.run_base.specs.Courses.{SleepsBy, Trail, did_act, did_acts, did_enter, did_leave, did_sleep}
+use Rattle.run_base.specs.Courses.{did_step, did_steps, goes, recorded, recorded_all, rests, sees, steps_in}
+use Rattle.run_base.specs.Courses.{trail, trail_of}
 use Rattle.run_base.specs.Paths.{GoesFrom, step, word}
 use Rattle.run_base.specs.Queued.{is_queued, needs_place}
 use Rattle.run_base.specs.Telling.{steps_of}
@@ -25,7 +26,8 @@ use Rattle.run_base.specs.Telling.{steps_of}
 pub trails : {a b : List WordStep} {s t : List Telling} → a ≡ b → s ≡ t → trail a s ≡ trail b t
 trails {b = b} {s = s} e f = ap (λ (l : List WordStep). trail l s) e ∙ ap (λ (l : List Telling). trail b l) f
 
-pub recorded_on : (x : Trail) (a b : List PathItem) → recorded_all (recorded_all x a) b ≡ recorded_all x (a ++ b)
+pub recorded_on : (x : Trail) (a b : List PathItem) → recorded_all (recorded_all x a) b
+    ≡ recorded_all x (a ++ b)
 recorded_on x [] b = refl
 recorded_on x (item ∷ a) b = recorded_on (recorded x item) a b
 
@@ -60,7 +62,8 @@ acts_no_step : (t : List Telling) → steps_in (did_acts t) ≡ []
 acts_no_step [] = refl
 acts_no_step (one ∷ t) = acts_no_step t
 
-sleeps_no_step : (me : ℕ) (reply : Reply) (items : List PathItem) → SleepsBy me reply items → steps_in items ≡ []
+sleeps_no_step : (me : ℕ) (reply : Reply) (items : List PathItem) → SleepsBy me reply items
+    → steps_in items ≡ []
 sleeps_no_step me (Woken note) items (inl woken) = ap steps_in woken
 sleeps_no_step me (Woken note) items (inr late) = ap steps_in late.1
 sleeps_no_step me Late items late = ap steps_in late.1
@@ -120,7 +123,8 @@ module _ (at : ℕ → ℕ) (me : ℕ) where
   -- the last reply
   pub arrives : (p q : Place) (old mid new : Trail) (reply : Reply) (then : List PathItem)
       (answer : Answer) → ComesBy at me p old mid q → new ≡ recorded_all mid then
-      → BringsBy at me q then reply → next_act q reply ≡ act.TheVariants.End answer → Courses at me p old new answer
+      → BringsBy at me q then reply → next_act q reply ≡ act.TheVariants.End answer
+      → Courses at me p old new answer
   arrives p q old mid new reply then answer c e brings ends = (
     c.0 ++ then,
     e ∙ ap (λ (x : Trail). recorded_all x then) c.1 ∙ recorded_on old c.0 then,

@@ -21,6 +21,7 @@ pub mod Leading
 pub mod RwLockBeginning
 pub mod Courses
 pub mod Standing
+pub mod StandsAfter
 pub mod Tellings
 pub mod Waking
 pub mod Turning

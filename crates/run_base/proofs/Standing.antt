@@ -12,8 +12,8 @@ use Rattle.steps_base.specs.declared.acts.Reply.TheVariants.{Done, Late, MovedTo
 use Rattle.steps_base.specs.declared.acts.Reply.TheVariants.{Requeued, Took, Woken}
 use Rattle.parking_lot_core.specs.declared.tellings.Telling.{Telling}
 use Rattle.parking_lot_core.specs.declared.tellings.Telling.TheVariants as telling
-use Rattle.run_base.specs.Courses.{BringsBy, Course, EachSleepStands, PathItem, Performs, SleepersStood, SleepsBy}
-use Rattle.run_base.specs.Courses.{did_act, did_acts, did_enter, did_leave, did_sleep}
+use Rattle.run_base.specs.Courses.{BringsBy, Course, EachSleepStands, PathItem, Performs, SleepersStood}
+use Rattle.run_base.specs.Courses.{SleepsBy, did_act, did_acts, did_enter, did_leave, did_sleep}
 use Rattle.run_base.specs.Courses.{did_step, did_steps, goes, rests, sees, stands_by}
 use Rattle.run_base.specs.Queued.{gets_place, is_queued, needs_place, spends_place}
 use Rattle.run_base.proofs.Queued.{queued_from}

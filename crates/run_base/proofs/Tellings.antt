@@ -76,8 +76,9 @@ acts_recorded steps told visit (one ∷ more) = acts_recorded steps (told ++ one
     ∙ ap (λ (l : List Telling). trail_inside steps l visit) (append_assoc told (one ∷ []) more)
 
 -- steps on words alone
-pub steps_alone : (steps : List WordStep) (told : List Telling) (visit : Option OpenVisit) (more : List WordStep)
-    → recorded_all (trail_inside steps told visit) (did_steps more) ≡ trail_inside (steps ++ more) told visit
+pub steps_alone : (steps : List WordStep) (told : List Telling) (visit : Option OpenVisit)
+    (more : List WordStep) → recorded_all (trail_inside steps told visit) (did_steps more)
+    ≡ trail_inside (steps ++ more) told visit
 steps_alone steps told visit [] =
     ap (λ (l : List WordStep). trail_inside l told visit) (sym (append-nil steps))
 steps_alone steps told visit (one ∷ more) = steps_alone (steps ++ one ∷ []) told visit more

@@ -61,8 +61,8 @@ module _ (up : Type 0) (lot : ParkingLot) (words : Words) (p : Place) (old new :
         (subst (λ (b : Act). HasDone old.number old new section now b reply) (sym is)
         (has_done old.number old new section now up (kind_in words) (at_in words) (sleeper_at p) a reply
         (needs_by up lot words p a old section at is) became adds queues tells))
-        (stays_queued up (kind_in words) (at_in words) at.4.0 p (stage_of old section) (stage_of new now) reply
-        at.4.1
+        (stays_queued up (kind_in words) (at_in words) at.4.0 p (stage_of old section) (stage_of new now)
+        reply at.4.1
         (subst (λ (b : Act). Became up (kind_in words) (at_in words) (sleeper_at p) (stage_of old section) b
         reply (stage_of new now)) (sym is) became)),
     λ base fits. (places_lead up (kind_in words) (at_in words) base p (stage_of old section) at.3 fits).2

@@ -15,8 +15,8 @@ use Rattle.parking_lot_core.specs.declared.step_counts.StepCount.{StepCount}
 use Rattle.parking_lot_core.specs.declared.tellings.Telling.{Telling}
 use Rattle.parking_lot_core.specs.declared.tellings.Telling.TheVariants as telling
 use Rattle.parking_lot_core.specs.declared.tokens.Token.{Token}
-use Rattle.run_base.specs.Courses.{HasSlept, HasWokenLate, PathItem, Trail, did_enter, did_sleep, leaving_late}
-use Rattle.run_base.specs.Courses.{open_visit, recorded_all, trail_of}
+use Rattle.run_base.specs.Courses.{HasSlept, HasWokenLate, PathItem, Trail, did_enter, did_sleep}
+use Rattle.run_base.specs.Courses.{leaving_late, open_visit, recorded_all, trail_of}
 use Rattle.run_base.specs.Stages.{SectionView, entered_now, section_view}
 use Rattle.run_base.specs.Telling.{steps_of}
 use Rattle.run_base.proofs.Tellings.{outside_trail, same_trail}

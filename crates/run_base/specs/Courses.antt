@@ -84,7 +84,8 @@ abbrev pub recorded : Trail → PathItem → Trail
 recorded x (did_step one) = trail_inside (x.steps ++ one ∷ []) x.told x.inside
 recorded x (did_enter keys) = trail_inside x.steps x.told (Some (open_visit keys (steps_counted x.steps)))
 recorded x (did_act one) = trail_inside x.steps (x.told ++ one ∷ []) x.inside
-recorded x (did_leave note) = trail_inside x.steps (x.told ++ visited x.inside (steps_counted x.steps) note) None
+recorded x (did_leave note) =
+    trail_inside x.steps (x.told ++ visited x.inside (steps_counted x.steps) note) None
 recorded x did_sleep =
     trail_inside x.steps (x.told ++ telling.TheVariants.Slept (steps_counted x.steps) ∷ []) x.inside
 
@@ -197,7 +198,8 @@ abbrev pub Performs : ℕ → Act → Reply → List PathItem → Type 0
 Performs me (act.TheVariants.Enter keys) reply items = items ≡ did_enter keys ∷ []
 Performs me (act.TheVariants.Leave keys wakes) reply items = items ≡ did_leave (note_of wakes) ∷ []
 Performs me act.TheVariants.Sleep reply items = SleepsBy me reply items
-Performs me a reply items = (tellings : List Telling) × (items ≡ did_acts tellings) × Tells me a reply tellings
+Performs me a reply items =
+    (tellings : List Telling) × (items ≡ did_acts tellings) × Tells me a reply tellings
 
 -- the trail of a thread, which is inside a section or outside all
 abbrev pub trail_of : Token → Option Section → Trail
@@ -278,6 +280,37 @@ abbrev pub SleepersStood : Type 0
 SleepersStood = (at : ℕ → ℕ) (me : ℕ) (p : Place) (path : List PathItem) (answer : Answer)
     → Arrival at me p path answer → EachSleepStands (is_queued p) path
 
+-- whether the thread stood last in a queue
+abbrev pub is_stand : Telling → Bool
+is_stand (telling.TheVariants.Stood _ _ _) = true
+is_stand (telling.TheVariants.Took _ _ _) = false
+is_stand (telling.TheVariants.Counted _ _) = false
+is_stand (telling.TheVariants.Left _) = false
+is_stand (telling.TheVariants.Visited _ _ _ _) = false
+is_stand (telling.TheVariants.Slept _) = false
+
+-- each stand among these is in the visit in which the thread took its last step on a word: since that step it
+-- has neither entered nor left a section. At their beginning it has taken one so, or not
+abbrev pub EachStandFollowsStep : Bool → List PathItem → Type 0
+EachStandFollowsStep stepped [] = Unit {0}
+EachStandFollowsStep stepped (did_step _ ∷ more) = EachStandFollowsStep true more
+EachStandFollowsStep stepped (did_enter _ ∷ more) = EachStandFollowsStep false more
+EachStandFollowsStep stepped (did_leave _ ∷ more) = EachStandFollowsStep false more
+EachStandFollowsStep stepped (did_sleep ∷ more) = EachStandFollowsStep stepped more
+EachStandFollowsStep stepped (did_act one ∷ more) =
+    (is_stand one ≡ true → stepped ≡ true) × EachStandFollowsStep stepped more
+
+-- an act that stands in a queue, after a step of an act before
+abbrev pub only_stands : Act → Bool
+only_stands (act.TheVariants.Stand key _) = true
+only_stands _ = false
+
+-- in each call that came to its answer each stand is in the visit of a step: no thread stands by a word that
+-- it saw outside the section, or in another visit
+abbrev pub StandsFollowSteps : Type 0
+StandsFollowSteps = (at : ℕ → ℕ) (me : ℕ) (p : Place) (path : List PathItem) (answer : Answer)
+    → Arrival at me p path answer → EachStandFollowsStep (only_stands (act_of p)) path
+
 -- a thread was outside all sections, and slept
 abbrev pub HasSlept : ℕ → Reply → Token → Token → Option Section → Type 0
 HasSlept me reply old new sn = (items : List PathItem)
@@ -314,7 +347,8 @@ TellsIn me (act.TheVariants.Remove key) reply old so new sn = (told_of new ≡ t
 TellsIn me (act.TheVariants.Enter keys) reply old so new sn = (told_of new ≡ told_of old)
     × (told_within sn ≡ []) × (visit_within sn ≡ Some (open_visit keys (steps_counted (steps_of old))))
 TellsIn me (act.TheVariants.Leave keys wakes) reply old so new sn = told_of new
-    ≡ told_of old ++ (told_within so ++ visited (visit_within so) (steps_counted (steps_of old)) (note_of wakes))
+    ≡ told_of old ++ (told_within so
+    ++ visited (visit_within so) (steps_counted (steps_of old)) (note_of wakes))
 TellsIn me act.TheVariants.Sleep reply old so new sn =
     HasSlept me reply old new sn
 TellsIn me a reply old so new sn = (told_of new ≡ told_of old) × (told_within sn ≡ told_within so)

@@ -586,15 +586,16 @@ module _ (a : Admission) (x : Access) (how : Patience) (Is : RwLockCallPlace →
     looks_keep (RwLock l b c) r e w =
         leads.2 l c r (subst (λ (y : Admission). respins_from (RwLock l y c) ≡ Some r) w.0 e) w.1
 
-    course_keeps : (at : ℕ → ℕ) (me : ℕ) (p r : Place) (x : List PathItem) → Course at me p x r → IsIn p → IsIn r
+    course_keeps : (at : ℕ → ℕ) (me : ℕ) (p r : Place) (x : List PathItem) → Course at me p x r → IsIn p
+        → IsIn r
     course_keeps at me p _ _ (courses.rests _) w = w
     course_keeps at me p _ _ (courses.goes _ r x y told course brings) w =
         (place_keeps r told (course_keeps at me p r x course w)).0
     course_keeps at me p s x (courses.sees _ r _ _ course is) w =
         looks_keep r s is (course_keeps at me p r x course w)
 
-    ended_by : (at : ℕ → ℕ) (me : ℕ) (p last : Place) (x : List PathItem) (told : Reply) → Course at me p x last
-        → IsIn p → next_act last told ≡ act.End ReadersFull → ToldFull a enters told
+    ended_by : (at : ℕ → ℕ) (me : ℕ) (p last : Place) (x : List PathItem) (told : Reply)
+        → Course at me p x last → IsIn p → next_act last told ≡ act.End ReadersFull → ToldFull a enters told
     ended_by at me p last x told course w ends =
         subst (EndsActBy told) ends (place_keeps last told (course_keeps at me p last x course w)).1
 

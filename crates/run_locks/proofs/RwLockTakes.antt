@@ -63,7 +63,8 @@ module _ (word : Word) (is : word.kind ≡ kinds.RwLock) (a : Admission) (c : Rw
         ∙ ap (λ (o : Op). (view_of old).steps ++ step (rwlock_at word.number) o found) by
 
     took_step : told_of new ≡ told_of old → trail_of new None
-        ≡ recorded_all (trail_of old None) (one (rwlock_at word.number) (Exchange seen (word_taken c seen)) found)
+        ≡ recorded_all (trail_of old None)
+        (one (rwlock_at word.number) (Exchange seen (word_taken c seen)) found)
     took_step untold =
         one_more old new (rwlock_at word.number) (Exchange seen (word_taken c seen)) found saw untold
 

@@ -89,8 +89,8 @@ module _ (n permits p : ℕ) (kind : kinds.WordKind) (is : kind ≡ kinds.TheVar
 
 module _ (n : ℕ) (timed : Bool) (seen found : ℕ) (me : ℕ) (old mid new : Trail) where
   -- the first look
-  comes : mid ≡ recorded_all old (one (semaphore_at n) Load seen) → ComesBy (at_semaphore n) me (waiting n timed)
-      old mid (deciding n timed seen)
+  comes : mid ≡ recorded_all old (one (semaphore_at n) Load seen)
+      → ComesBy (at_semaphore n) me (waiting n timed) old mid (deciding n timed seen)
   comes e = goes_on (at_semaphore n) me (waiting n timed) (waiting n timed) (deciding n timed seen) old old
       mid (Value seen) (one (semaphore_at n) Load seen) (begins (at_semaphore n) me (waiting n timed) old) e
       (steps_first (at_semaphore n) me (waiting n timed) n Load seen refl (unqueued_semaphore n
@@ -230,8 +230,9 @@ module _ (n seen : ℕ) (me : ℕ) (old mid new : Trail) where
 
   -- A release that saw waiters goes on after its addition.
   pub releases_on : (answer : Answer) → has_parked seen ≡ true
-      → mid ≡ recorded_all old (one (semaphore_at n) (Add 2) seen) → Courses (at_semaphore n) me (waking n) mid new
-      answer → Courses (at_semaphore n) me (semaphore_begin n calls.Release) old new answer
+      → mid ≡ recorded_all old (one (semaphore_at n) (Add 2) seen)
+      → Courses (at_semaphore n) me (waking n) mid new answer
+      → Courses (at_semaphore n) me (semaphore_begin n calls.Release) old new answer
   releases_on answer parked e rest = courses_on (at_semaphore n) me (semaphore_begin n calls.Release)
       (waking n) old mid new answer
       (goes_on (at_semaphore n) me (semaphore_begin n calls.Release) (semaphore_begin n calls.Release)

@@ -25,8 +25,9 @@ perform-requires-clause-needs g c = let words = c.args.words in let st = stage_o
     c.requires.words fits.1).0
 
 pub returns-clause-recorded : goal.returns-clause-recorded
-returns-clause-recorded g c = let words = c.args.words in let n = c.args.token.now.number in let p = c.args.place
-    in let st = stage_of c.args.token.now c.args.section.now in let fits = c.requires.fits in
+returns-clause-recorded g c = let words = c.args.words in let n = c.args.token.now.number in
+    let p = c.args.place in let st = stage_of c.args.token.now c.args.section.now in
+    let fits = c.requires.fits in
     let old = (view_of c.args.token.now).steps in let new = (view_of c.perform.new.token).steps in
     let adds = subst (λ (a : Act). Adds (at_in c.args.words) a c.perform.result
     (view_of c.args.token.now).steps (view_of c.perform.new.token).steps) c.requires.act
