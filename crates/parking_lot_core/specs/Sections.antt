@@ -8,7 +8,9 @@ use Rattle.core_base.specs.declared.wants.Want.{Want}
 use Rattle.core_queues.specs.Buckets.{both}
 use Rattle.parking_lot_core.specs.Pairs.{waiters_of}
 use Rattle.parking_lot_core.specs.declared.sections.Section.{Section}
+use Rattle.parking_lot_core.specs.declared.step_counts.StepCount.{StepCount}
 use Rattle.parking_lot_core.specs.declared.tellings.Telling.{Telling}
+use Rattle.parking_lot_core.specs.declared.tellings.Telling.TheVariants.{Visited}
 use Rattle.parking_lot_core.specs.declared.tokens.Did.TheVariants.{Nothing}
 
 -- the waiters in the first bucket of a section
@@ -41,9 +43,14 @@ moved_in section = section.moved
 abbrev pub told_in : Section → List Telling
 told_in section = section.told.list
 
--- two states are of one section, of one thread
+-- the visit of a section that is left with this note, after so many steps of its thread
+abbrev pub visit_of : Section → StepCount → Note → Telling
+visit_of section to note = Visited section.keys section.since to note
+
+-- two states are of one section, of one thread, which entered it once
 abbrev pub StaysIn : Section → Section → Type 0
 StaysIn old new = (new.lot.now ≡ old.lot.now) × (new.keys ≡ old.keys) × (new.thread ≡ old.thread)
+    × (new.since ≡ old.since)
 
 -- A section has done no more to the threads that it took or moved.
 abbrev pub TookAs : Section → Section → Type 0

@@ -1,11 +1,13 @@
 -- The threads that belong to a lot.
 use Rattle.std.specs.Prelude.{◌≡◌, ◌<◌, ◌==◌, ℕ, List, [], Option, Some, None, if◌then◌else◌}
+use Rattle.std.specs.Prelude.{length}
 use Rattle.core_names.specs.Names.{IsNameOf}
 use Rattle.core_words.specs.Views.{blank, shown}
 use Rattle.core_words.specs.Lots.{IsSeatOf}
 use Rattle.core_words.specs.declared.table.LotWords.{LotWords}
 use Rattle.core_words.specs.declared.views.View.{View}
 use Rattle.parking_lot_core.specs.declared.lot.ParkingLot.{ParkingLot}
+use Rattle.parking_lot_core.specs.declared.step_counts.StepCount.{StepCount}
 use Rattle.parking_lot_core.specs.declared.tellings.Telling.{Telling}
 use Rattle.parking_lot_core.specs.declared.tokens.SectionRecord.{SectionRecord}
 use Rattle.parking_lot_core.specs.declared.tokens.Ticket.{Ticket}
@@ -31,6 +33,14 @@ out_of token = token.seat.me.0.out
 -- the record of the section that it left last, if it has taken no step since
 abbrev pub last_of : Token → Option SectionRecord
 last_of token = if token.expected.unlocked == 0 then None else Some token.record
+
+-- a number of steps
+abbrev pub as_count : ℕ → StepCount
+as_count number = record { number = number }
+
+-- how many steps on words it has taken
+abbrev pub count_of : Token → StepCount
+count_of token = as_count (length (view_of token).steps)
 
 -- what its sections and sleeps have told it
 abbrev pub told_of : Token → List Telling

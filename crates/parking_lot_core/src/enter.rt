@@ -70,7 +70,7 @@ fn doubled(low: Key, high: Key, first: &SectionQueues, other: &SectionQueues) ->
 
 impl ParkingLot {
     ghost use Rattle.parking_lot_core.specs.Sections.{IsUntouched, told_in};
-    ghost use Rattle.parking_lot_core.specs.Tokens.{IsTokenOf, IsSameThread};
+    ghost use Rattle.parking_lot_core.specs.Tokens.{IsTokenOf, IsSameThread, count_of};
 
     // Returns the bucket of a key.
     fn bucket(&self, key: Key) -> usize
@@ -158,21 +158,23 @@ impl ParkingLot {
     fn enter_one<'a, R: Wait>(
         &'a self,
         rt: &R,
-        thread: usize,
+        token: &Token,
         keys: Keys,
         bucket: usize,
     ) -> Section<'a>
         requires bucket { bucket < length self.now.buckets.items }
         requires keys { (key : ℕ) → IsKeyOf keys key → bucket_of self.now.bits key ≡ bucket }
         ensures { (result.lot.now ≡ self.now) × (result.keys ≡ keys) × IsUntouched result
-            × (result.thread ≡ thread) × (told_in result ≡ []) }
+            × (result.thread ≡ token.now.number) × (result.since ≡ count_of token.now)
+            × (told_in result ≡ []) }
     {
         Section {
             lot: self,
             first: self.queues(rt, bucket),
             other: None,
             keys,
-            thread,
+            thread: token.number,
+            since: token.step_count(),
             did: Did::Nothing,
             moved: 0,
             told: Tellings::new(),
@@ -183,7 +185,7 @@ impl ParkingLot {
     fn enter_two<'a, R: Wait>(
         &'a self,
         rt: &R,
-        thread: usize,
+        token: &Token,
         keys: Keys,
         low: Key,
         high: Key,
@@ -191,7 +193,8 @@ impl ParkingLot {
         requires keys { (key : ℕ) → IsKeyOf keys key → (key ≡ low) ⊎ (key ≡ high) }
         requires order { bucket_of self.now.bits low < bucket_of self.now.bits high }
         ensures { (result.lot.now ≡ self.now) × (result.keys ≡ keys) × IsUntouched result
-            × (result.thread ≡ thread) × (told_in result ≡ []) }
+            × (result.thread ≡ token.now.number) × (result.since ≡ count_of token.now)
+            × (told_in result ≡ []) }
     {
         let mut first = self.queues(rt, self.bucket(low));
         let mut other = self.queues_above(rt, &first, self.bucket(high));
@@ -201,7 +204,8 @@ impl ParkingLot {
             first,
             other: Some(other),
             keys,
-            thread,
+            thread: token.number,
+            since: token.step_count(),
             did: Did::Nothing,
             moved: 0,
             told: Tellings::new(),
@@ -209,21 +213,22 @@ impl ParkingLot {
     }
 
     // Returns the section of some keys, for a thread.
-    pub(crate) fn locked<'a, R: Wait>(&'a self, rt: &R, thread: usize, keys: Keys) -> Section<'a>
+    pub(crate) fn locked<'a, R: Wait>(&'a self, rt: &R, token: &Token, keys: Keys) -> Section<'a>
         ensures { (result.lot.now ≡ self.now) × (result.keys ≡ keys) × IsUntouched result
-            × (result.thread ≡ thread) × (told_in result ≡ []) }
+            × (result.thread ≡ token.now.number) × (result.since ≡ count_of token.now)
+            × (told_in result ≡ []) }
     {
         match keys {
-            Keys::One(key) => self.enter_one(rt, thread, keys, self.bucket(key)),
+            Keys::One(key) => self.enter_one(rt, token, keys, self.bucket(key)),
             Keys::Two(from, to) => {
                 let one = self.bucket(from);
                 let other = self.bucket(to);
                 if one == other {
-                    self.enter_one(rt, thread, keys, one)
+                    self.enter_one(rt, token, keys, one)
                 } else if one < other {
-                    self.enter_two(rt, thread, keys, from, to)
+                    self.enter_two(rt, token, keys, from, to)
                 } else {
-                    self.enter_two(rt, thread, keys, to, from)
+                    self.enter_two(rt, token, keys, to, from)
                 }
             }
         }
@@ -237,9 +242,10 @@ impl ParkingLot {
         ensures same { token.new ≡ token.old }
         ensures section { (result.lot.now ≡ self.now) × (result.keys ≡ keys) × IsUntouched result }
         ensures thread { result.thread ≡ token.old.number }
+        ensures since { result.since ≡ count_of token.old }
         ensures untold { told_in result ≡ [] }
     {
-        self.locked(rt, token.number, keys)
+        self.locked(rt, token, keys)
     }
 
     /// Returns how many stand under a key.

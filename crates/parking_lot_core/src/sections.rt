@@ -32,6 +32,7 @@ use crate::enter::hang_forever;
 use crate::expected::Expected;
 use crate::lot::ParkingLot;
 use crate::places::QueuePlace;
+use crate::step_counts::StepCount;
 use crate::tellings::{Telling, Tellings, tell_taken};
 use crate::tokens::{Did, SectionRecord, Token};
 use core_base::{Key, Keys, Note, Requeue, Want};
@@ -53,6 +54,8 @@ pub struct Section<'a> {
     pub(crate) keys: Keys,
     // The thread that is inside.
     pub(crate) thread: usize,
+    // How many steps on words that thread had taken as it entered.
+    pub(crate) since: StepCount,
     pub(crate) did: Did,
     // How many it moved to another queue.
     pub(crate) moved: usize,
@@ -83,10 +86,10 @@ fn first_of_keys(keys: Keys) -> Key
 
 impl<'a> Section<'a> {
     ghost use Rattle.parking_lot_core.specs.Places.{IsPlaceOf, thread_of};
-    ghost use Rattle.parking_lot_core.specs.Tokens.{IsTokenOf, IsSameThread, last_of, told_of};
+    ghost use Rattle.parking_lot_core.specs.Tokens.{IsTokenOf, IsSameThread, count_of, last_of, told_of};
     ghost use Rattle.parking_lot_core.specs.Sections.{others_in, IsUntouched};
     ghost use Rattle.parking_lot_core.specs.Sections.{waiting_in, taken_in, wants_in, rightless_in, moved_in};
-    ghost use Rattle.parking_lot_core.specs.Sections.{told_in, StaysIn, TookAs, MayNote};
+    ghost use Rattle.parking_lot_core.specs.Sections.{told_in, visit_of, StaysIn, TookAs, MayNote};
     ghost use Rattle.parking_lot_core.specs.Tokens.{out_of, view_of};
     ghost use Rattle.parking_lot_core.specs.Giving.{owner_given_at, HasEach, less_each};
     ghost use Rattle.core_words.specs.Lots.{IsWordOf};
@@ -455,9 +458,9 @@ impl<'a> Section<'a> {
         }
     }
 
-    // Leaves a section in which nothing was done.
-    pub(crate) fn shut(self)
-        requires { self.did ≡ Nothing }
+    /// Leaves a section in which nothing was done. The token keeps no record of it.
+    pub fn shut(self)
+        requires { (self.did ≡ Nothing) × (told_in self ≡ []) }
     {
         let Section {
             lot: _,
@@ -465,6 +468,7 @@ impl<'a> Section<'a> {
             other,
             keys: _,
             thread: _,
+            since: _,
             did: _,
             moved: _,
             told: _,
@@ -474,7 +478,8 @@ impl<'a> Section<'a> {
     }
 
     /// Leaves, with the token that entered. The threads that the section took get the note and are
-    /// woken, and the token keeps the record of it. With another token it never returns.
+    /// woken, and the token keeps the record of the section and of the visit. With another token the
+    /// threads are woken, and the call never returns.
     #[tactic(auto, unfolding(crate::specs::Tokens::view_of))]
     pub fn leave<R: Wait>(self, rt: &R, token: &mut Token, note: Note)
         requires own { IsTokenOf self.lot.now token.old }
@@ -482,7 +487,8 @@ impl<'a> Section<'a> {
         ensures own { IsSameThread self.entry.lot.now token.old token.new
             × (view_of token.new ≡ view_of token.old) × (out_of token.new ≡ out_of token.old) }
         ensures thread { self.entry.thread ≡ token.old.number }
-        ensures told { told_of token.new ≡ told_of token.old ++ told_in self.entry }
+        ensures told { told_of token.new ≡ told_of token.old
+            ++ (told_in self.entry ++ visit_of self.entry (count_of token.old) note ∷ []) }
         ensures recorded { last_of token.new
             ≡ Some (record {
               key = first_key self.entry.keys;
@@ -496,17 +502,21 @@ impl<'a> Section<'a> {
             other,
             keys,
             thread,
+            since,
             did,
             moved,
             told,
         } = self;
-        if thread != token.number {
-            hang_forever(rt)
-        }
         let taken = first.taken().len();
         let woken = lot.tie(first.taken());
         drop(other);
         drop(first);
+        if let Some(woken) = woken {
+            lot.wake_tied(rt, woken, taken, note);
+        }
+        if thread != token.number {
+            hang_forever(rt)
+        }
         token.record = SectionRecord {
             key: first_of_keys(keys),
             did,
@@ -514,8 +524,13 @@ impl<'a> Section<'a> {
         };
         token.expected = Expected::disarmed();
         told.pass_on(&mut token.told);
-        if let Some(woken) = woken {
-            lot.wake_tied(rt, woken, taken, note);
-        }
+        let to = token.step_count();
+        let visited = Telling::Visited {
+            keys,
+            from: since,
+            to,
+            note,
+        };
+        visited.tell(&mut token.told);
     }
 }

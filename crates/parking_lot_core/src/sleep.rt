@@ -63,7 +63,8 @@ impl WakeRecord {
 
 impl ParkingLot {
     ghost use Rattle.parking_lot_core.specs.Places.{IsPlaceOf};
-    ghost use Rattle.parking_lot_core.specs.Tokens.{IsTokenOf, IsSameThread, last_of, told_of, view_of};
+    ghost use Rattle.parking_lot_core.specs.Tokens.{IsTokenOf, IsSameThread, count_of, last_of, told_of};
+    ghost use Rattle.parking_lot_core.specs.Tokens.{view_of};
     ghost use Rattle.parking_lot_core.specs.Sleeps.{GivesUpAt, IsWoken, IsSlept, WasLate};
 
     // Waits a while, or until the thread may have been told something.
@@ -101,12 +102,13 @@ impl ParkingLot {
     // Another thread that moves it notes its new key inside both buckets. So the thread was taken
     // where the key is the same as before, read inside that key's bucket, and nobody of its number
     // stands there.
-    fn give_up<'a, R: Wait>(&'a self, rt: &R, thread: usize) -> Option<(Section<'a>, Key)>
-        ensures { IfSome result (λ late. GivesUpAt self.now thread late.0 late.1) }
+    fn give_up<'a, R: Wait>(&'a self, rt: &R, token: &Token) -> Option<(Section<'a>, Key)>
+        ensures { IfSome result (λ late. GivesUpAt self.now token.now late.0 late.1) }
     {
+        let thread = token.number;
         for _ in rt.forever() {
             let key = self.stands.key(thread);
-            let section = self.locked(rt, thread, Keys::One(key));
+            let section = self.locked(rt, token, Keys::One(key));
             if section.key_of(thread) == Some(key) {
                 return Some((section, key));
             }
@@ -137,7 +139,7 @@ impl ParkingLot {
         requires own { IsTokenOf self.now token.old }
         requires queued { IsPlaceOf self.now token.old.number place }
         ensures same { token.new ≡ token.old }
-        ensures slept { IsSlept self.now token.old.number word want result }
+        ensures slept { IsSlept self.now token.old word want result }
         ensures unlimited { limit.entry ≡ None → IsWoken self.now word want result }
         ensures late { WasLate result → IsUp C.tells limit.entry }
     {
@@ -157,7 +159,7 @@ impl ParkingLot {
                     if now < deadline {
                         clock.pause(deadline - now);
                     } else {
-                        if let Some((section, key)) = self.give_up(rt, token.number) {
+                        if let Some((section, key)) = self.give_up(rt, token) {
                             return Slept::Late(section, key, place);
                         }
                         // The thread that took this one is about to wake it.
@@ -169,7 +171,7 @@ impl ParkingLot {
         unreachable!()
     }
 
-    /// Sleeps so, and tells the thread that it did.
+    /// Sleeps as `sleep` does, and notes the sleep among the thread's tellings.
     #[tactic(auto, unfolding(crate::specs::Tokens::view_of))]
     pub fn sleep_told<'a, R: Wait, C: Clock>(
         &'a self,
@@ -185,13 +187,15 @@ impl ParkingLot {
         ensures own { IsSameThread self.now token.old token.new
             × (last_of token.new ≡ last_of token.old) }
         ensures view { view_of token.new ≡ view_of token.old }
-        ensures told { told_of token.new ≡ told_of token.old ++ tellings.Slept ∷ [] }
-        ensures slept { IsSlept self.now token.old.number word want result }
+        ensures told { told_of token.new ≡ told_of token.old ++ tellings.Slept (count_of token.old) ∷ [] }
+        ensures slept { IsSlept self.now token.old word want result }
         ensures unlimited { limit.entry ≡ None → IsWoken self.now word want result }
         ensures late { WasLate result → IsUp C.tells limit.entry }
     {
         let slept = self.sleep(rt, token, place, word, want, limit);
-        Telling::Slept.tell(&mut token.told);
+        let after = token.step_count();
+        let telling = Telling::Slept { after };
+        telling.tell(&mut token.told);
         slept
     }
 }

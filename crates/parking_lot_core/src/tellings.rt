@@ -9,13 +9,14 @@ ghost use Rattle.std.specs.Prelude.{◌≡◌, ◌++◌, ◌∷◌, [], List, le
 ghost use Rattle.parking_lot_core.specs.declared.tellings.Telling.{Telling};
 ghost use Rattle.parking_lot_core.specs.declared.tellings.Telling.TheVariants.{Took};
 
+use crate::step_counts::StepCount;
 use crate::tokens::Did;
-use core_base::{Key, Want};
+use core_base::{Key, Keys, Note, Want};
 use core_queues::SectionQueues;
 use std::marker::Model;
 
-/// An act of a thread on the queues, with what it found or did there.
-#[derive(Clone, Copy)]
+/// An act of a thread on the queues, with what it found or did there; a visit of a section; or a sleep.
+#[derive(Drop)]
 pub enum Telling {
     /// This thread stood after the last under the key.
     Stood {
@@ -38,8 +39,18 @@ pub enum Telling {
     Left {
         thread: usize,
     },
-    /// The thread slept, and its sleep ended.
-    Slept,
+    /// The thread was inside the section of these keys, and had taken `from` steps on words as it entered
+    /// and `to` as it left. What the section told stands before. The waiters that it took got this note.
+    Visited {
+        keys: Keys,
+        from: StepCount,
+        to: StepCount,
+        note: Note,
+    },
+    /// The thread slept, after so many steps on words, and its sleep ended.
+    Slept {
+        after: StepCount,
+    },
 }
 
 /// The tellings of a thread, or of a section that it is inside. Nothing else than sections and

@@ -2,6 +2,7 @@
 ghost use Rattle.std.specs.Prelude.{◌≡◌, ◌==◌, not, None};
 
 use crate::expected::Expected;
+use crate::step_counts::StepCount;
 use crate::tellings::Tellings;
 use core_base::{Key, Requeue, Want};
 use core_names::Name;
@@ -133,7 +134,7 @@ impl Ticket {
 }
 
 impl Token {
-    ghost use Rattle.parking_lot_core.specs.Tokens.{last_of, told_of};
+    ghost use Rattle.parking_lot_core.specs.Tokens.{count_of, last_of, told_of};
 
     /// Takes the thread out of the lot. All that it owns stays with its ticket.
     pub fn leave(self) -> Ticket
@@ -164,6 +165,14 @@ impl Token {
         ensures { result ≡ self.now.number }
     {
         self.number
+    }
+
+    /// Counts the steps on words that the thread has taken, for proofs alone.
+    #[inline]
+    pub(crate) fn step_count(&self) -> StepCount
+        ensures { result ≡ count_of self.now }
+    {
+        StepCount {}
     }
 
     #[inline]

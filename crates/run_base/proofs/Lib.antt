@@ -21,7 +21,9 @@ pub mod Leading
 pub mod RwLockBeginning
 pub mod Courses
 pub mod Standing
+pub mod StandsAfter
 pub mod Tellings
+pub mod Waking
 pub mod Turning
 pub mod TurnsOn
 pub mod Coming

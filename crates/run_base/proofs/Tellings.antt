@@ -1,17 +1,19 @@
--- The tellings of an act bring its reply.
-use Rattle.std.proofs.Common.{ℕ, ◌≡◌, ◌==◌, ◌+◌, ◌++◌, ◌∷◌, [], not, true, false, List, Option}
+-- What an act told, and the visit that goes on after it, bring its reply.
+use Rattle.std.proofs.Common.{ℕ, ◌≡◌, ◌==◌, ◌++◌, ◌∷◌, [], not, true, false, List, Option}
 use Rattle.std.proofs.Common.{Some, None, length, refl, sym, ap, ◌∙◌}
 use Rattle.std.proofs.lemmas.List.{append-nil, append_assoc}
 use Rattle.core_base.specs.Lines.{threads_of}
-use Rattle.core_base.specs.declared.notes.Note.{Note}
 use Rattle.core_base.specs.Requeues.{moved_by}
 use Rattle.core_base.specs.declared.wants.Waiter.{Waiter}
+use Rattle.core_words.specs.declared.views.WordStep.{WordStep}
 use Rattle.core_words.specs.declared.words.WordKind.{WordKind}
+use Rattle.lot_steps.specs.Steps.{act_of}
+use Rattle.lot_steps.specs.declared.places.Place.{Place}
 use Rattle.steps_base.specs.declared.acts.Act.{Act}
 use Rattle.steps_base.specs.declared.acts.Act as act
 use Rattle.steps_base.specs.declared.acts.Reply.{Reply}
-use Rattle.steps_base.specs.declared.acts.Reply.TheVariants.{Done, Late, MovedTo, Parked, Picked, Removed}
-use Rattle.steps_base.specs.declared.acts.Reply.TheVariants.{Requeued, Took, Value, Woken}
+use Rattle.steps_base.specs.declared.acts.Reply.TheVariants.{Done, Parked, Picked, Removed, Requeued, Took}
+use Rattle.steps_base.specs.declared.acts.Reply.TheVariants.{Value}
 use Rattle.steps_base.specs.declared.acts.Whom.{Whom}
 use Rattle.steps_base.specs.declared.acts.Whom as whom
 use Rattle.parking_lot_core.specs.Tokens.{told_of}
@@ -20,13 +22,18 @@ use Rattle.parking_lot_core.specs.declared.tellings.Telling.{Telling}
 use Rattle.parking_lot_core.specs.declared.tellings.Telling as telling
 use Rattle.parking_lot_core.specs.declared.tokens.Did as did
 use Rattle.parking_lot_core.specs.declared.tokens.Token.{Token}
-use Rattle.run_base.specs.Courses.{HasTold, Tells, TellsFound, TellsIn, TellsLate, leaving, moving, taking}
-use Rattle.run_base.specs.Courses.{told_by, told_within}
-use Rattle.run_base.specs.Stages.{ActNeeds, Became, HasKey, SectionView, TookBy, is_there}
-use Rattle.run_base.specs.Stages.{listed}
+use Rattle.run_base.specs.Courses.{HasRecorded, OpenVisit, PathItem, Performs, TellsFound, TellsIn, Trail}
+use Rattle.run_base.specs.Courses.{did_acts, did_enter, did_leave, did_steps, leaving, moving, open_visit}
+use Rattle.run_base.specs.Courses.{recorded_all, taking, told_by, told_within, trail_inside, trail_of}
+use Rattle.run_base.specs.Courses.{steps_counted, visit_within, visited}
+use Rattle.run_base.specs.Paths.{Told}
+use Rattle.run_base.specs.Queued.{StaysQueued}
+use Rattle.run_base.specs.Stages.{ActNeeds, Adds, Became, HasKey, SectionView, TookBy, is_there}
+use Rattle.run_base.specs.Stages.{listed, note_of}
 use Rattle.run_base.specs.Stages.{section_view, stage_of, threads_taken, took_as}
-use Rattle.run_base.specs.Telling.{TellsQueues, TellsTake, line_in}
+use Rattle.run_base.specs.Telling.{TellsQueues, TellsTake, line_in, steps_of}
 use Rattle.run_base.specs.declared.sleepers.Sleeper.{Sleeper}
+use Rattle.run_base.proofs.Courses.{recorded_on}
 use Rattle.run_base.proofs.TakesFew.{all_threads}
 
 pub by_within : (token : Token) (section : Option Section) → told_by token section ≡ told_of token
@@ -39,10 +46,6 @@ pub by_outside : (token : Token) (section : Option Section) → section_view sec
     → told_by token section ≡ told_of token
 by_outside token None none = refl
 by_outside token (Some section) none = cc
-
-pub within_none : (section : Option Section) → section_view section ≡ None → told_within section ≡ []
-within_none None none = refl
-within_none (Some section) none = cc
 
 -- the threads that a section's view has taken
 abbrev taken_of : Option SectionView → List ℕ
@@ -64,42 +67,75 @@ one_or_none : (first : Option Waiter) (taken : List ℕ) → taken ≡ threads_o
 one_or_none None taken e = sym (ap (λ (l : List ℕ). not (length l == 0)) e)
 one_or_none (Some waiter) taken e = sym (ap (λ (l : List ℕ). not (length l == 0)) e)
 
--- a sleeper that was woken
-pub slept_woken : (me : ℕ) (note : Note) (old new : List Telling) → new ≡ old ++ telling.TheVariants.Slept
-    ∷ [] → HasTold me act.TheVariants.Sleep (Woken note) old new
-slept_woken me note old new e = (telling.TheVariants.Slept ∷ [], e, (false, refl))
+-- acts on queues alone
+acts_recorded : (steps : List WordStep) (told : List Telling) (visit : Option OpenVisit) (more : List Telling)
+    → recorded_all (trail_inside steps told visit) (did_acts more) ≡ trail_inside steps (told ++ more) visit
+acts_recorded steps told visit [] =
+    ap (λ (l : List Telling). trail_inside steps l visit) (sym (append-nil told))
+acts_recorded steps told visit (one ∷ more) = acts_recorded steps (told ++ one ∷ []) visit more
+    ∙ ap (λ (l : List Telling). trail_inside steps l visit) (append_assoc told (one ∷ []) more)
 
--- one whose time was up
-pub slept_late : (me : ℕ) (reply : Reply) (old mid new : List Telling) → mid ≡ old
-    ++ telling.TheVariants.Slept ∷ [] → TellsLate me reply mid new → HasTold me act.TheVariants.Sleep reply
-    old new
-slept_late me Late old mid new e late = (telling.TheVariants.Slept ∷ [], late ∙ e, refl)
-slept_late me (MovedTo key) old mid new e late = (telling.TheVariants.Slept ∷ [], late ∙ e, refl)
-slept_late me (Woken note) old mid new e late = (
-  telling.TheVariants.Slept ∷ telling.TheVariants.Left me ∷ [],
-  late ∙ (ap (λ (l : List Telling). l ++ telling.TheVariants.Left me ∷ []) e
-      ∙ append_assoc old (telling.TheVariants.Slept ∷ []) (telling.TheVariants.Left me ∷ [])),
-  (true, refl),
-)
-slept_late me reply old mid new e late = absurd late
+-- steps on words alone
+pub steps_alone : (steps : List WordStep) (told : List Telling) (visit : Option OpenVisit)
+    (more : List WordStep) → recorded_all (trail_inside steps told visit) (did_steps more)
+    ≡ trail_inside (steps ++ more) told visit
+steps_alone steps told visit [] =
+    ap (λ (l : List WordStep). trail_inside l told visit) (sym (append-nil steps))
+steps_alone steps told visit (one ∷ more) = steps_alone (steps ++ one ∷ []) told visit more
+    ∙ ap (λ (l : List WordStep). trail_inside l told visit) (append_assoc steps (one ∷ []) more)
+
+pub same_trail : {a b : List WordStep} {s t : List Telling} {v w : Option OpenVisit} → a ≡ b → s ≡ t → v ≡ w
+    → trail_inside a s v ≡ trail_inside b t w
+same_trail {b = b} {s = s} {t = t} {v = v} e f g = ap (λ (l : List WordStep). trail_inside l s v) e
+    ∙ ap (λ (l : List Telling). trail_inside b l v) f ∙ ap (λ (o : Option OpenVisit). trail_inside b t o) g
+
+-- a thread outside all sections is on no visit
+no_visit : (section : Option Section) → section_view section ≡ None → visit_within section ≡ None
+no_visit None none = refl
+no_visit (Some section) none = cc
+
+pub outside_trail : (token : Token) (section : Option Section) → section_view section ≡ None
+    → trail_of token section ≡ trail_of token None
+outside_trail token None none = refl
+outside_trail token (Some section) none = cc
 
 module _ (me : ℕ) (old new : Token) (so sn : Option Section) where
+  -- once the step of an act is recorded
+  abbrev Stepped : Trail
+  Stepped = trail_inside (steps_of new) (told_by old so) (visit_within so)
+
+  -- an act did these things beside its step
+  abbrev pub HasDone : Act → Reply → Type 0
+  HasDone a reply = (done : List PathItem) × (trail_of new sn ≡ recorded_all Stepped done)
+      × Performs me a reply done
+
   -- told within the section alone
-  inside : (a : Act) (reply : Reply) (more : List Telling) → told_of new ≡ told_of old → told_within sn
-      ≡ told_within so ++ more → Tells me a reply more → HasTold me a reply (told_by old so) (told_by new sn)
-  inside a reply more same e tells = (
-    more,
-    by_within new sn ∙ (ap (λ (l : List Telling). l ++ told_within sn) same
-        ∙ (ap (λ (l : List Telling). told_of old ++ l) e
-        ∙ (sym (append_assoc (told_of old) (told_within so) more) ∙ ap (λ (l : List Telling). l ++ more)
-        (sym (by_within old so))))),
-    tells,
-  )
+  inside : (more : List Telling) → told_of new ≡ told_of old → told_within sn ≡ told_within so ++ more
+      → visit_within sn ≡ visit_within so → trail_of new sn ≡ recorded_all Stepped (did_acts more)
+  inside more same e visit = same_trail refl
+      (by_within new sn ∙ (ap (λ (l : List Telling). l ++ told_within sn) same
+      ∙ (ap (λ (l : List Telling). told_of old ++ l) e
+      ∙ (sym (append_assoc (told_of old) (told_within so) more) ∙ ap (λ (l : List Telling). l ++ more)
+      (sym (by_within old so)))))) visit ∙ sym (acts_recorded (steps_of new) (told_by old so)
+      (visit_within so) more)
 
   -- nothing was told
-  quiet : (a : Act) (reply : Reply) → told_of new ≡ told_of old → told_within sn ≡ told_within so
-      → Tells me a reply [] → HasTold me a reply (told_by old so) (told_by new sn)
-  quiet a reply same e tells = inside a reply [] same (e ∙ sym (append-nil (told_within so))) tells
+  quiet : told_of new ≡ told_of old → told_within sn ≡ told_within so → visit_within sn ≡ visit_within so
+      → trail_of new sn ≡ recorded_all Stepped []
+  quiet same e visit = inside [] same (e ∙ sym (append-nil (told_within so))) visit
+
+  -- with the step of the act, that is a turn
+  pub gone : (at : ℕ → ℕ) (p : Place) (reply : Reply) → Told at p reply (steps_of old) (steps_of new)
+      → HasDone (act_of p) reply → StaysQueued p reply
+      → HasRecorded at me p reply (trail_of old so) (trail_of new sn)
+  gone at p reply steps done stays = (
+    did_steps steps.0 ++ done.0,
+    done.1 ∙ (ap (λ (x : Trail). recorded_all x done.0)
+        (ap (λ (l : List WordStep). trail_inside l (told_by old so) (visit_within so)) steps.1
+        ∙ sym (steps_alone (steps_of old) (told_by old so) (visit_within so) steps.0))
+        ∙ recorded_on (trail_of old so) (did_steps steps.0) done.0),
+    (steps.0, done.0, refl, steps.2, done.2, stays),
+  )
 
   takes : (key : ℕ) (who : Whom) (reply : Reply) → HasKey key (section_view so)
       → TookBy key who reply (section_view so) (section_view sn) → TellsTake key who reply so sn
@@ -133,48 +169,66 @@ module _ (me : ℕ) (old new : Token) (so sn : Option Section) where
     Then a reply = Became up kinds at sleeper (stage_of old so) a reply (stage_of new sn)
 
     -- an act that was done has told what brings its reply
-    pub has_told : (a : Act) (reply : Reply) → Needs a → Then a reply → TellsQueues a reply me so sn
-        → TellsIn me a reply old so new sn → HasTold me a reply (told_by old so) (told_by new sn)
-    has_told (act.TheVariants.Word l op) (Value seen) needs b q t = quiet (act.TheVariants.Word l op)
-        (Value seen) t.0 t.1 refl
-    has_told (act.TheVariants.HandOver l op) (Value seen) needs b q t = quiet (act.TheVariants.HandOver l op)
-        (Value seen) t.0 t.1 refl
-    has_told (act.TheVariants.Park l key check want) (Parked true) needs b q t =
-        inside (act.TheVariants.Park l key check want) (Parked true) (telling.TheVariants.Stood key me want
-        ∷ []) t.0 t.1 refl
-    has_told (act.TheVariants.Park l key check want) (Parked false) needs b q t =
-        quiet (act.TheVariants.Park l key check want) (Parked false) t.0 t.1 refl
-    has_told (act.TheVariants.Enter keys) Done needs b q t = quiet (act.TheVariants.Enter keys) Done t.0 (t.1
-        ∙ sym (within_none so needs.1)) refl
-    has_told (act.TheVariants.Stand key want) Done needs b q t = inside (act.TheVariants.Stand key want) Done
-        (telling.TheVariants.Stood key me want ∷ []) t.0 t.1 refl
-    has_told (act.TheVariants.Take key who) reply needs b q t = inside (act.TheVariants.Take key who) reply
-        (taking key who (length (threads_taken sn)) (length (line_in key sn))) t.0 t.1
-        (takes key who reply needs.0 b.0 q)
-    has_told (act.TheVariants.Remove key) (Removed left) needs b q t =
-        inside (act.TheVariants.Remove key) (Removed left) (leaving me key (length (line_in key sn))) t.0 t.1
-        (length (line_in key sn), refl, q.1)
-    has_told (act.TheVariants.Accept) Done needs b q t = quiet act.TheVariants.Accept Done t.0 t.1 refl
-    has_told (act.TheVariants.Leave keys wakes) Done needs b q t = (
-      [],
-      by_outside new sn b.1 ∙ (t ∙ (sym (by_within old so) ∙ sym (append-nil (told_by old so)))),
+    pub has_done : (a : Act) (reply : Reply) → Needs a → Then a reply → Adds at a reply (steps_of old)
+        (steps_of new) → TellsQueues a reply me so sn → TellsIn me a reply old so new sn → HasDone a reply
+    has_done (act.TheVariants.Word l op) (Value seen) needs b e q t =
+        ([], quiet t.0 t.1 t.2, ([], refl, refl))
+    has_done (act.TheVariants.HandOver l op) (Value seen) needs b e q t =
+        ([], quiet t.0 t.1 t.2, ([], refl, refl))
+    has_done (act.TheVariants.Park l key check want) (Parked true) needs b e q t =
+        let more = telling.TheVariants.Stood key me want ∷ [] in
+        (did_acts more, inside more t.0 t.1 t.2, (more, refl, refl))
+    has_done (act.TheVariants.Park l key check want) (Parked false) needs b e q t =
+        ([], quiet t.0 t.1 t.2, ([], refl, refl))
+    has_done (act.TheVariants.Enter keys) Done needs b e q t = (
+      did_enter keys ∷ [],
+      same_trail refl (by_within new sn ∙ (ap (λ (l : List Telling). told_of new ++ l) t.1
+          ∙ (append-nil (told_of new) ∙ (t.0 ∙ sym (by_outside old so needs.1)))))
+          (t.2 ∙ ap (λ (l : List WordStep). Some (open_visit keys (steps_counted l))) (sym e)),
       refl,
     )
-    has_told act.TheVariants.Sleep reply needs b q t = (
-      t.1.0,
-      by_within new sn ∙ (ap (λ (l : List Telling). told_of new ++ l) t.0 ∙ (append-nil (told_of new)
-          ∙ (t.1.1 ∙ ap (λ (l : List Telling). l ++ t.1.0) (sym (by_outside old so needs))))),
-      t.1.2,
+    has_done (act.TheVariants.Stand key want) Done needs b e q t =
+        let more = telling.TheVariants.Stood key me want ∷ [] in
+        (did_acts more, inside more t.0 t.1 t.2, (more, refl, refl))
+    has_done (act.TheVariants.Take key who) reply needs b e q t =
+        let more = taking key who (length (threads_taken sn)) (length (line_in key sn)) in
+        (did_acts more, inside more t.0 t.1 t.2, (more, refl, takes key who reply needs.0 b.0 q))
+    has_done (act.TheVariants.Remove key) (Removed left) needs b e q t =
+        let more = leaving me key (length (line_in key sn)) in
+        (did_acts more, inside more t.0 t.1 t.2, (more, refl, (length (line_in key sn), refl, q.1)))
+    has_done (act.TheVariants.Accept) Done needs b e q t = ([], quiet t.0 t.1 t.2, ([], refl, refl))
+    has_done (act.TheVariants.Leave keys wakes) Done needs b e q t = (
+      did_leave (note_of wakes) ∷ [],
+      same_trail refl (by_outside new sn b.1 ∙ (t ∙ (sym (append_assoc (told_of old) (told_within so)
+          (visited (visit_within so) (steps_counted (steps_of old)) (note_of wakes)))
+          ∙ (ap (λ (l : List Telling). l ++ visited (visit_within so) (steps_counted (steps_of old))
+          (note_of wakes)) (sym (by_within old so)) ∙ ap (λ (l : List WordStep). told_by old so
+          ++ visited (visit_within so) (steps_counted l) (note_of wakes)) (sym e)))))
+          (no_visit sn b.1),
+      refl,
     )
-    has_told (act.TheVariants.Requeue from to how) (Requeued number left) needs b q t =
-        inside (act.TheVariants.Requeue from to how) (Requeued number left)
-        (moving from to how (length (threads_taken sn)) (length (moved_by how (line_in from so)))
-        (length (line_in from sn))) t.0 t.1 (
-          length (threads_taken sn),
-          length (moved_by how (line_in from so)),
-          length (line_in from sn),
-          refl,
-          t.2,
-          q.2,
+    has_done act.TheVariants.Sleep reply needs b e q t = (
+      t.0,
+      t.1 ∙ ap (λ (x : Trail). recorded_all x t.0) (sym (outside_trail old so needs)
+          ∙ ap (λ (l : List WordStep). trail_inside l (told_by old so) (visit_within so)) (sym e)),
+      t.2,
+    )
+    has_done (act.TheVariants.Requeue from to how) (Requeued number left) needs b e q t =
+        let more = moving from to how (length (threads_taken sn)) (length (moved_by how (line_in from so)))
+        (length (line_in from sn)) in (
+          did_acts more,
+          inside more t.0 t.1 t.2,
+          (
+            more,
+            refl,
+            (
+              length (threads_taken sn),
+              length (moved_by how (line_in from so)),
+              length (line_in from sn),
+              refl,
+              t.3,
+              q.2,
+            ),
+          ),
         )
-    has_told a reply needs b q t = absurd b
+    has_done a reply needs b e q t = absurd b

@@ -13,7 +13,6 @@ use Rattle.core_words.specs.Indices.{word_index}
 use Rattle.core_words.specs.Steps.{CodesWith, after_step}
 use Rattle.core_words.specs.declared.views.View.{View}
 use Rattle.core_words.specs.declared.words.Word.{Word}
-use Rattle.parking_lot_core.specs.declared.tellings.Telling.{Telling}
 use Rattle.parking_lot_core.specs.Tokens.{IsSameThread, last_of, told_of, view_of}
 use Rattle.parking_lot_core.specs.declared.lot.ParkingLot.{ParkingLot}
 use Rattle.parking_lot_core.specs.declared.sections.Section.{Section}
@@ -24,17 +23,16 @@ use Rattle.run_base.specs.Paths.{closure_of}
 use Rattle.parking_lot_core.specs.declared.places.QueuePlace.{QueuePlace}
 use Rattle.run_base.specs.Queued.{GoesOn, HasPlace, KeepsPlace, is_queued}
 use Rattle.run_base.specs.Stages.{ActNeeds, Adds, Became, IsSectionOf, section_view, stage_of}
-use Rattle.run_base.specs.Courses.{BringsTold, Courses, HasTold, TellsIn, Trail, joined, told_by, trail}
-use Rattle.run_base.specs.Courses.{trail_of}
+use Rattle.run_base.specs.Courses.{Courses, TellsIn, Trail, trail_of}
 use Rattle.run_base.specs.Telling.{TellsQueues, steps_of}
 use Rattle.run_base.specs.Turns.{HasEnded, HasTurned, IsAtPlace}
 use Rattle.run_base.specs.Words.{at_in, kind_in, word_among}
 use Rattle.run_base.specs.declared.words.Words.{Words}
-use Rattle.run_base.proofs.Courses.{arrives, begins, brought, courses_on, goes_on}
+use Rattle.run_base.proofs.Courses.{arrives, begins, courses_on, goes_on}
 use Rattle.run_base.proofs.Ending.{end_of, ended, outside}
 use Rattle.run_base.proofs.Leading.{places_lead}
 use Rattle.run_base.proofs.Queued.{keeps_on, queued_on, stays_queued}
-use Rattle.run_base.proofs.Tellings.{by_outside, has_told}
+use Rattle.run_base.proofs.Tellings.{HasDone, gone, has_done, outside_trail}
 use Rattle.run_base.proofs.Turning.{by_stage, told, words_on}
 
 -- tells what the act of a place needs
@@ -57,17 +55,18 @@ module _ (up : Type 0) (lot : ParkingLot) (words : Words) (p : Place) (old new :
   turned_by a reply is none at same inside became adds queues tells = (
     same,
     inside,
-    told up (at_in words) (kind_in words) p a is none (stage_of old section) (stage_of new now) reply
-        (steps_of old) (steps_of new) became adds,
+    gone old.number old new section now (at_in words) p reply
+        (told up (at_in words) (kind_in words) p a is none (stage_of old section) (stage_of new now) reply
+        (steps_of old) (steps_of new) became adds)
+        (subst (λ (b : Act). HasDone old.number old new section now b reply) (sym is)
+        (has_done old.number old new section now up (kind_in words) (at_in words) (sleeper_at p) a reply
+        (needs_by up lot words p a old section at is) became adds queues tells))
+        (stays_queued up (kind_in words) (at_in words) at.4.0 p (stage_of old section) (stage_of new now)
+        reply at.4.1
+        (subst (λ (b : Act). Became up (kind_in words) (at_in words) (sleeper_at p) (stage_of old section) b
+        reply (stage_of new now)) (sym is) became)),
     λ base fits. (places_lead up (kind_in words) (at_in words) base p (stage_of old section) at.3 fits).2
         reply (stage_of new now)
-        (subst (λ (b : Act). Became up (kind_in words) (at_in words) (sleeper_at p) (stage_of old section) b
-        reply (stage_of new now)) (sym is) became),
-    subst (λ (b : Act). HasTold old.number b reply (told_by old section) (told_by new now)) (sym is)
-        (has_told old.number old new section now up (kind_in words) (at_in words) (sleeper_at p) a reply
-        (needs_by up lot words p a old section at is) became queues tells),
-    stays_queued up (kind_in words) (at_in words) at.4.0 p (stage_of old section) (stage_of new now) reply
-        at.4.1
         (subst (λ (b : Act). Became up (kind_in words) (at_in words) (sleeper_at p) (stage_of old section) b
         reply (stage_of new now)) (sym is) became),
   )
@@ -78,7 +77,7 @@ pub accepts : (up : Type 0) (lot : ParkingLot) (words : Words) (p : Place) (toke
     → HasTurned up lot words p Done token section token section
 accepts up lot words p token section is at =
     turned_by up lot words p token token section section act.TheVariants.Accept Done is refl at (at.0, refl)
-    at.2 refl refl tt (refl, refl)
+    at.2 refl refl tt (refl, refl, refl)
 
 -- a sleeper has its place still where it is queued
 pub slept_on : (up : Type 0) (lot : ParkingLot) (words : Words) (p : Place) (old new : Token)
@@ -114,7 +113,7 @@ word_turned up lot words p old new section lock op seen w e is at same stepped l
     turned_by up lot words p old new section section (act.TheVariants.Word lock op) (Value seen) is refl at
     same at.2
     (by_stage (word_among words lock) op seen old section new then last code)
-    (ap (λ (v : View). v.steps) then) tt (untold, refl)
+    (ap (λ (v : View). v.steps) then) tt (untold, refl, refl)
 
 module _ (up : Type 0) (lot : ParkingLot) (words : Words) (p : Place) (reply : Reply) (old new : Token)
     (section now : Option Section) (turned : HasTurned up lot words p reply old section new now) where
@@ -127,12 +126,6 @@ module _ (up : Type 0) (lot : ParkingLot) (words : Words) (p : Place) (reply : R
       = subst (λ (o : Option Answer). ReachedBy up base (call_purpose p) (next_place p reply) o
       (stage_of new now)) none (turned.3 base fits) in
       subst (λ (r : Place). Fits up base r (stage_of new now) × (call_purpose r ≡ call_purpose p)) is reached
-
-  -- a turn's steps and tellings bring its reply
-  turn_brought : (more : Trail) × (trail_of new now ≡ joined (trail_of old section) more)
-      × BringsTold (at_in words) old.number p more reply
-  turn_brought = brought (at_in words) old.number p reply (steps_of old) (steps_of new) (told_by old section)
-      (told_by new now) turned.2 turned.4 turned.5
 
   pub turn_leads : IsAtPlace up lot words p old section → (q : Place) → next_place p reply ≡ q
       → answer_of (next_act p reply) ≡ None → IsAtPlace up lot words q new now
@@ -157,8 +150,8 @@ module _ (up : Type 0) (lot : ParkingLot) (words : Words) (p : Place) (reply : R
     courses_on (at_in words) old.number p q (trail_of old section) (trail_of new now) (trail_of last None)
         answer
         (goes_on (at_in words) old.number p p q (trail_of old section) (trail_of old section)
-        (trail_of new now) reply turn_brought.0 (begins (at_in words) old.number p (trail_of old section))
-        turn_brought.1 turn_brought.2 (sym is))
+        (trail_of new now) reply turned.2.0 (begins (at_in words) old.number p (trail_of old section))
+        turned.2.1 turned.2.2 (sym is))
         (subst (λ (me : ℕ). Courses (at_in words) me q (trail_of new now) (trail_of last None) answer)
         turned.0.1 rest.2),
   )
@@ -176,9 +169,9 @@ module _ (up : Type 0) (lot : ParkingLot) (words : Words) (p : Place) (reply : R
         (stage_of new now)) some (turned.3 at.4.0 at.4.1) in
         let none = outside up at.4.0 (stage_of new now).owns (call_purpose p) answer (section_view now)
         (stage_of new now).last (stage_of new now).steps over in
-        subst (λ (l : List Telling). Courses (at_in words) old.number p (trail_of old section)
-        (trail (steps_of new) l) answer) (by_outside new now none)
+        subst (λ (x : Trail). Courses (at_in words) old.number p (trail_of old section) x answer)
+        (outside_trail new now none)
         (arrives (at_in words) old.number p p (trail_of old section) (trail_of old section) (trail_of new now)
-        reply turn_brought.0 answer (begins (at_in words) old.number p (trail_of old section))
-        turn_brought.1 turn_brought.2 (end_of (next_act p reply) answer some)),
+        reply turned.2.0 answer (begins (at_in words) old.number p (trail_of old section))
+        turned.2.1 turned.2.2 (end_of (next_act p reply) answer some)),
   )

@@ -1,10 +1,12 @@
--- The word steps of a call and what the queues told it are a course of its transitions.
---
--- A course says where its thread is queued, and what the queues told it. A sleep tells no key, and a
--- waiter may be moved to another key: that it stood is known by the last stand that it was told.
+-- What a thread does in a call, in order, is a course of its transitions. What the thread recorded of it
+-- tells the order: of each visit of a section, the steps on words before it and in it.
 use Rattle.std.specs.Prelude.{ℕ, ◌≡◌, ◌==◌, ◌+◌, ◌++◌, ◌∷◌, ◌⊎◌, [], not, Bool, true, false, List, Option}
 use Rattle.std.specs.Prelude.{Some, None, length, MatchBool, if◌then◌else◌}
 use Rattle.core_base.specs.Requeues.{moved_by}
+use Rattle.core_base.specs.declared.keys.Keys.{Keys}
+use Rattle.core_base.specs.declared.keys.Keys.TheVariants.{One}
+use Rattle.core_base.specs.declared.notes.Note.{Note}
+use Rattle.core_base.specs.declared.notes.Note.TheVariants.{Normal}
 use Rattle.core_base.specs.declared.requeues.Requeue.{Requeue}
 use Rattle.core_words.specs.declared.views.WordStep.{WordStep}
 use Rattle.steps_base.specs.declared.acts.Act.{Act}
@@ -18,8 +20,9 @@ use Rattle.spec_locks.specs.declared.outcomes.Answer.{Answer}
 use Rattle.lot_steps.specs.Steps.{act_of, respins_from, next_act, next_place}
 use Rattle.lot_steps.specs.declared.places.Place.{Place}
 use Rattle.parking_lot_core.specs.Sections.{told_in}
-use Rattle.parking_lot_core.specs.Tokens.{told_of}
+use Rattle.parking_lot_core.specs.Tokens.{as_count, told_of}
 use Rattle.parking_lot_core.specs.declared.sections.Section.{Section}
+use Rattle.parking_lot_core.specs.declared.step_counts.StepCount.{StepCount}
 use Rattle.parking_lot_core.specs.declared.tellings.Telling.{Telling}
 use Rattle.parking_lot_core.specs.declared.tellings.Telling as telling
 use Rattle.parking_lot_core.specs.declared.tokens.Did.{Did}
@@ -27,10 +30,87 @@ use Rattle.parking_lot_core.specs.declared.tokens.Did as did
 use Rattle.parking_lot_core.specs.declared.tokens.Token.{Token}
 use Rattle.run_base.specs.Paths.{Brings}
 use Rattle.run_base.specs.Queued.{StaysQueued, is_queued}
-use Rattle.run_base.specs.Stages.{threads_taken}
+use Rattle.run_base.specs.Stages.{note_of, threads_taken}
 use Rattle.run_base.specs.Telling.{line_in, steps_of}
 use Rattle.run_base.specs.declared.driver.Stop.{Stop}
 use Rattle.run_base.specs.declared.driver.Stop.TheVariants.{Ended, Paused}
+
+-- one thing that a thread does in a call
+pub data PathItem : Type 0 where
+  -- a step on a word
+  did_step : WordStep → PathItem
+  -- the entry of the section of these keys
+  did_enter : Keys → PathItem
+  -- an act on the queues of the section that the thread is inside
+  did_act : Telling → PathItem
+  -- the exit from that section: the waiters that the thread took there get this note
+  did_leave : Note → PathItem
+  -- a sleep, to its end
+  did_sleep : PathItem
+
+-- a visit that goes on: the keys of the section, and the thread's steps as it entered
+pub record OpenVisit : Type 0 where
+  pub keys : Keys
+  pub from : StepCount
+
+abbrev pub open_visit : Keys → StepCount → OpenVisit
+open_visit keys from = record { keys = keys; from = from }
+
+-- what a thread has recorded: its steps on words, its tellings, and the visit that goes on, if any
+pub record Trail : Type 0 where
+  pub steps : List WordStep
+  pub told : List Telling
+  pub inside : Option OpenVisit
+
+abbrev pub trail_inside : List WordStep → List Telling → Option OpenVisit → Trail
+trail_inside steps told inside = record { steps = steps; told = told; inside = inside }
+
+-- the trail of a thread outside all sections
+abbrev pub trail : List WordStep → List Telling → Trail
+trail steps told = trail_inside steps told None
+
+-- the number of these steps
+abbrev pub steps_counted : List WordStep → StepCount
+steps_counted steps = as_count (length steps)
+
+-- a visit that ends after so many steps, with this note
+abbrev pub visited : Option OpenVisit → StepCount → Note → List Telling
+visited None to note = []
+visited (Some visit) to note = telling.TheVariants.Visited visit.keys visit.from to note ∷ []
+
+-- a thread records what it does. A visit is told as it ends, with the number of steps before it and after
+-- it, and each sleep with the number of steps before it
+abbrev pub recorded : Trail → PathItem → Trail
+recorded x (did_step one) = trail_inside (x.steps ++ one ∷ []) x.told x.inside
+recorded x (did_enter keys) = trail_inside x.steps x.told (Some (open_visit keys (steps_counted x.steps)))
+recorded x (did_act one) = trail_inside x.steps (x.told ++ one ∷ []) x.inside
+recorded x (did_leave note) =
+    trail_inside x.steps (x.told ++ visited x.inside (steps_counted x.steps) note) None
+recorded x did_sleep =
+    trail_inside x.steps (x.told ++ telling.TheVariants.Slept (steps_counted x.steps) ∷ []) x.inside
+
+-- all of these, one after the other
+abbrev pub recorded_all : Trail → List PathItem → Trail
+recorded_all x [] = x
+recorded_all x (item ∷ more) = recorded_all (recorded x item) more
+
+-- steps on words, and acts on queues, one after the other
+abbrev pub did_steps : List WordStep → List PathItem
+did_steps [] = []
+did_steps (one ∷ more) = did_step one ∷ did_steps more
+
+abbrev pub did_acts : List Telling → List PathItem
+did_acts [] = []
+did_acts (one ∷ more) = did_act one ∷ did_acts more
+
+-- the steps on words among these
+abbrev pub steps_in : List PathItem → List WordStep
+steps_in [] = []
+steps_in (did_step one ∷ more) = one ∷ steps_in more
+steps_in (did_enter _ ∷ more) = steps_in more
+steps_in (did_act _ ∷ more) = steps_in more
+steps_in (did_leave _ ∷ more) = steps_in more
+steps_in (did_sleep ∷ more) = steps_in more
 
 -- what the section of a thread has told, if it is inside one
 abbrev pub told_within : Option Section → List Telling
@@ -41,6 +121,11 @@ told_within (Some section) = told_in section
 abbrev pub told_by : Token → Option Section → List Telling
 told_by token None = told_of token
 told_by token (Some section) = told_of token ++ told_in section
+
+-- the visit of a section that a thread is inside
+abbrev pub visit_within : Option Section → Option OpenVisit
+visit_within None = None
+visit_within (Some section) = Some (open_visit section.keys section.since)
 
 -- what a take does in a section
 abbrev pub did_by : ℕ → Whom → Did
@@ -71,8 +156,8 @@ TellsFound key who (Picked sharers successor none_left) tellings = (taken left :
     × (tellings ≡ taking key who taken left) × (none_left ≡ (left == 0))
 TellsFound key who reply tellings = ⊥
 
--- the tellings of an act of this thread bring the reply: a thread that parked or stands did so after
--- the last, and one that was woken may have left the queue by itself
+-- an act on the queues of the thread's section tells these, which bring the reply: a thread that parked or
+-- stands did so after the last
 abbrev pub Tells : ℕ → Act → Reply → List Telling → Type 0
 Tells me (act.TheVariants.Park lock key check want) (Parked parked) tellings =
     tellings ≡ (if parked then telling.TheVariants.Stood key me want ∷ [] else [])
@@ -85,69 +170,76 @@ Tells me (act.TheVariants.Requeue from to how) (Requeued number none_left) telli
 Tells me (act.TheVariants.Remove key) (Removed none_left) tellings = (left : ℕ)
     × (tellings ≡ leaving me key left)
     × (none_left ≡ (left == 0))
-Tells me act.TheVariants.Sleep (Woken note) tellings = (gone : Bool)
-    × (tellings ≡ telling.TheVariants.Slept
-    ∷ (if gone then telling.TheVariants.Left me ∷ [] else []))
-Tells me act.TheVariants.Sleep reply tellings = tellings ≡ telling.TheVariants.Slept ∷ []
 Tells me a reply tellings = tellings ≡ []
 
--- these were added
-abbrev pub HasTold : ℕ → Act → Reply → List Telling → List Telling → Type 0
-HasTold me a reply old new = (more : List Telling) × (new ≡ old ++ more) × Tells me a reply more
+-- a thread leaves the queue of a key by itself, in a visit of its own
+abbrev pub leaving_late : ℕ → ℕ → List PathItem
+leaving_late me key =
+    did_enter (One key) ∷ did_act (telling.TheVariants.Left me) ∷ did_leave Normal ∷ []
 
--- a thread whose time was up told no more where it is late, or was moved, and else left the queue by itself
-abbrev pub TellsLate : ℕ → Reply → List Telling → List Telling → Type 0
-TellsLate me Late old new = new ≡ old
-TellsLate me (MovedTo key) old new = new ≡ old
-TellsLate me (Woken note) old new = new ≡ old ++ telling.TheVariants.Left me ∷ []
-TellsLate me reply old new = ⊥
+-- once its time is up a thread is inside the section of the key where it stands; or it was moved; or it
+-- leaves that queue by itself
+abbrev pub WakesLate : ℕ → ℕ → Reply → List PathItem → Type 0
+WakesLate me key Late items = items ≡ did_enter (One key) ∷ []
+WakesLate me key (MovedTo to) items = items ≡ []
+WakesLate me key (Woken note) items = items ≡ leaving_late me key
+WakesLate me key reply items = ⊥
 
--- the steps on words of a thread, and its tellings
-pub record Trail : Type 0 where
-  pub steps : List WordStep
-  pub told : List Telling
+-- a thread sleeps, until another one woke it or its time is up
+abbrev pub SleepsBy : ℕ → Reply → List PathItem → Type 0
+SleepsBy me (Woken note) items =
+    (items ≡ did_sleep ∷ []) ⊎ ((key : ℕ) × (items ≡ did_sleep ∷ leaving_late me key))
+SleepsBy me Late items = (key : ℕ) × (items ≡ did_sleep ∷ did_enter (One key) ∷ [])
+SleepsBy me (MovedTo to) items = items ≡ did_sleep ∷ []
+SleepsBy me reply items = ⊥
 
-abbrev pub trail : List WordStep → List Telling → Trail
-trail steps told = record { steps = steps; told = told }
+-- what an act of this thread does beside its step on a word
+abbrev pub Performs : ℕ → Act → Reply → List PathItem → Type 0
+Performs me (act.TheVariants.Enter keys) reply items = items ≡ did_enter keys ∷ []
+Performs me (act.TheVariants.Leave keys wakes) reply items = items ≡ did_leave (note_of wakes) ∷ []
+Performs me act.TheVariants.Sleep reply items = SleepsBy me reply items
+Performs me a reply items =
+    (tellings : List Telling) × (items ≡ did_acts tellings) × Tells me a reply tellings
 
-abbrev pub no_trail : Trail
-no_trail = trail [] []
-
--- one after the other
-abbrev pub joined : Trail → Trail → Trail
-joined x y = trail (x.steps ++ y.steps) (x.told ++ y.told)
-
+-- the trail of a thread, which is inside a section or outside all
 abbrev pub trail_of : Token → Option Section → Trail
-trail_of token section = trail (steps_of token) (told_by token section)
+trail_of token section = trail_inside (steps_of token) (told_by token section) (visit_within section)
 
--- these bring the reply at a place, where the thread stays queued or not
-abbrev pub BringsTold : (ℕ → ℕ) → ℕ → Place → Trail → Reply → Type 0
-BringsTold at me p x reply = Brings at p x.steps reply × Tells me (act_of p) reply x.told
+-- these bring the reply at a place, a step on the word first; and the thread stays queued or not
+abbrev pub BringsBy : (ℕ → ℕ) → ℕ → Place → List PathItem → Reply → Type 0
+BringsBy at me p items reply = (stepped : List WordStep) × (done : List PathItem)
+    × (items ≡ did_steps stepped ++ done) × Brings at p stepped reply × Performs me (act_of p) reply done
     × StaysQueued p reply
 
--- these steps and tellings lead from one place to another
-pub data Course (at : ℕ → ℕ) (me : ℕ) : Place → Trail → Place → Type 0 where
-  rests : (p : Place) → Course at me p no_trail p
-  goes : (p q : Place) (x y : Trail) (reply : Reply) → Course at me p x q
-      → BringsTold at me q y reply → Course at me p (joined x y) (next_place q reply)
+-- the turn of a thread at a place, with this reply
+abbrev pub HasRecorded : (ℕ → ℕ) → ℕ → Place → Reply → Trail → Trail → Type 0
+HasRecorded at me p reply old new =
+    (items : List PathItem) × (new ≡ recorded_all old items) × BringsBy at me p items reply
+
+-- these lead from one place to another
+pub data Course (at : ℕ → ℕ) (me : ℕ) : Place → List PathItem → Place → Type 0 where
+  rests : (p : Place) → Course at me p [] p
+  goes : (p q : Place) (x y : List PathItem) (reply : Reply) → Course at me p x q
+      → BringsBy at me q y reply → Course at me p (x ++ y) (next_place q reply)
   -- a thread looks at the word once more in place of an act that leads to sleep
-  sees : (p q r : Place) (x : Trail) → Course at me p x q → respins_from q ≡ Some r → Course at me p x r
+  sees : (p q r : Place) (x : List PathItem) → Course at me p x q → respins_from q ≡ Some r
+      → Course at me p x r
 
 -- the last reply of a call, which ends it by an answer
-pub record Arrival (at : ℕ → ℕ) (me : ℕ) (p : Place) (all : Trail) (answer : Answer) : Type 0 where
+pub record Arrival (at : ℕ → ℕ) (me : ℕ) (p : Place) (all : List PathItem) (answer : Answer) : Type 0 where
   pub last : Place
-  pub before : Trail
-  pub more : Trail
+  pub before : List PathItem
+  pub more : List PathItem
   pub reply : Reply
   pub course : Course at me p before last
-  pub brings : BringsTold at me last more reply
-  pub whole : all ≡ joined before more
+  pub brings : BringsBy at me last more reply
+  pub whole : all ≡ before ++ more
   pub ends : next_act last reply ≡ act.TheVariants.End answer
 
--- what was added to a trail leads from a place to the end of its call
+-- what a thread has recorded since leads from a place to the end of its call
 abbrev pub Courses : (ℕ → ℕ) → ℕ → Place → Trail → Trail → Answer → Type 0
 Courses at me p old new answer =
-    (more : Trail) × (new ≡ joined old more) × Arrival at me p more answer
+    (path : List PathItem) × (new ≡ recorded_all old path) × Arrival at me p path answer
 
 -- after a reply that ended its call there is no more, and else it goes on from where the reply led
 abbrev pub CoursesAfterReply : (ℕ → ℕ) → ℕ → Place → Reply → Trail → Trail → Answer → Type 0
@@ -155,49 +247,109 @@ CoursesAfterReply at me p reply old new answer =
     ((new ≡ old) × (next_act p reply ≡ act.TheVariants.End answer))
     ⊎ Courses at me (next_place p reply) old new answer
 
+-- what a thread has recorded since leads from one place to another
+abbrev pub ComesBy : (ℕ → ℕ) → ℕ → Place → Trail → Trail → Place → Type 0
+ComesBy at me p old new q = (path : List PathItem) × (new ≡ recorded_all old path) × Course at me p path q
+
 -- a run ends its call so, or comes to its closure
 abbrev pub RunsCourse : (ℕ → ℕ) → ℕ → Place → Trail → Trail → Stop → Type 0
 RunsCourse at me p old new (Ended answer) = Courses at me p old new answer
-RunsCourse at me p old new (Paused place state) =
-    (more : Trail) × (new ≡ joined old more) × Course at me p more place
+RunsCourse at me p old new (Paused place state) = ComesBy at me p old new place
+
+-- whether a thread stands in a queue after an act on it
+abbrev pub stands_by : Telling → Bool → Bool
+stands_by (telling.TheVariants.Stood _ _ _) stands = true
+stands_by (telling.TheVariants.Left _) stands = false
+stands_by (telling.TheVariants.Took _ _ _) stands = stands
+stands_by (telling.TheVariants.Counted _ _) stands = stands
+stands_by (telling.TheVariants.Visited _ _ _ _) stands = stands
+stands_by (telling.TheVariants.Slept _) stands = stands
 
 -- each sleep among these follows a stand of the thread, which has not left its queue by itself since. It
 -- stands in a queue at their beginning, or not
-abbrev pub EachSleepStands : Bool → List Telling → Type 0
+abbrev pub EachSleepStands : Bool → List PathItem → Type 0
 EachSleepStands stands [] = Unit {0}
-EachSleepStands stands (telling.TheVariants.Stood _ _ _ ∷ more) = EachSleepStands true more
-EachSleepStands stands (telling.TheVariants.Left _ ∷ more) = EachSleepStands false more
-EachSleepStands stands (telling.TheVariants.Slept ∷ more) = (stands ≡ true) × EachSleepStands stands more
-EachSleepStands stands (telling.TheVariants.Took _ _ _ ∷ more) = EachSleepStands stands more
-EachSleepStands stands (telling.TheVariants.Counted _ _ ∷ more) = EachSleepStands stands more
+EachSleepStands stands (did_sleep ∷ more) = (stands ≡ true) × EachSleepStands stands more
+EachSleepStands stands (did_act one ∷ more) = EachSleepStands (stands_by one stands) more
+EachSleepStands stands (did_step _ ∷ more) = EachSleepStands stands more
+EachSleepStands stands (did_enter _ ∷ more) = EachSleepStands stands more
+EachSleepStands stands (did_leave _ ∷ more) = EachSleepStands stands more
 
 -- in each call that came to its answer each sleep follows a stand
 abbrev pub SleepersStood : Type 0
-SleepersStood = (at : ℕ → ℕ) (me : ℕ) (p : Place) (all : Trail) (answer : Answer)
-    → Arrival at me p all answer → EachSleepStands (is_queued p) all.told
+SleepersStood = (at : ℕ → ℕ) (me : ℕ) (p : Place) (path : List PathItem) (answer : Answer)
+    → Arrival at me p path answer → EachSleepStands (is_queued p) path
 
--- an act at the thread's hand: what it told its thread, and what its section tells
+-- whether the thread stood last in a queue
+abbrev pub is_stand : Telling → Bool
+is_stand (telling.TheVariants.Stood _ _ _) = true
+is_stand (telling.TheVariants.Took _ _ _) = false
+is_stand (telling.TheVariants.Counted _ _) = false
+is_stand (telling.TheVariants.Left _) = false
+is_stand (telling.TheVariants.Visited _ _ _ _) = false
+is_stand (telling.TheVariants.Slept _) = false
+
+-- each stand among these is in the visit in which the thread took its last step on a word: since that step it
+-- has neither entered nor left a section. At their beginning it has taken one so, or not
+abbrev pub EachStandFollowsStep : Bool → List PathItem → Type 0
+EachStandFollowsStep stepped [] = Unit {0}
+EachStandFollowsStep stepped (did_step _ ∷ more) = EachStandFollowsStep true more
+EachStandFollowsStep stepped (did_enter _ ∷ more) = EachStandFollowsStep false more
+EachStandFollowsStep stepped (did_leave _ ∷ more) = EachStandFollowsStep false more
+EachStandFollowsStep stepped (did_sleep ∷ more) = EachStandFollowsStep stepped more
+EachStandFollowsStep stepped (did_act one ∷ more) =
+    (is_stand one ≡ true → stepped ≡ true) × EachStandFollowsStep stepped more
+
+-- an act that stands in a queue, after a step of an act before
+abbrev pub only_stands : Act → Bool
+only_stands (act.TheVariants.Stand key _) = true
+only_stands _ = false
+
+-- in each call that came to its answer each stand is in the visit of a step: no thread stands by a word that
+-- it saw outside the section, or in another visit
+abbrev pub StandsFollowSteps : Type 0
+StandsFollowSteps = (at : ℕ → ℕ) (me : ℕ) (p : Place) (path : List PathItem) (answer : Answer)
+    → Arrival at me p path answer → EachStandFollowsStep (only_stands (act_of p)) path
+
+-- a thread was outside all sections, and slept
+abbrev pub HasSlept : ℕ → Reply → Token → Token → Option Section → Type 0
+HasSlept me reply old new sn = (items : List PathItem)
+    × (trail_of new sn ≡ recorded_all (trail_of old None) items) × SleepsBy me reply items
+
+-- the time of a sleeper is up, while it stands under a key
+abbrev pub HasWokenLate : ℕ → ℕ → Reply → Token → Token → Option Section → Type 0
+HasWokenLate me key reply old new sn = (items : List PathItem)
+    × (trail_of new sn ≡ recorded_all (trail_of old None) items) × WakesLate me key reply items
+
+-- an act at the thread's hand: what it told its thread, what its section tells, and the visit that goes on
 abbrev pub TellsIn : ℕ → Act → Reply → Token → Option Section → Token → Option Section → Type 0
 TellsIn me (act.TheVariants.Park lock key check want) (Parked parked) old so new sn =
     (told_of new ≡ told_of old)
     × MatchBool parked (told_within sn ≡ told_within so ++ telling.TheVariants.Stood key me want ∷ [])
     (told_within sn ≡ told_within so)
+    × (visit_within sn ≡ visit_within so)
 TellsIn me (act.TheVariants.Stand key want) Done old so new sn = (told_of new ≡ told_of old)
     × (told_within sn ≡ told_within so ++ telling.TheVariants.Stood key me want ∷ [])
+    × (visit_within sn ≡ visit_within so)
 TellsIn me (act.TheVariants.Take key who) reply old so new sn = (told_of new ≡ told_of old)
     × (told_within sn ≡ told_within so
     ++ taking key who (length (threads_taken sn)) (length (line_in key sn)))
+    × (visit_within sn ≡ visit_within so)
 TellsIn me (act.TheVariants.Requeue from to how) (Requeued number none_left) old so new sn =
     (told_of new ≡ told_of old)
     × (told_within sn ≡ told_within so ++ moving from to how (length (threads_taken sn))
     (length (moved_by how (line_in from so))) (length (line_in from sn)))
+    × (visit_within sn ≡ visit_within so)
     × (number ≡ length (threads_taken sn) + length (moved_by how (line_in from so)))
 TellsIn me (act.TheVariants.Remove key) reply old so new sn = (told_of new ≡ told_of old)
     × (told_within sn ≡ told_within so ++ leaving me key (length (line_in key sn)))
-TellsIn me (act.TheVariants.Enter keys) reply old so new sn =
-    (told_of new ≡ told_of old) × (told_within sn ≡ [])
-TellsIn me (act.TheVariants.Leave keys wakes) reply old so new sn =
-    told_of new ≡ told_of old ++ told_within so
+    × (visit_within sn ≡ visit_within so)
+TellsIn me (act.TheVariants.Enter keys) reply old so new sn = (told_of new ≡ told_of old)
+    × (told_within sn ≡ []) × (visit_within sn ≡ Some (open_visit keys (steps_counted (steps_of old))))
+TellsIn me (act.TheVariants.Leave keys wakes) reply old so new sn = told_of new
+    ≡ told_of old ++ (told_within so
+    ++ visited (visit_within so) (steps_counted (steps_of old)) (note_of wakes))
 TellsIn me act.TheVariants.Sleep reply old so new sn =
-    (told_within sn ≡ []) × HasTold me act.TheVariants.Sleep reply (told_of old) (told_of new)
+    HasSlept me reply old new sn
 TellsIn me a reply old so new sn = (told_of new ≡ told_of old) × (told_within sn ≡ told_within so)
+    × (visit_within sn ≡ visit_within so)

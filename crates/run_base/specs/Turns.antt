@@ -12,11 +12,8 @@ use Rattle.parking_lot_core.specs.declared.lot.ParkingLot.{ParkingLot}
 use Rattle.parking_lot_core.specs.declared.sections.Section.{Section}
 use Rattle.parking_lot_core.specs.declared.tokens.Token.{Token}
 use Rattle.run_base.specs.Fitting.{AreWordsFor, Fits, IsOver, Reached, call_purpose}
-use Rattle.run_base.specs.Courses.{Courses, HasTold, told_by, trail_of}
-use Rattle.run_base.specs.Paths.{Told}
-use Rattle.run_base.specs.Queued.{StaysQueued}
+use Rattle.run_base.specs.Courses.{Courses, HasRecorded, trail_of}
 use Rattle.run_base.specs.Stages.{IsSectionOf, stage_of}
-use Rattle.run_base.specs.Telling.{steps_of}
 use Rattle.run_base.specs.Words.{AreWordsOf, at_in, kind_in}
 use Rattle.run_base.specs.declared.words.Words.{Words}
 
@@ -31,11 +28,9 @@ IsAtPlace up lot words p token section = IsTokenOf lot token × AreWordsOf lot w
 abbrev pub HasTurned : Type 0 → ParkingLot → Words → Place → Reply → Token → Option Section → Token
     → Option Section → Type 0
 HasTurned up lot words p reply old section new now = IsSameThread lot old new × IsSectionOf lot now
-    × Told (at_in words) p reply (steps_of old) (steps_of new)
+    × HasRecorded (at_in words) old.number p reply (trail_of old section) (trail_of new now)
     × ((base : List Ownership) → Fits up base p (stage_of old section)
     → Reached up base p reply (stage_of new now))
-    × HasTold old.number (act_of p) reply (told_by old section) (told_by new now)
-    × StaysQueued p reply
 
 -- a thread is at a place whose act is this
 abbrev pub MayAct : Type 0 → ParkingLot → Words → Act → Token → Option Section → Type 0

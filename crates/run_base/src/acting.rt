@@ -20,7 +20,7 @@ ghost use Rattle.core_words.specs.Indices.{word_index};
 ghost use Rattle.core_words.specs.Steps.{MayStep, CodesWith, after_step};
 ghost use Rattle.parking_lot_core.specs.Keys.{AreKeys};
 ghost use Rattle.parking_lot_core.specs.Sections.{told_in, waiting_in};
-ghost use Rattle.parking_lot_core.specs.Tokens.{IsTokenOf, IsSameThread, view_of, last_of, told_of};
+ghost use Rattle.parking_lot_core.specs.Tokens.{IsTokenOf, IsSameThread, count_of, view_of, last_of, told_of};
 ghost use Rattle.run_base.specs.Fitting.{sleeper_at};
 ghost use Rattle.run_base.specs.Paths.{closure_of, step};
 ghost use Rattle.parking_lot_core.specs.Places.{IsPlaceOf, thread_of};
@@ -29,7 +29,8 @@ ghost use Rattle.run_base.specs.Telling.{AreQueued, HasStepped, MayFind, MayTake
 ghost use Rattle.run_base.specs.Telling.{TellsQueues, TellsTake, index_of, is_empty_at, line_in, owns_of};
 ghost use Rattle.run_base.specs.Telling.{steps_of};
 ghost use Rattle.run_base.specs.Words.{AreWordsOf, word_among, kind_in, at_in};
-ghost use Rattle.run_base.specs.Courses.{HasTold, TellsIn, TellsLate, leaving, taking, told_within};
+ghost use Rattle.run_base.specs.Courses.{HasSlept, HasWokenLate, TellsIn, leaving, open_visit, taking};
+ghost use Rattle.run_base.specs.Courses.{told_within, visit_within, visited};
 ghost use Rattle.parking_lot_core.specs.declared.tellings.Telling.TheVariants as telling;
 ghost use Rattle.run_base.specs.Stages.{Adds, Awoke, AwokeLate, HandsEach, HasKey, IsFresh, IsUngiven};
 ghost use Rattle.run_base.specs.Stages.{MayLeave, IsSectionOf, IsLeft, TookBy, stage_handed, note_of};
@@ -80,7 +81,8 @@ pub(crate) fn park<'a>(
     ensures told { (told_of token.new ≡ told_of token.old) × MatchBool result
         (told_within section.new ≡ told_within section.old
         ++ telling.Stood key token.old.number want ∷ [])
-        (told_within section.new ≡ told_within section.old) }
+        (told_within section.new ≡ told_within section.old)
+        × (visit_within section.new ≡ visit_within section.old) }
 {
     match section {
         Some(inside) => {
@@ -107,8 +109,9 @@ pub(crate) fn stand<'a>(
     ensures same { IsSectionOf lot.now section.new × (section_view section.new ≡ section_view section.old) }
     ensures stands { StandsLast key token.now.number want section.old section.new }
     ensures place { IsPlaceOf lot.now token.now.number result }
-    ensures told { told_within section.new ≡ told_within section.old
-        ++ telling.Stood key token.now.number want ∷ [] }
+    ensures told { (told_within section.new ≡ told_within section.old
+        ++ telling.Stood key token.now.number want ∷ [])
+        × (visit_within section.new ≡ visit_within section.old) }
 {
     match section {
         Some(inside) => inside.append(key, token.number(), want),
@@ -139,7 +142,8 @@ pub(crate) fn hand_over<R: Wait>(
         ≡ stage_handed word.kind (index_of word) op result (stage_of token.old section.old) }
     ensures adds { steps_of token.new ≡ steps_of token.old ++ step (index_of word) op result }
     ensures told { (told_of token.new ≡ told_of token.old)
-        × (told_within section.new ≡ told_within section.old) }
+        × (told_within section.new ≡ told_within section.old)
+        × (visit_within section.new ≡ visit_within section.old) }
 {
     match section {
         Some(inside) => {
@@ -160,8 +164,9 @@ fn remove(_lot: &ParkingLot, section: &mut Option<Section>, key: Key, place: Que
     ensures same { IsSectionOf _lot.now section.new × (section_view section.new ≡ section_view section.old) }
     ensures left { AreQueued (without (thread_of place.entry) (waiting_of section.old)) section.new
         × (result ≡ is_empty_at key section.new) }
-    ensures told { told_within section.new ≡ told_within section.old
-        ++ leaving (thread_of place.entry) key (length (line_in key section.new)) }
+    ensures told { (told_within section.new ≡ told_within section.old
+        ++ leaving (thread_of place.entry) key (length (line_in key section.new)))
+        × (visit_within section.new ≡ visit_within section.old) }
 {
     match section {
         Some(inside) => {
@@ -183,7 +188,8 @@ pub(crate) fn enter<'a, R: Wait>(
     requires { IsTokenOf lot.now token.old × AreKeys keys × (section_view section.old ≡ None) }
     ensures same { token.new ≡ token.old }
     ensures entered { IsSectionOf lot.now section.new × (section_view section.new ≡ entered_now keys) }
-    ensures told { told_within section.new ≡ [] }
+    ensures told { (told_within section.new ≡ [])
+        × (visit_within section.new ≡ Some (open_visit keys (count_of token.old))) }
 {
     match section.replace(lot.enter(rt, token, keys)) {
         None => {}
@@ -214,7 +220,8 @@ pub(crate) fn leave<R: Wait>(
         × (view_of token.new ≡ view_of token.old) }
     ensures left { (section_view section.new ≡ None) × IsSectionOf lot.now section.new
         × IsLeft (section_view section.old) (last_of token.new) }
-    ensures told { told_of token.new ≡ told_of token.old ++ told_within section.old }
+    ensures told { told_of token.new ≡ told_of token.old ++ (told_within section.old
+        ++ visited (visit_within section.old) (count_of token.old) note) }
 {
     match section.take() {
         Some(inside) => inside.leave(rt, token, note),
@@ -237,9 +244,10 @@ pub(crate) fn take_wanted(
         (Picked result.0 result.1 result.2) (section_view section.old) (section_view section.new) }
     ensures told { TellsTake key (whoms.Picked start recursive) (Picked result.0 result.1 result.2)
         section.old section.new }
-    ensures tells { told_within section.new ≡ told_within section.old
+    ensures tells { (told_within section.new ≡ told_within section.old
         ++ taking key (whoms.Picked start recursive) (length (threads_taken section.new))
-        (length (line_in key section.new)) }
+        (length (line_in key section.new)))
+        × (visit_within section.new ≡ visit_within section.old) }
 {
     let none_left = take_picked(lot, section, key, start, recursive);
     let (sharers, successor) = tell_wants(section);
@@ -251,8 +259,9 @@ fn take(lot: &ParkingLot, section: &mut Option<Section>, key: Key, whom: Whom) -
     ensures took { IsSectionOf lot.now section.new
         × TookBy key whom result (section_view section.old) (section_view section.new) }
     ensures told { TellsTake key whom result section.old section.new }
-    ensures tells { told_within section.new ≡ told_within section.old
-        ++ taking key whom (length (threads_taken section.new)) (length (line_in key section.new)) }
+    ensures tells { (told_within section.new ≡ told_within section.old
+        ++ taking key whom (length (threads_taken section.new)) (length (line_in key section.new)))
+        × (visit_within section.new ≡ visit_within section.old) }
 {
     match whom {
         Whom::First => {
@@ -289,7 +298,7 @@ fn awake_late<'a, R: Wait>(
     requires place { IsPlaceOf inside.lot.now token.old.number place }
     requires late { section_view (Some inside) ≡ entered_now (One key) }
     requires stands { queued_under token.old.number (waiting_in inside) ≡ Some key }
-    requires untold { told_in inside ≡ [] }
+    requires untold { (told_in inside ≡ []) × (inside.since ≡ count_of token.old) }
     ensures own { IsSameThread inside.entry.lot.now token.old token.new
         × IsSectionOf inside.entry.lot.now section.new
         × (steps_of token.new ≡ steps_of token.old) }
@@ -298,8 +307,7 @@ fn awake_late<'a, R: Wait>(
     ensures queues { TellsQueues Sleep result token.old.number section.old section.new }
     ensures place { spends_place Sleep result ≡ false
         → HasPlace inside.entry.lot.now token.old.number queue.new }
-    ensures told { TellsLate token.old.number result (told_of token.old) (told_of token.new)
-        × (told_within section.new ≡ []) }
+    ensures told { HasWokenLate token.old.number key result token.old token.new section.new }
 {
     if sleeper.late == Some(key) {
         *queue = Some(place);
@@ -311,7 +319,7 @@ fn awake_late<'a, R: Wait>(
     if sleeper.moved == Some(key) {
         *queue = Some(place);
         // The sleeper may be late under the other key too, and is so at once.
-        inside.leave(rt, token, Note::Normal);
+        inside.shut();
         return Reply::MovedTo(key);
     }
     // Somebody moved the thread to a queue where it does not wait. It leaves that, and tries again.
@@ -341,8 +349,7 @@ pub(crate) fn sleep<'a, R: Wait, C: Clock>(
         (stage_of token.old section.old) result (stage_of token.new section.new) }
     ensures queues { TellsQueues Sleep result token.old.number section.old section.new }
     ensures place { KeepsPlace lot.now token.old.number Sleep result queue.old queue.new }
-    ensures told { (told_within section.new ≡ [])
-        × HasTold token.old.number Sleep result (told_of token.old) (told_of token.new) }
+    ensures told { HasSlept token.old.number result token.old token.new section.new }
 {
     let Some(place) = queue.take() else {
         unreachable!()

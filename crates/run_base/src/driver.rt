@@ -16,9 +16,9 @@ ghost use Rattle.run_base.specs.Calls.{MeetAt, beginning, purpose_in, IsUnfinish
 ghost use Rattle.run_base.specs.Fitting.{PlacesLead, AreWordsFor, AreWordsAfter, Fits, IsStopped, Reached};
 ghost use Rattle.run_base.specs.Fitting.{answer_of, call_purpose};
 ghost use Rattle.run_base.specs.MutexFitting.{IsMutexOver};
-ghost use Rattle.run_base.specs.Queued.{HasPlace, StaysQueued, is_queued};
-ghost use Rattle.run_base.specs.Paths.{closure_of, mutex_at, GoesFrom, Told};
-ghost use Rattle.run_base.specs.Courses.{HasTold, RunsCourse, told_by, trail_of};
+ghost use Rattle.run_base.specs.Queued.{HasPlace, is_queued};
+ghost use Rattle.run_base.specs.Paths.{closure_of, mutex_at, GoesFrom};
+ghost use Rattle.run_base.specs.Courses.{HasRecorded, RunsCourse, trail_of};
 ghost use Rattle.run_base.specs.Words.{AreWordsOf, kind_in, at_in};
 ghost use Rattle.run_base.specs.Stages.{IsSectionOf, stage_of};
 ghost use Rattle.run_base.specs.Telling.{TellsQueues, owns_of, steps_of};
@@ -158,11 +158,9 @@ fn turn<'a, R: Wait, C: Clock>(
         × Fits (IsUp C.tells limit) base place (stage_of token.old section.old) }
     requires no_closure { closure_of (act_of place) ≡ None }
     ensures own { IsSameThread lot.now token.old token.new × IsSectionOf lot.now section.new }
-    ensures told { Told (at_in words) place result (steps_of token.old) (steps_of token.new) }
     ensures queues { TellsQueues act result token.old.number section.old section.new }
-    ensures tells { HasTold token.old.number (act_of place) result
-        (told_by token.old section.old) (told_by token.new section.new) }
-    ensures stays { StaysQueued place result }
+    ensures recorded { HasRecorded (at_in words) token.old.number place result
+        (trail_of token.old section.old) (trail_of token.new section.new) }
     ensures queued { IsTrue (is_queued (next_place place result))
         → HasPlace lot.now token.new.number queue.new }
     ensures reached { (base : List Ownership)

@@ -11,7 +11,7 @@ ghost use Rattle.run_base.specs.Stages.{HasKey, IsFresh, IsSectionOf, front_wait
 ghost use Rattle.run_base.specs.Stages.{listed, with_moved, taken_waiter, threads_taken, took_as};
 ghost use Rattle.run_base.specs.Stages.{waiting_of, wants_taken};
 ghost use Rattle.run_base.specs.Telling.{AreQueued, WereTaken, MayTakeAt, is_empty_at, line_in};
-ghost use Rattle.run_base.specs.Courses.{moving, taking, told_within};
+ghost use Rattle.run_base.specs.Courses.{moving, taking, told_within, visit_within};
 ghost use Rattle.steps_base.specs.declared.acts.Whom.TheVariants as whom;
 ghost use Rattle.run_base.specs.Takes.{shares, sharers_in, successor_in};
 
@@ -51,9 +51,10 @@ pub(crate) fn take_first(_lot: &ParkingLot, section: &mut Option<Section>, key: 
     ensures any { result.0 ≡ is_there (front_waiter (line_in key section.old)) }
     ensures left { AreQueued (without_first key (waiting_of section.old)) section.new
         × (result.1 ≡ is_empty_at key section.new) }
-    ensures told { told_within section.new ≡ told_within section.old
+    ensures told { (told_within section.new ≡ told_within section.old
         ++ taking key whom.First (length (threads_taken section.new))
-        (length (line_in key section.new)) }
+        (length (line_in key section.new)))
+        × (visit_within section.new ≡ visit_within section.old) }
 {
     match section {
         Some(inside) => {
@@ -72,9 +73,10 @@ pub(crate) fn take_all(_lot: &ParkingLot, section: &mut Option<Section>, key: Ke
     ensures any { result.0 ≡ not (is_empty_at key section.old) }
     ensures left { AreQueued (without_key key (waiting_of section.old)) section.new
         × (result.1 ≡ is_empty_at key section.new) }
-    ensures told { told_within section.new ≡ told_within section.old
+    ensures told { (told_within section.new ≡ told_within section.old
         ++ taking key whom.All (length (threads_taken section.new))
-        (length (line_in key section.new)) }
+        (length (line_in key section.new)))
+        × (visit_within section.new ≡ visit_within section.old) }
 {
     match section {
         Some(inside) => {
@@ -101,9 +103,10 @@ pub(crate) fn take_picked(
     ensures left { AreQueued
         (without_lock_picked start recursive key (waiting_of section.old)) section.new
         × (result ≡ is_empty_at key section.new) }
-    ensures told { told_within section.new ≡ told_within section.old
+    ensures told { (told_within section.new ≡ told_within section.old
         ++ taking key (whom.Picked start recursive) (length (threads_taken section.new))
-        (length (line_in key section.new)) }
+        (length (line_in key section.new)))
+        × (visit_within section.new ≡ visit_within section.old) }
 {
     match section {
         Some(inside) => {
@@ -152,6 +155,7 @@ pub(crate) fn requeue(
     ensures told { (told_within section.new ≡ told_within section.old
         ++ moving from to how (length (threads_taken section.new))
         (length (moved_by how (line_in from section.old))) (length (line_in from section.new)))
+        × (visit_within section.new ≡ visit_within section.old)
         × (result.0 ≡ length (threads_taken section.new)
         + length (moved_by how (line_in from section.old))) }
 {

@@ -45,7 +45,7 @@ use Rattle.parking_lot_core.specs.Tokens.{last_of, told_of, view_of}
 use Rattle.parking_lot_core.specs.declared.tokens.SectionRecord.{SectionRecord}
 use Rattle.parking_lot_core.specs.declared.tokens.Token.{Token}
 use Rattle.run_base.specs.Fitting.{Fits, call_purpose, of_rwlock}
-use Rattle.run_base.specs.Courses.{Courses, joined, trail_of}
+use Rattle.run_base.specs.Courses.{Courses, recorded_all, trail_of}
 use Rattle.run_base.specs.Paths.{at_rwlock, rwlock_at, step}
 use Rattle.run_base.specs.Queued.{is_queued}
 use Rattle.run_base.specs.RwLockCalls.{LeftFairly, TookUnlessFree}
@@ -166,7 +166,7 @@ module _ (l : ℕ) (a : Admission) (seen : ℕ) (old mid : Token)
   calm : is_queued (next_place frees (Value seen)) ≡ false
   calm = unqueued_call l a (HandOver access.Exclusive false (handing.Free 8)) seen tt refl
 
-  gave : trail_of mid None ≡ joined (trail_of old None) (one (rwlock_at l) (Exchange 8 0) seen)
+  gave : trail_of mid None ≡ recorded_all (trail_of old None) (one (rwlock_at l) (Exchange 8 0) seen)
   gave = one_more old mid (rwlock_at l) (Exchange 8 0) seen saw untold
 
   pub path_free : seen ≡ 8
@@ -232,7 +232,7 @@ module _ (l : ℕ) (a : Admission) (x : Access) (seen : ℕ) (old mid : Token)
   unqueued : is_queued (next_place glance (Value seen)) ≡ false
   unqueued = unqueued_call l a (PeekQueue x) seen tt refl
 
-  looked : trail_of mid None ≡ joined (trail_of old None) (one (rwlock_at l) Load seen)
+  looked : trail_of mid None ≡ recorded_all (trail_of old None) (one (rwlock_at l) Load seen)
   looked = one_more old mid (rwlock_at l) Load seen saw untold
 
   pub bump_ends : glance_next a x seen ≡ End answer

@@ -58,7 +58,8 @@ use Rattle.core_words.specs.declared.views.WordStep.{WordStep}
 use Rattle.parking_lot_core.specs.Tokens.{view_of}
 use Rattle.parking_lot_core.specs.declared.tokens.Token.{Token}
 use Rattle.run_base.specs.Paths.{Brings, at_rwlock, hands, is_valueless, other, parks, rwlock_at, step, word}
-use Rattle.run_base.specs.Courses.{Course, Courses, Trail, trail_of}
+use Rattle.run_base.specs.Courses.{Course, Courses, PathItem, steps_in, trail_of}
+use Rattle.run_base.proofs.Courses.{steps_to_end}
 use Rattle.run_base.specs.Courses as courses
 use Rattle.run_base.specs.RwLockCalls.{HasWalkedRwLock, rwlock_begin}
 use Rattle.run_locks.specs.RwLockRefusals.{SawReadersFull}
@@ -585,15 +586,16 @@ module _ (a : Admission) (x : Access) (how : Patience) (Is : RwLockCallPlace →
     looks_keep (RwLock l b c) r e w =
         leads.2 l c r (subst (λ (y : Admission). respins_from (RwLock l y c) ≡ Some r) w.0 e) w.1
 
-    course_keeps : (at : ℕ → ℕ) (me : ℕ) (p r : Place) (x : Trail) → Course at me p x r → IsIn p → IsIn r
+    course_keeps : (at : ℕ → ℕ) (me : ℕ) (p r : Place) (x : List PathItem) → Course at me p x r → IsIn p
+        → IsIn r
     course_keeps at me p _ _ (courses.rests _) w = w
     course_keeps at me p _ _ (courses.goes _ r x y told course brings) w =
         (place_keeps r told (course_keeps at me p r x course w)).0
     course_keeps at me p s x (courses.sees _ r _ _ course is) w =
         looks_keep r s is (course_keeps at me p r x course w)
 
-    ended_by : (at : ℕ → ℕ) (me : ℕ) (p last : Place) (x : Trail) (told : Reply) → Course at me p x last
-        → IsIn p → next_act last told ≡ act.End ReadersFull → ToldFull a enters told
+    ended_by : (at : ℕ → ℕ) (me : ℕ) (p last : Place) (x : List PathItem) (told : Reply)
+        → Course at me p x last → IsIn p → next_act last told ≡ act.End ReadersFull → ToldFull a enters told
     ended_by at me p last x told course w ends =
         subst (EndsActBy told) ends (place_keeps last told (course_keeps at me p last x course w)).1
 
@@ -605,15 +607,15 @@ module _ (a : Admission) (x : Access) (how : Patience) (Is : RwLockCallPlace →
         let end = w.2 in
         let told = ended_by (at_rwlock l) me start end.last end.before end.reply end.course begins end.ends in
         let value = told_value a enters end.reply told in
-        let by = value_seen l end.last end.more.steps end.reply end.brings.0 value.0 value.1 in
+        let by = value_seen l end.last end.brings.0 end.reply end.brings.3 value.0 value.1 in
         let is = found a how value.0 x value.2 in (
-          end.before.steps,
+          steps_in end.before,
           by.0,
           value.0,
-          ap (λ (t : Trail). t.steps) w.1
-              ∙ ap (λ (s : List WordStep). (view_of old).steps ++ s)
-              (ap (λ (t : Trail). t.steps) end.whole ∙ ap (λ (s : List WordStep). end.before.steps ++ s) by.1)
-              ∙ sym (append_assoc (view_of old).steps end.before.steps (step (rwlock_at l) by.0 value.0)),
+          steps_to_end (at_rwlock l) me start (trail_of old None) (trail_of new None) ReadersFull w
+              ∙ ap (λ (s : List WordStep). (view_of old).steps ++ (steps_in end.before ++ s)) by.1
+              ∙ sym (append_assoc (view_of old).steps (steps_in end.before)
+              (step (rwlock_at l) by.0 value.0)),
           is.0,
           is.1,
         )

@@ -5,7 +5,8 @@ use Rattle.steps_base.specs.declared.acts.Reply.TheVariants.{Value}
 use Rattle.core_base.specs.declared.ops.Op.TheVariants.{Exchange}
 use Rattle.spec_locks.specs.declared.outcomes.Answer.{Answer}
 use Rattle.run_base.specs.Fitting.{Fits, IsOver, Reached, call_purpose, of_rwlock}
-use Rattle.run_base.specs.Courses.{Courses, CoursesAfterReply, Trail, trail_of}
+use Rattle.run_base.specs.Courses.{Courses, CoursesAfterReply, steps_in, trail_of}
+use Rattle.run_base.proofs.Courses.{steps_since}
 use Rattle.run_base.specs.Paths.{at_rwlock}
 use Rattle.run_base.specs.RwLockCalls.{BeginsWith, first_op, rwlock_begin, rwlock_deciding}
 use Rattle.run_base.specs.Stages.{stage_of}
@@ -62,7 +63,7 @@ module _ (up : Type 0) (word : Word) (is : word.kind ≡ kinds.RwLock) (a : Admi
           stepped.3 goes answer new more begun (over more)),
       rest_record up word is a room c (first_op c) seen old mid refl stepped.1 stepped.2 stepped.3 goes answer
           new base b (over base)
-          walks.0.steps (ap (λ (x : Trail). x.steps) walks.1),
+          (steps_in walks.0) (steps_since _ _ walks.0 walks.1),
     )
 
   pub fits_on : (old mid : Token) → HasBegunRwLock word a c (GoesOn seen) old mid → (base : List Ownership)

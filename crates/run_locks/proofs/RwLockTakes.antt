@@ -21,7 +21,7 @@ use Rattle.parking_lot_core.specs.declared.tokens.Token.{Token}
 use Rattle.run_locks.specs.Courses.{course_of}
 use Rattle.run_locks.specs.declared.rwlock_courses.Course.TheVariants.{Takes}
 use Rattle.run_base.specs.Fitting.{Fits, IsOver, Reached, ReachedBy, call_purpose, answer_of, of_rwlock}
-use Rattle.run_base.specs.Courses.{Courses, CoursesAfterReply, joined, trail_of}
+use Rattle.run_base.specs.Courses.{Courses, CoursesAfterReply, recorded_all, trail_of}
 use Rattle.run_base.specs.Paths.{at_rwlock, rwlock_at, step}
 use Rattle.run_base.specs.RwLockCalls.{rwlock_begin, rwlock_deciding}
 use Rattle.run_base.specs.Stages.{Stepped, stage_of}
@@ -63,7 +63,8 @@ module _ (word : Word) (is : word.kind ≡ kinds.RwLock) (a : Admission) (c : Rw
         ∙ ap (λ (o : Op). (view_of old).steps ++ step (rwlock_at word.number) o found) by
 
     took_step : told_of new ≡ told_of old → trail_of new None
-        ≡ joined (trail_of old None) (one (rwlock_at word.number) (Exchange seen (word_taken c seen)) found)
+        ≡ recorded_all (trail_of old None)
+        (one (rwlock_at word.number) (Exchange seen (word_taken c seen)) found)
     took_step untold =
         one_more old new (rwlock_at word.number) (Exchange seen (word_taken c seen)) found saw untold
 

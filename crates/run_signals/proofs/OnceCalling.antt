@@ -39,7 +39,7 @@ use Rattle.core_words.specs.declared.words.WordKind as kinds
 use Rattle.core_words.proofs.Trades.{owned_some}
 use Rattle.run_base.specs.Fitting.{IsStopped, Reached, ReachedBy, answer_of, of_once, of_run}
 use Rattle.run_base.specs.OnceFitting.{LooksAnswer, OwnsAfter, OwnsRun}
-use Rattle.run_base.specs.Courses.{Course as Way, Courses, Trail, joined, trail_of}
+use Rattle.run_base.specs.Courses.{ComesBy, Course as Way, Courses, Trail, recorded_all, trail_of}
 use Rattle.run_base.specs.Paths.{at_once, once_at, onces, step}
 use Rattle.run_base.specs.Telling.{steps_of}
 use Rattle.run_base.specs.Stages.{ThreadState, stage}
@@ -230,7 +230,7 @@ module _ (n : ℕ) where
 
   -- the step that ends a run, and the rest
   pub closes_at_once : (forced s : Bool) (seen me : ℕ) (old new : Trail) → is_marked seen ≡ false
-      → new ≡ joined old (one (once_at n) (Swap (word_after s)) seen) → EndsRun n me forced s old new
+      → new ≡ recorded_all old (one (once_at n) (Swap (word_after s)) seen) → EndsRun n me forced s old new
   closes_at_once forced s seen me old new unmarked e = over_at_once (at_once n) me (run_end n forced s) n
       (Swap (word_after s)) seen old new (ended s) refl (unqueued_once n (Run forced (run.Close s)) seen tt
       refl) e
@@ -238,7 +238,7 @@ module _ (n : ℕ) where
       else next.TheVariants.End (ended s)))) unmarked)
 
   pub closes_on : (forced s : Bool) (seen me : ℕ) (old mid new : Trail) (answer : Answer) → is_marked seen
-      ≡ true → mid ≡ joined old (one (once_at n) (Swap (word_after s)) seen) → answer ≡ ended s
+      ≡ true → mid ≡ recorded_all old (one (once_at n) (Swap (word_after s)) seen) → answer ≡ ended s
       → Courses (at_once n) me (Once n (Run forced (run.Enter s))) mid new answer
       → EndsRun n me forced s old new
   closes_on forced s seen me old mid new answer marked e is rest = courses_after (at_once n) me
@@ -274,7 +274,7 @@ module _ (n : ℕ) where
 
 -- a course of the driver, where the places and words are known
 pub comes_by : (at : ℕ → ℕ) (n me : ℕ) (p p2 q q2 : Place) (old new : Trail) → at ≡ at_once n → p ≡ p2
-    → q ≡ q2 → (more : Trail) × (new ≡ joined old more) × Way at me p more q → StepsLeadTo n me p2 old new q2
+    → q ≡ q2 → ComesBy at me p old new q → StepsLeadTo n me p2 old new q2
 comes_by at n me p p2 q q2 old new is e f c = (
   c.0,
   c.1,

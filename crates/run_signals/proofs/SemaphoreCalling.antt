@@ -29,11 +29,11 @@ use Rattle.core_words.specs.declared.words.Word.{Word}
 use Rattle.core_words.specs.declared.words.WordKind as kinds
 use Rattle.run_base.specs.Fitting.{AreWordsFor}
 use Rattle.parking_lot_core.specs.declared.tokens.Token.{Token}
-use Rattle.run_base.specs.Courses.{Courses, Trail, joined, trail_of}
+use Rattle.run_base.specs.Courses.{ComesBy, Courses, Trail, recorded_all, trail_of}
 use Rattle.run_base.specs.Paths.{at_semaphore, semaphore_at}
 use Rattle.run_base.specs.Words.{single_word, at_in, kind_in}
 use Rattle.run_base.proofs.Unqueued.{unqueued_semaphore}
-use Rattle.run_base.proofs.Courses.{ComesBy, arrives, begins, courses_on, goes_on, one, over_at_once}
+use Rattle.run_base.proofs.Courses.{arrives, begins, courses_on, goes_on, one, over_at_once}
 use Rattle.run_base.proofs.Courses.{steps_first}
 use Rattle.run_signals.specs.SemaphoreCalls.{HasGone, IsSemaphore, deciding, semaphore_begin, try_place}
 use Rattle.run_signals.specs.SemaphoreCalls.{waiting, waking}
@@ -89,8 +89,8 @@ module _ (n permits p : ℕ) (kind : kinds.WordKind) (is : kind ≡ kinds.TheVar
 
 module _ (n : ℕ) (timed : Bool) (seen found : ℕ) (me : ℕ) (old mid new : Trail) where
   -- the first look
-  comes : mid ≡ joined old (one (semaphore_at n) Load seen) → ComesBy (at_semaphore n) me (waiting n timed)
-      old mid (deciding n timed seen)
+  comes : mid ≡ recorded_all old (one (semaphore_at n) Load seen)
+      → ComesBy (at_semaphore n) me (waiting n timed) old mid (deciding n timed seen)
   comes e = goes_on (at_semaphore n) me (waiting n timed) (waiting n timed) (deciding n timed seen) old old
       mid (Value seen) (one (semaphore_at n) Load seen) (begins (at_semaphore n) me (waiting n timed) old) e
       (steps_first (at_semaphore n) me (waiting n timed) n Load seen refl (unqueued_semaphore n
@@ -101,15 +101,15 @@ module _ (n : ℕ) (timed : Bool) (seen found : ℕ) (me : ℕ) (old mid new : T
       then act.Word n (Exchange 0 1) else act.Enter (One (2 * n))) free
 
   -- the call goes on after its first look
-  pub waits_on : (answer : Answer) → mid ≡ joined old (one (semaphore_at n) Load seen)
+  pub waits_on : (answer : Answer) → mid ≡ recorded_all old (one (semaphore_at n) Load seen)
       → Courses (at_semaphore n) me (deciding n timed seen) mid new answer
       → Courses (at_semaphore n) me (waiting n timed) old new answer
   waits_on answer e rest = courses_on (at_semaphore n) me (waiting n timed) (deciding n timed seen) old mid
       new answer (comes e) rest
 
   -- the exchange took a permit
-  pub takes : is_free seen ≡ true → mid ≡ joined old (one (semaphore_at n) Load seen)
-      → new ≡ joined mid (one (semaphore_at n) (Exchange seen (seen - 2)) found) → found ≡ seen
+  pub takes : is_free seen ≡ true → mid ≡ recorded_all old (one (semaphore_at n) Load seen)
+      → new ≡ recorded_all mid (one (semaphore_at n) (Exchange seen (seen - 2)) found) → found ≡ seen
       → Courses (at_semaphore n) me (waiting n timed) old new (acquired timed)
   takes free e x same = arrives (at_semaphore n) me (waiting n timed) (deciding n timed seen) old mid new
       (Value found) (one (semaphore_at n) (Exchange seen (seen - 2)) found) (acquired timed) (comes e) x
@@ -125,8 +125,8 @@ module _ (n : ℕ) (timed : Bool) (seen found : ℕ) (me : ℕ) (old mid new : T
 
   -- A try whose exchange missed goes on after that.
   pub misses : (rest : Trail) (answer : Answer) → is_free seen ≡ true → mid
-      ≡ joined old (one (semaphore_at n) Load seen) → new
-      ≡ joined mid (one (semaphore_at n) (Exchange seen (seen - 2)) found) → found ≢ seen
+      ≡ recorded_all old (one (semaphore_at n) Load seen) → new
+      ≡ recorded_all mid (one (semaphore_at n) (Exchange seen (seen - 2)) found) → found ≢ seen
       → Courses (at_semaphore n) me (deciding n timed found) new rest answer
       → Courses (at_semaphore n) me (waiting n timed) old rest answer
   misses rest answer free e x ne walks = courses_on (at_semaphore n) me (waiting n timed)
@@ -145,14 +145,14 @@ module _ (n : ℕ) (timed : Bool) (seen found : ℕ) (me : ℕ) (old mid new : T
 
 module _ (n : ℕ) (seen found : ℕ) (me : ℕ) (old mid new : Trail) where
   -- a try that saw none free
-  pub sees_none : is_free seen ≡ false → mid ≡ joined old (one (semaphore_at n) Load seen)
+  pub sees_none : is_free seen ≡ false → mid ≡ recorded_all old (one (semaphore_at n) Load seen)
       → Courses (at_semaphore n) me (semaphore_begin n (calls.Acquire OnlyTry)) old mid answers.No
   sees_none full e = over_at_once (at_semaphore n) me (semaphore_begin n (calls.Acquire OnlyTry)) n Load seen
       old mid answers.No refl (unqueued_semaphore n (Try tries.Load) seen tt refl) e
       (ap (λ (b : Bool). semaphore_does n (in_try (if b then At (tries.Decide seen) else End answers.No)))
       full)
 
-  tries_it : is_free seen ≡ true → mid ≡ joined old (one (semaphore_at n) Load seen)
+  tries_it : is_free seen ≡ true → mid ≡ recorded_all old (one (semaphore_at n) Load seen)
       → ComesBy (at_semaphore n) me (semaphore_begin n (calls.Acquire OnlyTry)) old mid (try_place n seen)
   tries_it free e = goes_on (at_semaphore n) me (semaphore_begin n (calls.Acquire OnlyTry))
       (semaphore_begin n (calls.Acquire OnlyTry)) (try_place n seen) old old mid (Value seen)
@@ -167,8 +167,8 @@ module _ (n : ℕ) (seen found : ℕ) (me : ℕ) (old mid new : Trail) where
       free
 
   -- one that took a permit
-  pub tries_well : is_free seen ≡ true → mid ≡ joined old (one (semaphore_at n) Load seen) → new
-      ≡ joined mid (one (semaphore_at n) (Exchange seen (seen - 2)) found) → found ≡ seen
+  pub tries_well : is_free seen ≡ true → mid ≡ recorded_all old (one (semaphore_at n) Load seen) → new
+      ≡ recorded_all mid (one (semaphore_at n) (Exchange seen (seen - 2)) found) → found ≡ seen
       → Courses (at_semaphore n) me (semaphore_begin n (calls.Acquire OnlyTry)) old new answers.Yes
   tries_well free e x same = arrives (at_semaphore n) me (semaphore_begin n (calls.Acquire OnlyTry))
       (try_place n seen) old mid new (Value found) (one (semaphore_at n) (Exchange seen (seen - 2)) found)
@@ -184,8 +184,8 @@ module _ (n : ℕ) (seen found : ℕ) (me : ℕ) (old mid new : Trail) where
 
   -- one that missed it, and found none free
   pub misses_all : is_free seen ≡ true → is_free found ≡ false
-      → mid ≡ joined old (one (semaphore_at n) Load seen)
-      → new ≡ joined mid (one (semaphore_at n) (Exchange seen (seen - 2)) found) → found ≢ seen
+      → mid ≡ recorded_all old (one (semaphore_at n) Load seen)
+      → new ≡ recorded_all mid (one (semaphore_at n) (Exchange seen (seen - 2)) found) → found ≢ seen
       → Courses (at_semaphore n) me (semaphore_begin n (calls.Acquire OnlyTry)) old new answers.No
   misses_all free full e x ne = arrives (at_semaphore n) me (semaphore_begin n (calls.Acquire OnlyTry))
       (try_place n seen) old mid new (Value found) (one (semaphore_at n) (Exchange seen (seen - 2)) found)
@@ -201,8 +201,8 @@ module _ (n : ℕ) (seen found : ℕ) (me : ℕ) (old mid new : Trail) where
 
   -- A try that found a permit free goes on after that.
   pub tries_on : (rest : Trail) (answer : Answer) → is_free seen ≡ true → is_free found ≡ true
-      → mid ≡ joined old (one (semaphore_at n) Load seen)
-      → new ≡ joined mid (one (semaphore_at n) (Exchange seen (seen - 2)) found) → found ≢ seen
+      → mid ≡ recorded_all old (one (semaphore_at n) Load seen)
+      → new ≡ recorded_all mid (one (semaphore_at n) (Exchange seen (seen - 2)) found) → found ≢ seen
       → Courses (at_semaphore n) me (try_place n found) new rest answer → Courses (at_semaphore n) me
       (semaphore_begin n (calls.Acquire OnlyTry)) old rest answer
   tries_on rest answer free more e x ne walks = courses_on (at_semaphore n) me
@@ -222,7 +222,7 @@ module _ (n : ℕ) (seen found : ℕ) (me : ℕ) (old mid new : Trail) where
 
 module _ (n seen : ℕ) (me : ℕ) (old mid new : Trail) where
   -- a release that saw nobody parked
-  pub releases_at_once : has_parked seen ≡ false → mid ≡ joined old (one (semaphore_at n) (Add 2) seen)
+  pub releases_at_once : has_parked seen ≡ false → mid ≡ recorded_all old (one (semaphore_at n) (Add 2) seen)
       → Courses (at_semaphore n) me (semaphore_begin n calls.Release) old mid answers.Ok
   releases_at_once none e = over_at_once (at_semaphore n) me (semaphore_begin n calls.Release) n (Add 2) seen
       old mid answers.Ok refl (unqueued_semaphore n (Release release.Add) seen tt refl) e
@@ -230,8 +230,9 @@ module _ (n seen : ℕ) (me : ℕ) (old mid new : Trail) where
 
   -- A release that saw waiters goes on after its addition.
   pub releases_on : (answer : Answer) → has_parked seen ≡ true
-      → mid ≡ joined old (one (semaphore_at n) (Add 2) seen) → Courses (at_semaphore n) me (waking n) mid new
-      answer → Courses (at_semaphore n) me (semaphore_begin n calls.Release) old new answer
+      → mid ≡ recorded_all old (one (semaphore_at n) (Add 2) seen)
+      → Courses (at_semaphore n) me (waking n) mid new answer
+      → Courses (at_semaphore n) me (semaphore_begin n calls.Release) old new answer
   releases_on answer parked e rest = courses_on (at_semaphore n) me (semaphore_begin n calls.Release)
       (waking n) old mid new answer
       (goes_on (at_semaphore n) me (semaphore_begin n calls.Release) (semaphore_begin n calls.Release)

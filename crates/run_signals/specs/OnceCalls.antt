@@ -21,7 +21,7 @@ use Rattle.parking_lot_core.specs.declared.tokens.SectionRecord.{SectionRecord}
 use Rattle.parking_lot_core.specs.declared.tokens.Token.{Token}
 use Rattle.run_base.specs.Fitting.{Reached}
 use Rattle.run_base.specs.OnceFitting.{LooksAnswer, OwnsRun, WokeAll}
-use Rattle.run_base.specs.Courses.{Course, Courses, Trail, joined, trail_of}
+use Rattle.run_base.specs.Courses.{ComesBy, Courses, Trail, trail_of}
 use Rattle.run_base.specs.Paths.{at_once, once_at, step}
 use Rattle.run_base.specs.Stages.{stage_of}
 use Rattle.run_base.specs.Telling.{owns_of, steps_of}
@@ -43,10 +43,9 @@ in_closure n forced poisoned = Once n (Run forced (run.Closure poisoned))
 abbrev pub run_end : ℕ → Bool → Bool → Place
 run_end n forced succeeded = Once n (Run forced (run.Close succeeded))
 
--- what was added to the trail of a thread leads from one place to another
+-- what a thread has recorded since leads from one place to another
 abbrev pub StepsLeadTo : ℕ → ℕ → Place → Trail → Trail → Place → Type 0
-StepsLeadTo n me p old new q =
-    (more : Trail) × (new ≡ joined old more) × Course (at_once n) me p more q
+StepsLeadTo n me p old new q = ComesBy (at_once n) me p old new q
 
 -- the steps of a call, and what the queues told it, lead from its beginning to its answer, or to its
 -- closure, which is told of the run before

@@ -233,6 +233,22 @@ impl Once {
     ghost use Rattle.run_signals.specs.Ran.{RanNothing, SawDone, StaysKnowing};
     ghost use Rattle.run_signals.specs.OnceUsers.{lot_of, number_of};
 
+    // Ends the run of a thread that has filled the cell. Only a value that is set has what shows it, so
+    // that no run ends well before its value is there.
+    fn end_filled<T, R: Wait>(&self, rt: &R, token: &mut Token, _shown: &OnceToken<'_, T>)
+        requires token { IsTokenOf (lot_of self.now) token.old }
+        requires runs { (base : List Ownership)
+            × OwnsRun (number_of self.now) base (owns_of token.old) }
+        ensures token { IsTokenOf (lot_of self.now) token.new
+            × (token.new.number ≡ token.old.number) }
+        ensures owns { (base : List Ownership)
+            → OwnsRun (number_of self.now) base (owns_of token.old)
+            → OwnsKnowing (number_of self.now) base (owns_of token.new)
+            × KnowsIt (number_of self.now) base (owns_of token.new) }
+    {
+        self.end_run(rt, token, true, true);
+    }
+
     // Runs the closure of a cell, for a thread that owns the run, and ends the run.
     fn fill<'a, T: Drop, R: Wait, E, F: FnOnce() -> Result<T, E> + Drop>(
         &self,
@@ -256,15 +272,14 @@ impl Once {
             (λ error. F.post f (Err error)) }
     {
         match f() {
-            Ok(made) => {
-                let set = value.try_set(made);
-                self.end_run(rt, token, true, true);
-                match set {
-                    Ok(shown) => Ok(shown),
-                    // Only a thread that runs sets the value, and none runs after it.
-                    Err(_) => hang_forever(rt),
+            Ok(made) => match value.try_set(made) {
+                Ok(shown) => {
+                    self.end_filled(rt, token, &shown);
+                    Ok(shown)
                 }
-            }
+                // Only a thread that runs sets the value, and none runs after it.
+                Err(_) => hang_forever(rt),
+            },
             Err(error) => {
                 self.end_run(rt, token, true, false);
                 Err(error)

@@ -3,11 +3,11 @@ ghost use Rattle.parking_lot_core.specs.Places.{IsPlaceOf};
 ghost use Rattle.parking_lot_core.specs.Tokens.{IsTicketOf, IsTokenOf, IsSameThread};
 
 use super::buckets::is_told;
-use super::{check, check_eq, lot_of, mutex_of, ticket_of, word_of};
+use super::{TURNS, check, check_eq, delay, lot_of, mutex_of, ticket_of, word_of};
 use core_base::TickClock;
 use parking_lot_core::{
-    Clock, Key, Keys, Note, ParkingLot, QueuePlace, Slept, SystemClock, Ticket, Token, Want, Word,
-    WordKind,
+    Clock, Key, Keys, Note, ParkingLot, QueuePlace, Requeue, Slept, SystemClock, Ticket, Token,
+    Want, Word, WordKind,
 };
 use std::alloc::Global;
 use std::io;
@@ -20,6 +20,9 @@ use std::time::Duration;
 use test_core::lines::line_up;
 
 const KEY: Key = 4;
+
+// The key under which a waiter is moved.
+const FURTHER: Key = 6;
 
 // Returns the note that a thread is given in a sleep up to a deadline, or the key under which it
 // was late, and the key under which it stood. A late thread leaves its place, and a right that it
@@ -143,7 +146,7 @@ struct Flags {
 }
 
 // Sleeps past a deadline while another thread is inside the section, and takes this one there.
-// Whether it was woken.
+// Returns whether this thread was woken.
 fn is_woken_past_it<R: Wait>(
     rt: &R,
     lot: &ParkingLot,
@@ -195,4 +198,61 @@ fn a_taken_waiter_is_not_late(rt: HostRuntime) {
         move || take_once_asked(&rt, lot, second, flags),
     );
     check(&rt, woken && told);
+}
+
+// Sleeps past a deadline while another thread is inside the section of two keys, and moves this one
+// there. Returns whether this thread was late under the other key.
+fn is_late_where_moved<R: Wait>(
+    rt: &R,
+    lot: &ParkingLot,
+    ticket: Ticket,
+    word: Word,
+    flags: &Flags,
+) -> bool
+    requires { IsTicketOf lot.now ticket }
+{
+    let mut token = ticket.enter();
+    let place = line_up(rt, lot, &mut token, KEY, Want::Exclusive);
+    flags.stands.store(true, SeqCst);
+    let begun = is_told(&flags.inside);
+    let clock = NotingClock(&flags.asked);
+    let told = told_until(rt, lot, &mut token, place, word, (&clock, 0));
+    drop(token.leave());
+    begun && told == Err((FURTHER, Some(FURTHER)))
+}
+
+// Moves the thread in the line, once it has asked its clock and has had time to read under which key it
+// stands.
+fn move_once_asked<R: Wait>(rt: &R, lot: &ParkingLot, ticket: Ticket, flags: &Flags) -> bool
+    requires { IsTicketOf lot.now ticket }
+{
+    let mut token = ticket.enter();
+    let stands = is_told(&flags.stands);
+    let mut section = lot.enter(rt, &mut token, Keys::Two(KEY, FURTHER));
+    flags.inside.store(true, SeqCst);
+    let told = is_told(&flags.asked);
+    delay(TURNS);
+    let (_, moved) = section.requeue(KEY, FURTHER, Requeue::All);
+    section.leave(rt, &mut token, Note::Normal);
+    drop(token.leave());
+    stands && told && moved == 1
+}
+
+#[test]
+fn a_moved_waiter_is_late_where_it_stands(rt: HostRuntime) {
+    let (lot, mut token, mut others) = lot_of(&rt, rt.alloc(), 1, 2);
+    let word = word_of(&rt, &lot, &mut token, WordKind::Mutex);
+    let (first, second) = (ticket_of(&rt, &lot, &mut others), token.leave());
+    let flags = Flags {
+        stands: AtomicBool::new(false),
+        inside: AtomicBool::new(false),
+        asked: AtomicBool::new(false),
+    };
+    let (lot, flags) = (&*lot, &flags);
+    let (late, moved) = join(
+        &rt,
+        move || is_late_where_moved(&rt, lot, first, word, flags),
+        move || move_once_asked(&rt, lot, second, flags),
+    );
+    check(&rt, late && moved);
 }

@@ -8,7 +8,8 @@ use Rattle.run_base.specs.Calls.{beginning}
 use Rattle.run_base.specs.Fitting.{AreWordsFor, Fits, IsOver, IsStopped, call_purpose}
 use Rattle.run_base.specs.declared.driver.Stop.{Stop}
 use Rattle.run_base.specs.declared.driver.Stop.TheVariants.{Paused}
-use Rattle.run_base.specs.Courses.{Courses, RunsCourse, trail_of}
+use Rattle.run_base.specs.Courses.{Courses, RunsCourse, steps_in, trail_of}
+use Rattle.run_base.proofs.Courses.{steps_since}
 use Rattle.run_base.specs.Queued.{is_queued}
 use Rattle.run_base.specs.Stages.{stage_of}
 use Rattle.run_base.specs.Words.{kind_in, at_in, single_word}
@@ -84,3 +85,11 @@ unreachable-requires g c = let n = c.args.word.number in let owns = (view_of c.a
     (subst (λ (p : Place). IsStopped (IsUp g.C.Clock.tells c.args.limit) (view_of c.args.token.now).owns
     (call_purpose p) (Paused c.in-Paused.place c.in-Paused.state) (stage_of c.run.new.token None))
     c.place_after-start.ensures stopped)
+
+pub returns-clause-rest : goal.returns-clause-rest
+returns-clause-rest g c =
+    let courses : Courses (at_in c.alone.result) c.args.token.now.number c.place_after-start.result
+    (trail_of c.args.token.now None) (trail_of c.run.new.token None) c.in-Ended.answer
+    = subst (RunsCourse (at_in c.alone.result) c.args.token.now.number c.place_after-start.result
+    (trail_of c.args.token.now None) (trail_of c.run.new.token None)) c.in-Ended.is c.run.ensures.path in
+    (steps_in courses.0, steps_since _ _ courses.0 courses.1)

@@ -10,11 +10,9 @@ use Rattle.run_base.specs.Paths.{closure_of}
 use Rattle.run_base.specs.Queued.{is_queued}
 use Rattle.run_base.specs.Stages.{stage_of, section_view}
 use Rattle.run_base.specs.Words.{kind_in, at_in}
-use Rattle.parking_lot_core.specs.declared.tellings.Telling.{Telling}
-use Rattle.run_base.specs.Courses.{Courses, HasTold, told_by, trail, trail_of}
-use Rattle.run_base.specs.Telling.{steps_of}
-use Rattle.run_base.proofs.Courses.{ComesBy, arrives, begins, begins_from, brought, goes_on}
-use Rattle.run_base.proofs.Tellings.{by_outside}
+use Rattle.run_base.specs.Courses.{ComesBy, Courses, HasRecorded, Trail, trail_of}
+use Rattle.run_base.proofs.Courses.{arrives, begins, begins_from, goes_on}
+use Rattle.run_base.proofs.Tellings.{outside_trail}
 use Rattle.run_base.proofs.Ending.{closed, closes_outside, end_of, ended, outside}
 use Rattle.run_base.proofs.Leading.{places_lead, fits_from, words_from}
 use Rattle.run_base.proofs.Queued.{queued_from}
@@ -60,19 +58,16 @@ loop-preserved g c = let p = c.loop.place in let t = c.turn-reply in let reply =
     (subst (λ (q : Place). Fits (IsUp g.C.Clock.tells c.args.limit) base q
     (stage_of c.turn-reply.new.token c.turn-reply.new.section)) (sym next) (reached base fits).0) in
     let me = c.args.token.now.number in
-    let told = subst (λ (n : ℕ). HasTold n (act_of c.loop.place) c.turn-reply.result
-    (told_by c.loop.token c.loop.section) (told_by c.turn-reply.new.token c.turn-reply.new.section))
-    before.own.0.1 t.ensures.tells in
-    let brings = brought (at_in c.args.words) me p reply (steps_of c.loop.token) (steps_of new)
-    (told_by c.loop.token c.loop.section) (told_by new t.new.section) t.ensures.told told t.ensures.stays
-    in record {
+    let gone = subst (λ (n : ℕ). HasRecorded (at_in c.args.words) n c.loop.place c.turn-reply.result
+    (trail_of c.loop.token c.loop.section) (trail_of c.turn-reply.new.token c.turn-reply.new.section))
+    before.own.0.1 t.ensures.recorded in record {
       turns = (tt, tt);
       own = ((t.ensures.own.0.0, t.ensures.own.0.1 ∙ before.own.0.1), t.ensures.own.1);
       path = begins_from (at_in c.args.words) me c.args.start c.advance_in_place-act.new.self
           c.go_from-act.new.place (trail_of c.args.token.now c.args.inside) (trail_of new t.new.section)
           (goes_on (at_in c.args.words) me c.args.start p c.advance_in_place-act.new.self
           (trail_of c.args.token.now c.args.inside) (trail_of c.loop.token c.loop.section)
-          (trail_of new t.new.section) reply brings.0 before.path brings.1 brings.2 next) from;
+          (trail_of new t.new.section) reply gone.0 before.path gone.1 gone.2 next) from;
       queued = λ queued. t.ensures.queued (subst (λ (q : Place). is_queued q ≡ true) next
           (queued_from c.advance_in_place-act.new.self c.go_from-act.new.place from queued));
       words = words_from (kind_in c.args.words) (at_in c.args.words) c.advance_in_place-act.new.self
@@ -95,18 +90,15 @@ returns-in-Some-answer_of-clause-path g c = let p = c.loop.place in let t = c.tu
     (before.fits start.0 start.1)) in
     let none = outside (IsUp g.C.Clock.tells c.args.limit) start.0 (view_of new).owns (call_purpose p) answer
     (section_view t.new.section) (last_of new) (view_of new).steps over in
-    let told = subst (λ (n : ℕ). HasTold n (act_of c.loop.place) c.turn-reply.result
-    (told_by c.loop.token c.loop.section) (told_by c.turn-reply.new.token c.turn-reply.new.section))
-    before.own.0.1 t.ensures.tells in
-    let brings = brought (at_in c.args.words) me p t.result (steps_of c.loop.token) (steps_of new)
-    (told_by c.loop.token c.loop.section) (told_by new t.new.section) t.ensures.told told t.ensures.stays
-    in
-    subst (λ (l : List Telling). Courses (at_in c.args.words) c.args.token.now.number c.args.start
-    (trail_of c.args.token.now c.args.inside) (trail (steps_of c.turn-reply.new.token) l)
-    c.in-Some-answer_of.answer) (by_outside new t.new.section none)
+    let gone = subst (λ (n : ℕ). HasRecorded (at_in c.args.words) n c.loop.place c.turn-reply.result
+    (trail_of c.loop.token c.loop.section) (trail_of c.turn-reply.new.token c.turn-reply.new.section))
+    before.own.0.1 t.ensures.recorded in
+    subst (λ (x : Trail). Courses (at_in c.args.words) c.args.token.now.number c.args.start
+    (trail_of c.args.token.now c.args.inside) x c.in-Some-answer_of.answer) (outside_trail new t.new.section
+    none)
     (arrives (at_in c.args.words) me c.args.start p (trail_of c.args.token.now c.args.inside)
-    (trail_of c.loop.token c.loop.section) (trail_of new t.new.section) t.result brings.0 answer
-    before.path brings.1 brings.2 (end_of (next_act p t.result) answer is))
+    (trail_of c.loop.token c.loop.section) (trail_of new t.new.section) t.result gone.0 answer
+    before.path gone.1 gone.2 (end_of (next_act p t.result) answer is))
 
 pub returns-in-Some-closure_of-clause-path : goal.returns-in-Some-closure_of-clause-path
 returns-in-Some-closure_of-clause-path g c = let start = c.requires.start in let p = c.loop.place
@@ -116,9 +108,9 @@ returns-in-Some-closure_of-clause-path g c = let start = c.requires.start in let
     let none = closes_outside (kind_in words) (at_in words) st (act_of p) c.in-Some-closure_of.state is
     (places_lead (IsUp g.C.Clock.tells c.args.limit) (kind_in words) (at_in words) start.0 p st
     c.loop.invariant.words (c.loop.invariant.fits start.0 start.1)).0 in
-    subst (λ (l : List Telling). ComesBy (at_in c.args.words) c.args.token.now.number c.args.start
-    (trail_of c.args.token.now c.args.inside) (trail (steps_of c.loop.token) l) c.loop.place)
-    (by_outside c.loop.token c.loop.section none) c.loop.invariant.path
+    subst (λ (x : Trail). ComesBy (at_in c.args.words) c.args.token.now.number c.args.start
+    (trail_of c.args.token.now c.args.inside) x c.loop.place)
+    (outside_trail c.loop.token c.loop.section none) c.loop.invariant.path
 
 pub returns-in-Some-answer_of-clause-stopped : goal.returns-in-Some-answer_of-clause-stopped
 returns-in-Some-answer_of-clause-stopped g c = let p = c.loop.place in let t = c.turn-reply in let new =

@@ -7,8 +7,7 @@ use Rattle.run_base.specs.Fitting.{AreWordsFor, Fits, call_purpose}
 use Rattle.run_base.specs.Queued.{HasPlace, is_queued}
 use Rattle.run_base.specs.Stages.{IsSectionOf, stage_of}
 use Rattle.run_base.specs.Words.{kind_in, at_in}
-use Rattle.run_base.specs.Courses.{trail_of}
-use Rattle.run_base.proofs.Courses.{ComesBy}
+use Rattle.run_base.specs.Courses.{ComesBy, trail_of}
 use Rattle.run_base.proofs.driver.run_from.Given as goal
 
 abbrev pub invariant-loop : goal.invariant-loop

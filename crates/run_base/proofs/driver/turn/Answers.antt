@@ -12,7 +12,7 @@ use Rattle.run_base.proofs.Leading.{places_lead}
 use Rattle.run_base.proofs.Queued.{keeps_on, needs_queue, queued_on, stays_queued}
 use Rattle.run_base.specs.Courses.{TellsIn}
 use Rattle.run_base.specs.Telling.{TellsQueues}
-use Rattle.run_base.proofs.Tellings.{has_told}
+use Rattle.run_base.proofs.Tellings.{gone, has_done}
 use Rattle.run_base.proofs.Turning.{told}
 use Rattle.run_base.proofs.driver.turn.Goals as goal
 
@@ -24,23 +24,14 @@ perform-requires-clause-needs g c = let words = c.args.words in let st = stage_o
     (places_lead (IsUp g.C.Clock.tells c.args.limit) (kind_in words) (at_in words) fits.0 c.args.place st
     c.requires.words fits.1).0
 
-pub returns-clause-told : goal.returns-clause-told
-returns-clause-told g c = let old = (view_of c.args.token.now).steps in let new =
-    (view_of c.perform.new.token).steps in let words = c.args.words in
+pub returns-clause-recorded : goal.returns-clause-recorded
+returns-clause-recorded g c = let words = c.args.words in let n = c.args.token.now.number in
+    let p = c.args.place in let st = stage_of c.args.token.now c.args.section.now in
+    let fits = c.requires.fits in
+    let old = (view_of c.args.token.now).steps in let new = (view_of c.perform.new.token).steps in
     let adds = subst (λ (a : Act). Adds (at_in c.args.words) a c.perform.result
     (view_of c.args.token.now).steps (view_of c.perform.new.token).steps) c.requires.act
     c.perform.ensures.adds in
-    let became = subst (λ (a : Act). Became (IsUp g.C.Clock.tells c.args.limit) (kind_in c.args.words)
-    (at_in c.args.words) (sleeper_at c.args.place) (stage_of c.args.token.now c.args.section.now) a
-    c.perform.result (stage_of c.perform.new.token c.perform.new.section)) c.requires.act
-    c.perform.ensures.became in
-    told (IsUp g.C.Clock.tells c.args.limit) (at_in words) (kind_in words) c.args.place (act_of c.args.place)
-    refl c.requires.no_closure (stage_of c.args.token.now c.args.section.now)
-    (stage_of c.perform.new.token c.perform.new.section) c.perform.result old new became adds
-
-pub returns-clause-tells : goal.returns-clause-tells
-returns-clause-tells g c = let words = c.args.words in let n = c.args.token.now.number in let p = c.args.place
-    in let st = stage_of c.args.token.now c.args.section.now in
     let became = subst (λ (a : Act). Became (IsUp g.C.Clock.tells c.args.limit) (kind_in c.args.words)
     (at_in c.args.words) (sleeper_at c.args.place) (stage_of c.args.token.now c.args.section.now) a
     c.perform.result (stage_of c.perform.new.token c.perform.new.section)) c.requires.act
@@ -50,10 +41,17 @@ returns-clause-tells g c = let words = c.args.words in let n = c.args.token.now.
     let tells = subst (λ (a : Act). TellsIn c.args.token.now.number a c.perform.result c.args.token.now
     c.args.section.now c.perform.new.token c.perform.new.section) c.requires.act c.perform.ensures.told in
     let needs = (places_lead (IsUp g.C.Clock.tells c.args.limit) (kind_in words) (at_in words)
-    c.requires.fits.0 p st c.requires.words c.requires.fits.1).0 in
-    has_told n c.args.token.now c.perform.new.token c.args.section.now c.perform.new.section
+    fits.0 p st c.requires.words fits.1).0 in
+    gone n c.args.token.now c.perform.new.token c.args.section.now c.perform.new.section (at_in words) p
+    c.perform.result
+    (told (IsUp g.C.Clock.tells c.args.limit) (at_in words) (kind_in words) c.args.place (act_of c.args.place)
+    refl c.requires.no_closure st (stage_of c.perform.new.token c.perform.new.section) c.perform.result old
+    new became adds)
+    (has_done n c.args.token.now c.perform.new.token c.args.section.now c.perform.new.section
     (IsUp g.C.Clock.tells c.args.limit) (kind_in words) (at_in words) (sleeper_at p) (act_of p)
-    c.perform.result needs became queues tells
+    c.perform.result needs became adds queues tells)
+    (stays_queued (IsUp g.C.Clock.tells c.args.limit) (kind_in words) (at_in words) fits.0 c.args.place
+    st (stage_of c.perform.new.token c.perform.new.section) c.perform.result fits.1 became)
 
 pub returns-clause-reached : goal.returns-clause-reached
 returns-clause-reached g c = let words = c.args.words in let st = stage_of c.args.token.now c.args.section.now
@@ -65,16 +63,6 @@ returns-clause-reached g c = let words = c.args.words in let st = stage_of c.arg
     λ (base : List Ownership) fits. (places_lead (IsUp g.C.Clock.tells c.args.limit) (kind_in words)
     (at_in words) base c.args.place st c.requires.words fits).2 c.perform.result
     (stage_of c.perform.new.token c.perform.new.section) became
-
-pub returns-clause-stays : goal.returns-clause-stays
-returns-clause-stays g c = let words = c.args.words in let fits = c.requires.fits in
-    let became = subst (λ (a : Act). Became (IsUp g.C.Clock.tells c.args.limit) (kind_in c.args.words)
-    (at_in c.args.words) (sleeper_at c.args.place) (stage_of c.args.token.now c.args.section.now) a
-    c.perform.result (stage_of c.perform.new.token c.perform.new.section)) c.requires.act
-    c.perform.ensures.became in
-    stays_queued (IsUp g.C.Clock.tells c.args.limit) (kind_in words) (at_in words) fits.0 c.args.place
-    (stage_of c.args.token.now c.args.section.now)
-    (stage_of c.perform.new.token c.perform.new.section) c.perform.result fits.1 became
 
 pub perform-requires-clause-queued : goal.perform-requires-clause-queued
 perform-requires-clause-queued g c = let fits = c.requires.fits in λ needs. c.requires.queued

@@ -25,4 +25,8 @@ returns g c = λ p at is.
     (view_of t).steps) c.enter.ensures.same
     ∙ ap (λ (i : Option SectionView). stage (view_of c.args.token.now).owns i (last_of c.args.token.now)
     (view_of c.args.token.now).steps) c.enter.ensures.entered.1)
-    (ap steps_of c.enter.ensures.same) tt (ap told_of c.enter.ensures.same, c.enter.ensures.told)
+    (ap steps_of c.enter.ensures.same) tt (
+      ap told_of c.enter.ensures.same,
+      c.enter.ensures.told.0,
+      c.enter.ensures.told.1,
+    )

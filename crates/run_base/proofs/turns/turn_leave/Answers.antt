@@ -1,9 +1,11 @@
-use Rattle.std.proofs.Common.{ap, refl, sym, subst}
+use Rattle.std.proofs.Common.{◌≡◌, ◌++◌, ap, refl, sym, subst}
 use Rattle.core_base.specs.Clocks.{IsUp}
 use Rattle.steps_base.specs.declared.acts.Act as act
 use Rattle.steps_base.specs.declared.acts.Reply.TheVariants.{Done}
 use Rattle.core_base.specs.declared.notes.Note.{Note}
 use Rattle.core_words.specs.declared.views.View.{View}
+use Rattle.parking_lot_core.specs.Tokens.{count_of, told_of}
+use Rattle.run_base.specs.Courses.{told_within, visit_within, visited}
 use Rattle.run_base.specs.Stages.{MayLeave, section_view}
 use Rattle.run_base.proofs.TurnsOn.{needs_by, turned_by}
 use Rattle.run_base.proofs.turns.turn_leave.Goals as goal
@@ -29,4 +31,6 @@ returns g c = λ p at is.
       c.leave.ensures.left.2,
       ap (λ (v : View). v.steps) c.leave.ensures.own.1,
     ) (ap (λ (v : View). v.steps) c.leave.ensures.own.1)
-    tt c.leave.ensures.told
+    tt (subst (λ (note : Note). told_of c.leave.new.token ≡ told_of c.args.token.now
+    ++ (told_within c.args.section.now ++ visited (visit_within c.args.section.now)
+    (count_of c.args.token.now) note)) c.note_of.ensures c.leave.ensures.told)

@@ -31,4 +31,5 @@ returns-clause-done g c = λ p at is.
       refl,
       c.requeue.ensures.told.0,
       c.requeue.ensures.told.1,
+      c.requeue.ensures.told.2,
     )

@@ -25,4 +25,4 @@ returns-clause-done g c = λ p at is.
     (at.0, refl) c.stand.ensures.same.0
     (ap (λ (i : Option SectionView). stage (view_of c.args.token.now).owns i (last_of c.args.token.now)
     (view_of c.args.token.now).steps) c.stand.ensures.same.1) refl
-    c.stand.ensures.stands (refl, c.stand.ensures.told)
+    c.stand.ensures.stands (refl, c.stand.ensures.told.0, c.stand.ensures.told.1)

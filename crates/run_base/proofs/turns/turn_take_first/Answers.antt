@@ -30,5 +30,6 @@ returns-clause-done g c = λ p at is.
     ) refl
     (c.take_first.ensures.any, c.take_first.ensures.left.0, c.take_first.ensures.left.1) (
       refl,
-      c.take_first.ensures.told,
+      c.take_first.ensures.told.0,
+      c.take_first.ensures.told.1,
     )

@@ -20,4 +20,8 @@ returns-clause-done g c = λ p at is.
     (act.TheVariants.Take c.args.key (whom.TheVariants.Picked c.args.start c.args.recursive))
     (Picked c.take_wanted.result.0 c.take_wanted.result.1 c.take_wanted.result.2) is refl at
     (at.0, refl) c.take_wanted.ensures.took.0 (c.take_wanted.ensures.took.1, refl, refl, refl) refl
-    c.take_wanted.ensures.told (refl, c.take_wanted.ensures.tells)
+    c.take_wanted.ensures.told (
+      refl,
+      c.take_wanted.ensures.tells.0,
+      c.take_wanted.ensures.tells.1,
+    )

@@ -7,7 +7,8 @@ use Rattle.steps_rwlock_fair.specs.declared.places.RwLockCallPlace.TheVariants.{
 use Rattle.lot_steps.specs.declared.places.Place.TheVariants.{RwLock}
 use Rattle.core_words.specs.declared.owners.Ownership.{Ownership}
 use Rattle.parking_lot_core.specs.Tokens.{last_of, view_of}
-use Rattle.run_base.specs.Courses.{Courses, Trail, trail_of}
+use Rattle.run_base.specs.Courses.{Courses, steps_in, trail_of}
+use Rattle.run_base.proofs.Courses.{steps_since}
 use Rattle.run_base.specs.Paths.{at_rwlock}
 use Rattle.run_base.specs.Stages.{stage_of}
 use Rattle.run_locks.proofs.RwLockFairCalls.{goes_to_hand, has_taken, path_free, path_handing, record_handing}
@@ -61,8 +62,8 @@ returns-then-seen-ne-WRITER-clause-record g c = let other : c.word-seen.result �
     (view_of c.args.token.now).steps (view_of c.word-seen.new.token).steps
     (view_of c.rest.new.token).steps (saw_step c.args.word.now c.requires.own.2 (Exchange 8 0)
     c.word-seen.result c.args.token.now c.word-seen.new.token c.word-seen.ensures.stepped)
-    (last_of c.rest.new.token) other c.rest.ensures.path.0.steps
-    (ap (λ (x : Trail). x.steps) c.rest.ensures.path.1) over.3
+    (last_of c.rest.new.token) other (steps_in c.rest.ensures.path.0)
+    (steps_since _ _ c.rest.ensures.path.0 c.rest.ensures.path.1) over.3
 
 pub returns-else-seen-ne-WRITER-clause-path : goal.returns-else-seen-ne-WRITER-clause-path
 returns-else-seen-ne-WRITER-clause-path g c = let same : c.word-seen.result ≡ 8 = search rules in

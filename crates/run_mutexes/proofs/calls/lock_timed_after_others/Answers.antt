@@ -6,9 +6,10 @@ use Rattle.core_base.specs.Clocks.{IsUp}
 use Rattle.run_base.specs.MutexFitting.{IsMutexOver, to_enter}
 use Rattle.run_base.specs.Stages.{stage_of}
 use Rattle.run_base.specs.Telling.{owns_of}
-use Rattle.run_base.specs.Courses.{Courses, trail_of}
+use Rattle.run_base.specs.Courses.{Courses, steps_in, trail_of}
 use Rattle.run_base.specs.Words.{at_in}
 use Rattle.run_base.proofs.Afterwards.{alone_at, path_after}
+use Rattle.run_base.proofs.Courses.{steps_since}
 use Rattle.run_mutexes.specs.LockCourses.{locks_at}
 use Rattle.run_mutexes.proofs.calls.lock_timed_after_others.Goals as goal
 
@@ -29,3 +30,7 @@ returns-clause-over g c =
     subst (λ (k : ℕ). IsMutexOver (IsUp g.C.Clock.tells c.args.limit) k (owns_of c.args.token.now)
     (to_enter entry.LockTimed) c.lock_through.result (stage_of c.lock_through.new.token None))
     c.number-mutex.ensures (c.lock_through.ensures.1 (owns_of c.args.token.now) (refl, refl))
+
+pub returns-clause-rest : goal.returns-clause-rest
+returns-clause-rest g c = let courses = c.lock_through.ensures.2 in
+    (steps_in courses.0, steps_since _ _ courses.0 courses.1)

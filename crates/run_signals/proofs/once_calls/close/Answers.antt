@@ -17,9 +17,9 @@ use Rattle.run_base.specs.OnceFitting.{OwnsAfter}
 use Rattle.lot_steps.specs.declared.places.Place.TheVariants as place
 use Rattle.steps_once.specs.declared.places.OncePlace.TheVariants.{Run}
 use Rattle.steps_once.specs.declared.run.RunAt.TheVariants as run
-use Rattle.run_base.specs.Courses.{Courses, Trail, trail_of}
+use Rattle.run_base.specs.Courses.{Courses, steps_in, trail_of}
 use Rattle.run_base.specs.Paths.{at_once, once_at, step}
-use Rattle.run_base.proofs.Courses.{one_more}
+use Rattle.run_base.proofs.Courses.{one_more, steps_since}
 use Rattle.run_base.specs.Telling.{owns_of, steps_of}
 use Rattle.run_signals.specs.OnceCalls.{WokeIfMarked}
 use Rattle.run_signals.proofs.OnceCalling.{closes_at_once, closes_on, runs_found, swapped, word_left}
@@ -91,11 +91,11 @@ returns-then-is_marked-clause-closed g c = let n = c.args.word.number in let s =
     c.word_after.ensures w.ensures.coded c.requires.runs (ap (λ (v : View). v.owns) w.ensures.stepped))
     in (
       w.result,
-      path.0.steps,
-      ap (λ (t : Trail). t.steps) path.1 ∙ ap (λ (l : List WordStep). l ++ c.wake.ensures.path.0.steps)
+      steps_in path.0,
+      steps_since _ _ path.0 path.1 ∙ ap (λ (l : List WordStep). l ++ steps_in c.wake.ensures.path.0)
           (added n w.result c.word_after.result s c.args.word.kind old mid c.requires.own.2
           c.word_after.ensures (ap (λ (v : View). v.steps) w.ensures.stepped)),
-      subst (λ (b : Bool). WokeIfMarked c.args.word.number b c.wake.ensures.path.0.steps
+      subst (λ (b : Bool). WokeIfMarked c.args.word.number b (steps_in c.wake.ensures.path.0)
           (last_of c.wake.new.token)) (sym marked) over.3,
     )
 

@@ -2,7 +2,7 @@ use Rattle.parking_lot_core.proofs.Sleeps.{woken_slept, woken_not_late}
 use Rattle.parking_lot_core.proofs.lot.ParkingLot.sleep.Goals as goal
 
 pub returns-in-Some-take_note-clause-slept : goal.returns-in-Some-take_note-clause-slept
-returns-in-Some-take_note-clause-slept g c = woken_slept c.args.self.now c.args.token.now.number c.args.word
+returns-in-Some-take_note-clause-slept g c = woken_slept c.args.self.now c.args.token.now c.args.word
     c.args.want c.in-Some-take_note.told c.in-Some-take_note.ensures
 
 pub returns-in-Some-take_note-clause-unlimited : goal.returns-in-Some-take_note-clause-unlimited
