@@ -74,21 +74,13 @@ use Rattle.lot_steps.specs.Steps.{act_of, condvar_goes, in_condvar, in_mutex, in
 use Rattle.lot_steps.specs.Steps.{next_place, once_goes, rwlock_goes, semaphore_goes}
 use Rattle.lot_machine.specs.Machine.{State}
 use Rattle.lot_laws.specs.SitesOf.{FitsItsLock}
-use Rattle.lot_looks.specs.Looks.{MayBeAt, call_looked, call_tries, condvar_looked, condvar_tries, has_decided, is_exchange}
+use Rattle.lot_looks.specs.Looks.{MayBeAt, call_looked, call_tries, condvar_looked, condvar_tries, has_decided, is_exchange, is_load}
 use Rattle.lot_looks.specs.Looks.{leads_to_exchange, looked_from, mutex_looked, mutex_tries, once_looked, rwlock_looked}
 use Rattle.lot_looks.specs.Looks.{rwlock_looked_by, rwlock_tries, semaphore_looked, tries_word}
 use Rattle.lot_looks.proofs.Exchanges.{each_is_known}
 use Rattle.lot_looks.proofs.Onces.{GoesOn}
 use Rattle.lot_looks.proofs.Places.{IsSane}
 use Rattle.lot_looks.proofs.RwLocks.{IsSaneAt}
-
-abbrev pub is_load_op : Op → Bool
-is_load_op op.Load = true
-is_load_op f = false
-
-abbrev pub is_load : Act → Bool
-is_load (act.Word l f) = is_load_op f
-is_load a = false
 
 -- nothing is both
 not_both : {A : Type 0} (b : Bool) → b ≡ false → b ≡ true → A

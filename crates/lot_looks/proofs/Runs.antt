@@ -179,24 +179,29 @@ module _ (k : ℕ → Bool) (w : State) (h : IsWorld w) (all : AllSane k w.place
   possible_too u can = let lt : nat_lt t (length b.places) ≡ true = let x = there_so k w t there
       in grind (arith, nat_tests) in rw (lt, can) refl
 
+  -- in neither run has the thread begun a call, or its closure runs
+  pub begin_same : (c : Call) → can_turn b t (turn.Begin c) ≡ can_turn w t (turn.Begin c)
+  begin_same c = rw (
+    place_so k w all t,
+    idle_kept (k t) (place_at w t) (all t),
+    shares_so k w all
+        (lock_of_right c),
+  ) refl
+
+  pub close_same : looked_from (place_at w t) ≡ None → (ok : Bool) → can_close b t ok ≡ can_close w t ok
+  close_same free ok =
+      rw (here_so k w all t (place_at w t) refl free, can_so k w (act_of (closed_place w t ok))) refl
+
   -- the other run takes the same turn
   abbrev Same : State → Outcome → Turn → Type 0
   Same v o x = One (k t) (before k w) (before k v) o (record { thread = t; turn = x })
 
   -- ---------------------------------------------------------------- a call begins
 
-  begin_possible : (c : Call) → can_turn w t (turn.Begin c) ≡ true → can_turn b t (turn.Begin c) ≡ true
-  begin_possible c can = rw (
-    place_so k w all t,
-    idle_kept (k t) (place_at w t) (all t),
-    shares_so k w all
-        (lock_of_right c),
-  ) can
-
   begins : (c : Call) → can_turn w t (turn.Begin c) ≡ true → Same (state_after_begin w t c) outcome.Step (turn.Begin c)
   begins c can = one_turn (k t) b (before k (state_after_begin w t c)) outcome.Step
       (record { thread = t; turn = turn.Begin c })
-      (possible_too (turn.Begin c) (begin_possible c can)) (λ off. refl) refl
+      (possible_too (turn.Begin c) (begin_same c ∙ can)) (λ off. refl) refl
       (ap (put b t) (sym (free_kept (k t) (first_place (kind_at w (lock_in c)) c)
       (first_looked (kind_at w (lock_in c)) c).0))
       ∙ put_so k w all t (first_place (kind_at w (lock_in c)) c))
@@ -403,13 +408,13 @@ module _ (k : ℕ → Bool) (w : State) (h : IsWorld w) (all : AllSane k w.place
     stays_spins_sane : can_turn w t turn.Spin ≡ true → AllSane k (state_after_spin w t).places
     stays_spins_sane can =
         let m = some_of (respins_from (place_at w t)) can in
-        let never : {q : Place} → k t ≡ false → IsSane q = λ off. absurd (let x : true ≡ false = sym on ∙ off in cc) in
+        let never : (q : Place) → k t ≡ false → IsSane q = λ q off. absurd (let x : true ≡ false = sym on ∙ off in cc) in
+        let n : Place = next_place (place_at (state_after_act (put w t m.0) t (place_at (put w t m.0) t)
+        (act_of (place_at (put w t m.0) t))) t) (reply_to (put w t m.0) t (act_of (place_at (put w t m.0) t))) in
         subst (λ v. AllSane k v.places) (spin_is m.0 m.1)
         (set_sane k (state_after_act (put w t m.0) t (place_at (put w t m.0) t) (act_of (place_at (put w t m.0) t))).places
-        t (next_place (place_at (state_after_act (put w t m.0) t (place_at (put w t m.0) t)
-        (act_of (place_at (put w t m.0) t))) t) (reply_to (put w t m.0) t (act_of (place_at (put w t m.0) t))))
-        (acted_sane k (put w t m.0) (set_sane k w.places t m.0 all never) t (place_at (put w t m.0) t)
-        (act_of (place_at (put w t m.0) t))) never)
+        t n (acted_sane k (put w t m.0) (set_sane k w.places t m.0 all (never m.0)) t (place_at (put w t m.0) t)
+        (act_of (place_at (put w t m.0) t))) (never n))
 
   -- ---------------------------------------------------------------- each turn
 
@@ -693,11 +698,10 @@ one_step b z o s one = record {
 two_steps : (b z : State) (t : ℕ) (o : Outcome) → Two b z t o → Came b z t o
 two_steps b z t o two = record {
   steps = go_of t ∷ go_of t ∷ [];
-  hits = (two.first, two.first_hit, two.second, two.second_hit, tt);
+  hits = (two.first, two.first_hit, (two.second, two.second_hit, tt));
   at_once = λ free. (
     go_follows (looked_from (place_at (after b (go_of t)) t)) t [],
-    none_follows (after (after b (go_of t)) (go_of t)) z t two.leads free,
-    tt,
+    (none_follows (after (after b (go_of t)) (go_of t)) z t two.leads free, tt),
   );
   leads = two.leads;
   tells = ap (λ x. news_of t x ++ (news_of t (step_outcome (after b (go_of t)) (go_of t)) ++ [])) two.first_tells

@@ -36,11 +36,11 @@ use Rattle.lot_laws.proofs.calls.OwnPlace.{stays_there}
 use Rattle.lot_laws.proofs.condvar.OwnStand.{IsStill, own_place}
 use Rattle.lot_laws.proofs.machine.Parts.{IsOfTwo, fits_two, single_or_two}
 use Rattle.lot_laws.proofs.sites.OneStep.{fills_by, noted}
-use Rattle.lot_looks.specs.Looks.{MayBeAt, call_looked, condvar_looked, leads_to_exchange, looked_from, looks_by}
+use Rattle.lot_looks.specs.Looks.{MayBeAt, call_looked, condvar_looked, is_load, leads_to_exchange, looked_from, looks_by}
 use Rattle.lot_looks.specs.Looks.{misses, mutex_looked, once_looked, semaphore_looked}
 use Rattle.lot_looks.proofs.Acted.{AllSane, acted_sane, acted_so, before, can_so, free_kept, kept, place_so, put_so}
 use Rattle.lot_looks.proofs.Acted.{reply_so, set_sane}
-use Rattle.lot_looks.proofs.Loads.{is_load, leads_none, may_be, no_try, no_try_again, undecided}
+use Rattle.lot_looks.proofs.Loads.{leads_none, may_be, no_try, no_try_again, undecided}
 use Rattle.lot_looks.proofs.Places.{GoesBy, GoesByLook, GoesByNoLook, IsLook, IsSane, Tells, goes_so}
 use Rattle.lot_looks.proofs.Places.{stays_sane}
 use Rattle.lot_looks.proofs.Rows.{IsNoValue, IsOfWord, exchange_by}

@@ -216,6 +216,10 @@ has_decided p = false
 abbrev pub leads_to_exchange : Place → ℕ → Bool
 leads_to_exchange p seen = not (has_decided p) && is_exchange (act_of (next_place p (Value seen)))
 
+abbrev pub is_load : Act → Bool
+is_load (act.Word l op.Load) = true
+is_load a = false
+
 abbrev pub looks_by : State → Place → Act → Bool
 looks_by w p (act.Word l op.Load) = leads_to_exchange p (word_at w l)
 looks_by w p a = false
