@@ -4,7 +4,6 @@ use Rattle.std.proofs.Common.{inl, inr, refl, is_some, sym, ◌∙◌, ap, subst
 use Rattle.core_base.specs.declared.keys.Keys.TheVariants as keys
 use Rattle.core_base.specs.declared.keys.Line.{Line}
 use Rattle.core_base.specs.declared.keys.Line.TheVariants as lines
-use Rattle.core_base.specs.declared.ops.Op.{Op}
 use Rattle.core_base.specs.declared.ops.Op.TheVariants as op
 use Rattle.core_base.specs.declared.wants.Want.{Want}
 use Rattle.spec_locks.specs.declared.calls.Access.{Access}
@@ -12,7 +11,6 @@ use Rattle.spec_locks.specs.declared.calls.Access.TheVariants as access
 use Rattle.spec_locks.specs.declared.calls.Downgrade.TheVariants as downgrade
 use Rattle.spec_locks.specs.declared.outcomes.Answer.TheVariants as answer
 use Rattle.spec_locks.specs.Codes.{count_in, has_aside, has_parked}
-use Rattle.steps_base.specs.declared.acts.Act.{Act}
 use Rattle.steps_base.specs.declared.acts.Act.TheVariants as act
 use Rattle.steps_base.specs.declared.acts.Next.{Next}
 use Rattle.steps_base.specs.declared.acts.Next.TheVariants.{At, End}
@@ -27,7 +25,7 @@ use Rattle.steps_mutex.specs.MutexSteps as mutex_steps
 use Rattle.steps_semaphore.specs.declared.places.SemaphorePlace.{SemaphorePlace}
 use Rattle.steps_semaphore.specs.declared.places.SemaphorePlace.TheVariants as semaphore
 use Rattle.steps_semaphore.specs.declared.tries.TryAt.TheVariants as tries
-use Rattle.steps_semaphore.specs.SemaphoreSteps.{is_free, semaphore_next}
+use Rattle.steps_semaphore.specs.SemaphoreSteps.{semaphore_next}
 use Rattle.steps_once.specs.declared.look.Course.{Course}
 use Rattle.steps_once.specs.declared.look.Course.TheVariants as course
 use Rattle.steps_once.specs.declared.look.LookAt.TheVariants as look
@@ -58,7 +56,7 @@ use Rattle.steps_rwlock_fair.specs.declared.places.RwLockCallPlace.{RwLockCallPl
 use Rattle.steps_rwlock_fair.specs.declared.places.RwLockCallPlace.TheVariants as call
 use Rattle.steps_rwlock_fair.specs.FairCalls.{CallStands, HandsOverAt}
 use Rattle.steps_rwlock_fair.specs.FairProfiles.{in_call}
-use Rattle.steps_rwlock_fair.specs.FairSteps.{bump_next, call_act, call_next, exchange_act, gives_up_at, gives_way, hand_over_act}
+use Rattle.steps_rwlock_fair.specs.FairSteps.{bump_next, call_act, call_next, gives_up_at, gives_way, hand_over_act}
 use Rattle.steps_rwlock_fair.specs.FairSteps.{hand_over_next, has_room, parked_as, plain_next, with_taken, word_without}
 use Rattle.steps_condvar.specs.declared.places.CondvarPlace.{CondvarPlace}
 use Rattle.steps_condvar.specs.declared.places.CondvarPlace.TheVariants as condvar

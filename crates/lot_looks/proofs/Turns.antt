@@ -1,12 +1,12 @@
 -- A turn of one thread, taken where no thread has looked for its exchange: it looks when it exchanges, and so
 -- never misses.
 use Rattle.std.proofs.Common.{ℕ, zero, suc, arith, Bool, true, false, Option, Some, None, ◌==◌, ◌||◌, ◌&&◌, not}
-use Rattle.std.proofs.Common.{nat_lt, ◌≡◌, ◌<◌, ◌⊎◌, inl, inr, List, [], ◌∷◌, ◌++◌, length, map, set, get_or}
+use Rattle.std.proofs.Common.{nat_lt, ◌≡◌, ◌<◌, ◌⊎◌, inl, inr, List, [], ◌∷◌, length, map, set, get_or}
 use Rattle.std.proofs.Common.{refl, sym, ◌∙◌, ap, subst, eqb-true, get_or-set_same, length-set}
 use Rattle.std.specs.Prelude.{replicate}
 use Rattle.std.proofs.Math.ListN.{get_or-map}
 use Rattle.std.proofs.Math.Seq.{map-set_same}
-use Rattle.std.proofs.lemmas.List.{append-nil, length-map, map-set, set-get_or}
+use Rattle.std.proofs.lemmas.List.{map-set, set-get_or}
 use Rattle.std.proofs.lemmas.Bool.Decides.{nat_tests}
 use Rattle.core_base.specs.declared.ops.Op.{Op}
 use Rattle.core_base.specs.declared.ops.Op.TheVariants.{Exchange, Load}
@@ -37,7 +37,7 @@ use Rattle.lot_steps.specs.declared.places.Place.TheVariants.{Idle, Mutex, RwLoc
 use Rattle.lot_steps.specs.Steps.{act_of, condvar_does, condvar_goes, is_idle, mutex_does, mutex_goes}
 use Rattle.lot_steps.specs.Steps.{next_act, next_place, once_does, once_goes, owners_after, rwlock_does}
 use Rattle.lot_steps.specs.Steps.{rwlock_goes, semaphore_does, semaphore_goes, shares_after, taker, wants}
-use Rattle.lot_machine.specs.Machine.{State, after, after_steps, can_do, filled_at, go_of, go_outcome}
+use Rattle.lot_machine.specs.Machine.{State, after, can_do, filled_at, go_of, go_outcome}
 use Rattle.lot_machine.specs.Machine.{going_outcome, hand_over_told, held, held_by, is_possible, kind_at}
 use Rattle.lot_machine.specs.Machine.{owners_at, place_after_telling, place_at, put, reply_to, share_at}
 use Rattle.lot_machine.specs.Machine.{shares_at, shares_with, state_after_act, state_after_go}

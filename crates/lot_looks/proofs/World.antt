@@ -1,7 +1,6 @@
 -- Each turn of a world, taken where no thread has looked for its exchange.
 use Rattle.std.proofs.Common.{ℕ, Bool, true, false, Option, Some, None, ◌==◌, ◌^◌, ◌||◌, ◌≡◌, ◌<◌, ◌⊎◌, inl}
 use Rattle.std.proofs.Common.{inr, length, refl, sym, ◌∙◌, ap, subst, get_or-set_same}
-use Rattle.std.proofs.lemmas.List.{length-map}
 use Rattle.core_base.specs.declared.ops.Op.TheVariants as op
 use Rattle.core_base.specs.declared.ops.Op.TheVariants.{Load}
 use Rattle.steps_base.specs.declared.acts.Act.{Act}

@@ -1,7 +1,7 @@
 -- The turn of a thread in a call, as steps of the world.
 use Rattle.std.proofs.Common.{ℕ, zero, suc, ◌≡◌, ◌<◌, ◌+◌, ◌-◌, Bool, true, false, List, [], ◌∷◌, length, refl, sym}
 use Rattle.std.proofs.Common.{ap, append_assoc, subst, ◌∙◌, arith}
-use Rattle.std.specs.Prelude.{if◌then◌else◌, ◌&&◌, ◌||◌, ◌++◌}
+use Rattle.std.specs.Prelude.{if◌then◌else◌, ◌||◌, ◌++◌}
 use Rattle.spec_locks.specs.declared.calls.Turn.TheVariants as turn
 use Rattle.spec_locks.specs.declared.calls.Step.{Step}
 use Rattle.spec_locks.specs.declared.outcomes.Outcome.{Outcome}
