@@ -228,6 +228,15 @@ straight_size true g t x =
     (again_size b t (gone t x))
 straight_size false g t x = record { threads = refl; locks = refl }
 
+-- where it has taken them
+pub took_along : (g : Grain) (p : Place) (step : Step) (x : Turning) (b : Bool) (v : State) (l : Local)
+    → b ≡ goes_straight g p step.turn (place_at x.world step.thread) → b ≡ true
+    → v ≡ (gone_straight_by true g step.thread x).world → l ≡ (gone_straight_by true g step.thread x).local
+    → turning v l ≡ gone_straight g p step x
+took_along g p step x b v l is on world local =
+    ap (λ w. turning w l) world ∙ ap (turning (gone_straight_by true g step.thread x).world) local
+    ∙ ap (λ c. gone_straight_by c g step.thread x) (sym on ∙ is)
+
 -- where a turn ends
 pub finished_kept : (g : Grain) (p : Place) (step : Step) (x : Turning) → IsWorld x.world
     → IsWorld (gone_on g 64 step.thread (gone_straight g p step x)).world
