@@ -205,8 +205,8 @@ EachExchangeIsKnown =
 
 -- ---------------------------------------------------------------- looks
 
--- a call of a `Once`, or a try of a semaphore, goes by what it saw; no such call comes to where it loads the word
--- once more
+-- a call of a `Once`, or a try of a semaphore, goes by what it saw; no such call comes to a value by which it
+-- would load the word once more
 abbrev pub has_decided : Place → Bool
 has_decided (Once lock (once.Look c again (look.Decide seen))) = true
 has_decided (Semaphore lock (semaphore.Try (tries.Decide seen))) = true
