@@ -6,9 +6,10 @@ pub mod RwLocks
 pub mod RwLockCalls
 pub mod Condvars
 pub mod Places
+pub mod Exchanges
+pub mod Loads
 pub mod Acted
 pub mod Turns
 pub mod World
 pub mod Spins
 pub mod Runs
-pub mod Exchanges

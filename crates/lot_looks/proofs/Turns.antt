@@ -1,12 +1,12 @@
 -- A turn of one thread, taken where no thread has looked for its exchange: it looks when it exchanges, and so
 -- never misses.
-use Rattle.std.proofs.Common.{ℕ, zero, suc, arith, Bool, true, false, Option, Some, None, ◌==◌, ◌||◌, not}
-use Rattle.std.proofs.Common.{nat_lt, ◌≡◌, ◌<◌, ◌⊎◌, inl, inr, List, [], ◌∷◌, ◌++◌, length, map, set, get_or}
+use Rattle.std.proofs.Common.{ℕ, zero, suc, arith, Bool, true, false, Option, Some, None, ◌==◌, ◌||◌, ◌&&◌, not}
+use Rattle.std.proofs.Common.{nat_lt, ◌≡◌, ◌<◌, ◌⊎◌, inl, inr, List, [], ◌∷◌, length, map, set, get_or}
 use Rattle.std.proofs.Common.{refl, sym, ◌∙◌, ap, subst, eqb-true, get_or-set_same, length-set}
 use Rattle.std.specs.Prelude.{replicate}
 use Rattle.std.proofs.Math.ListN.{get_or-map}
 use Rattle.std.proofs.Math.Seq.{map-set_same}
-use Rattle.std.proofs.lemmas.List.{append-nil, length-map, map-set, set-get_or}
+use Rattle.std.proofs.lemmas.List.{map-set, set-get_or}
 use Rattle.std.proofs.lemmas.Bool.Decides.{nat_tests}
 use Rattle.core_base.specs.declared.ops.Op.{Op}
 use Rattle.core_base.specs.declared.ops.Op.TheVariants.{Exchange, Load}
@@ -37,18 +37,17 @@ use Rattle.lot_steps.specs.declared.places.Place.TheVariants.{Idle, Mutex, RwLoc
 use Rattle.lot_steps.specs.Steps.{act_of, condvar_does, condvar_goes, is_idle, mutex_does, mutex_goes}
 use Rattle.lot_steps.specs.Steps.{next_act, next_place, once_does, once_goes, owners_after, rwlock_does}
 use Rattle.lot_steps.specs.Steps.{rwlock_goes, semaphore_does, semaphore_goes, shares_after, taker, wants}
-use Rattle.lot_machine.specs.Machine.{State, after, after_steps, can_do, filled_at, go_of, go_outcome}
+use Rattle.lot_machine.specs.Machine.{State, after, can_do, filled_at, go_of, go_outcome}
 use Rattle.lot_machine.specs.Machine.{going_outcome, hand_over_told, held, held_by, is_possible, kind_at}
 use Rattle.lot_machine.specs.Machine.{owners_at, place_after_telling, place_at, put, reply_to, share_at}
 use Rattle.lot_machine.specs.Machine.{shares_at, shares_with, state_after_act, state_after_go}
 use Rattle.lot_machine.specs.Machine.{state_after_going, state_after_hand_over, state_after_hand_over_by}
 use Rattle.lot_machine.specs.Machine.{state_after_operation, state_after_telling, state_after_turn}
 use Rattle.lot_machine.specs.Machine.{step_outcome, turn_outcome, unlocked, with_word, word_at}
-use Rattle.lot_looks.specs.Looks.{FollowedBy, GoesWithoutMiss, LooksAtOnce, before_looks, finds_another}
-use Rattle.lot_looks.specs.Looks.{looked_from, misses, news}
-use Rattle.lot_looks.specs.Looks.{news_of, or_here, unlooked}
-use Rattle.lot_looks.proofs.Acted.{AllSane, acted_sane, acted_so, set_sane, shares_so, given_so, helds_so}
-use Rattle.lot_looks.proofs.Acted.{operation_so, place_so, put_so, successor_so}
+use Rattle.lot_looks.specs.Looks.{finds_another, has_decided, is_exchange, leads_to_exchange, looked_from}
+use Rattle.lot_looks.specs.Looks.{looks, looks_by, misses, or_here}
+use Rattle.lot_looks.proofs.Acted.{AllSane, acted_sane, acted_so, before, free_kept, given_so, helds_so, kept}
+use Rattle.lot_looks.proofs.Acted.{kept_length, operation_so, place_so, put_so, set_sane, shares_so, successor_so}
 use Rattle.lot_looks.proofs.Places.{GoesBy, GoesByLook, IsLook, IsSane, goes_so}
 use Rattle.lot_looks.proofs.Rows.{exchange_by}
 use Rattle.lot_machine.proofs.Shape.{performed_counts}
@@ -156,49 +155,46 @@ operation_put w t p q l f = ap
 
 -- ---------------------------------------------------------------- turns that come to the same
 
--- turns of a thread, taken where no thread has looked, come to the same, and tell this
-pub record Comes (w v : State) (t : ℕ) (told : Outcome) : Type 0 where
-  pub steps : List Step
-  pub hits : GoesWithoutMiss (before_looks w) steps
-  -- each look among them is followed at once by its exchange
-  pub at_once : looked_from (place_at (before_looks v) t) ≡ None → LooksAtOnce (before_looks w) steps
-  pub leads : after_steps (before_looks w) steps ≡ before_looks v
-  pub tells : news (before_looks w) steps ≡ news_of t told
+-- nothing changes in the other run, and the thread is told that it goes on
+pub record Waits (b z : State) (told : Outcome) : Type 0 where
+  pub same : b ≡ z
+  pub goes_on : told ≡ outcome.Step
 
--- no turn is taken
-pub waits : (w v : State) (t : ℕ) (told : Outcome) → before_looks w ≡ before_looks v → news_of t told ≡ []
-    → Comes w v t told
-waits w v t told same none = record {
-  steps = [];
-  hits = tt;
-  at_once = λ free. tt;
-  leads = same;
-  tells = sym none;
+-- One step leads the other run there, and tells its thread the same. It is no look. But for a thread that stays as
+-- it is, it doesn't miss.
+pub record One (stays : Bool) (b z : State) (told : Outcome) (s : Step) : Type 0 where
+  pub possible : is_possible b s ≡ true
+  pub hit : stays ≡ false → misses b s ≡ false
+  pub alone : looks b s ≡ false
+  pub leads : after b s ≡ z
+  pub tells : step_outcome b s ≡ told
+
+-- a look and its exchange do
+pub record Two (b z : State) (t : ℕ) (told : Outcome) : Type 0 where
+  pub first : is_possible b (go_of t) ≡ true
+  pub first_hit : misses b (go_of t) ≡ false
+  pub looks : looks b (go_of t) ≡ true
+  pub first_tells : step_outcome b (go_of t) ≡ outcome.Step
+  pub second : is_possible (after b (go_of t)) (go_of t) ≡ true
+  pub second_hit : misses (after b (go_of t)) (go_of t) ≡ false
+  pub leads : after (after b (go_of t)) (go_of t) ≡ z
+  pub tells : step_outcome (after b (go_of t)) (go_of t) ≡ told
+
+-- a thread that goes on, or looks once more, goes on in the other run so
+abbrev pub Comes : Bool → State → State → ℕ → Outcome → Type 0
+Comes stays b z t told = Waits b z told ⊎ (One stays b z told (go_of t) ⊎ Two b z t told)
+
+-- one step is taken
+pub one_turn : (stays : Bool) (b z : State) (told : Outcome) (s : Step) → is_possible b s ≡ true
+    → (stays ≡ false → misses b s ≡ false) → looks b s ≡ false
+    → state_after_turn b s.thread s.turn ≡ z → turn_outcome b s.thread s.turn ≡ told → One stays b z told s
+one_turn stays b z told s possible hit alone leads tells = record {
+  possible = possible;
+  hit = hit;
+  alone = alone;
+  leads = rw possible leads;
+  tells = rw possible tells;
 }
-
--- nothing follows where it has not looked
-none_follows : (x v : State) (t : ℕ) → x ≡ before_looks v → looked_from (place_at (before_looks v) t) ≡ None
-    → FollowedBy (looked_from (place_at x t)) t []
-none_follows x v t led free = subst (λ o. FollowedBy o t []) (sym (ap (λ y. looked_from (place_at y t)) led ∙ free))
-    tt
-
-go_follows : (o : Option Place) (t : ℕ) (ss : List Step) → FollowedBy o t (go_of t ∷ ss)
-go_follows None t ss = tt
-go_follows (Some q) t ss = refl
-
--- one turn is
-pub one_turn : (w v : State) (told : Outcome) (s : Step) → is_possible (before_looks w) s ≡ true
-    → misses (before_looks w) s ≡ false
-    → state_after_turn (before_looks w) s.thread s.turn ≡ before_looks v
-    → turn_outcome (before_looks w) s.thread s.turn ≡ told → Comes w v s.thread told
-one_turn w v told s possible hit leads tells = let led : after (before_looks w) s ≡ before_looks v =
-    rw possible leads in record {
-      steps = s ∷ [];
-      hits = (possible, hit, tt);
-      at_once = λ free. (none_follows (after (before_looks w) s) v s.thread led free, tt);
-      leads = led;
-      tells = rw possible (ap (λ o. news_of s.thread o ++ []) tells ∙ append-nil (news_of s.thread told));
-    }
 
 pub go_possible : (w : State) (t : ℕ) → t < length w.places → can_do w (act_of (place_at w t)) ≡ true
     → is_possible w (go_of t) ≡ true
@@ -218,58 +214,69 @@ module _ (w : State) (t : ℕ) (p : Place) (is : place_at w t ≡ p) (l : ℕ) (
   told_by_word = ap (going_outcome w t) is
       ∙ rw does (ap (λ x. outcome_of (next_act x (Value (word_at w l)))) is)
 
+-- a thread that doesn't stay as it is, and has not looked, stands where it does
+pub here_so : (k : ℕ → Bool) (w : State) → AllSane k w.places → (t : ℕ) (p : Place) → place_at w t ≡ p
+    → looked_from p ≡ None → place_at (before k w) t ≡ p
+here_so k w all t p is free = place_so k w all t ∙ ap (kept (k t)) is ∙ free_kept (k t) p free
+
+-- one that has looked stands where it looked
+pub back_so : (k : ℕ → Bool) (w : State) → AllSane k w.places → (t : ℕ) (p q : Place) → k t ≡ false
+    → place_at w t ≡ p → looked_from p ≡ Some q → place_at (before k w) t ≡ q
+back_so k w all t p q off is looked = place_so k w all t ∙ ap (kept (k t)) is ∙ ap (λ b. kept b p) off
+    ∙ ap (λ o. or_here o p) looked
+
+pub there_so : (k : ℕ → Bool) (w : State) (t : ℕ) → t < length w.places → t < length (before k w).places
+there_so k w t there = rw (kept_length k w.places) there
+
 -- a look is a turn where it leads on, and none where it leads to an exchange
-pub look_goes : (w : State) (t : ℕ) (q : Place) (l : ℕ) → AllSane w.places → AllNoted w → t < length w.places
-    → place_at w t ≡ q
-    → looked_from q ≡ None → act_of q ≡ act.Word l Load → IsSane (next_place q (Value (word_at w l)))
+pub look_goes : (k : ℕ → Bool) (w : State) (t : ℕ) (q : Place) (l : ℕ) → k t ≡ false → AllSane k w.places
+    → AllNoted w → t < length w.places → place_at w t ≡ q → looked_from q ≡ None → act_of q ≡ act.Word l Load
+    → IsSane (next_place q (Value (word_at w l)))
+    → (looked_from (next_place q (Value (word_at w l))) ≡ None → leads_to_exchange q (word_at w l) ≡ false)
     → (looked_from (next_place q (Value (word_at w l))) ≡ None) ⊎ IsLook q (word_at w l)
-    → Comes w (state_after_go w t) t (go_outcome w t)
-look_goes w t q l all noted there is free load sane leads = by_lead leads
+    → Comes (k t) (before k w) (before k (state_after_go w t)) t (go_outcome w t)
+look_goes k w t q l off all noted there is free load sane plain leads = by_lead leads
   where
-    here : place_at (before_looks w) t ≡ q
-    here = place_so w all t ∙ ap unlooked is ∙ ap (λ o. or_here o q) free
+    here : place_at (before k w) t ≡ q
+    here = here_so k w all t q is free
 
     by_lead : (looked_from (next_place q (Value (word_at w l))) ≡ None) ⊎ IsLook q (word_at w l)
-        → Comes w (state_after_go w t) t (go_outcome w t)
-    by_lead (inl none) = one_turn w (state_after_go w t) (go_outcome w t) (go_of t)
-        (go_possible (before_looks w) t (rw (length-map w.places unlooked) there) (rw (here, load) refl))
-        (rw (here, free) refl)
-        (went_by_word (before_looks w) t q here l Load load
-        ∙ ap (λ x. put x t (next_place q (Value (word_at w l)))) (operation_so w all t q l Load)
-        ∙ ap (put (before_looks (state_after_operation w t q l Load)) t)
-        (sym (ap (λ o. or_here o (next_place q (Value (word_at w l)))) none))
-        ∙ put_so (state_after_operation w t q l Load) all t (next_place q (Value (word_at w l)))
-        ∙ ap before_looks (sym (went_by_word w t q is l Load load)))
-        (told_by_word (before_looks w) t q here l Load load ∙ sym (told_by_word w t q is l Load load))
-    by_lead (inr look) = waits w (state_after_go w t) t (go_outcome w t)
-        (sym (ap before_looks (went_by_word w t q is l Load load
-        ∙ ap (λ x. put x t (next_place q (Value (word_at w l)))) (nothing_done w noted t q l Load refl
-        (look.owners t (owners_at w l)) (look.shares (share_at w l t))))
-        ∙ sym (put_so w all t (next_place q (Value (word_at w l))))
-        ∙ ap (λ o. put (before_looks w) t (or_here o (next_place q (Value (word_at w l))))) look.again
-        ∙ put_here (before_looks w) t q here))
-        (ap (news_of t) (told_by_word w t q is l Load load ∙ looked_goes_on q q (Value (word_at w l)) sane
-        look.again))
+        → Comes (k t) (before k w) (before k (state_after_go w t)) t (go_outcome w t)
+    by_lead (inl none) = inr (inl (one_turn (k t) (before k w) (before k (state_after_go w t)) (go_outcome w t)
+        (go_of t) (go_possible (before k w) t (there_so k w t there) (rw (here, load) refl))
+        (λ e. rw (here, free) refl)
+        (ap (λ p. looks_by (before k w) p (act_of p)) here ∙ ap (looks_by (before k w) q) load ∙ plain none)
+        (went_by_word (before k w) t q here l Load load
+        ∙ ap (λ x. put x t (next_place q (Value (word_at w l)))) (operation_so k w all t q l Load)
+        ∙ ap (put (before k (state_after_operation w t q l Load)) t)
+        (sym (free_kept (k t) (next_place q (Value (word_at w l))) none))
+        ∙ put_so k (state_after_operation w t q l Load) all t (next_place q (Value (word_at w l)))
+        ∙ ap (before k) (sym (went_by_word w t q is l Load load)))
+        (told_by_word (before k w) t q here l Load load ∙ sym (told_by_word w t q is l Load load))))
+    by_lead (inr look) = inl (record {
+      same = sym (ap (before k) (went_by_word w t q is l Load load
+          ∙ ap (λ x. put x t (next_place q (Value (word_at w l)))) (nothing_done w noted t q l Load refl
+          (look.owners t (owners_at w l)) (look.shares (share_at w l t))))
+          ∙ sym (put_so k w all t (next_place q (Value (word_at w l))))
+          ∙ ap (λ b. put (before k w) t (kept b (next_place q (Value (word_at w l))))) off
+          ∙ ap (λ o. put (before k w) t (or_here o (next_place q (Value (word_at w l))))) look.again
+          ∙ put_here (before k w) t q here);
+      goes_on = told_by_word w t q is l Load load ∙ looked_goes_on q q (Value (word_at w l)) sane look.again;
+    })
 
--- turns lead on alike from states that are the same where no thread has looked
-pub moved : (w w2 v v2 : State) (t : ℕ) (told told2 : Outcome) → before_looks w2 ≡ before_looks w → v2 ≡ v
-    → told2 ≡ told → Comes w2 v2 t told2 → Comes w v t told
-moved w w2 v v2 t told told2 from to same comes = record {
-  steps = comes.steps;
-  hits = subst (λ x. GoesWithoutMiss x comes.steps) from comes.hits;
-  at_once = λ free. subst (λ x. LooksAtOnce x comes.steps) from
-      (comes.at_once (ap (λ x. looked_from (place_at (before_looks x) t)) to ∙ free));
-  leads = ap (λ x. after_steps x comes.steps) (sym from) ∙ comes.leads ∙ ap before_looks to;
-  tells = ap (λ x. news x comes.steps) (sym from) ∙ comes.tells ∙ ap (news_of t) same;
-}
+-- turns lead on alike from states that are the same
+pub moved : (stays : Bool) (b c y z : State) (t : ℕ) (told told2 : Outcome) → c ≡ b → y ≡ z → told2 ≡ told
+    → Comes stays c y t told2 → Comes stays b z t told
+moved stays b c y z t told told2 from to same comes = subst (λ x. Comes stays x z t told) from
+    (subst (λ x. Comes stays c x t told) to (subst (Comes stays c y t) same comes))
 
 -- ---------------------------------------------------------------- an exchange by a look
 
 exchange_missed : (from to v : ℕ) → (v == from) ≡ false → apply (Exchange from to) v ≡ v
 exchange_missed from to v other = rw other refl
 
-module _ (w : State) (t : ℕ) (p q : Place) (all : AllSane w.places) (noted : AllNoted w)
-    (there : t < length w.places) (is : place_at w t ≡ p)
+module _ (k : ℕ → Bool) (w : State) (t : ℕ) (p q : Place) (off : k t ≡ false) (all : AllSane k w.places)
+    (noted : AllNoted w) (there : t < length w.places) (is : place_at w t ≡ p)
     (looked : looked_from p ≡ Some q) (h : GoesByLook p q) where
   abbrev v : ℕ
   v = word_at w h.lock
@@ -277,21 +284,22 @@ module _ (w : State) (t : ℕ) (p q : Place) (all : AllSane w.places) (noted : A
   abbrev exchange : Op
   exchange = Exchange h.from h.to
 
-  here : place_at (before_looks w) t ≡ q
-  here = place_so w all t ∙ ap unlooked is ∙ ap (λ o. or_here o p) looked
+  here : place_at (before k w) t ≡ q
+  here = back_so k w all t p q off is looked
 
   -- the thread stands where it looked
-  pub back : before_looks (put w t q) ≡ before_looks w
-  back = sym (put_so w all t q) ∙ ap (λ o. put (before_looks w) t (or_here o q)) h.unlooked
-      ∙ put_here (before_looks w) t q here
+  pub back : before k (put w t q) ≡ before k w
+  back = sym (put_so k w all t q) ∙ ap (put (before k w) t) (free_kept (k t) q h.unlooked)
+      ∙ put_here (before k w) t q here
 
   -- looks once more
-  pub looks_again : IsSane (next_place q (Value v)) → Comes w (state_after_go (put w t q) t) t
-      (go_outcome (put w t q) t)
-  looks_again sane = moved w (put w t q) (state_after_go (put w t q) t) (state_after_go (put w t q) t) t
-      (go_outcome (put w t q) t) (go_outcome (put w t q) t) back refl refl
-      (look_goes (put w t q) t q h.lock (set_sane w.places t q all h.sound) noted
-      (rw (length-set w.places t q) there) (there_now w t q there) h.unlooked h.load sane (h.leads v))
+  pub looks_again : IsSane (next_place q (Value v))
+      → (looked_from (next_place q (Value v)) ≡ None → leads_to_exchange q v ≡ false)
+      → Comes (k t) (before k w) (before k (state_after_go (put w t q) t)) t (go_outcome (put w t q) t)
+  looks_again sane plain = moved (k t) (before k w) (before k (put w t q)) (before k (state_after_go (put w t q) t))
+      (before k (state_after_go (put w t q) t)) t (go_outcome (put w t q) t) (go_outcome (put w t q) t) back refl refl
+      (look_goes k (put w t q) t q h.lock off (set_sane k w.places t q all (λ e. h.sound)) noted
+      (rw (length-set w.places t q) there) (there_now w t q there) h.unlooked h.load sane plain (h.leads v))
 
   -- ---------------------------------------------------------------- it misses
 
@@ -342,16 +350,19 @@ module _ (w : State) (t : ℕ) (p q : Place) (all : AllSane w.places) (noted : A
     missed_tells = (went_missed h.hands h.exchange).1 ∙ ap outcome_of (h.misses v other).act
         ∙ sym (told_by_word (put w t q) t q (there_now w t q there) h.lock Load h.load)
 
-    pub misses_so : IsSane (next_place q (Value v)) → Comes w (state_after_go w t) t (go_outcome w t)
-    misses_so sane = moved w w (state_after_go w t) (state_after_go (put w t q) t) t (go_outcome w t)
-        (go_outcome (put w t q) t) refl (sym missed_leads) (sym missed_tells) (looks_again sane)
+    pub misses_so : IsSane (next_place q (Value v))
+        → (looked_from (next_place q (Value v)) ≡ None → leads_to_exchange q v ≡ false)
+        → Comes (k t) (before k w) (before k (state_after_go w t)) t (go_outcome w t)
+    misses_so sane plain = moved (k t) (before k w) (before k w) (before k (state_after_go (put w t q) t))
+        (before k (state_after_go w t)) t (go_outcome w t) (go_outcome (put w t q) t) refl
+        (ap (before k) (sym missed_leads)) (sym missed_tells) (looks_again sane plain)
 
   -- ---------------------------------------------------------------- it succeeds
 
   module _ (sane : IsSane p) (own : place_at (state_after_act w t p (act_of p)) t ≡ p) (same : (v == h.from)
       ≡ true) where
     abbrev x : State
-    x = put (before_looks w) t p
+    x = put (before k w) t p
 
     -- the thread takes its look now
     abbrev V : State
@@ -363,67 +374,64 @@ module _ (w : State) (t : ℕ) (p q : Place) (all : AllSane w.places) (noted : A
     sees_now : next_place q (Value v) ≡ p
     sees_now = ap (λ n. next_place q (Value n)) at_from ∙ h.sees
 
-    first_leads : state_after_go (before_looks w) t ≡ x
-    first_leads = went_by_word (before_looks w) t q here h.lock Load h.load
-        ∙ ap (λ y. put y t (next_place q (Value v))) (operation_so w all t q h.lock Load
-        ∙ ap before_looks (nothing_done w noted t q h.lock Load refl
+    first_leads : state_after_go (before k w) t ≡ x
+    first_leads = went_by_word (before k w) t q here h.lock Load h.load
+        ∙ ap (λ y. put y t (next_place q (Value v))) (operation_so k w all t q h.lock Load
+        ∙ ap (before k) (nothing_done w noted t q h.lock Load refl
         (subst (λ n. owners_after q t n (owners_at w h.lock) ≡ owners_at w h.lock) (sym at_from)
         (h.looks.owners t (owners_at w h.lock)))
         (subst (λ n. shares_after q n (share_at w h.lock t) ≡ None) (sym at_from)
         (h.looks.shares (share_at w h.lock t)))))
-        ∙ ap (put (before_looks w) t) sees_now
+        ∙ ap (put (before k w) t) sees_now
 
-    first_tells : go_outcome (before_looks w) t ≡ outcome.Step
-    first_tells = told_by_word (before_looks w) t q here h.lock Load h.load
+    first_tells : go_outcome (before k w) t ≡ outcome.Step
+    first_tells = told_by_word (before k w) t q here h.lock Load h.load
         ∙ looked_goes_on q q (Value v) (subst IsSane (sym sees_now) sane) (ap looked_from sees_now ∙ looked)
 
-    size : length (before_looks w).places ≡ length w.places
-    size = length-map w.places unlooked
+    there_too : t < length (before k w).places
+    there_too = there_so k w t there
 
-    there_too : t < length (before_looks w).places
-    there_too = rw size there
+    first_possible : is_possible (before k w) (go_of t) ≡ true
+    first_possible = go_possible (before k w) t there_too (rw (here, h.load) refl)
 
-    first_possible : is_possible (before_looks w) (go_of t) ≡ true
-    first_possible = go_possible (before_looks w) t there_too (rw (here, h.load) refl)
-
-    first_hits : misses (before_looks w) (go_of t) ≡ false
+    first_hits : misses (before k w) (go_of t) ≡ false
     first_hits = rw (here, h.unlooked) refl
 
-    after_first : after (before_looks w) (go_of t) ≡ x
+    after_first : after (before k w) (go_of t) ≡ x
     after_first = rw first_possible first_leads
 
     -- ---------------------------------------------------------------- then it exchanges
 
     x_place : place_at x t ≡ p
-    x_place = there_now (before_looks w) t p there_too
+    x_place = there_now (before k w) t p there_too
 
     held_same : held p ≡ held q
     held_same = ap (λ u. held_by u (wants p)) h.taker ∙ ap (held_by (taker q)) h.wants
 
-    x_helds : map held x.places ≡ map held (before_looks w).places
-    x_helds = map-set_same held (before_looks w).places t p Idle (held_same ∙ ap held (sym here))
+    x_helds : map held x.places ≡ map held (before k w).places
+    x_helds = map-set_same held (before k w).places t p Idle (held_same ∙ ap held (sym here))
 
-    x_shares : shares_at x h.lock ≡ shares_at (before_looks w) h.lock
-    x_shares = ap (λ n. get_or w.shares h.lock (replicate n 0)) (length-set (before_looks w).places t p)
+    x_shares : shares_at x h.lock ≡ shares_at (before k w) h.lock
+    x_shares = ap (λ n. get_or w.shares h.lock (replicate n 0)) (length-set (before k w).places t p)
 
     x_hands : state_after_hand_over x t p h.lock exchange
-        ≡ put (state_after_hand_over (before_looks w) t p h.lock exchange) t p
+        ≡ put (state_after_hand_over (before k w) t p h.lock exchange) t p
     x_hands = rw (
       x_shares,
-      given_so t x.places (before_looks w).places (shares_at (before_looks w) h.lock)
+      given_so t x.places (before k w).places (shares_at (before k w) h.lock)
           x_helds,
-      successor_so t 0 x.places (before_looks w).places x_helds,
+      successor_so t 0 x.places (before k w).places x_helds,
     ) refl
 
-    x_told : hand_over_told x t h.lock ≡ hand_over_told (before_looks w) t h.lock
+    x_told : hand_over_told x t h.lock ≡ hand_over_told (before k w) t h.lock
     x_told = rw (
       x_shares,
-      given_so t x.places (before_looks w).places (shares_at (before_looks w) h.lock)
+      given_so t x.places (before k w).places (shares_at (before k w) h.lock)
           x_helds,
     ) refl
 
     abbrev told : Reply
-    told = hand_over_told (before_looks w) t h.lock
+    told = hand_over_told (before k w) t h.lock
 
     owns : place_at V t ≡ p
     owns = ap (λ a. place_at (state_after_act w t p a) t) (sym h.exchange) ∙ own
@@ -434,16 +442,16 @@ module _ (w : State) (t : ℕ) (p q : Place) (all : AllSane w.places) (noted : A
           (state_after_hand_over w t p h.lock exchange) t (hand_over_told w t h.lock)
       gives = ap (λ e. state_after_hand_over_by e w t p h.lock exchange) same
 
-      gives_before : state_after_telling (state_after_hand_over (before_looks w) t p h.lock exchange) t told
-          ≡ before_looks (state_after_act w t p (act.HandOver h.lock exchange))
-      gives_before = sym (ap (λ e. state_after_hand_over_by e (before_looks w) t p h.lock exchange) same)
-          ∙ acted_so w all t p (act.HandOver h.lock exchange)
+      gives_before : state_after_telling (state_after_hand_over (before k w) t p h.lock exchange) t told
+          ≡ before k (state_after_act w t p (act.HandOver h.lock exchange))
+      gives_before = sym (ap (λ e. state_after_hand_over_by e (before k w) t p h.lock exchange) same)
+          ∙ acted_so k w all t p (act.HandOver h.lock exchange)
 
       told_same : told ≡ hand_over_told w t h.lock
       told_same = rw (
-        shares_so w all h.lock,
-        given_so t (before_looks w).places w.places (shares_at w h.lock)
-            (helds_so w.places all),
+        shares_so k w all h.lock,
+        given_so t (before k w).places w.places (shares_at w h.lock)
+            (helds_so k w.places all),
       ) refl
 
       deaf : place_after_telling t told p ≡ p
@@ -455,24 +463,24 @@ module _ (w : State) (t : ℕ) (p q : Place) (all : AllSane w.places) (noted : A
           ∙ owns
 
       x_gives : state_after_act x t p (act.HandOver h.lock exchange)
-          ≡ put (before_looks (state_after_act w t p (act.HandOver h.lock exchange))) t p
+          ≡ put (before k (state_after_act w t p (act.HandOver h.lock exchange))) t p
       x_gives = ap (λ e. state_after_hand_over_by e x t p h.lock exchange) same
           ∙ ap (λ y. state_after_telling y t (hand_over_told x t h.lock)) x_hands
-          ∙ ap (state_after_telling (put (state_after_hand_over (before_looks w) t p h.lock exchange) t p) t)
+          ∙ ap (state_after_telling (put (state_after_hand_over (before k w) t p h.lock exchange) t p) t)
           x_told
-          ∙ ap (λ ps. record (state_after_hand_over (before_looks w) t p h.lock exchange) { places = ps })
-          (map-set (place_after_telling t told) (before_looks w).places t p)
-          ∙ ap (put (state_after_telling (state_after_hand_over (before_looks w) t p h.lock exchange) t told)
+          ∙ ap (λ ps. record (state_after_hand_over (before k w) t p h.lock exchange) { places = ps })
+          (map-set (place_after_telling t told) (before k w).places t p)
+          ∙ ap (put (state_after_telling (state_after_hand_over (before k w) t p h.lock exchange) t told)
           t) deaf
           ∙ ap (λ y. put y t p) gives_before
 
-    x_acts : state_after_act x t p (exchange_by h.hands h.lock h.from h.to) ≡ put (before_looks V) t p
+    x_acts : state_after_act x t p (exchange_by h.hands h.lock h.from h.to) ≡ put (before k V) t p
     x_acts = by_hands h.hands refl
       where
         by_hands : (b : Bool) → h.hands ≡ b → state_after_act x t p (exchange_by b h.lock h.from h.to)
-            ≡ put (before_looks (state_after_act w t p (exchange_by b h.lock h.from h.to))) t p
-        by_hands false e = operation_put (before_looks w) t p p h.lock exchange
-            ∙ ap (λ y. put y t p) (operation_so w all t p h.lock exchange)
+            ≡ put (before k (state_after_act w t p (exchange_by b h.lock h.from h.to))) t p
+        by_hands false e = operation_put (before k w) t p p h.lock exchange
+            ∙ ap (λ y. put y t p) (operation_so k w all t p h.lock exchange)
         by_hands true e = x_gives e
 
     tells_value : (y : State) (b : Bool) → word_at y h.lock ≡ v
@@ -483,28 +491,28 @@ module _ (w : State) (t : ℕ) (p q : Place) (all : AllSane w.places) (noted : A
     hit_none : looked_from (next_place p (Value v)) ≡ None
     hit_none = ap (λ u. looked_from (next_place p (Value u))) at_from ∙ h.hits
 
-    V_there : t < length (before_looks V).places
+    V_there : t < length (before k V).places
     V_there = rw (
-      length-map V.places unlooked,
+      kept_length k V.places,
       (performed_counts w t p (exchange_by h.hands h.lock h.from h.to)).0,
     ) there
 
-    x_owns : place_at (put (before_looks V) t p) t ≡ p
-    x_owns = there_now (before_looks V) t p V_there
+    x_owns : place_at (put (before k V) t p) t ≡ p
+    x_owns = there_now (before k V) t p V_there
 
-    second_leads : state_after_go x t ≡ before_looks (state_after_go w t)
+    second_leads : state_after_go x t ≡ before k (state_after_go w t)
     second_leads = ap (state_after_going x t) x_place
         ∙ ap (λ a. put (state_after_act x t p a) t (next_place (place_at (state_after_act x t p a) t)
         (reply_to x t a))) h.exchange
         ∙ ap (λ y. put y t (next_place (place_at y t)
         (reply_to x t (exchange_by h.hands h.lock h.from h.to)))) x_acts
-        ∙ ap (λ r. put (put (before_looks V) t p) t (next_place (place_at (put (before_looks V) t p) t) r))
+        ∙ ap (λ r. put (put (before k V) t p) t (next_place (place_at (put (before k V) t p) t) r))
         (tells_value x h.hands refl)
-        ∙ ap (λ y. put (put (before_looks V) t p) t (next_place y (Value v))) x_owns
-        ∙ put_put (before_looks V) t p (next_place p (Value v))
-        ∙ ap (λ o. put (before_looks V) t (or_here o (next_place p (Value v)))) (sym hit_none)
-        ∙ put_so V (acted_sane w all t p (exchange_by h.hands h.lock h.from h.to)) t (next_place p (Value v))
-        ∙ ap before_looks (sym (ap (state_after_going w t) is
+        ∙ ap (λ y. put (put (before k V) t p) t (next_place y (Value v))) x_owns
+        ∙ put_put (before k V) t p (next_place p (Value v))
+        ∙ ap (put (before k V) t) (sym (free_kept (k t) (next_place p (Value v)) hit_none))
+        ∙ put_so k V (acted_sane k w all t p (exchange_by h.hands h.lock h.from h.to)) t (next_place p (Value v))
+        ∙ ap (before k) (sym (ap (state_after_going w t) is
         ∙ ap (λ a. put (state_after_act w t p a) t (next_place (place_at (state_after_act w t p a) t)
         (reply_to w t a))) h.exchange
         ∙ ap (λ r. put V t (next_place (place_at V t) r)) (tells_value w h.hands refl)
@@ -515,7 +523,7 @@ module _ (w : State) (t : ℕ) (p q : Place) (all : AllSane w.places) (noted : A
         ∙ ap (λ a. outcome_of (next_act (place_at (state_after_act x t p a) t) (reply_to x t a))) h.exchange
         ∙ ap (λ y. outcome_of
         (next_act (place_at y t) (reply_to x t (exchange_by h.hands h.lock h.from h.to)))) x_acts
-        ∙ ap (λ r. outcome_of (next_act (place_at (put (before_looks V) t p) t) r))
+        ∙ ap (λ r. outcome_of (next_act (place_at (put (before k V) t p) t) r))
         (tells_value x h.hands refl)
         ∙ ap (λ y. outcome_of (next_act y (Value v))) x_owns
         ∙ sym (ap (going_outcome w t) is
@@ -528,7 +536,7 @@ module _ (w : State) (t : ℕ) (p q : Place) (all : AllSane w.places) (noted : A
     can_exchange false = refl
 
     second_possible : is_possible x (go_of t) ≡ true
-    second_possible = go_possible x t (rw (length-set (before_looks w).places t p) there_too)
+    second_possible = go_possible x t (rw (length-set (before k w).places t p) there_too)
         (rw (x_place, h.exchange) (can_exchange h.hands))
 
     finds_it : (b : Bool) → finds_another x (exchange_by b h.lock h.from h.to) ≡ false
@@ -538,32 +546,29 @@ module _ (w : State) (t : ℕ) (p q : Place) (all : AllSane w.places) (noted : A
     second_hits : misses x (go_of t) ≡ false
     second_hits = rw (x_place, looked, h.exchange) (finds_it h.hands)
 
-    first_outcome : step_outcome (before_looks w) (go_of t) ≡ outcome.Step
+    first_outcome : step_outcome (before k w) (go_of t) ≡ outcome.Step
     first_outcome = rw first_possible first_tells
 
-    last_leads : after x (go_of t) ≡ before_looks (state_after_go w t)
-    last_leads = rw second_possible second_leads
+    -- it has not decided where it looks
+    is_look : has_decided q ≡ false → looks (before k w) (go_of t) ≡ true
+    is_look undecided = ap (λ y. looks_by (before k w) y (act_of y)) here ∙ ap (looks_by (before k w) q) h.load
+        ∙ ap (λ y. not (has_decided q) && is_exchange (act_of y)) sees_now
+        ∙ ap (λ d. not d && is_exchange (act_of p)) undecided ∙ ap is_exchange h.exchange
+        ∙ by_hands_exchange h.hands
+      where
+        by_hands_exchange : (b : Bool) → is_exchange (exchange_by b h.lock h.from h.to) ≡ true
+        by_hands_exchange true = refl
+        by_hands_exchange false = refl
 
-    last_news : news x (go_of t ∷ []) ≡ news_of t (go_outcome w t)
-    last_news = rw second_possible (ap (λ o. news_of t o ++ []) second_tells
-        ∙ append-nil (news_of t (go_outcome w t)))
-
-    pub hits_so : Comes w (state_after_go w t) t (go_outcome w t)
-    hits_so = record {
-      steps = go_of t ∷ go_of t ∷ [];
-      hits = (
-        first_possible,
-        first_hits,
-        subst (λ y. GoesWithoutMiss y (go_of t ∷ [])) (sym after_first)
-            (second_possible, second_hits, tt),
-      );
-      at_once = λ free. (
-        go_follows (looked_from (place_at (after (before_looks w) (go_of t)) t)) t [],
-        subst (λ y. LooksAtOnce y (go_of t ∷ [])) (sym after_first)
-            (none_follows (after x (go_of t)) (state_after_go w t) t last_leads free, tt),
-      );
-      leads = ap (λ y. after y (go_of t)) after_first ∙ last_leads;
-      tells = ap (λ o. news_of t o ++ news (after (before_looks w) (go_of t)) (go_of t ∷ [])) first_outcome
-          ∙ ap (λ y. news y (go_of t ∷ [])) after_first
-          ∙ last_news;
-    }
+    pub hits_so : has_decided q ≡ false
+        → Comes (k t) (before k w) (before k (state_after_go w t)) t (go_outcome w t)
+    hits_so undecided = inr (inr (record {
+      first = first_possible;
+      first_hit = first_hits;
+      looks = is_look undecided;
+      first_tells = first_outcome;
+      second = ap (λ y. is_possible y (go_of t)) after_first ∙ second_possible;
+      second_hit = ap (λ y. misses y (go_of t)) after_first ∙ second_hits;
+      leads = ap (λ y. after y (go_of t)) after_first ∙ rw second_possible second_leads;
+      tells = ap (λ y. step_outcome y (go_of t)) after_first ∙ rw second_possible second_tells;
+    }))

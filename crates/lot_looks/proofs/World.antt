@@ -1,7 +1,7 @@
 -- Each turn of a world, taken where no thread has looked for its exchange.
 use Rattle.std.proofs.Common.{ℕ, Bool, true, false, Option, Some, None, ◌==◌, ◌^◌, ◌||◌, ◌≡◌, ◌<◌, ◌⊎◌, inl}
 use Rattle.std.proofs.Common.{inr, length, refl, sym, ◌∙◌, ap, subst, get_or-set_same}
-use Rattle.std.proofs.lemmas.List.{length-map}
+use Rattle.core_base.specs.declared.ops.Op.TheVariants as op
 use Rattle.core_base.specs.declared.ops.Op.TheVariants.{Load}
 use Rattle.steps_base.specs.declared.acts.Act.{Act}
 use Rattle.steps_base.specs.declared.acts.Act.TheVariants as act
@@ -22,25 +22,29 @@ use Rattle.lot_steps.specs.declared.places.Place.{Place}
 use Rattle.lot_steps.specs.declared.places.Place.TheVariants.{Idle, Mutex, RwLock, Once, Condvar, Semaphore}
 use Rattle.lot_steps.specs.Steps.{act_of, in_condvar, in_mutex, in_once, in_rwlock, in_semaphore, next_act}
 use Rattle.lot_steps.specs.Steps.{next_place}
-use Rattle.lot_machine.specs.Machine.{State, can_do, filled_at, go_of, go_outcome, going_outcome, place_at}
+use Rattle.spec_locks.specs.declared.outcomes.Outcome.{Outcome}
+use Rattle.lot_machine.proofs.Shape.{performed_counts}
+use Rattle.lot_machine.specs.Machine.{State, after, is_possible, can_do, filled_at, go_of, go_outcome, going_outcome, place_at}
 use Rattle.lot_machine.specs.Machine.{put, reply_to, state_after_act, state_after_go, state_after_going}
 use Rattle.lot_machine.specs.Machine.{word_at}
 use Rattle.lot_machine.proofs.Closures.{IsOwn, call_own}
 use Rattle.lot_laws.specs.SitesOf.{FitsItsLock, IsInductive, IsWorld, rules_in, site_of}
 use Rattle.lot_laws.proofs.alone.RwLock.{word_small}
+use Rattle.lot_laws.proofs.alone.WorldRuns.{world_after}
 use Rattle.lot_laws.proofs.calls.OwnPlace.{stays_there}
 use Rattle.lot_laws.proofs.condvar.OwnStand.{IsStill, own_place}
 use Rattle.lot_laws.proofs.machine.Parts.{IsOfTwo, fits_two, single_or_two}
 use Rattle.lot_laws.proofs.sites.OneStep.{fills_by, noted}
-use Rattle.lot_looks.specs.Looks.{before_looks, call_looked, condvar_looked, looked_from, mutex_looked}
-use Rattle.lot_looks.specs.Looks.{once_looked, or_here, semaphore_looked, unlooked}
-use Rattle.lot_looks.proofs.Acted.{AllSane, acted_sane, acted_so, can_so, place_so, put_so, reply_so}
-use Rattle.lot_looks.proofs.Acted.{set_sane}
+use Rattle.lot_looks.specs.Looks.{MayBeAt, call_looked, condvar_looked, is_load, leads_to_exchange, looked_from, looks_by}
+use Rattle.lot_looks.specs.Looks.{misses, mutex_looked, once_looked, semaphore_looked}
+use Rattle.lot_looks.proofs.Acted.{AllSane, acted_sane, acted_so, before, can_so, free_kept, kept, place_so, put_so}
+use Rattle.lot_looks.proofs.Acted.{reply_so, set_sane}
+use Rattle.lot_looks.proofs.Loads.{leads_none, may_be, no_try, no_try_again, undecided}
 use Rattle.lot_looks.proofs.Places.{GoesBy, GoesByLook, GoesByNoLook, IsLook, IsSane, Tells, goes_so}
 use Rattle.lot_looks.proofs.Places.{stays_sane}
-use Rattle.lot_looks.proofs.Rows.{IsNoValue, IsOfWord}
-use Rattle.lot_looks.proofs.Turns.{AllNoted, Comes, go_possible, hits_so, look_goes, looks_again, misses_so}
-use Rattle.lot_looks.proofs.Turns.{one_turn, went_by_word}
+use Rattle.lot_looks.proofs.Rows.{IsNoValue, IsOfWord, exchange_by}
+use Rattle.lot_looks.proofs.Turns.{AllNoted, Comes, One, go_possible, here_so, hits_so, look_goes, looks_again, misses_so}
+use Rattle.lot_looks.proofs.Turns.{one_turn, there_so, went_by_word}
 
 -- ---------------------------------------------------------------- what a world says
 
@@ -180,48 +184,44 @@ module _ (w : State) (h : IsWorld w) (t : ℕ) (there : t < length w.places) whe
 
 -- ------------------------------------------------------------ a turn that is no look, and no exchange by one
 
--- from a place where its thread has not looked, to one that is no exchange by a look
-module _ (w : State) (t : ℕ) (p o : Place) (all : AllSane w.places) (is : place_at w t ≡ p)
-    (free : looked_from p ≡ None)
-    (own : place_at (state_after_act w t p (act_of p)) t ≡ o) (free_then : looked_from o ≡ None)
-    (none : looked_from (next_place o (reply_to w t (act_of p))) ≡ None) where
+-- from a place where its thread stands in both runs, to another
+module _ (k : ℕ → Bool) (w : State) (t : ℕ) (p o : Place) (all : AllSane k w.places) (is : place_at w t ≡ p)
+    (here : kept (k t) p ≡ p) (own : place_at (state_after_act w t p (act_of p)) t ≡ o) (here_then : kept (k t) o ≡ o)
+    (next : kept (k t) (next_place o (reply_to w t (act_of p))) ≡ next_place o (reply_to w t (act_of p))) where
   abbrev V : State
   V = state_after_act w t p (act_of p)
 
   abbrev r : Reply
   r = reply_to w t (act_of p)
 
-  plain_here : place_at (before_looks w) t ≡ p
-  plain_here = place_so w all t ∙ ap unlooked is ∙ ap (λ x. or_here x p) free
+  pub plain_here : place_at (before k w) t ≡ p
+  plain_here = place_so k w all t ∙ ap (kept (k t)) is ∙ here
 
-  V_place : place_at (before_looks V) t ≡ o
-  V_place = place_so V (acted_sane w all t p (act_of p)) t ∙ ap unlooked own ∙ ap (λ x. or_here x o) free_then
+  V_place : place_at (before k V) t ≡ o
+  V_place = place_so k V (acted_sane k w all t p (act_of p)) t ∙ ap (kept (k t)) own ∙ here_then
 
-  pub plain_leads : state_after_go (before_looks w) t ≡ before_looks (state_after_go w t)
-  plain_leads = ap (state_after_going (before_looks w) t) plain_here
-      ∙ ap (λ x. put x t (next_place (place_at x t) (reply_to (before_looks w) t (act_of p))))
-      (acted_so w all t p (act_of p))
-      ∙ ap (λ x. put (before_looks V) t (next_place (place_at (before_looks V) t) x))
-      (reply_so w all t (act_of p))
-      ∙ ap (λ x. put (before_looks V) t (next_place x r)) V_place
-      ∙ ap (λ x. put (before_looks V) t (or_here x (next_place o r))) (sym none)
-      ∙ put_so V (acted_sane w all t p (act_of p)) t (next_place o r)
-      ∙ ap before_looks (sym (ap (state_after_going w t) is ∙ ap (λ x. put V t (next_place x r)) own))
+  pub plain_leads : state_after_go (before k w) t ≡ before k (state_after_go w t)
+  plain_leads = ap (state_after_going (before k w) t) plain_here
+      ∙ ap (λ x. put x t (next_place (place_at x t) (reply_to (before k w) t (act_of p))))
+      (acted_so k w all t p (act_of p))
+      ∙ ap (λ x. put (before k V) t (next_place (place_at (before k V) t) x))
+      (reply_so k w all t (act_of p))
+      ∙ ap (λ x. put (before k V) t (next_place x r)) V_place
+      ∙ ap (put (before k V) t) (sym next)
+      ∙ put_so k V (acted_sane k w all t p (act_of p)) t (next_place o r)
+      ∙ ap (before k) (sym (ap (state_after_going w t) is ∙ ap (λ x. put V t (next_place x r)) own))
 
-  pub plain_tells : go_outcome (before_looks w) t ≡ go_outcome w t
-  plain_tells = ap (going_outcome (before_looks w) t) plain_here
-      ∙ ap (λ x. outcome_of (next_act (place_at x t) (reply_to (before_looks w) t (act_of p))))
-      (acted_so w all t p (act_of p))
-      ∙ ap (λ x. outcome_of (next_act (place_at (before_looks V) t) x)) (reply_so w all t (act_of p))
+  pub plain_tells : go_outcome (before k w) t ≡ go_outcome w t
+  plain_tells = ap (going_outcome (before k w) t) plain_here
+      ∙ ap (λ x. outcome_of (next_act (place_at x t) (reply_to (before k w) t (act_of p))))
+      (acted_so k w all t p (act_of p))
+      ∙ ap (λ x. outcome_of (next_act (place_at (before k V) t) x)) (reply_so k w all t (act_of p))
       ∙ ap (λ x. outcome_of (next_act x r)) V_place
       ∙ sym (ap (going_outcome w t) is ∙ ap (λ x. outcome_of (next_act x r)) own)
 
-  plain_goes : t < length w.places → can_do w (act_of p) ≡ true
-      → Comes w (state_after_go w t) t (go_outcome w t)
-  plain_goes there can = one_turn w (state_after_go w t) (go_outcome w t) (go_of t)
-      (go_possible (before_looks w) t (rw (length-map w.places unlooked) there)
-      (rw (plain_here, can_so w (act_of p), can) refl))
-      (rw (plain_here, free) refl) plain_leads plain_tells
+  pub plain_possible : t < length w.places → can_do w (act_of p) ≡ true → is_possible (before k w) (go_of t) ≡ true
+  plain_possible there can = go_possible (before k w) t (there_so k w t there)
+      (rw (plain_here, can_so k w (act_of p), can) refl)
 
 -- a reply tells a word's value, or none
 value_or : (w : State) (t : ℕ) (x : Act) → ((v : ℕ) × IsOfWord x × (reply_to w t x ≡ Value v))
@@ -236,9 +236,50 @@ value_or w t (act.Requeue from to how) = inr tt
 value_or w t (act.Remove key) = inr tt
 value_or w t x = inr tt
 
+-- what is no look, by its act
+pub alone_by : (w : State) (p : Place) (a : Act)
+    → ((l : ℕ) → a ≡ act.Word l Load → leads_to_exchange p (word_at w l) ≡ false) → looks_by w p a ≡ false
+alone_by w p (act.Word l Load) alone = alone l refl
+alone_by w p (act.Word l (op.Store value)) alone = refl
+alone_by w p (act.Word l (op.Swap value)) alone = refl
+alone_by w p (act.Word l (op.Add by)) alone = refl
+alone_by w p (act.Word l (op.Sub by)) alone = refl
+alone_by w p (act.Word l (op.Or bits)) alone = refl
+alone_by w p (act.Word l (op.And bits)) alone = refl
+alone_by w p (act.Word l (op.Exchange from to)) alone = refl
+alone_by w p a alone = refl
+
+-- a thread that stays as it is, and has looked or decided, takes the same step
+module _ (k : ℕ → Bool) (w : State) (all : AllSane k w.places) (t : ℕ) (there : t < length w.places)
+    (on : k t ≡ true) where
+  stays_as : (p : Place) → kept (k t) p ≡ p
+  stays_as p = ap (λ b. kept b p) on
+
+  pub stays_here : place_at (before k w) t ≡ place_at w t
+  stays_here = place_so k w all t ∙ stays_as (place_at w t)
+
+  abbrev after_own : Place
+  after_own = place_at (state_after_act w t (place_at w t) (act_of (place_at w t))) t
+
+  pub stays_goes : can_do w (act_of (place_at w t)) ≡ true
+      → looks_by (before k w) (place_at w t) (act_of (place_at w t)) ≡ false
+      → One (k t) (before k w) (before k (state_after_go w t)) (go_outcome w t) (go_of t)
+  stays_goes can alone =
+      let p = place_at w t in
+      one_turn (k t) (before k w) (before k (state_after_go w t)) (go_outcome w t) (go_of t)
+      (plain_possible k w t p after_own all refl (stays_as p) refl (stays_as after_own)
+      (stays_as (next_place after_own (reply_to w t (act_of p)))) there can)
+      (λ off. absurd (let never : true ≡ false = sym on ∙ off in cc))
+      (ap (λ q. looks_by (before k w) q (act_of q)) stays_here ∙ alone)
+      (plain_leads k w t p after_own all refl (stays_as p) refl (stays_as after_own)
+      (stays_as (next_place after_own (reply_to w t (act_of p)))))
+      (plain_tells k w t p after_own all refl (stays_as p) refl (stays_as after_own)
+      (stays_as (next_place after_own (reply_to w t (act_of p)))))
+
 -- ---------------------------------------------------------------- go
 
-module _ (w : State) (h : IsWorld w) (all : AllSane w.places) (t : ℕ) (there : t < length w.places) where
+module _ (k : ℕ → Bool) (w : State) (h : IsWorld w) (all : AllSane k w.places) (t : ℕ) (there : t < length w.places)
+    (off : k t ≡ false) where
   abbrev here : Place
   here = place_at w t
 
@@ -248,8 +289,11 @@ module _ (w : State) (h : IsWorld w) (all : AllSane w.places) (t : ℕ) (there :
   own_stays : StaysSo (place_at w t) then_own
   own_stays = stays w h t there
 
+  here_sane : IsSane (place_at w t)
+  here_sane = all t off
+
   own_sane : IsSane then_own
-  own_sane = acted_sane w all t (place_at w t) (act_of (place_at w t)) t
+  own_sane = acted_sane k w all t (place_at w t) (act_of (place_at w t)) t off
 
   abbrev told : Reply
   told = reply_to w t (act_of (place_at w t))
@@ -258,31 +302,67 @@ module _ (w : State) (h : IsWorld w) (all : AllSane w.places) (t : ℕ) (there :
   next_sane = stays_sane then_own told
       (own_stays.tells told (tells_own w t h.inductive (place_at w t) (h.inductive.stands.calls t))) own_sane
 
+  abbrev To : State → Outcome → Type 0
+  To v o = Comes (k t) (before k w) (before k v) t o
+
+  -- where it goes, it stands where it may
+  next_fits : can_do w (act_of (place_at w t)) ≡ true → MayBeAt (next_place then_own told)
+  next_fits can = may_be (after w (go_of t)) (next_place then_own told)
+      (subst (FitsItsLock (after w (go_of t))) place ((world_after w (go_of t) h).inductive.stands.calls t))
+    where
+      place : place_at (after w (go_of t)) t ≡ next_place then_own told
+      place = rw (go_possible w t there can) (get_or-set_same
+          (state_after_act w t (place_at w t) (act_of (place_at w t))).places t (next_place then_own told) Idle
+          (rw (performed_counts w t (place_at w t) (act_of (place_at w t))).0 there))
+
   -- the thread of the turn has not looked
   module _ (free : looked_from (place_at w t) ≡ None) (can : can_do w (act_of (place_at w t)) ≡ true) where
     own_by : GoesByNoLook then_own
     own_by = subst (GoesBy then_own) (own_stays.none free) (goes_so then_own own_sane)
 
     here_by : GoesByNoLook (place_at w t)
-    here_by = subst (GoesBy (place_at w t)) free (goes_so (place_at w t) (all t))
+    here_by = subst (GoesBy (place_at w t)) free (goes_so (place_at w t) here_sane)
 
-    plainly : looked_from (next_place then_own told) ≡ None → Comes w (state_after_go w t) t (go_outcome w t)
-    plainly none = plain_goes w t (place_at w t) then_own all refl free refl (own_stays.none free) none there
-        can
+    -- where it goes by a load, it stands as it did
+    load_then : (l : ℕ) → act_of (place_at w t) ≡ act.Word l Load
+        → next_place then_own told ≡ next_place (place_at w t) (Value (word_at w l))
+    load_then l load = ap (λ x. next_place (place_at (state_after_act w t (place_at w t) x) t) (reply_to w t x)) load
+
+    none_alone : (l : ℕ) → act_of (place_at w t) ≡ act.Word l Load
+        → looked_from (next_place (place_at w t) (Value (word_at w l))) ≡ None
+        → leads_to_exchange (place_at w t) (word_at w l) ≡ false
+    none_alone l load none = leads_none (place_at w t) (word_at w l)
+        (no_try w (place_at w t) (word_at w l) (h.inductive.stands.calls t) (ap is_load load))
+        (subst MayBeAt (load_then l load) (next_fits can)) none
+
+    plainly : looked_from (next_place then_own told) ≡ None → To (state_after_go w t) (go_outcome w t)
+    plainly none = inr (inl (one_turn (k t) (before k w) (before k (state_after_go w t)) (go_outcome w t) (go_of t)
+        (plain_possible k w t (place_at w t) then_own all refl (free_kept (k t) (place_at w t) free) refl
+        (free_kept (k t) then_own (own_stays.none free)) (free_kept (k t) (next_place then_own told) none) there can)
+        (λ e. rw (plain_at, free) refl)
+        (ap (λ q. looks_by (before k w) q (act_of q)) plain_at
+        ∙ alone_by (before k w) (place_at w t) (act_of (place_at w t))
+        (λ l load. none_alone l load (ap looked_from (sym (load_then l load)) ∙ none)))
+        (plain_leads k w t (place_at w t) then_own all refl (free_kept (k t) (place_at w t) free) refl
+        (free_kept (k t) then_own (own_stays.none free)) (free_kept (k t) (next_place then_own told) none))
+        (plain_tells k w t (place_at w t) then_own all refl (free_kept (k t) (place_at w t) free) refl
+        (free_kept (k t) then_own (own_stays.none free)) (free_kept (k t) (next_place then_own told) none))))
+      where
+        plain_at : place_at (before k w) t ≡ place_at w t
+        plain_at = here_so k w all t (place_at w t) refl free
 
     -- a look that leads to an exchange
-    looks_on : (v : ℕ) → told ≡ Value v → IsLook then_own v → Comes w (state_after_go w t) t (go_outcome w t)
+    looks_on : (v : ℕ) → told ≡ Value v → IsLook then_own v → To (state_after_go w t) (go_outcome w t)
     looks_on v told_so look = by_load (sym own_stays.does ∙ look.load)
       where
-        by_load : act_of (place_at w t) ≡ act.Word look.lock Load
-            → Comes w (state_after_go w t) t (go_outcome w t)
-        by_load load = look_goes w t (place_at w t) look.lock all (all_noted w h) there refl free load
+        by_load : act_of (place_at w t) ≡ act.Word look.lock Load → To (state_after_go w t) (go_outcome w t)
+        by_load load = look_goes k w t (place_at w t) look.lock off all (all_noted w h) there refl free load
             (stays_sane (place_at w t) (Value (word_at w look.lock))
             (subst (λ x. Tells (place_at w t) (reply_to w t x)) load (tells_own w t h.inductive (place_at w t)
-            (h.inductive.stands.calls t))) (all t))
+            (h.inductive.stands.calls t))) here_sane) (none_alone look.lock load)
             (here_by.acts (word_at w look.lock) (subst IsOfWord (sym load) tt))
 
-    pub goes_freely : Comes w (state_after_go w t) t (go_outcome w t)
+    pub goes_freely : To (state_after_go w t) (go_outcome w t)
     goes_freely = elim (value_or w t (act_of (place_at w t))) [
       | inl value ↦ by_lead value.0 value.2
           (own_by.acts value.0 (subst IsOfWord (sym own_stays.does) value.1))
@@ -290,51 +370,73 @@ module _ (w : State) (h : IsWorld w) (all : AllSane w.places) (t : ℕ) (there :
     ]
       where
         by_lead : (v : ℕ) → told ≡ Value v → (looked_from (next_place then_own (Value v)) ≡ None)
-            ⊎ IsLook then_own v → Comes w (state_after_go w t) t (go_outcome w t)
+            ⊎ IsLook then_own v → To (state_after_go w t) (go_outcome w t)
         by_lead v is (inl none) = plainly (ap (λ x. looked_from (next_place then_own x)) is ∙ none)
         by_lead v is (inr look) = looks_on v is look
 
   -- the thread of the turn has looked
   module _ (q : Place) (looked : looked_from (place_at w t) ≡ Some q) where
-    by_look : GoesByLook (place_at w t) q
-    by_look = subst (GoesBy (place_at w t)) looked (goes_so (place_at w t) (all t))
+    pub by_look : GoesByLook (place_at w t) q
+    by_look = subst (GoesBy (place_at w t)) looked (goes_so (place_at w t) here_sane)
 
     looked_sane : IsSane (next_place q (Value (word_at w by_look.lock)))
     looked_sane = stays_sane q (Value (word_at w by_look.lock)) (look_tells w h.inductive (place_at w t) q
         (h.inductive.stands.calls t) looked by_look.lock by_look.load) by_look.sound
 
-    pub goes_by_look : Comes w (state_after_go w t) t (go_outcome w t)
-    goes_by_look = by_word (word_at w by_look.lock == by_look.from) refl
+    plain : MayBeAt (next_place q (Value (word_at w by_look.lock)))
+        → looked_from (next_place q (Value (word_at w by_look.lock))) ≡ None
+        → leads_to_exchange q (word_at w by_look.lock) ≡ false
+    plain may none = leads_none q (word_at w by_look.lock)
+        (no_try_again w (place_at w t) q (word_at w by_look.lock) (h.inductive.stands.calls t) looked) may none
+
+    value_told : (b : Bool) → reply_to w t (exchange_by b by_look.lock by_look.from by_look.to)
+        ≡ Value (word_at w by_look.lock)
+    value_told true = refl
+    value_told false = refl
+
+    -- where it misses, it goes where another look leads
+    missed_then : (word_at w by_look.lock == by_look.from) ≡ false
+        → next_place then_own told ≡ next_place q (Value (word_at w by_look.lock))
+    missed_then other = ap (λ p. next_place p told) (own_stays.same q looked)
+        ∙ ap (λ x. next_place (place_at w t) (reply_to w t x)) by_look.exchange
+        ∙ ap (next_place (place_at w t)) (value_told by_look.hands)
+        ∙ (by_look.misses (word_at w by_look.lock) other).next
+
+    pub goes_by_look : can_do w (act_of (place_at w t)) ≡ true → To (state_after_go w t) (go_outcome w t)
+    goes_by_look can = by_word (word_at w by_look.lock == by_look.from) refl
       where
-        by_word : (b : Bool) → (word_at w by_look.lock == by_look.from) ≡ b
-            → Comes w (state_after_go w t) t (go_outcome w t)
-        by_word true same = hits_so w t (place_at w t) q all (all_noted w h) there refl looked by_look (all t)
-            (own_stays.same q looked) same
-        by_word false other = misses_so w t (place_at w t) q all (all_noted w h) there refl looked by_look
-            other looked_sane
+        by_word : (b : Bool) → (word_at w by_look.lock == by_look.from) ≡ b → To (state_after_go w t) (go_outcome w t)
+        by_word true same = hits_so k w t (place_at w t) q off all (all_noted w h) there refl looked by_look
+            here_sane (own_stays.same q looked) same (undecided q by_look.lock by_look.sound by_look.load)
+        by_word false other = misses_so k w t (place_at w t) q off all (all_noted w h) there refl looked by_look
+            other looked_sane (plain (subst MayBeAt (missed_then other) (next_fits can)))
 
-    pub looks_anew : Comes w (state_after_go (put w t q) t) t (go_outcome (put w t q) t)
-    looks_anew = looks_again w t (place_at w t) q all (all_noted w h) there refl looked by_look looked_sane
+    pub looks_anew : MayBeAt (next_place q (Value (word_at w by_look.lock)))
+        → To (state_after_go (put w t q) t) (go_outcome (put w t q) t)
+    looks_anew may = looks_again k w t (place_at w t) q off all (all_noted w h) there refl looked by_look looked_sane
+        (plain may)
 
-  pub goes_so_far : can_do w (act_of (place_at w t)) ≡ true → Comes w (state_after_go w t) t (go_outcome w t)
+  pub goes_so_far : can_do w (act_of (place_at w t)) ≡ true → To (state_after_go w t) (go_outcome w t)
   goes_so_far can = by_place (looked_from (place_at w t)) refl
     where
-      by_place : (o : Option Place) → looked_from (place_at w t) ≡ o
-          → Comes w (state_after_go w t) t (go_outcome w t)
+      by_place : (o : Option Place) → looked_from (place_at w t) ≡ o → To (state_after_go w t) (go_outcome w t)
       by_place None free = goes_freely free can
-      by_place (Some q) looked = goes_by_look q looked
+      by_place (Some q) looked = goes_by_look q looked can
 
-  -- ---------------------------------------------------------------- places stay sane
+-- ---------------------------------------------------------------- places stay sane
 
-  pub go_sane : AllSane (state_after_go w t).places
-  go_sane = set_sane (state_after_act w t (place_at w t) (act_of (place_at w t))).places t
-      (next_place then_own told)
-      (acted_sane w all t (place_at w t) (act_of (place_at w t))) next_sane
+module _ (k : ℕ → Bool) (w : State) (h : IsWorld w) (all : AllSane k w.places) (t : ℕ)
+    (there : t < length w.places) where
+  pub go_sane : AllSane k (state_after_go w t).places
+  go_sane = set_sane k (state_after_act w t (place_at w t) (act_of (place_at w t))).places t
+      (next_place (place_at (state_after_act w t (place_at w t) (act_of (place_at w t))) t)
+      (reply_to w t (act_of (place_at w t)))) (acted_sane k w all t (place_at w t) (act_of (place_at w t)))
+      (λ off. next_sane k w h all t there off)
 
-  pub look_sane : (q : Place) → looked_from (place_at w t) ≡ Some q
-      → AllSane (state_after_go (put w t q) t).places
-  look_sane q looked = let by = by_look q looked in
-      subst (λ v. AllSane v.places)
+  pub look_sane : (q : Place) → k t ≡ false → looked_from (place_at w t) ≡ Some q
+      → AllSane k (state_after_go (put w t q) t).places
+  look_sane q off looked = let by = by_look k w h all t there off q looked in
+      subst (λ v. AllSane k v.places)
       (sym (went_by_word (put w t q) t q (get_or-set_same w.places t q Idle there) by.lock Load by.load))
-      (set_sane (put w t q).places t (next_place q (Value (word_at w by.lock)))
-      (set_sane w.places t q all by.sound) (looked_sane q looked))
+      (set_sane k (put w t q).places t (next_place q (Value (word_at w by.lock)))
+      (set_sane k w.places t q all (λ e. by.sound)) (λ e. looked_sane k w h all t there off q looked))

@@ -17,6 +17,7 @@ use Rattle.spec_locks.specs.declared.outcomes.Outcome.TheVariants as outcome
 use Rattle.spec_locks.specs.Codes.{has_aside}
 use Rattle.steps_base.specs.declared.acts.Act.{Act}
 use Rattle.steps_base.specs.declared.acts.Act.TheVariants as act
+use Rattle.steps_base.specs.declared.acts.Reply.TheVariants.{Value}
 use Rattle.steps_base.specs.Acts.{takes_effect}
 use Rattle.steps_mutex.specs.declared.places.MutexPlace.{MutexPlace}
 use Rattle.steps_mutex.specs.declared.places.MutexPlace.TheVariants as mutex
@@ -53,7 +54,7 @@ use Rattle.steps_condvar.specs.CondvarCalls.{IsReached}
 use Rattle.steps_condvar.specs.CondvarSteps.{in_lock}
 use Rattle.lot_steps.specs.declared.places.Place.{Place}
 use Rattle.lot_steps.specs.declared.places.Place.TheVariants.{Idle, Mutex, RwLock, Once, Condvar, Semaphore}
-use Rattle.lot_steps.specs.Steps.{act_of, in_condvar, in_mutex, in_once, in_rwlock, in_semaphore}
+use Rattle.lot_steps.specs.Steps.{act_of, in_condvar, in_mutex, in_once, in_rwlock, in_semaphore, next_place}
 use Rattle.lot_machine.specs.Machine.{State, after, after_steps, go_of, is_possible, opening, place_at}
 use Rattle.lot_machine.specs.Machine.{step_outcome, word_at}
 use Rattle.lot_laws.specs.SitesOf.{IsWorld}
@@ -201,6 +202,35 @@ abbrev pub EachExchangeIsKnown : Type 0
 EachExchangeIsKnown =
     (p : Place) → MayBeAt p → is_exchange (act_of p) ≡ true
     → (is_some (looked_from p) ≡ true) ⊎ (tries_word p ≡ true)
+
+-- ---------------------------------------------------------------- looks
+
+-- a call of a `Once`, or a try of a semaphore, goes by what it saw; no such call comes to a value by which it
+-- would load the word once more
+abbrev pub has_decided : Place → Bool
+has_decided (Once lock (once.Look c again (look.Decide seen))) = true
+has_decided (Semaphore lock (semaphore.Try (tries.Decide seen))) = true
+has_decided p = false
+
+-- a load that sees this leads to an exchange
+abbrev pub leads_to_exchange : Place → ℕ → Bool
+leads_to_exchange p seen = not (has_decided p) && is_exchange (act_of (next_place p (Value seen)))
+
+abbrev pub is_load : Act → Bool
+is_load (act.Word l op.Load) = true
+is_load a = false
+
+abbrev pub looks_by : State → Place → Act → Bool
+looks_by w p (act.Word l op.Load) = leads_to_exchange p (word_at w l)
+looks_by w p a = false
+
+abbrev pub looks_in : State → ℕ → Turn → Bool
+looks_in w t turn.Go = looks_by w (place_at w t) (act_of (place_at w t))
+looks_in w t x = false
+
+-- a step loads a word, and so leads its thread to an exchange
+abbrev pub looks : State → Step → Bool
+looks w s = looks_in w s.thread s.turn
 
 -- ---------------------------------------------------------------- misses
 

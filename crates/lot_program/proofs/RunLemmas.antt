@@ -1,7 +1,7 @@
 -- Each move of a program is a step of the world, or leaves it as it is.
 use Rattle.std.proofs.Common.{ℕ, zero, suc, ◌≡◌, ◌/◌, ◌%◌, Bool, true, false, Option, Some, None, [], ◌∷◌}
 use Rattle.std.proofs.Common.{refl, sym, ap, subst, ◌∙◌}
-use Rattle.std.specs.Prelude.{if◌then◌else◌, ◌&&◌, nat_lt, slice_set}
+use Rattle.std.specs.Prelude.{if◌then◌else◌, nat_lt, slice_set}
 use Rattle.spec_locks.specs.declared.calls.Turn.TheVariants as turn
 use Rattle.spec_locks.specs.declared.calls.Turn.{Turn}
 use Rattle.spec_locks.specs.declared.calls.Step.{Step}
@@ -20,9 +20,9 @@ use Rattle.lot_program.specs.declared.program.Instruction.{Instruction}
 use Rattle.lot_program.specs.declared.program.Instruction.TheVariants as instruction
 use Rattle.lot_program.specs.declared.program.Program.{Program}
 use Rattle.lot_program.specs.Programs.{threads_of, instruction_at, branch_at}
-use Rattle.lot_turns.specs.Turns.{is_ready}
-use Rattle.lot_program.specs.Grains.{may_go_straight}
-use Rattle.lot_program.specs.States.{ProgramState, Turning, goes_straight, gone_if, gone_on, step_of, turning, turned, with_turn, heard}
+use Rattle.lot_steps.specs.declared.places.Place.{Place}
+use Rattle.lot_program.specs.Grains.{goes_straight}
+use Rattle.lot_program.specs.States.{ProgramState, Turning, gone_on, gone_straight, step_of, turning, turned, with_turn, heard}
 use Rattle.lot_program.specs.States.{is_barred}
 use Rattle.lot_program.specs.States.{stepped_by, or_refused, world_move, late_move, closing, performed}
 use Rattle.lot_program.specs.States.{going_on, asserted, at_target, is_own, own_move, branch_move, local_at, thread_move}
@@ -41,22 +41,17 @@ stepped_on g (outcome.Closure x) s step l goes = refl
 stepped_on g (outcome.End a) s step l goes = refl
 
 -- where the parts of a turn lead, the turn does
-module _ (g : Grain) (s : ProgramState) (step : Step) (l : Local) (v u : State) (b : Bool) (o : Outcome)
+module _ (g : Grain) (s : ProgramState) (step : Step) (l : Local) (v u : State) (p : Place) (o : Outcome)
     (first last : Local) (out : ProgramState) (led : v ≡ after s.world step)
-    (may : b ≡ may_go_straight g (place_at s.world step.thread) step.turn) (told : o ≡ step_outcome s.world step)
+    (from : p ≡ place_at s.world step.thread) (told : o ≡ step_outcome s.world step)
     (goes : o ≡ outcome.NotNow → ⊥) (hears : first ≡ heard o l)
-    (world : u ≡ (gone_on g 64 step.thread (gone_if (b && is_ready (place_at v step.thread)) step.thread
-    (turning v first))).world)
-    (local : last ≡ (gone_on g 64 step.thread (gone_if (b && is_ready (place_at v step.thread)) step.thread
-    (turning v first))).local)
+    (world : u ≡ (gone_on g 64 step.thread (gone_straight g p step (turning v first))).world)
+    (local : last ≡ (gone_on g 64 step.thread (gone_straight g p step (turning v first))).local)
     (leads : out ≡ record s { world = u; locals = slice_set s.locals step.thread last }) where
-  whole : gone_on g 64 step.thread (gone_if (b && is_ready (place_at v step.thread)) step.thread (turning v first))
-      ≡ turned g o s.world step l
-  whole = ap (λ x. gone_on g 64 step.thread (gone_if (b && is_ready (place_at x step.thread)) step.thread
-      (turning x first))) led
-      ∙ ap (λ c. gone_on g 64 step.thread (gone_if (c && is_ready (place_at (after s.world step) step.thread))
-      step.thread (turning (after s.world step) first))) may
-      ∙ ap (λ m. gone_on g 64 step.thread (gone_if (goes_straight g s.world step) step.thread
+  whole : gone_on g 64 step.thread (gone_straight g p step (turning v first)) ≡ turned g o s.world step l
+  whole = ap (λ x. gone_on g 64 step.thread (gone_straight g p step (turning x first))) led
+      ∙ ap (λ q. gone_on g 64 step.thread (gone_straight g q step (turning (after s.world step) first))) from
+      ∙ ap (λ m. gone_on g 64 step.thread (gone_straight g (place_at s.world step.thread) step
       (turning (after s.world step) m))) hears
 
   pub turn_leads : Some out ≡ stepped_by (step_outcome s.world step) g s step l
@@ -73,9 +68,9 @@ turned_world : (g : Grain) (o : Outcome) (w : State) (step : Step) (l : Local) �
     → is_barred o ≡ false
     → (turned g o w step l).world ≡ after_steps w (turn_steps g w step)
 turned_world g o w step l told goes =
-    let b = goes_straight g w step in
+    let b = goes_straight g (place_at w step.thread) step.turn (place_at (after w step) step.thread) in
     let x = turning (after w step) (heard o l) in
-    gone_world g 64 step.thread (gone_if b step.thread x) ∙ straight_world b g step.thread x
+    gone_world g 64 step.thread (gone_straight g (place_at w step.thread) step x) ∙ straight_world b g step.thread x
     ∙ ap (λ c. after_steps (after w step) (if c then [] else more_steps b g step.thread (after w step)))
     (sym (ap is_barred told ∙ goes))
 
@@ -83,7 +78,8 @@ turned_world g o w step l told goes =
 barred_steps : (g : Grain) (w : State) (step : Step) → step_outcome w step ≡ outcome.NotNow
     → turn_steps g w step ≡ step ∷ []
 barred_steps g w step told =
-    ap (λ b. step ∷ (if b then [] else more_steps (goes_straight g w step) g step.thread (after w step)))
+    ap (λ b. step ∷ (if b then [] else more_steps (goes_straight g (place_at w step.thread) step.turn
+    (place_at (after w step) step.thread)) g step.thread (after w step)))
     (ap is_barred told)
 
 stepped_world : (g : Grain) (o : Outcome) (s u : ProgramState) (step : Step) (l : Local)

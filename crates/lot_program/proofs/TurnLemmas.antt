@@ -1,7 +1,7 @@
 -- The turn of a thread in a call, as steps of the world.
 use Rattle.std.proofs.Common.{ℕ, zero, suc, ◌≡◌, ◌<◌, ◌+◌, ◌-◌, Bool, true, false, List, [], ◌∷◌, length, refl, sym}
 use Rattle.std.proofs.Common.{ap, append_assoc, subst, ◌∙◌, arith}
-use Rattle.std.specs.Prelude.{if◌then◌else◌, ◌&&◌, ◌||◌, ◌++◌}
+use Rattle.std.specs.Prelude.{if◌then◌else◌, ◌||◌, ◌++◌}
 use Rattle.spec_locks.specs.declared.calls.Turn.TheVariants as turn
 use Rattle.spec_locks.specs.declared.calls.Step.{Step}
 use Rattle.spec_locks.specs.declared.outcomes.Outcome.{Outcome}
@@ -19,10 +19,11 @@ use Rattle.lot_machine.specs.Fits.{SameSize}
 use Rattle.lot_machine.proofs.Shape.{after_size, has_keys, size_more}
 use Rattle.lot_program.specs.declared.grains.Grain.{Grain}
 use Rattle.lot_program.specs.declared.states.Local.{Local}
-use Rattle.lot_turns.specs.Turns.{is_ready}
-use Rattle.lot_program.specs.Grains.{is_cut, may_go_straight}
-use Rattle.lot_program.specs.States.{Turning, goes_straight, turning, is_own, is_barred, turn_ends, gone, gone_if, gone_on, step_of}
-use Rattle.lot_program.specs.Runs.{go_steps, more_steps, turn_steps}
+use Rattle.lot_steps.specs.declared.places.Place.{Place}
+use Rattle.lot_program.specs.Grains.{goes_straight, is_cut}
+use Rattle.lot_program.specs.States.{Turning, turning, is_own, is_barred, turn_ends, gone, gone_if, gone_on, gone_straight}
+use Rattle.lot_program.specs.States.{gone_straight_by, step_of}
+use Rattle.lot_program.specs.Runs.{again_steps, go_steps, more_steps, turn_steps}
 
 pub gone_none : (g : Grain) (t : ℕ) (x : Turning) (n : ℕ) → n ≡ 0 → gone_on g n t x ≡ x
 unfolding gone_on
@@ -190,45 +191,71 @@ gone_size g (suc n) t x =
     (size_more x.world (after x.world (step_of t turn.Go)) (gone_on g n t (gone t x)).world
     (after_size x.world (step_of t turn.Go)) (gone_size g n t (gone t x)))
 
--- ---------------------------------------------------------------- a turn that may go straight on
+-- ---------------------------------------------------------------- a turn that takes steps along
+
+again_world : (b : Bool) (g : Grain) (t : ℕ) (x : Turning)
+    → after_steps (gone_if b t x).world (go_steps g 64 t (gone_if b t x).world)
+    ≡ after_steps x.world (again_steps b g t x.world)
+again_world true g t x = refl
+again_world false g t x = refl
 
 pub straight_world : (b : Bool) (g : Grain) (t : ℕ) (x : Turning)
-    → after_steps (gone_if b t x).world (go_steps g 64 t (gone_if b t x).world)
+    → after_steps (gone_straight_by b g t x).world (go_steps g 64 t (gone_straight_by b g t x).world)
     ≡ after_steps x.world (more_steps b g t x.world)
-straight_world true g t x = refl
+straight_world true g t x =
+    again_world (goes_straight g (place_at x.world t) turn.Go (place_at (gone t x).world t)) g t (gone t x)
 straight_world false g t x = refl
 
-pub straight_kept : (b : Bool) (t : ℕ) (x : Turning) → IsWorld x.world → IsWorld (gone_if b t x).world
-straight_kept true t x world = world_after x.world (step_of t turn.Go) world
-straight_kept false t x world = world
+pub again_kept : (b : Bool) (t : ℕ) (x : Turning) → IsWorld x.world → IsWorld (gone_if b t x).world
+again_kept true t x world = world_after x.world (step_of t turn.Go) world
+again_kept false t x world = world
 
-straight_size : (b : Bool) (t : ℕ) (x : Turning) → SameSize x.world (gone_if b t x).world
-straight_size true t x = after_size x.world (step_of t turn.Go)
-straight_size false t x = record { threads = refl; locks = refl }
+pub again_size : (b : Bool) (t : ℕ) (x : Turning) → SameSize x.world (gone_if b t x).world
+again_size true t x = after_size x.world (step_of t turn.Go)
+again_size false t x = record { threads = refl; locks = refl }
 
--- where a turn ends, by whether it went straight on
-pub finished_kept : (b : Bool) (g : Grain) (t : ℕ) (x : Turning) → IsWorld x.world
-    → IsWorld (gone_on g 64 t (gone_if b t x)).world
-finished_kept b g t x world = gone_kept g 64 t (gone_if b t x) (straight_kept b t x world)
+pub straight_kept : (b : Bool) (g : Grain) (t : ℕ) (x : Turning) → IsWorld x.world
+    → IsWorld (gone_straight_by b g t x).world
+straight_kept true g t x world =
+    again_kept (goes_straight g (place_at x.world t) turn.Go (place_at (gone t x).world t)) t (gone t x)
+    (world_after x.world (step_of t turn.Go) world)
+straight_kept false g t x world = world
 
-pub finished_size : (b : Bool) (g : Grain) (t : ℕ) (x : Turning)
-    → SameSize x.world (gone_on g 64 t (gone_if b t x)).world
-finished_size b g t x = size_more x.world (gone_if b t x).world (gone_on g 64 t (gone_if b t x)).world
-    (straight_size b t x) (gone_size g 64 t (gone_if b t x))
+pub straight_size : (b : Bool) (g : Grain) (t : ℕ) (x : Turning) → SameSize x.world (gone_straight_by b g t x).world
+straight_size true g t x =
+    let b = goes_straight g (place_at x.world t) turn.Go (place_at (gone t x).world t) in
+    size_more x.world (gone t x).world (gone_if b t (gone t x)).world (after_size x.world (step_of t turn.Go))
+    (again_size b t (gone t x))
+straight_size false g t x = record { threads = refl; locks = refl }
+
+-- where it has taken them
+pub took_along : (g : Grain) (p : Place) (step : Step) (x : Turning) (b : Bool) (v : State) (l : Local)
+    → b ≡ goes_straight g p step.turn (place_at x.world step.thread) → b ≡ true
+    → v ≡ (gone_straight_by true g step.thread x).world → l ≡ (gone_straight_by true g step.thread x).local
+    → turning v l ≡ gone_straight g p step x
+took_along g p step x b v l is on world local =
+    ap (λ w. turning w l) world ∙ ap (turning (gone_straight_by true g step.thread x).world) local
+    ∙ ap (λ c. gone_straight_by c g step.thread x) (sym on ∙ is)
+
+-- where a turn ends
+pub finished_kept : (g : Grain) (p : Place) (step : Step) (x : Turning) → IsWorld x.world
+    → IsWorld (gone_on g 64 step.thread (gone_straight g p step x)).world
+finished_kept g p step x world = gone_kept g 64 step.thread (gone_straight g p step x)
+    (straight_kept (goes_straight g p step.turn (place_at x.world step.thread)) g step.thread x world)
 
 -- the steps of a turn are pushed one after another
-pub pushed : (g : Grain) (w v : State) (step : Step) (b : Bool) (olds mids news : List Step) → v ≡ after w step
-    → b ≡ may_go_straight g (place_at w step.thread) step.turn → (step_outcome w step ≡ outcome.NotNow → ⊥)
+pub pushed : (g : Grain) (w v : State) (step : Step) (p : Place) (olds mids news : List Step) → v ≡ after w step
+    → p ≡ place_at w step.thread → (step_outcome w step ≡ outcome.NotNow → ⊥)
     → mids ≡ olds ++ step ∷ []
-    → news ≡ mids ++ more_steps (b && is_ready (place_at v step.thread)) g step.thread v
+    → news ≡ mids ++ more_steps (goes_straight g p step.turn (place_at v step.thread)) g step.thread v
     → news ≡ olds ++ turn_steps g w step
-pushed g w v step b olds mids news led may possible mid new =
-    let straight = goes_straight g w step in
+pushed g w v step p olds mids news led from possible mid new =
+    let straight = goes_straight g (place_at w step.thread) step.turn (place_at (after w step) step.thread) in
     let more = more_steps straight g step.thread (after w step) in
     new
-    ∙ ap (λ x. mids ++ more_steps (b && is_ready (place_at x step.thread)) g step.thread x) led
-    ∙ ap (λ c. mids ++ more_steps (c && is_ready (place_at (after w step) step.thread)) g step.thread (after w step))
-    may
+    ∙ ap (λ x. mids ++ more_steps (goes_straight g p step.turn (place_at x step.thread)) g step.thread x) led
+    ∙ ap (λ q. mids ++ more_steps (goes_straight g q step.turn (place_at (after w step) step.thread)) g step.thread
+    (after w step)) from
     ∙ ap (λ ss. ss ++ more) mid ∙ append_assoc olds (step ∷ []) more
     ∙ ap (λ c. olds ++ step ∷ (if c then [] else more)) (sym (told_barred (step_outcome w step) possible))
 

@@ -5,10 +5,11 @@ use Rattle.spec_locks.specs.declared.calls.Step.{Step}
 use Rattle.lot_program.specs.declared.program.Instruction.{Instruction}
 use Rattle.lot_program.specs.declared.program.Instruction.TheVariants as instruction
 use Rattle.lot_program.specs.declared.program.Program.{Program}
-use Rattle.lot_machine.specs.Machine.{State, after, step_outcome}
+use Rattle.lot_machine.specs.Machine.{State, after, place_at, step_outcome}
 use Rattle.lot_program.specs.declared.grains.Grain.{Grain}
 use Rattle.lot_program.specs.Programs.{instruction_at}
-use Rattle.lot_program.specs.States.{ProgramState, step_of, closing, goes_straight, is_own, is_barred, local_at}
+use Rattle.lot_program.specs.Grains.{goes_straight}
+use Rattle.lot_program.specs.States.{ProgramState, step_of, closing, is_own, is_barred, local_at}
 use Rattle.lot_program.specs.States.{turn_ends}
 
 -- an instruction that calls takes a step of the world, and any other takes none
@@ -30,15 +31,23 @@ go_steps g zero t w = []
 go_steps g (suc n) t w =
     if turn_ends g w t then [] else step_of t turn.Go ∷ go_steps g n t (after w (step_of t turn.Go))
 
--- after a first step, those in which it goes straight on, or not, and then alone till its turn ends
+-- those in which it goes alone till its turn ends, perhaps after one more
+abbrev pub again_steps : Bool → Grain → ℕ → State → List Step
+again_steps true g t w = step_of t turn.Go ∷ go_steps g 64 t (after w (step_of t turn.Go))
+again_steps false g t w = go_steps g 64 t w
+
+-- after a first step, those that its turn takes along with it, and then alone till its turn ends
 abbrev pub more_steps : Bool → Grain → ℕ → State → List Step
-more_steps true g t w = step_of t turn.Go ∷ go_steps g 64 t (after w (step_of t turn.Go))
+more_steps true g t w = step_of t turn.Go ∷ again_steps
+    (goes_straight g (place_at w t) turn.Go (place_at (after w (step_of t turn.Go)) t)) g t
+    (after w (step_of t turn.Go))
 more_steps false g t w = go_steps g 64 t w
 
 -- after its first step a turn goes on, if that step was possible
 abbrev pub turn_steps : Grain → State → Step → List Step
 turn_steps g w step = step ∷ (if is_barred (step_outcome w step) then []
-    else more_steps (goes_straight g w step) g step.thread (after w step))
+    else more_steps (goes_straight g (place_at w step.thread) step.turn (place_at (after w step) step.thread))
+    g step.thread (after w step))
 
 abbrev pub steps_by : Grain → State → Option Step → List Step
 steps_by g w None = []

@@ -33,7 +33,7 @@ const PROGRAMS: &[Grained] = &[
                thread 1\nlock b\nlock c\nunlock c\nunlock b\n\
                thread 2\nlock a\nlock c\nunlock c\nunlock a\n",
         calls: Found::Nothing(152),
-        turns: Found::Nothing(2073),
+        turns: Found::Nothing(1255),
         steps: Found::Nothing(8200),
     },
     Grained {
@@ -41,7 +41,7 @@ const PROGRAMS: &[Grained] = &[
                thread 0\nupgradable r\nupgrade r\nunlock_exclusive r\n\
                thread 1\nread r\nupgradable r\nunlock_upgradable r\nunlock_shared r\n",
         calls: Found::Deadlock(4),
-        turns: Found::Deadlock(11),
+        turns: Found::Deadlock(7),
         steps: Found::Deadlock(19),
     },
     Grained {
@@ -58,7 +58,7 @@ const PROGRAMS: &[Grained] = &[
                thread 0\nlock m\nwhile ready = 0\nwait c m\nend\nunlock m\n\
                thread 1\nlock m\nset ready 1\nnotify_one c\nunlock m\n",
         calls: Found::Nothing(23),
-        turns: Found::Nothing(170),
+        turns: Found::Nothing(139),
         steps: Found::Nothing(314),
     },
     // One condition variable for two conditions, with the wrong notification and with the right one.
@@ -69,7 +69,7 @@ const PROGRAMS: &[Grained] = &[
                thread 1 2\nlock m\nwhile full = 0\nwait c m\nend\n\
                set full 0\nnotify_one c\nunlock m\nfinally full = 0\n",
         calls: Found::Deadlock(24),
-        turns: Found::Deadlock(50),
+        turns: Found::Deadlock(48),
         steps: Found::Deadlock(72),
     },
     Grained {
@@ -79,21 +79,21 @@ const PROGRAMS: &[Grained] = &[
                thread 1 2\nlock m\nwhile full = 0\nwait c m\nend\n\
                set full 0\nnotify_all c\nunlock m\nfinally full = 0\n",
         calls: Found::Nothing(566),
-        turns: Found::Nothing(21617),
+        turns: Found::Nothing(11671),
         steps: Found::Nothing(44202),
     },
     // Two upgrades, of which one at a time is upgradable.
     Grained {
         text: "threads 2\nlock r rwlock\nthread 0 1\nupgradable r\nupgrade r\nunlock_exclusive r\n",
         calls: Found::Nothing(18),
-        turns: Found::Nothing(90),
+        turns: Found::Nothing(63),
         steps: Found::Nothing(209),
     },
     // Two readers that want to write.
     Grained {
         text: "threads 2\nlock r rwlock\nthread 0 1\nread r\nwrite r\n",
         calls: Found::Deadlock(3),
-        turns: Found::Deadlock(11),
+        turns: Found::Deadlock(7),
         steps: Found::Deadlock(18),
     },
     // Two orders of locks, without a gate and with one.
@@ -102,7 +102,7 @@ const PROGRAMS: &[Grained] = &[
                thread 0\nlock a\nlock b\nunlock b\nunlock a\n\
                thread 1\nlock b\nlock a\nunlock a\nunlock b\n",
         calls: Found::Deadlock(4),
-        turns: Found::Deadlock(10),
+        turns: Found::Deadlock(8),
         steps: Found::Deadlock(18),
     },
     Grained {
@@ -110,14 +110,14 @@ const PROGRAMS: &[Grained] = &[
                thread 0\nlock g\nlock a\nlock b\nunlock b\nunlock a\nunlock g\n\
                thread 1\nlock g\nlock b\nlock a\nunlock a\nunlock b\nunlock g\n",
         calls: Found::Nothing(36),
-        turns: Found::Nothing(123),
+        turns: Found::Nothing(101),
         steps: Found::Nothing(342),
     },
     // Two orders with deadlines.
     Grained {
         text: TIMED,
         calls: Found::Nothing(58),
-        turns: Found::Nothing(291),
+        turns: Found::Nothing(232),
         steps: Found::Nothing(673),
     },
     // Readers that pass a pending writer for ever are no deadlock.
@@ -125,7 +125,7 @@ const PROGRAMS: &[Grained] = &[
         text: "threads 3\nlock r recursive\nthread 0 1\nloop\nread r\nunlock_shared r\nend\n\
                thread 2\nwrite r\nunlock_exclusive r\n",
         calls: Found::Nothing(81),
-        turns: Found::Nothing(1701),
+        turns: Found::Nothing(583),
         steps: Found::Nothing(4626),
     },
     // A reader's try fails while a timed writer has given up and not gone yet.
@@ -137,7 +137,7 @@ const PROGRAMS: &[Grained] = &[
                thread 1\nwrite_timed r\nif yes\nunlock_exclusive r\nend\n\
                if no\nlock b\nlock a\nunlock a\nunlock b\nend\n",
         calls: Found::Nothing(105),
-        turns: Found::Deadlock(28),
+        turns: Found::Deadlock(23),
         steps: Found::Deadlock(43),
     },
     // A try to write fails by the bit of a queue in which nobody stands.
@@ -148,7 +148,7 @@ const PROGRAMS: &[Grained] = &[
                if no\nread r\nunlock_shared r\ntry_write r\n\
                if yes\nunlock_exclusive r\nend\nif no\nlock a\nlock a\nend\nend\n",
         calls: Found::Nothing(30),
-        turns: Found::Deadlock(21),
+        turns: Found::Deadlock(18),
         steps: Found::Deadlock(35),
     },
     // A notification finds a waiter that owns its mutex yet.
@@ -158,7 +158,7 @@ const PROGRAMS: &[Grained] = &[
                thread 1\nnotify_one v\nif yes\ntry_lock m\nif yes\nunlock m\nend\n\
                if no\nlock m\nlock g\nunlock g\nunlock m\nend\nend\n",
         calls: Found::Nothing(60),
-        turns: Found::Deadlock(29),
+        turns: Found::Deadlock(26),
         steps: Found::Deadlock(43),
     },
     // A bump gives way to a thread that isn't in the queue yet.
@@ -168,7 +168,7 @@ const PROGRAMS: &[Grained] = &[
                thread 1\nlock_timed f\nif yes\nunlock f\nend\n\
                if no\ntry_lock f\nif yes\nlock a\nunlock a\nunlock f\nend\nend\n",
         calls: Found::Nothing(65),
-        turns: Found::Deadlock(24),
+        turns: Found::Deadlock(21),
         steps: Found::Deadlock(39),
     },
 ];

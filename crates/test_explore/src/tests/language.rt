@@ -143,6 +143,6 @@ fn a_deadlock_of_other_branches_is_found(rt: HostRuntime) {
         search_by::<ListQueues>(rt.alloc(), CHOSEN, ROOM, grain, Deadlines::Pass)
     };
     check_eq(&rt, found(Grain::Calls), Found::Deadlock(6));
-    check_eq(&rt, found(Grain::Turns), Found::Deadlock(12));
+    check_eq(&rt, found(Grain::Turns), Found::Deadlock(10));
     check_eq(&rt, found(Grain::Steps), Found::Deadlock(20));
 }
