@@ -1,14 +1,15 @@
-use Rattle.std.proofs.Common.{rules, ◌≡◌, ◌++◌, ◌∙◌, List, None, true, false, ap, subst}
+use Rattle.std.proofs.Common.{rules, ◌≡◌, ◌++◌, ◌∙◌, Bool, List, None, true, false, ap, subst, sym}
 use Rattle.spec_locks.specs.Codes.{has_parked}
 use Rattle.spec_locks.specs.declared.outcomes.Answer.{Answer}
 use Rattle.spec_locks.specs.declared.outcomes.Answer.TheVariants as answers
 use Rattle.core_base.specs.declared.ops.Op.TheVariants.{Add}
 use Rattle.core_words.specs.declared.views.View.{View}
 use Rattle.core_words.specs.declared.views.WordStep.{WordStep}
-use Rattle.run_base.specs.Courses.{trail_of}
+use Rattle.parking_lot_core.specs.Tokens.{last_of}
+use Rattle.run_base.specs.Courses.{steps_in, trail_of}
 use Rattle.run_base.specs.Paths.{semaphore_at, step}
-use Rattle.run_base.proofs.Courses.{one_more}
-use Rattle.run_signals.specs.SemaphoreCalls.{HasGone, waking}
+use Rattle.run_base.proofs.Courses.{one_more, steps_since}
+use Rattle.run_signals.specs.SemaphoreCalls.{HasGone, WokeIfParked, waking}
 use Rattle.run_signals.proofs.SemaphoreCalling.{by_same, releases_at_once, releases_on}
 use Rattle.run_signals.proofs.semaphore.Permit.release.Goals as goal
 
@@ -37,3 +38,19 @@ returns-else-has_parked-clause-path g c = let n = c.args.self.semaphore.now.word
     (one_more _ _ _ _ _ (c.give-seen.ensures.added.1
     ∙ ap (λ (steps : List WordStep). steps ++ step (semaphore_at c.args.self.semaphore.now.word.number)
     (Add 2) c.give-seen.result) joined) (c.give-seen.ensures.added.2 ∙ c.join_held.ensures.untold))
+
+pub returns-then-has_parked-clause-woke : goal.returns-then-has_parked-clause-woke
+returns-then-has_parked-clause-woke g c =
+    let parked : has_parked c.give-seen.result ≡ true = search rules in
+    let joined = ap (λ (v : View). v.steps) c.join_held.ensures.joined in
+    let path = c.wake_first.ensures.path in (
+      c.give-seen.result,
+      steps_in path.0,
+      steps_since _ _ path.0 path.1 ∙ ap (λ (l : List WordStep). l ++ steps_in c.wake_first.ensures.path.0)
+          (c.give-seen.ensures.added.1
+          ∙ ap (λ (steps : List WordStep). steps ++ step (semaphore_at
+          c.args.self.semaphore.now.word.number) (Add 2) c.give-seen.result) joined),
+      subst (λ (b : Bool). WokeIfParked c.args.self.semaphore.now.word.number b
+          (steps_in c.wake_first.ensures.path.0) (last_of c.wake_first.new.token)) (sym parked)
+          c.wake_first.ensures.over.2,
+    )
