@@ -4,4 +4,3 @@ pub mod Lines
 pub mod Picks
 pub mod Requeues
 pub mod Laws
-pub mod Clocks

@@ -1,8 +1,7 @@
-//! The parts on which every lock stands: faults, the operations of a word, the keys of its queues,
-//! the queues, and clocks.
+//! The parts on which every lock stands: faults, the operations of a word, the keys of its queues, and
+//! the queues.
 #![tactic(auto)]
 
-pub mod clocks;
 pub mod faults;
 pub mod keys;
 pub mod laws;
@@ -13,11 +12,8 @@ pub mod ops;
 pub mod picks;
 pub mod queues;
 pub mod requeues;
-pub mod system;
-pub mod ticks;
 pub mod wants;
 
-pub use clocks::{Clock, to_deadline};
 pub use faults::Fault;
 pub use keys::{Key, Keys, Line, main_key, second_key};
 pub use list::ListQueues;
@@ -27,6 +23,4 @@ pub use ops::Op;
 pub use picks::{Pick, Picker};
 pub use queues::Queues;
 pub use requeues::Requeue;
-pub use system::SystemClock;
-pub use ticks::TickClock;
 pub use wants::{Waiter, Want};

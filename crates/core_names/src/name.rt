@@ -80,7 +80,7 @@ impl Name {
             words.seats(),
             &mut self.seat,
         );
-        words.go_on(seat, steps);
+        words.join_steps(seat, steps);
     }
 
     /// Looks at a count, by one load as a step of the thread's seat. A thread that it finds named

@@ -106,13 +106,14 @@ impl<K, T: Keyed<K> + Drop> KeyedLocks<K, T> {
         }
     }
 
-    /// Takes a value out, if it is at home. No other thread may wait for it meanwhile: none is woken.
+    /// Takes a value out, if it is at home.
     pub fn try_take(&self, at: usize) -> Option<(T, Held<K, T>)>
         requires at { at < self.now.count }
         ensures { IfSome result (λ taken. T.fits self.now.table.shared.key taken.0
             × (taken.1.seat.table_id ≡ self.now.table.shared.table_id) × (taken.1.at ≡ at)) }
     {
-        self.seize(at, TAKEN)
+        // Another thread may be parked on the word, which is to say so still.
+        self.seize(at, AWAITED)
     }
 
     // Takes a value out, if it is at home. Else the word says what is asked for.

@@ -51,7 +51,7 @@ impl LotWords {
     // The permit of a mutex that the seat owns is out with it from here on, and no other. It loads
     // the counter: a load of a word that was just written would wait for that.
     #[inline]
-    fn take_out<P: PermitPick>(&self, seat: &mut Seat, word: Word)
+    fn mark_permit_out<P: PermitPick>(&self, seat: &mut Seat, word: Word)
         requires pick { (P.family ≡ self.now.table.shared.key.1.family)
             × (P.at ≡ word_index word.number word.kind) }
         requires own { IsSeatOf self.now seat.old × IsWordOf self.now word × (word.kind ≡ Mutex) }
@@ -83,7 +83,7 @@ impl LotWords {
 
     // Returns the seat of a mutex's owner, split off one with which the mutex's permit is out.
     #[inline]
-    fn keep<P: PermitPick>(&self, seat: &mut Seat, word: Word) -> Seat
+    fn split_owner_seat<P: PermitPick>(&self, seat: &mut Seat, word: Word) -> Seat
         requires pick { P.at ≡ word_index word.number word.kind }
         requires own { IsSeatOf self.now seat.old × IsWordOf self.now word × (word.kind ≡ Mutex) }
         requires out { seat.old.me.0.out ≡ word_index word.number word.kind ∷ [] }
@@ -110,8 +110,8 @@ impl LotWords {
         ensures own { IsSeatOf self.now seat.new × IsOwnerOf self.now word result }
         ensures left { seat.new.me.0 ≡ left_over (named_by word Exclusive) seat.old.me.0 }
     {
-        self.take_out::<P>(seat, word);
-        self.keep::<P>(seat, word)
+        self.mark_permit_out::<P>(seat, word);
+        self.split_owner_seat::<P>(seat, word)
     }
 
     #[inline]
@@ -150,7 +150,7 @@ impl LotWords {
 
     /// Gives a seat what another has done and still owns. It reads no word.
     #[inline]
-    pub fn go_on(&self, seat: &mut Seat, owner: Seat)
+    pub fn join_steps(&self, seat: &mut Seat, owner: Seat)
         requires own { IsSeatOf self.now seat.old × IsSeatOf self.now owner }
         requires left { (owner.me.0.drawn ≡ []) × (owner.me.0.out ≡ []) }
         requires nameless { BringsNoName owner.me.0 }
@@ -166,7 +166,7 @@ impl LotWords {
 
     // Steps by an owner with which a permit is out: it is out with the thread after the step.
     #[inline]
-    pub(crate) fn go_on_as(&self, seat: &mut Seat, owner: Seat)
+    pub(crate) fn join_owning(&self, seat: &mut Seat, owner: Seat)
         requires own { IsSeatOf self.now seat.old × IsSeatOf self.now owner }
         requires left { owner.me.0.drawn ≡ [] }
         requires nameless { BringsNoName owner.me.0 }
@@ -213,7 +213,7 @@ impl LotWords {
         if seen != unlocked {
             return Err(seen);
         }
-        let owner = self.keep::<P>(seat, word);
+        let owner = self.split_owner_seat::<P>(seat, word);
         Ok(self.open(owner, word))
     }
 
@@ -242,7 +242,7 @@ impl LotWords {
         if seen % 2 != 0 {
             return (seen, None);
         }
-        let owner = self.keep::<P>(seat, word);
+        let owner = self.split_owner_seat::<P>(seat, word);
         (seen, Some(self.open(owner, word)))
     }
 
@@ -272,7 +272,7 @@ impl LotWords {
         }
         let seen = words.compare_exchange::<TriesSeen<P>>(seat, at, looked, looked + LOCKED);
         if seen == looked {
-            let owner = self.keep::<P>(seat, word);
+            let owner = self.split_owner_seat::<P>(seat, word);
             return (seen, Some(self.open(owner, word)));
         }
         if seen % 2 != 0 {
@@ -391,13 +391,13 @@ impl LotWords {
         let mut owner = self.close(word, opened, permit);
         // The subtraction is asked for nothing else, so that its flags answer the comparison.
         if self.leave_picked::<Brand>(&mut owner, word, locked) == locked {
-            self.go_on(seat, owner);
+            self.join_steps(seat, owner);
             return Ok(LOCKED);
         }
         if is_no_step(locked) {
             return Err(self.open(owner, word));
         }
-        self.go_on(seat, owner);
+        self.join_steps(seat, owner);
         Ok(LOCKED_AND_PARKED)
     }
 
@@ -424,13 +424,13 @@ impl LotWords {
     {
         let mut owner = self.close(word, opened, permit);
         if self.leave_alone_picked::<Brand>(&mut owner, word, locked) == locked {
-            self.go_on(seat, owner);
+            self.join_steps(seat, owner);
             return Ok(LOCKED);
         }
         if is_no_step(locked) {
             return Err(self.open(owner, word));
         }
-        self.go_on_as(seat, owner);
+        self.join_owning(seat, owner);
         Ok(LOCKED_AND_PARKED)
     }
 
@@ -461,7 +461,7 @@ impl LotWords {
         ensures out { seat.new.me.0.out ≡ word_index word.number word.kind ∷ [] }
     {
         let again = self.close(word, opened, permit);
-        self.go_on_as(seat, again);
+        self.join_owning(seat, again);
     }
 }
 

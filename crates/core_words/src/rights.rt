@@ -183,7 +183,7 @@ impl LotWords {
             owner,
         } = right;
         if owner.takes_permit(word.kind()) {
-            self.go_on_as(seat, other);
+            self.join_owning(seat, other);
         } else {
             join_seat::<PermitSlot, View, (usize, Permits), OwnershipRule, TakesIn>(
                 &self.table.shared,

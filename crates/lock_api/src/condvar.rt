@@ -2,7 +2,7 @@
 ghost use Rattle.std.specs.Prelude.{◌≡◌, Bool, true, false, IfOk, MatchResult};
 ghost use Rattle.std.specs.Arc.{arc_value};
 ghost use Rattle.std.specs.Duration.{as_nanos};
-ghost use Rattle.core_base.specs.Clocks.{HasElapsed, HasPassed};
+ghost use Rattle.core_clocks.specs.Clocks.{HasElapsed, HasPassed};
 ghost use Rattle.spec_locks.specs.declared.outcomes.Answer.TheVariants.{Number};
 ghost use Rattle.lock_raw.specs.Answers.{GivesBack, IsRefusal, moved_first, notifying_answer, waiting_answer};
 ghost use Rattle.lock_api.specs.Guards.{lock_of};

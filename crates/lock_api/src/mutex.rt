@@ -7,7 +7,7 @@ ghost use Rattle.std.specs.Prelude.{◌≡◌, IfNone, IfOk, IfSome, MatchOption
 ghost use Rattle.std.specs.Fn.{FnOnceReturnsAtMut};
 ghost use Rattle.std.specs.Arc.{arc_value};
 ghost use Rattle.std.specs.Duration.{as_nanos};
-ghost use Rattle.core_base.specs.Clocks.{HasElapsed, HasPassed};
+ghost use Rattle.core_clocks.specs.Clocks.{HasElapsed, HasPassed};
 ghost use Rattle.lock_raw.specs.Answers.{IsRefusal, answer_by};
 ghost use Rattle.lock_api.specs.Guards.{lock_of};
 ghost use Rattle.lock_api.specs.Visits.{CameAndWent};
@@ -15,7 +15,8 @@ ghost use Rattle.spec_locks.specs.declared.calls.MutexCall.TheVariants.{Lock, Lo
 ghost use Rattle.spec_locks.specs.declared.outcomes.Answer.TheVariants as answers;
 
 use crate::guards::MutexGuard;
-use core_base::{Clock, Fault};
+use core_base::Fault;
+use core_clocks::Clock;
 use core_parts::{NamesPermit, Place};
 use lock_raw::{RawMutex, RawMutexTimed};
 use std::marker::Model;

@@ -5,7 +5,7 @@
 ghost use Rattle.std.specs.Prelude.{◌≡◌, ◌⊎◌, ◌*◌, false, true};
 ghost use Rattle.std.specs.Duration.{as_nanos};
 ghost use Rattle.std.specs.Iterator.Runs.{CallKeepsClosure};
-ghost use Rattle.core_base.specs.Clocks.{HasElapsed, HasPassed};
+ghost use Rattle.core_clocks.specs.Clocks.{HasElapsed, HasPassed};
 ghost use Rattle.lock_raw.specs.Answers.{GivesBack, GivesBackTimed, LateByClock, timed_answer};
 ghost use Rattle.lock_api.specs.Guards.{lock_of};
 ghost use Rattle.lock_api.specs.Conditions.{LastAnswered, LastRefused, WaitedOrNot};
@@ -13,7 +13,8 @@ ghost use Rattle.lock_api.specs.Waits.{NeverEnds, WaitsInTime, WaitsWhile};
 
 use crate::condvar::{Condvar, TokenOf, Waited};
 use crate::guards::MutexGuard;
-use core_base::{Clock, Fault};
+use core_base::Fault;
+use core_clocks::Clock;
 use lock_raw::{RawCondvar, RawCondvarTimed};
 use std::marker::Model;
 use std::sync::Wait;

@@ -1,7 +1,7 @@
 //! Calls of a reader-writer lock with a value that give up in time.
 ghost use Rattle.std.specs.Prelude.{◌≡◌, IfErr, IfNone, IfOk, IfSome};
 ghost use Rattle.std.specs.Duration.{as_nanos};
-ghost use Rattle.core_base.specs.Clocks.{HasElapsed, HasPassed};
+ghost use Rattle.core_clocks.specs.Clocks.{HasElapsed, HasPassed};
 ghost use Rattle.lock_raw.specs.Answers.{TriesOrFull, answer_by, counted_answer};
 ghost use Rattle.lock_api_rw.specs.Guards.{lock_of};
 ghost use Rattle.spec_locks.specs.declared.calls.Access.TheVariants as access;
@@ -10,7 +10,8 @@ ghost use Rattle.spec_locks.specs.declared.calls.RwLockCall.TheVariants.{Enter};
 
 use crate::guards::{RwLockReadGuard, RwLockUpgradableReadGuard, RwLockWriteGuard};
 use crate::rwlock::RwLock;
-use core_base::{Clock, Fault};
+use core_base::Fault;
+use core_clocks::Clock;
 use lock_raw::{RawRwLockTimed, RawRwLockUpgradeTimed};
 use std::sync::Wait;
 use std::time::Duration;

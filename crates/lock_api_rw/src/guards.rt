@@ -2,7 +2,7 @@
 //! dropped, and is spent by what gives its right up or turns it into another.
 ghost use Rattle.std.specs.Prelude.{◌≡◌, IfErr, MatchResult};
 ghost use Rattle.std.specs.Duration.{as_nanos};
-ghost use Rattle.core_base.specs.Clocks.{HasElapsed, HasPassed};
+ghost use Rattle.core_clocks.specs.Clocks.{HasElapsed, HasPassed};
 ghost use Rattle.lock_raw.specs.Answers.{upgrade_answer};
 ghost use Rattle.lock_api_rw.specs.Guards.{lock_of};
 ghost use Rattle.spec_locks.specs.declared.calls.Access.TheVariants as access;
@@ -14,7 +14,7 @@ ghost use Rattle.spec_locks.specs.declared.outcomes.Answer.TheVariants as answer
 use crate::held::Held;
 use crate::rights::{Reading, Upgrading, Writing};
 use crate::rwlock::RwLock;
-use core_base::Clock;
+use core_clocks::Clock;
 use lock_raw::{
     RawRwLock, RawRwLockDowngrade, RawRwLockUpgrade, RawRwLockUpgradeDowngrade,
     RawRwLockUpgradeTimed,

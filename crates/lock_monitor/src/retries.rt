@@ -5,14 +5,14 @@
 ghost use Rattle.std.specs.Prelude.{◌≡◌, false, true};
 ghost use Rattle.std.specs.Iterator.Runs.{CallKeepsClosure};
 ghost use Rattle.std.specs.Sync.Condvar.{AnsweredAt, StoppedAt};
-ghost use Rattle.core_base.specs.Clocks.{HasPassed};
+ghost use Rattle.core_clocks.specs.Clocks.{HasPassed};
 ghost use Rattle.lock_raw.specs.Answers.{late_answer};
 ghost use Rattle.lock_api.specs.Conditions.{WaitedOrNot};
 ghost use Rattle.lock_api.specs.Guards.{lock_of, value_of};
 ghost use Rattle.lock_monitor.specs.Conditions.{WaitsAtLast, WaitsOften, WaitsOftenInTime};
 ghost use Rattle.spec_locks.specs.declared.outcomes.Answer.TheVariants as answers;
 
-use core_base::Clock;
+use core_clocks::Clock;
 use lock_api::condvar::TokenOf;
 use lock_api::{Condvar, MutexGuard, RawCondvar, RawCondvarTimed};
 use std::sync::Wait;

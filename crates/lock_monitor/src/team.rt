@@ -10,7 +10,7 @@ ghost use Rattle.parking_lot_core.specs.Team.{AreSizes};
 ghost use Rattle.parking_lot_core.specs.Tokens.{IsTicketOf, IsTokenOf};
 ghost use Rattle.lock_monitor.specs.Calls.{EachHasRun, GivesTokenBack, HasRun, MayAnswer, MayRun};
 
-use parking_lot_core::{DEFAULT_WORDS, Fault, ParkingLot, Ticket, Token};
+use parking_lot_core::{DEFAULT_WORDS, Director, Fault, ParkingLot, Ticket, Token};
 use std::alloc::Global;
 use std::marker::Model;
 use std::sync::Arc;
@@ -53,7 +53,9 @@ fn run_one<U, F: Fn(&mut Token) -> U>(lot: &ParkingLot, ticket: Ticket, f: &F) -
     ensures { MayAnswer F.Fn f.now lot.now result }
 {
     let mut token = ticket.enter();
+    lot.start(&token);
     let answer = f(&mut token);
+    lot.finish(&token);
     drop(token.leave());
     answer
 }
@@ -65,9 +67,11 @@ fn run_times<F: Fn(&mut Token)>(lot: &ParkingLot, ticket: Ticket, times: u64, f:
     ensures ran { HasRun F.Fn f.now lot.now times result }
 {
     let mut token = ticket.enter();
+    lot.start(&token);
     for _ in 0..times {
         f(&mut token);
     }
+    lot.finish(&token);
     token.leave()
 }
 
@@ -110,6 +114,37 @@ impl Team {
         }
     }
 
+    /// Makes a lot as `new` does, whose threads run when a director says so.
+    ///
+    /// # Errors
+    ///
+    /// As of `new`.
+    pub fn directed(
+        alloc: Global,
+        threads: usize,
+        director: &Arc<Director>,
+    ) -> Result<(Team, Token), Fault>
+        ensures made { IfOk result (λ made. IsTokenOf made.0 made.1
+            × (made.0.words.count ≡ 64) × (made.0.records.count ≡ threads + 1)) }
+        ensures sizes { IsErrOf result Fault.SizesOutOfRange ↔ (AreSizes 64 (threads + 1) → ⊥) }
+        ensures err { IfErr result (λ fault. (fault ≡ Fault.NoMemory)
+            ⊎ (fault ≡ Fault.SizesOutOfRange)) }
+    {
+        if threads > 1023 {
+            return Err(Fault::SizesOutOfRange);
+        }
+        let (lot, mut tickets) = ParkingLot::try_directed(
+            alloc,
+            DEFAULT_WORDS,
+            threads + 1,
+            director,
+        )?;
+        match tickets.pop() {
+            Some(ticket) => Ok((Team { lot, tickets }, ticket.enter())),
+            None => unreachable!(),
+        }
+    }
+
     /// Returns the lot, in which locks are made.
     pub fn lot(&self) -> &Arc<ParkingLot>
         ensures { arc_value result.now ≡ self.now }
@@ -134,6 +169,7 @@ impl Team {
     {
         let Team { lot, tickets } = self;
         let shared: &ParkingLot = &lot;
+        shared.begin(tickets.len());
         let answers = map_vec(
             rt,
             tickets,
@@ -164,6 +200,7 @@ impl Team {
     {
         let Team { lot, tickets } = self;
         let shared: &ParkingLot = &lot;
+        shared.begin(tickets.len());
         let tickets = map_vec(
             rt,
             tickets,

@@ -3,7 +3,7 @@ ghost use Rattle.std.specs.Prelude.{◌≡◌, ◌<◌, false, true};
 ghost use Rattle.std.specs.Fn.{FnOnceReturnsAtMut};
 ghost use Rattle.std.specs.Iterator.Runs.{CallKeepsClosure};
 ghost use Rattle.std.specs.Sync.Condvar.{AnsweredAt, StoppedAt};
-ghost use Rattle.core_base.specs.Clocks.{HasPassed};
+ghost use Rattle.core_clocks.specs.Clocks.{HasPassed};
 ghost use Rattle.lock_raw.specs.Answers.{late_answer};
 ghost use Rattle.lock_api.specs.Conditions.{WaitedOrNot};
 ghost use Rattle.lock_api.specs.Guards.{lock_of, value_of};
@@ -14,7 +14,7 @@ ghost use Rattle.spec_locks.specs.declared.outcomes.Answer.TheVariants as answer
 
 use crate::monitor::Monitor;
 use crate::retries::{wait_on, wait_until_on, wait_while_on, wait_while_until_on};
-use core_base::Clock;
+use core_clocks::Clock;
 use lock_api::condvar::TokenOf;
 use lock_api::mutex::run_on;
 use lock_api::{MutexGuard, RawCondvar, RawCondvarTimed};

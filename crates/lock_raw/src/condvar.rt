@@ -3,14 +3,15 @@ ghost use Rattle.std.specs.Prelude.{◌≡◌, ◌≢◌, ◌≤◌, ◌+◌, �
 ghost use Rattle.std.specs.Prelude.{IfOk};
 ghost use Rattle.std.specs.Arc.{arc_value};
 ghost use Rattle.std.specs.Duration.{as_nanos};
-ghost use Rattle.core_base.specs.Clocks.{HasElapsed, HasPassed};
+ghost use Rattle.core_clocks.specs.Clocks.{HasElapsed, HasPassed};
 ghost use Rattle.spec_locks.specs.declared.outcomes.Answer.{Answer};
 ghost use Rattle.spec_locks.specs.declared.outcomes.Answer.TheVariants.{No, Number};
 ghost use Rattle.lock_raw.specs.Answers.{GivesBack, GivesBackTimed, IsRefusal, LateByClock, moved_first};
 ghost use Rattle.lock_raw.specs.Answers.{notifying_answer, timed_answer, waiting_answer};
 
 use crate::RawMutex;
-use core_base::{Clock, Fault, to_deadline};
+use core_base::Fault;
+use core_clocks::{Clock, to_deadline};
 use std::sync::{Arc, Wait};
 use std::time::Duration;
 

@@ -18,7 +18,7 @@ pub mod rwlock_upgrade;
 ghost use Rattle.std.specs.Prelude.{◌≡◌, ℕ, Bool, MatchResult, IfErr, IfNone, IfOk, IfSome};
 ghost use Rattle.std.specs.Arc.{arc_value};
 ghost use Rattle.std.specs.Duration.{as_nanos};
-ghost use Rattle.core_base.specs.Clocks.{HasElapsed, HasPassed};
+ghost use Rattle.core_clocks.specs.Clocks.{HasElapsed, HasPassed};
 ghost use Rattle.spec_locks.specs.declared.calls.MutexCall.{MutexCall};
 ghost use Rattle.spec_locks.specs.declared.calls.MutexCall.TheVariants.{Lock, LockTimed, TryLock, Unlock};
 ghost use Rattle.spec_locks.specs.declared.calls.MutexCall.TheVariants.{UnlockFair, Bump};
@@ -28,7 +28,8 @@ ghost use Rattle.lock_raw.specs.Answers.{IsRefusal, answer_by};
 ghost use Rattle.core_parts.specs.PermitIds.{PermitId};
 
 pub use condvar::{RawCondvar, RawCondvarTimed};
-use core_base::{Clock, Fault};
+use core_base::Fault;
+use core_clocks::Clock;
 use core_parts::Permit;
 pub use counted::{GetThreadId, RawMutexCounted};
 pub use counts::advance_count;

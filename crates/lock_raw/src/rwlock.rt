@@ -2,7 +2,7 @@
 ghost use Rattle.std.specs.Prelude.{◌≡◌, ◌≤◌, ℕ, Bool, MatchResult, IfErr, IfNone, IfOk, IfSome};
 ghost use Rattle.std.specs.Arc.{arc_value};
 ghost use Rattle.std.specs.Duration.{as_nanos};
-ghost use Rattle.core_base.specs.Clocks.{HasElapsed, HasPassed};
+ghost use Rattle.core_clocks.specs.Clocks.{HasElapsed, HasPassed};
 ghost use Rattle.spec_locks.specs.declared.calls.Access.{Access};
 ghost use Rattle.spec_locks.specs.declared.calls.Access.TheVariants as access;
 ghost use Rattle.spec_locks.specs.declared.calls.Downgrade.TheVariants as downgrades;
@@ -17,7 +17,8 @@ ghost use Rattle.lock_raw.specs.Answers.{IsReadersFull, IsRefusal, TriesOrFull, 
 ghost use Rattle.lock_raw.specs.Answers.{reading_answer};
 
 use crate::rwlock_halves::RawRwLockHalves;
-use core_base::{Clock, Fault};
+use core_base::Fault;
+use core_clocks::Clock;
 use std::sync::{Arc, Wait};
 use std::time::Duration;
 

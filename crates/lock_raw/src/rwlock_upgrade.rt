@@ -1,7 +1,7 @@
 //! Raw reader-writer locks that a reader upgrades, as generic code sees them.
 ghost use Rattle.std.specs.Prelude.{◌≡◌, MatchResult, IfErr, IfNone, IfOk, IfSome};
 ghost use Rattle.std.specs.Duration.{as_nanos};
-ghost use Rattle.core_base.specs.Clocks.{HasElapsed, HasPassed};
+ghost use Rattle.core_clocks.specs.Clocks.{HasElapsed, HasPassed};
 ghost use Rattle.spec_locks.specs.declared.calls.Access.TheVariants as access;
 ghost use Rattle.spec_locks.specs.declared.calls.Downgrade.TheVariants as downgrades;
 ghost use Rattle.spec_locks.specs.declared.calls.Patience.TheVariants.{Patient, Timed, Try};
@@ -12,7 +12,8 @@ ghost use Rattle.lock_raw.specs.Answers.{IsReadersFull, TriesOrFull, counted_ans
 ghost use Rattle.lock_raw.specs.Answers.{upgrade_answer};
 
 use crate::rwlock::RawRwLock;
-use core_base::{Clock, Fault};
+use core_base::Fault;
+use core_clocks::Clock;
 use lock_values::{Place, Seen};
 use std::sync::Wait;
 use std::time::Duration;

@@ -10,9 +10,9 @@ pub use lock_monitor::Team;
 pub use lock_values::{LockName, Mapped, Project, Shown, Then, ThenError};
 pub use lot_world;
 pub use parking_lot_core::{
-    Clock, Did, Fault, Key, Keys, Note, Op, ParkingLot, QueuePlace, Requeue, Right, Section,
-    SectionRecord, Slept, SystemClock, TickClock, Ticket, Token, WakeNote, Want, Word, WordKind,
-    to_deadline,
+    Clock, Did, Director, Fault, Key, Keys, Note, Op, ParkingLot, QueuePlace, Requeue, Right,
+    Section, SectionRecord, Slept, SystemClock, TickClock, Ticket, Token, TurnClock, WakeNote,
+    Want, Word, WordKind, to_deadline,
 };
 pub use raw_mutexes::{
     OpenGuard, RawCondvar, RawFairMutex, RawGuard, RawMutex, RawShare, RawThreadId,

@@ -26,4 +26,5 @@ BlankCount = Struct (shape counts.the_type)
 
 pub blank_count_made : {M : Type 1} {𝓤 : Ura M} (𝓛 : Logic 𝓤)
     → ent 𝓤 (emp 𝓤) (sem 𝓛 (BlankCount.own_val tt (blank_val ∷ [])))
-blank_count_made 𝓛 = makes_shadow 𝓛 (BlankCount.own_val tt (blank_val ∷ [])) (λ uss. (tt, tt)) (tt, (refl, tt))
+blank_count_made 𝓛 =
+    makes_shadow 𝓛 (BlankCount.own_val tt (blank_val ∷ [])) (λ uss. (tt, tt)) (tt, (refl, tt))

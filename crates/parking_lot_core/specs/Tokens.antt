@@ -32,7 +32,7 @@ out_of token = token.seat.me.0.out
 
 -- the record of the section that it left last, if it has taken no step since
 abbrev pub last_of : Token → Option SectionRecord
-last_of token = if token.expected.unlocked == 0 then None else Some token.record
+last_of token = if token.expected.recorded then Some token.record else None
 
 -- a number of steps
 abbrev pub as_count : ℕ → StepCount

@@ -14,6 +14,7 @@ ghost use Rattle.parking_lot_core.specs.Tokens.{IsTokenOf, IsSameThread, view_of
 
 use crate::lot::ParkingLot;
 use crate::tokens::Token;
+use core_director::Deed;
 use core_names::CountShare;
 use core_parts::Permit;
 use core_words::{OpenHeld, Word};
@@ -35,7 +36,7 @@ impl ParkingLot {
             → (result ≡ said) × Says count.number said token.new.name }
         ensures shares { shares_of token.new.name ≡ shares_of token.old.name }
     {
-        token.forget_section();
+        self.forget_section(token, &Deed::Look, count.index());
         token
             .name
             .look(&self.words, &mut token.seat, token.number, count)
@@ -55,7 +56,7 @@ impl ParkingLot {
             × Says count.number result token.new.name }
         ensures shares { HasShare token.old.number count.number token.new.name }
     {
-        token.forget_section();
+        self.forget_section(token, &Deed::Look, count.index());
         token.name.see(&self.words, token.number, count, share)
     }
 
@@ -125,7 +126,7 @@ impl ParkingLot {
         ensures share { IsShareOf self.now.words count.number result
             × (thread_named result ≡ token.old.number) }
     {
-        token.forget_section();
+        self.forget_section(token, &Deed::Step, count.index());
         token
             .name
             .keep(&self.words, token.number, mutex, opened, permit);

@@ -218,6 +218,7 @@ impl ParkingLot {
             × (result.thread ≡ token.now.number) × (result.since ≡ count_of token.now)
             × (told_in result ≡ []) }
     {
+        self.enters();
         match keys {
             Keys::One(key) => self.enter_one(rt, token, keys, self.bucket(key)),
             Keys::Two(from, to) => {
@@ -245,6 +246,7 @@ impl ParkingLot {
         ensures since { result.since ≡ count_of token.old }
         ensures untold { told_in result ≡ [] }
     {
+        self.turn_to_enter(rt, token.number, keys);
         self.locked(rt, token, keys)
     }
 

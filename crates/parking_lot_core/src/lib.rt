@@ -3,6 +3,7 @@
 #![tactic(auto)]
 
 pub mod counts;
+pub mod directing;
 pub mod enter;
 pub mod expected;
 pub mod lot;
@@ -19,12 +20,13 @@ pub mod waiters;
 pub mod wakes;
 pub mod words;
 
-pub use core_base::{
-    Clock, Fault, Key, Keys, Note, Op, Requeue, SystemClock, TickClock, Waiter, Want, to_deadline,
-};
+pub use core_base::{Fault, Key, Keys, Note, Op, Requeue, Waiter, Want};
+pub use core_clocks::{Clock, SystemClock, TickClock, to_deadline};
+pub use core_director::{Deed, Director, Sort};
 pub use core_names::{CountShare, Name};
 pub use core_parts::Permit;
 pub use core_words::{Held, OpenHeld, Owner, Right, Word, WordKind};
+pub use directing::TurnClock;
 pub use lot::ParkingLot;
 pub use places::QueuePlace;
 pub use sections::Section;

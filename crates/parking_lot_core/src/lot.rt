@@ -10,6 +10,7 @@ use crate::tokens::Ticket;
 use crate::waiters::WakeRecord;
 use crate::wakes::Wakers;
 use core_base::Fault;
+use core_director::Director;
 use core_names::Name;
 use core_parts::KeyedLocks;
 use core_queues::{SectionQueues, Stands, bits_for, bucket_among};
@@ -32,6 +33,8 @@ pub struct ParkingLot {
     pub(crate) next_taken: Vec<AtomicUsize>,
     pub(crate) stands: Stands,
     pub(crate) probes: Probes,
+    // Says when threads run, where they are directed.
+    pub(crate) director: Option<Arc<Director>>,
     ghost hashed: { (length buckets.items ≡ 2 ^ bits) × (bits < 64) },
     ghost keyed: { records.table.shared.key ≡ words },
     ghost for_each_seat: { length next_taken.items ≡ records.count },
@@ -51,6 +54,7 @@ impl Drop for ParkingLot {
             next_taken: _next_taken,
             stands: _stands,
             probes: _probes,
+            director: _director,
         } = self;
     }
 }
@@ -107,6 +111,7 @@ impl ParkingLot {
         words: &LotWords,
         mut first: Seat,
         seats: usize,
+        directed: bool,
     ) -> Result<(Vec<Ticket>, Vec<Unparker>), AllocError>
         requires { IsNamer words.now 0 first }
         ensures tickets { IfOk result (λ made. (map number_of made.0.items ≡ range_with_len 0 seats)
@@ -120,7 +125,7 @@ impl ParkingLot {
             unparkers.push(parker.unparker().clone()?)?;
             let seat = words.another(&mut first);
             let name = Name::draw(words, &mut first, number);
-            tickets.push(Ticket::new(seat, name, number, parker))?;
+            tickets.push(Ticket::new(seat, name, number, directed, parker))?;
         }
         Ok((tickets, unparkers))
     }
@@ -131,6 +136,7 @@ impl ParkingLot {
         seats: usize,
         buckets: Vec<Mutex<SectionQueues>>,
         bits: u32,
+        director: Option<Arc<Director>>,
     ) -> Result<(Arc<ParkingLot>, Vec<Ticket>), AllocError>
         requires sizes { (0 < words) × (words ≤ most_words) × (seats ≤ 1024) }
         requires hashed { (length buckets.items ≡ 2 ^ bits) × (bits < 64) × IsLeast seats bits }
@@ -144,7 +150,13 @@ impl ParkingLot {
         let records = empty_records(alloc, &words, seats)?;
         let stands = Stands::new(alloc, seats)?;
         let probes = Probes::new(alloc, bucket_among(63, count) + seats)?;
-        let (tickets, unparkers) = ParkingLot::tickets(alloc, &words, first, seats)?;
+        let (tickets, unparkers) = ParkingLot::tickets(
+            alloc,
+            &words,
+            first,
+            seats,
+            director.is_some(),
+        )?;
         let lot = ParkingLot {
             words,
             buckets,
@@ -154,6 +166,7 @@ impl ParkingLot {
             next_taken: no_links(alloc, seats)?,
             stands,
             probes,
+            director,
         };
         Ok((Arc::new(alloc, lot)?, tickets))
     }
@@ -195,9 +208,31 @@ impl ParkingLot {
             × All (IsNewTicketOf (arc_value made.0)) made.1.items) }
         ensures err { IfErr result (λ fault. fault ≡ Fault.NoMemory) }
     {
+        ParkingLot::with_director(alloc, words, seats, None)
+    }
+
+    /// Makes a lot as `new` does, whose threads run when a director says so.
+    ///
+    /// # Errors
+    ///
+    /// `NoMemory`, where memory was refused.
+    pub fn with_director(
+        alloc: Global,
+        words: usize,
+        seats: usize,
+        director: Option<Arc<Director>>,
+    ) -> Result<(Arc<ParkingLot>, Vec<Ticket>), Fault>
+        requires words { (0 < words) × (words ≤ most_words) }
+        requires seats { (0 < seats) × (seats ≤ 1024) }
+        ensures lot { IfOk result (λ made. ((arc_value made.0).words.count ≡ words)
+            × ((arc_value made.0).records.count ≡ seats)) }
+        ensures tickets { IfOk result (λ made. (map number_of made.1.items ≡ range_with_len 0 seats)
+            × All (IsNewTicketOf (arc_value made.0)) made.1.items) }
+        ensures err { IfErr result (λ fault. fault ≡ Fault.NoMemory) }
+    {
         let bits = bits_for(seats);
         let buckets = empty_buckets(alloc, seats, bits)?;
-        match ParkingLot::build(alloc, words, seats, buckets, bits) {
+        match ParkingLot::build(alloc, words, seats, buckets, bits, director) {
             Ok(made) => Ok(made),
             Err(_) => Err(Fault::NoMemory),
         }

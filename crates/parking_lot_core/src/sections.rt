@@ -463,7 +463,7 @@ impl<'a> Section<'a> {
         requires { (self.did ≡ Nothing) × (told_in self ≡ []) }
     {
         let Section {
-            lot: _,
+            lot,
             first,
             other,
             keys: _,
@@ -475,6 +475,7 @@ impl<'a> Section<'a> {
         } = self;
         drop(other);
         drop(first);
+        lot.leaves();
     }
 
     /// Leaves, with the token that entered. The threads that the section took get the note and are
@@ -517,12 +518,13 @@ impl<'a> Section<'a> {
         if thread != token.number {
             hang_forever(rt)
         }
+        lot.leaves();
         token.record = SectionRecord {
             key: first_of_keys(keys),
             did,
             number: taken + moved,
         };
-        token.expected = Expected::disarmed();
+        token.expected = Expected::recording(token.expected.directed);
         told.pass_on(&mut token.told);
         let to = token.step_count();
         let visited = Telling::Visited {

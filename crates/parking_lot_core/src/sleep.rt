@@ -10,7 +10,7 @@
 //! locked instructions, only then. A queued thread polls so twelve times, for 0.8 microseconds, before
 //! it parks.
 ghost use Rattle.std.specs.Prelude.{◌≡◌, ◌<◌, ◌++◌, ◌∷◌, [], IfSome, None};
-ghost use Rattle.core_base.specs.Clocks.{IsUp};
+ghost use Rattle.core_clocks.specs.Clocks.{IsUp};
 ghost use Rattle.parking_lot_core.specs.declared.tellings.Telling.TheVariants as tellings;
 
 use crate::lot::ParkingLot;
@@ -21,7 +21,8 @@ use crate::tellings::Telling;
 use crate::tokens::Token;
 use crate::waiters::WakeRecord;
 use crate::wakes::WakeNote;
-use core_base::{Clock, Key, Keys, Note, Want};
+use core_base::{Key, Keys, Note, Want};
+use core_clocks::Clock;
 use core_words::{Right, Word};
 use std::sync::Wait;
 
@@ -144,7 +145,9 @@ impl ParkingLot {
         ensures late { WasLate result → IsUp C.tells limit.entry }
     {
         let mut limit = limit;
-        self.spin(token.number);
+        if !self.is_directed() {
+            self.spin(token.number);
+        }
         for _ in rt.forever() {
             // Asks by a load: to take the record is two locked instructions.
             if self.records.is_marked(token.number) {
@@ -153,13 +156,14 @@ impl ParkingLot {
                 }
             }
             match limit {
-                None => token.parker.park(rt),
+                None => self.park(rt, token, word),
                 Some((clock, deadline)) => {
                     let now = clock.now();
                     if now < deadline {
-                        clock.pause(deadline - now);
+                        self.pause(rt, token, word, clock, deadline - now);
                     } else {
                         if let Some((section, key)) = self.give_up(rt, token) {
+                            self.is_late(token);
                             return Slept::Late(section, key, place);
                         }
                         // The thread that took this one is about to wake it.

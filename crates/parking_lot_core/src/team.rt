@@ -8,6 +8,7 @@ ghost use Rattle.parking_lot_core.specs.Team.{AreSizes, IsIn};
 use crate::lot::ParkingLot;
 use crate::tokens::{Ticket, Token};
 use core_base::Fault;
+use core_director::Director;
 use std::alloc::Global;
 use std::sync::Arc;
 
@@ -40,6 +41,34 @@ impl ParkingLot {
             return Err(Fault::SizesOutOfRange);
         }
         ParkingLot::new(alloc, words, seats)
+    }
+
+    /// Tests the sizes, and makes a lot whose threads run when a director says so.
+    ///
+    /// # Errors
+    ///
+    /// As of `try_new`.
+    pub fn try_directed(
+        alloc: Global,
+        words: usize,
+        seats: usize,
+        director: &Arc<Director>,
+    ) -> Result<(Arc<ParkingLot>, Vec<Ticket>), Fault>
+        ensures lot { IfOk result (λ made. ((arc_value made.0).words.count ≡ words)
+            × ((arc_value made.0).records.count ≡ seats)) }
+        ensures tickets { IfOk result (λ made. (map number_of made.1.items ≡ range_with_len 0 seats)
+            × All (IsNewTicketOf (arc_value made.0)) made.1.items) }
+        ensures sizes { IsErrOf result Fault.SizesOutOfRange ↔ (AreSizes words seats → ⊥) }
+        ensures err { IfErr result (λ fault. (fault ≡ Fault.NoMemory)
+            ⊎ (fault ≡ Fault.SizesOutOfRange)) }
+    {
+        if !ParkingLot::fits(words, seats) {
+            return Err(Fault::SizesOutOfRange);
+        }
+        let Ok(director) = Arc::try_clone(director) else {
+            return Err(Fault::NoMemory);
+        };
+        ParkingLot::with_director(alloc, words, seats, Some(director))
     }
 
     /// Makes a lot of 64 words for so many threads, as `try_new` does.

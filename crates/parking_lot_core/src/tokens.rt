@@ -51,6 +51,8 @@ pub struct Ticket {
     pub(crate) seat: Seat,
     pub(crate) name: Name,
     pub(crate) number: usize,
+    // Whether a director says when its thread runs.
+    pub(crate) directed: bool,
     pub(crate) parker: Parker,
 }
 
@@ -61,6 +63,7 @@ impl Drop for Ticket {
             seat: _seat,
             name: _name,
             number: _number,
+            directed: _directed,
             parker: _parker,
         } = self;
     }
@@ -98,13 +101,20 @@ impl Drop for Token {
 }
 
 impl Ticket {
-    pub(crate) fn new(seat: Seat, name: Name, number: usize, parker: Parker) -> Ticket
+    pub(crate) fn new(
+        seat: Seat,
+        name: Name,
+        number: usize,
+        directed: bool,
+        parker: Parker,
+    ) -> Ticket
         ensures { (result.seat ≡ seat) × (result.name ≡ name) × (result.number ≡ number) }
     {
         Ticket {
             seat,
             name,
             number,
+            directed,
             parker,
         }
     }
@@ -118,6 +128,7 @@ impl Ticket {
             seat,
             name,
             number,
+            directed,
             parker,
         } = self;
         Token {
@@ -126,7 +137,7 @@ impl Ticket {
             number,
             parker,
             record: NOTHING,
-            expected: Expected::armed(),
+            expected: Expected::at_rest(directed),
             told: Tellings::new(),
             here: PhantomData,
         }
@@ -147,7 +158,7 @@ impl Token {
             number,
             parker,
             record: _,
-            expected: _,
+            expected,
             told: _,
             here: _,
         } = self;
@@ -155,6 +166,7 @@ impl Token {
             seat,
             name,
             number,
+            directed: expected.directed,
             parker,
         }
     }
@@ -175,37 +187,19 @@ impl Token {
         StepCount {}
     }
 
+    // Whether the thread has nothing to do before it steps.
+    #[inline]
+    pub(crate) fn is_armed(&self) -> bool
+        ensures { result ≡ (self.now.expected.unlocked == 0) }
+    {
+        self.expected.unlocked == 0
+    }
+
     #[inline]
     pub(crate) fn is_recorded(&self) -> bool
-        ensures { result ≡ not (self.now.expected.unlocked == 0) }
+        ensures { result ≡ self.now.expected.recorded }
     {
-        self.expected.unlocked != 0
-    }
-
-    // The thread steps. It writes only where a section is told: a locked instruction waits until
-    // every write before it is done.
-    #[inline]
-    pub(crate) fn forget_section(&mut self)
-        ensures same { (self.new.seat ≡ self.old.seat) × (self.new.name ≡ self.old.name)
-            × (self.new.number ≡ self.old.number) }
-        ensures forgotten { last_of self.new ≡ None }
-        ensures untold { told_of self.new ≡ told_of self.old }
-    {
-        if self.is_recorded() {
-            self.clear_record();
-        }
-    }
-
-    // Asks by a load alone: no locked instruction waits for the write, and it takes less time than
-    // the question.
-    #[inline]
-    pub(crate) fn forget_at_once(&mut self)
-        ensures same { (self.new.seat ≡ self.old.seat) × (self.new.name ≡ self.old.name)
-            × (self.new.number ≡ self.old.number) }
-        ensures forgotten { last_of self.new ≡ None }
-        ensures untold { told_of self.new ≡ told_of self.old }
-    {
-        self.expected = Expected::armed();
+        self.expected.recorded
     }
 
     // Out of the way, so that a step which has nothing to forget takes no jump.
@@ -217,7 +211,7 @@ impl Token {
         ensures forgotten { last_of self.new ≡ None }
         ensures untold { told_of self.new ≡ told_of self.old }
     {
-        self.expected = Expected::armed();
+        self.expected = Expected::at_rest(self.expected.directed);
     }
 
     /// Returns the record of the section that the thread left last. None once it has stepped on a

@@ -95,6 +95,7 @@ impl ParkingLot {
     {
         let Tied { thread, next } = tied;
         let noted = self.note(rt, thread, note);
+        self.is_woken(thread);
         self.wakers.unpark(noted);
         next
     }

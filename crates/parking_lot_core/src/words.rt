@@ -21,6 +21,7 @@ ghost use Rattle.parking_lot_core.specs.Tokens.{IsTokenOf, IsSameThread, view_of
 use crate::lot::ParkingLot;
 use crate::tokens::Token;
 use core_base::{Fault, Op, Want};
+use core_director::Deed;
 use core_parts::Permit;
 use core_words::laws::{condvar_may_step, count_may_step};
 use core_words::{Held, OpenHeld, Owner, Right, Word, WordKind};
@@ -45,7 +46,7 @@ impl ParkingLot {
         ensures coded { CodesWith word.kind (word_index word.number word.kind) result
             (view_of token.old).owns }
     {
-        token.forget_section();
+        self.forget_section(token, &Deed::Step, word.index());
         self.word_again(token, word, op)
     }
 
@@ -86,7 +87,7 @@ impl ParkingLot {
         ensures coded { CodesWith word.kind (word_index word.number word.kind) result
             (view_of token.old).owns }
     {
-        token.forget_at_once();
+        self.forget_section(token, &Deed::Look, word.index());
         self.words.step(&mut token.seat, word, Op::Load)
     }
 
@@ -124,7 +125,7 @@ impl ParkingLot {
             (view_of token.old) }
         ensures shown { ShowsBeside self.now.words.count condvar.number result }
     {
-        token.forget_at_once();
+        self.forget_section(token, &Deed::Call("notify_one"), condvar.index());
         self.words.look_shown(&mut token.seat, condvar)
     }
 
@@ -160,8 +161,10 @@ impl ParkingLot {
             (λ fault. (fault ≡ Fault.LotFull)
             × IsDrawRefused self.now.words.count 1 (view_of token.old) (view_of token.new)) }
     {
-        token.forget_section();
-        self.words.new_word(&mut token.seat, kind)
+        self.forget_section(token, &Deed::Draw, 0);
+        let word = self.words.new_word(&mut token.seat, kind)?;
+        self.drew(word);
+        Ok(word)
     }
 
     /// Returns the next word, of a semaphore of so many permits. The thread holds them all, and the
@@ -188,8 +191,10 @@ impl ParkingLot {
             (λ fault. (fault ≡ Fault.LotFull)
             × IsDrawRefused self.now.words.count 1 (view_of token.old) (view_of token.new)) }
     {
-        token.forget_section();
-        self.words.new_semaphore(&mut token.seat, permits)
+        self.forget_section(token, &Deed::Draw, 0);
+        let word = self.words.new_semaphore(&mut token.seat, permits)?;
+        self.drew(word);
+        Ok(word)
     }
 
     /// Returns the word of a semaphore, by one load, as a step. The permits that are free by it,
@@ -206,7 +211,7 @@ impl ParkingLot {
             (view_of token.old) }
         ensures within { WithinPermits semaphore.number result (view_of token.old) }
     {
-        token.forget_at_once();
+        self.forget_section(token, &Deed::Look, semaphore.index());
         self.words.look_free(&mut token.seat, semaphore)
     }
 
@@ -230,8 +235,11 @@ impl ParkingLot {
             (λ fault. (fault ≡ Fault.LotFull)
             × IsDrawRefused self.now.words.count 2 (view_of token.old) (view_of token.new)) }
     {
-        token.forget_section();
-        self.words.new_pair(&mut token.seat)
+        self.forget_section(token, &Deed::Draw, 0);
+        let (mutex, count) = self.words.new_pair(&mut token.seat)?;
+        self.drew(mutex);
+        self.drew(count);
+        Ok((mutex, count))
     }
 
     /// Splits what was wanted off the token's view, of a word that guards no value. It loads a
@@ -338,9 +346,9 @@ impl ParkingLot {
         match self.words.enter_open(&mut token.seat, word, unlocked) {
             Ok(taken) => Ok(taken),
             // The token is asked again: what it expects is kept nowhere past the step.
-            Err(seen) if !token.is_recorded() => Err(seen),
+            Err(seen) if token.is_armed() => Err(seen),
             Err(_) => {
-                token.clear_record();
+                self.pass(token, &Deed::Call("lock"), word.index());
                 self.words.enter_open(&mut token.seat, word, 0)
             }
         }
@@ -361,7 +369,7 @@ impl ParkingLot {
         ensures opened { MatchOption result.1 (result.0 % 2 ≢ 0) (λ taken. (result.0 % 2 ≡ 0)
             × IsOpenOf self.now.words word taken.0 × (taken.1.id ≡ permit_of self.now.words word)) }
     {
-        token.forget_section();
+        self.forget_section(token, &Deed::Call("try_lock"), word.index());
         self.words.try_enter_open(&mut token.seat, word)
     }
 
@@ -384,7 +392,7 @@ impl ParkingLot {
         match words.leave_open(&mut token.seat, word, opened, permit, locked) {
             Ok(seen) => seen,
             Err((opened, permit)) => {
-                token.clear_record();
+                self.pass(token, &Deed::Call("unlock"), word.index());
                 match words.leave_open(&mut token.seat, word, opened, permit, 1) {
                     Ok(seen) => seen,
                     Err(_) => unreachable!(),
@@ -417,7 +425,7 @@ impl ParkingLot {
         match words.leave_open_alone(&mut token.seat, word, opened, permit, locked) {
             Ok(seen) => seen,
             Err((opened, permit)) => {
-                token.clear_record();
+                self.pass(token, &Deed::Call("unlock_fair"), word.index());
                 match words.leave_open_alone(&mut token.seat, word, opened, permit, 1) {
                     Ok(seen) => seen,
                     Err(_) => unreachable!(),

@@ -4,7 +4,7 @@
 //! word of a condition variable to its queue. A thread that found nobody would stay there.
 ghost use Rattle.std.specs.Prelude.{◌≡◌, ◌≢◌, ◌<◌, ◌*◌};
 ghost use Rattle.std.specs.Arc.{arc_value};
-ghost use Rattle.core_base.specs.Clocks.{IsUp};
+ghost use Rattle.core_clocks.specs.Clocks.{IsUp};
 ghost use Rattle.spec_locks.specs.declared.outcomes.Answer.{Answer};
 ghost use Rattle.core_words.specs.Lots.{IsWordOf};
 ghost use Rattle.core_words.specs.declared.words.WordKind.TheVariants.{Condvar};

@@ -14,7 +14,7 @@ ghost use Rattle.run_base.specs.Telling.{steps_of};
 use crate::guards::{OpenGuard, RawGuard};
 use crate::raw_mutex::RawMutex;
 use lock_raw::{RawMutexFair, RawMutexTimed};
-use parking_lot_core::{Clock, Fault, Key, ParkingLot, Permit, Token};
+use parking_lot_core::{Clock, Fault, Key, ParkingLot, Permit, Sort, Token};
 use std::marker::Model;
 use std::sync::{Arc, Wait};
 use std::time::Duration;
@@ -96,6 +96,7 @@ impl lock_raw::RawMutex for RawFairMutex {
 
     fn new(lot: &Arc<ParkingLot>, token: &mut Token) -> Result<RawFairMutex, Fault> {
         let raw = <RawMutex as lock_raw::RawMutex>::new(lot, token)?;
+        lot.declares(raw.word, Sort::Named("fair"));
         Ok(RawFairMutex { raw })
     }
 

@@ -5,7 +5,7 @@
 //! subtraction whether it found 1; an owner finds 1 or 3, so the slow half is told 3.
 ghost use Rattle.std.specs.Prelude.{◌≡◌, ◌<◌, ◌*◌, ◌++◌, List, None, true, IfNone, IfSome};
 ghost use Rattle.std.specs.Arc.{arc_value};
-ghost use Rattle.core_base.specs.Clocks.{IsUp};
+ghost use Rattle.core_clocks.specs.Clocks.{IsUp};
 ghost use Rattle.lock_raw.specs.Answers.{answer_by};
 ghost use Rattle.spec_locks.specs.declared.calls.MutexCall.TheVariants.{Bump, LockTimed, Unlock, UnlockFair};
 ghost use Rattle.spec_locks.specs.declared.outcomes.Answer.TheVariants.{Ok as ok};
@@ -30,7 +30,7 @@ ghost use Rattle.run_base.specs.Telling.{owns_of, steps_of};
 
 use crate::guards::{OpenGuard, RawGuard};
 use core_base::main_key;
-use parking_lot_core::{Clock, Fault, Key, Op, ParkingLot, Permit, Token, Word, WordKind};
+use parking_lot_core::{Clock, Deed, Fault, Key, Op, ParkingLot, Permit, Token, Word, WordKind};
 use run_base::driver::{NO_LIMIT, step};
 use run_base::limits::limit_in;
 use run_mutexes::calls::call_slow;
@@ -241,6 +241,7 @@ impl RawMutex {
         ensures late { IfNone result (IsUp C.tells limit.entry) }
     {
         let lot: &ParkingLot = &self.lot;
+        lot.renames(token, &Deed::Call("lock_timed"));
         let answer = call_slow(rt, lot, token, self.word, limit, MutexCall::LockTimed, seen);
         if matches!(answer, Answer::No) {
             return None;
@@ -329,7 +330,8 @@ impl lock_raw::RawMutex for RawMutex {
 
     #[inline]
     fn is_locked(&self, token: &mut Token) -> bool {
-        is_locked(step(&self.lot, token, self.word, Op::Load))
+        self.lot.begins(token, &Deed::Look, self.word);
+        is_locked(self.lot.word_again(token, self.word, Op::Load))
     }
 
     #[inline]
@@ -400,7 +402,8 @@ impl lock_raw::RawMutexFair for RawMutex {
 
     #[inline]
     fn bump<R: Wait>(&self, rt: &R, token: &mut Token, guard: RawGuard) -> RawGuard {
-        let seen = step(&self.lot, token, self.word, Op::Load);
+        self.lot.begins(token, &Deed::Call("bump"), self.word);
+        let seen = self.lot.word_again(token, self.word, Op::Load);
         if !is_parked(seen) {
             return guard;
         }

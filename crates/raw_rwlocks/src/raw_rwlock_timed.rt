@@ -8,7 +8,7 @@ use std::sync::Wait;
 impl<const RECURSIVE: bool> RawRwLock<RECURSIVE> {
     ghost use Rattle.std.specs.Prelude.{◌≡◌, IfErr, IfNone, IfOk, IfSome, MatchResult};
     ghost use Rattle.lock_raw.specs.Answers.{answer_by, counted_answer, upgrade_answer};
-    ghost use Rattle.core_base.specs.Clocks.{IsUp};
+    ghost use Rattle.core_clocks.specs.Clocks.{IsUp};
     ghost use Rattle.spec_locks.specs.declared.calls.Access.TheVariants as access;
     ghost use Rattle.spec_locks.specs.declared.calls.Patience.TheVariants.{Timed};
     ghost use Rattle.steps_rwlock.specs.declared.purposes.RwLockPurpose.TheVariants.{Enter, Upgrade};

@@ -3,7 +3,7 @@ ghost use Rattle.std.specs.Prelude.{◌≡◌, ◌⊎◌, ◌<◌, ◌≤◌, �
 ghost use Rattle.std.specs.Prelude.{IfNone, IfOk, IfSome, MatchOption, MatchResult};
 ghost use Rattle.std.specs.Arc.{arc_value};
 ghost use Rattle.lock_raw.specs.Answers.{IsRefusal, answer_by, reading_answer};
-ghost use Rattle.core_base.specs.Clocks.{IsUp};
+ghost use Rattle.core_clocks.specs.Clocks.{IsUp};
 ghost use Rattle.core_base.specs.declared.ops.Op.TheVariants.{Load};
 ghost use Rattle.core_base.specs.declared.wants.Want.TheVariants.{Exclusive, Upgradable};
 ghost use Rattle.spec_locks.specs.declared.calls.Access.TheVariants as access;
@@ -33,7 +33,9 @@ ghost use Rattle.run_locks.specs.Halves.{HasBegunRwLock, HasEndedRwLock};
 
 use core_base::{main_key, second_key};
 use core_words::LotWords;
-use parking_lot_core::{Clock, Fault, Held, Key, Op, ParkingLot, Token, Want, Word, WordKind};
+use parking_lot_core::{
+    Clock, Deed, Fault, Held, Key, Op, ParkingLot, Sort, Token, Want, Word, WordKind,
+};
 use run_base::driver::FOR_EVER;
 use run_locks::rwlock_calls::{Rest, call, call_fast, call_slow, missed};
 use run_locks::rwlock_courses::{Settings, greater, lesser};
@@ -97,6 +99,8 @@ impl LotRwLock {
             return Err(Fault::NoMemory);
         };
         let word = lot.new_word(token, WordKind::RwLock)?;
+        let sort = if recursive { "recursive" } else { "rwlock" };
+        lot.declares(word, Sort::Limited(sort, limit));
         let settings = Settings::new(Admission { recursive, limit });
         Ok(LotRwLock {
             lot,
@@ -312,7 +316,8 @@ impl LotRwLock {
             (answer_by result) token.old token.new }
     {
         let lot: &ParkingLot = &self.lot;
-        let seen = lot.word(token, self.word, ENTER);
+        lot.begins(token, &Deed::Call("try_write"), self.word);
+        let seen = lot.word_again(token, self.word, ENTER);
         if seen == 0 {
             return Some(self.split(lot, token, Want::Exclusive));
         }
@@ -558,7 +563,8 @@ impl LotRwLock {
         ensures coded { CodesWith RwLock (rwlock_at (word_in self.now).number) result
             (owns_of token.old) }
     {
-        self.lot.word(token, self.word, Op::Load)
+        self.lot.begins(token, &Deed::Look, self.word);
+        self.lot.word_again(token, self.word, Op::Load)
     }
 
     // A step of a thread that had both rights would find a word that says so, and there is none.

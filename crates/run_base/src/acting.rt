@@ -6,7 +6,7 @@
 //! so the driver does nothing for them. A sleeper learns its note alone, so `Asleep` goes on by `Woken`
 //! too.
 ghost use Rattle.std.specs.Prelude.{◌≡◌, ◌++◌, ◌∷◌, ◌==◌, ℕ, [], None, Some, false, length, true, MatchBool};
-ghost use Rattle.core_base.specs.Clocks.{IsUp};
+ghost use Rattle.core_clocks.specs.Clocks.{IsUp};
 ghost use Rattle.core_base.specs.Lines.{queued_under, waiter, line, lines, without};
 ghost use Rattle.steps_base.specs.declared.acts.Act.TheVariants.{Sleep};
 ghost use Rattle.core_base.specs.declared.keys.Keys.TheVariants.{One};

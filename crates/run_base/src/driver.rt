@@ -4,7 +4,7 @@
 //! world and the driver both lead on by the same `next` of a place. A thread that waits without a limit
 //! is never late, by the contract of `sleep`, so one driver serves timed and other calls.
 ghost use Rattle.std.specs.Prelude.{◌≡◌, ◌++◌, List, None, IsTrue, IsFalse};
-ghost use Rattle.core_base.specs.Clocks.{IsUp};
+ghost use Rattle.core_clocks.specs.Clocks.{IsUp};
 ghost use Rattle.lot_steps.specs.Steps.{act_of, next_place};
 ghost use Rattle.steps_base.specs.declared.acts.Reply.TheVariants.{Value};
 ghost use Rattle.core_words.specs.Steps.{MayStep, CodesWith, after_step};
@@ -206,7 +206,8 @@ pub fn run_from<'a, R: Wait, C: Clock>(
     let mut act = start.act();
     let mut section = inside;
     let mut queue = queued;
-    let mut loads = 0;
+    // Where threads take turns nobody gets on while one pauses.
+    let mut loads = if lot.is_directed() { MOST_LOADS } else { 0 };
     for _ in rt.forever() {
         if let Some(state) = closure_of(act) {
             end(section);

@@ -5,7 +5,7 @@
 //! calls. A timed try that needs no wait never looks at the deadline: a free lock is taken though the
 //! time is up, as in the Rust crate.
 ghost use Rattle.std.specs.Duration.{as_nanos};
-ghost use Rattle.core_base.specs.Clocks.{HasElapsed, IsUp};
+ghost use Rattle.core_clocks.specs.Clocks.{HasElapsed, IsUp};
 
 use parking_lot_core::{Clock, to_deadline};
 use std::time::Duration;

@@ -1,6 +1,6 @@
 //! Turns whose act is known where their call is compiled. A call does most of its work by these,
 //! and all else by `run_from`.
-ghost use Rattle.core_base.specs.Clocks.{IsUp};
+ghost use Rattle.core_clocks.specs.Clocks.{IsUp};
 ghost use Rattle.steps_base.specs.declared.acts.Act.TheVariants as acts;
 ghost use Rattle.steps_base.specs.declared.acts.Reply.TheVariants.{Done, Parked, Picked, Requeued, Took, Value};
 ghost use Rattle.steps_base.specs.declared.acts.Whom.TheVariants as whom;

@@ -2,7 +2,7 @@
 //!
 //! A notification's first load is inlined, and the rest is out of line: mostly no thread waits.
 ghost use Rattle.std.specs.Prelude.{◌≡◌, ◌≢◌, Bool, None};
-ghost use Rattle.core_base.specs.Clocks.{IsUp};
+ghost use Rattle.core_clocks.specs.Clocks.{IsUp};
 ghost use Rattle.parking_lot_core.specs.Tokens.{IsSameThread};
 ghost use Rattle.parking_lot_core.specs.declared.tokens.Token.{Token};
 ghost use Rattle.steps_condvar.specs.CondvarSteps.{notified};
@@ -15,8 +15,8 @@ ghost use Rattle.run_locks.specs.CondvarCalls.{NotifiesBy, TellsMoved};
 
 use crate::condvar_courses::Pair;
 use crate::notify_courses::notify_through;
-use crate::wait_courses::wait_through;
-use parking_lot_core::{Clock, ParkingLot, Token, Word};
+use crate::wait_courses::wait_course;
+use parking_lot_core::{Clock, Deed, ParkingLot, Token, Word};
 use run_base::words::Words;
 use spec_locks::Answer;
 use std::sync::Wait;
@@ -54,7 +54,13 @@ pub fn wait<R: Wait, C: Clock>(
         (owns_of token.old) result
         (stage_of token.new None) }
 {
-    wait_through(rt, lot, token, pair_of(condvar, mutex), limit, timed)
+    let deed = if timed {
+        &Deed::Call("wait_timed")
+    } else {
+        &Deed::Call("wait")
+    };
+    lot.turn_to_wait(rt, token, deed, condvar, mutex);
+    wait_course(rt, lot, token, pair_of(condvar, mutex), limit, timed)
 }
 
 // Does the rest of a notification whose first step saw this mutex: it wakes the first that waits
@@ -118,5 +124,8 @@ pub fn notify_slow<R: Wait>(
     ensures record { TellsMoved condvar.number all seen result token.old token.new }
 {
     let mutex = lot.mutex_shown(token, condvar, seen);
+    if all {
+        lot.renames(token, &Deed::Call("notify_all"));
+    }
     notify_shown(rt, lot, token, condvar, mutex, all)
 }

@@ -1,7 +1,7 @@
 //! The straight courses of waits and of notifications, where nothing comes between. Anything else
 //! leads off them, to the driver, which goes on through the places one by one.
 ghost use Rattle.std.specs.Prelude.{◌≡◌, IsTrue};
-ghost use Rattle.core_base.specs.Clocks.{IsUp};
+ghost use Rattle.core_clocks.specs.Clocks.{IsUp};
 ghost use Rattle.run_base.specs.Queued.{HasPlace, is_queued};
 ghost use Rattle.run_base.specs.Turns.{HasEnded, IsAtPlace};
 ghost use Rattle.run_locks.specs.CondvarCourses.{IsOfCondvar, notify_at, wait_at};

@@ -10,6 +10,7 @@
 //! has the figures. Waits and notifications would pay that at each turn, inside the lot's lock.
 #![tactic(auto)]
 
+mod call_names;
 pub mod condvar_calls;
 mod condvar_courses;
 mod notify_courses;

@@ -7,7 +7,7 @@
 //! word has it.
 ghost use Rattle.std.specs.Prelude.{◌≡◌, List, None, MatchResult, IsFalse};
 ghost use Rattle.steps_base.specs.declared.acts.Reply.TheVariants.{Value};
-ghost use Rattle.core_base.specs.Clocks.{IsUp};
+ghost use Rattle.core_clocks.specs.Clocks.{IsUp};
 ghost use Rattle.steps_rwlock.specs.declared.purposes.RwLockPurpose.TheVariants.{Enter};
 ghost use Rattle.lot_steps.specs.Steps.{next_place};
 ghost use Rattle.core_words.specs.Lots.{IsWordOf};
@@ -27,6 +27,7 @@ ghost use Rattle.run_base.specs.Stages.{stage_of};
 ghost use Rattle.run_base.specs.Telling.{owns_of};
 ghost use Rattle.run_base.specs.Words.{single_word, kind_in, at_in};
 
+use crate::call_names::call_name;
 use crate::rwlock_courses::{Course, Settings, answer_with, course_of, opening};
 use crate::wake_courses::wake_through;
 use core_base::Line;
@@ -353,7 +354,8 @@ pub fn call_fast<C: Clock>(
         token.old token.new)
         (λ rest. HasBegunRwLock word.now settings.now.admission purpose rest token.old token.new) }
 {
-    let seen = lot.word(token, *word, opening(purpose));
+    lot.begins(token, call_name(purpose), *word);
+    let seen = lot.word_again(token, *word, opening(purpose));
     match course_of(*settings, purpose, seen) {
         Course::Ends(answer) => Ok(answer),
         Course::GoesOn => Err(Rest::GoesOn(seen)),

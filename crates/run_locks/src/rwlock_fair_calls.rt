@@ -21,7 +21,7 @@ ghost use Rattle.run_base.specs.Telling.{owns_of};
 
 use crate::rwlock_calls::run_out;
 use lot_steps::{Next, Place, Reply};
-use parking_lot_core::{Op, ParkingLot, Token, Word};
+use parking_lot_core::{Deed, Op, ParkingLot, Token, Word};
 use run_base::driver::NO_LIMIT;
 use spec_locks::{Access, Answer};
 use std::sync::Wait;
@@ -41,6 +41,15 @@ const HAND_OVER: &RwLockCallPlace = &RwLockCallPlace::HandOver {
     bumps: false,
     at: HandOverAt::Enter,
 };
+
+#[inline(always)]
+fn bump_name(access: Access) -> &'static Deed {
+    match access {
+        Access::Shared => &Deed::Call("bump_shared"),
+        Access::Upgradable => &Deed::Call("bump_upgradable"),
+        Access::Exclusive => &Deed::Call("bump_exclusive"),
+    }
+}
 
 // Does the rest of a call, from a place.
 #[cold]
@@ -95,7 +104,8 @@ pub fn release_exclusive<R: Wait>(
         → IsBeside word.now.number base (owns_of token.new) }
     ensures record { ReleasesFairly word.now.number admission.now Exclusive token.old token.new }
 {
-    let seen = lot.word(token, *word, LEAVE_ALONE);
+    lot.begins(token, &Deed::Call("unlock_exclusive_fair"), *word);
+    let seen = lot.word_again(token, *word, LEAVE_ALONE);
     if seen != WRITER {
         rest(rt, lot, token, word, admission, HAND_OVER);
     }
@@ -121,6 +131,7 @@ pub fn release_upgradable<R: Wait>(
         → IsBeside word.now.number base (owns_of token.new) }
     ensures record { ReleasesFairly word.now.number admission.now Upgradable token.old token.new }
 {
+    lot.begins(token, &Deed::Call("unlock_upgradable_fair"), *word);
     let at = RwLockCallPlace::HandOver {
         access: Access::Upgradable,
         bumps: false,
@@ -151,7 +162,8 @@ pub fn bump<R: Wait>(
         → Answers ⊥ word.now.number base admission.now (Enter access Patient) result
         (stage_of token.new None) }
 {
-    let seen = lot.word(token, *word, Op::Load);
+    lot.begins(token, bump_name(access), *word);
+    let seen = lot.word_again(token, *word, Op::Load);
     match RwLockCallPlace::PeekQueue(access).next(*admission, Reply::Value(seen)) {
         Next::End(answer) => answer,
         Next::At(at) => rest(rt, lot, token, word, admission, &at),

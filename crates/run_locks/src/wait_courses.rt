@@ -2,7 +2,7 @@
 //!
 //! No part of a wait is inlined: it sleeps, or is about to.
 ghost use Rattle.std.specs.Prelude.{◌≡◌, ◌==◌, ◌||◌, None, false};
-ghost use Rattle.core_base.specs.Clocks.{IsUp};
+ghost use Rattle.core_clocks.specs.Clocks.{IsUp};
 ghost use Rattle.steps_condvar.specs.CondvarSteps.{is_shown, waited};
 ghost use Rattle.steps_condvar.specs.declared.wait.WaiterFate.TheVariants.{Listed};
 ghost use Rattle.steps_condvar.specs.declared.wait.WaitAt.TheVariants as wait;
@@ -286,7 +286,7 @@ fn may_show(seen: u64, mutex: usize) -> bool
 
 /// A wait, from its beginning to its answer.
 #[inline]
-pub(crate) fn wait_through<R: Wait, C: Clock>(
+pub(crate) fn wait_course<R: Wait, C: Clock>(
     rt: &R,
     lot: &ParkingLot,
     token: &mut Token,

@@ -1,6 +1,6 @@
 //! The straight course of a call of a reader-writer lock that wakes those in the main queue.
 ghost use Rattle.std.specs.Prelude.{◌≡◌, None};
-ghost use Rattle.core_base.specs.Clocks.{IsUp};
+ghost use Rattle.core_clocks.specs.Clocks.{IsUp};
 ghost use Rattle.run_base.specs.Turns.{HasEnded, IsAtPlace};
 ghost use Rattle.steps_base.specs.Acts.{any_picked};
 ghost use Rattle.steps_rwlock.specs.RwLockSteps.{ends_with};

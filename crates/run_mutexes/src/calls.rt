@@ -1,6 +1,6 @@
 //! The slow half of a call of a mutex.
 ghost use Rattle.std.specs.Prelude.{◌≡◌, ◌++◌, List, None, true};
-ghost use Rattle.core_base.specs.Clocks.{IsUp};
+ghost use Rattle.core_clocks.specs.Clocks.{IsUp};
 ghost use Rattle.core_words.specs.Steps.{has};
 ghost use Rattle.core_words.specs.declared.views.WordStep.{WordStep};
 ghost use Rattle.parking_lot_core.specs.Tokens.{IsSameThread, view_of};
@@ -12,7 +12,7 @@ ghost use Rattle.run_base.specs.Stages.{stage_of};
 ghost use Rattle.run_base.specs.Telling.{owns_of, steps_of};
 
 use crate::hand_off_courses::hand_over_through;
-use crate::lock_courses::lock_through;
+use crate::lock_courses::lock_course;
 use parking_lot_core::{Clock, ParkingLot, Token, Word};
 use run_base::driver;
 use run_base::words::Words;
@@ -37,7 +37,7 @@ fn lock_after_others<R: Wait, C: Clock>(
 {
     let words = Words::alone(word);
     let mutex = word.number();
-    lock_through(rt, lot, token, words, limit, mutex, Entry::Lock)
+    lock_course(rt, lot, token, words, limit, mutex, Entry::Lock)
 }
 
 // Does the rest of a timed lock whose first step saw that others wait.
@@ -57,7 +57,7 @@ fn lock_timed_after_others<R: Wait, C: Clock>(
 {
     let words = Words::alone(word);
     let mutex = word.number();
-    lock_through(rt, lot, token, words, limit, mutex, Entry::LockTimed)
+    lock_course(rt, lot, token, words, limit, mutex, Entry::LockTimed)
 }
 
 // Does the rest of a fair unlock whose first step saw that others wait.

@@ -1,7 +1,7 @@
 //! The straight course of a fair unlock that saw a waiter: it hands the mutex to the first that
 //! waits.
 ghost use Rattle.std.specs.Prelude.{◌≡◌, None, true};
-ghost use Rattle.core_base.specs.Clocks.{IsUp};
+ghost use Rattle.core_clocks.specs.Clocks.{IsUp};
 ghost use Rattle.run_base.specs.Turns.{HasEnded, IsAtPlace};
 ghost use Rattle.steps_mutex.specs.MutexSteps.{hand_off_word};
 ghost use Rattle.steps_mutex.specs.declared.hand_off.HandOffAt.TheVariants as hand_off;

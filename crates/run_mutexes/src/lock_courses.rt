@@ -1,7 +1,7 @@
 //! The straight course of a lock whose mutex is owned, and for which others wait already: it stands
 //! after the last of them, sleeps, and is handed the mutex.
 ghost use Rattle.std.specs.Prelude.{◌≡◌, None, IsTrue};
-ghost use Rattle.core_base.specs.Clocks.{IsUp};
+ghost use Rattle.core_clocks.specs.Clocks.{IsUp};
 ghost use Rattle.run_base.specs.Queued.{HasPlace};
 ghost use Rattle.run_base.specs.Turns.{HasEnded, IsAtPlace};
 ghost use Rattle.steps_mutex.specs.MutexSteps.{entered};
@@ -128,7 +128,7 @@ fn park<R: Wait, C: Clock>(
 /// A lock whose first step saw a waiter, from there to its answer.
 #[cold]
 #[inline(never)]
-pub(crate) fn lock_through<R: Wait, C: Clock>(
+pub(crate) fn lock_course<R: Wait, C: Clock>(
     rt: &R,
     lot: &ParkingLot,
     token: &mut Token,

@@ -1,6 +1,6 @@
 //! The rest of a call of a mutex that has left its straight course.
 ghost use Rattle.std.specs.Prelude.{IsTrue};
-ghost use Rattle.core_base.specs.Clocks.{IsUp};
+ghost use Rattle.core_clocks.specs.Clocks.{IsUp};
 ghost use Rattle.run_base.specs.Queued.{HasPlace, is_queued};
 ghost use Rattle.run_base.specs.Turns.{HasEnded, IsAtPlace};
 ghost use Rattle.run_mutexes.specs.LockCourses.{IsOfMutex};

@@ -8,7 +8,7 @@ ghost use Rattle.std.specs.Prelude.{IfOk, MatchResult};
 ghost use Rattle.std.specs.Arc.{arc_value};
 ghost use Rattle.std.specs.Duration.{as_nanos};
 ghost use Rattle.spec_locks.specs.Codes.{is_done};
-ghost use Rattle.core_base.specs.Clocks.{HasElapsed, HasPassed, IsUp};
+ghost use Rattle.core_clocks.specs.Clocks.{HasElapsed, HasPassed, IsUp};
 ghost use Rattle.spec_locks.specs.declared.calls.OnceCall.TheVariants as calls;
 ghost use Rattle.spec_locks.specs.declared.outcomes.Answer.TheVariants as answers;
 ghost use Rattle.core_words.specs.Draws.{IsDrawn, IsDrawRefused};
@@ -28,7 +28,7 @@ ghost use Rattle.run_signals.specs.Looks.{CameTo, FoundDone, came_by};
 use crate::once_calls::{Look, begin, begin_slow, close};
 use core_base::main_key;
 use core_words::laws::once_may_step;
-use parking_lot_core::{Clock, Fault, Key, Op, ParkingLot, Token, Word, WordKind};
+use parking_lot_core::{Clock, Fault, Key, Op, ParkingLot, Sort, Token, Word, WordKind};
 use run_base::driver::FOR_EVER;
 use run_base::limits::limit_in;
 use spec_locks::{Answer, OnceCall, OnceState};
@@ -142,6 +142,7 @@ impl Once {
             return false;
         }
         let _running = self.lot.word(token, self.word, Op::Swap(DONE));
+        self.lot.declares(self.word, Sort::Named("completed"));
         true
     }
 

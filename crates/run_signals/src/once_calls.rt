@@ -1,6 +1,6 @@
 //! The calls of a `Once`: up to its closure, and from after that to its end.
 ghost use Rattle.std.specs.Prelude.{◌≡◌, List, None, true};
-ghost use Rattle.core_base.specs.Clocks.{IsUp};
+ghost use Rattle.core_clocks.specs.Clocks.{IsUp};
 ghost use Rattle.steps_once.specs.OnceSteps.{word_after};
 ghost use Rattle.steps_once.specs.declared.places.OncePlace.TheVariants.{Run};
 ghost use Rattle.steps_once.specs.declared.run.RunAt.TheVariants.{Enter};
@@ -20,13 +20,43 @@ ghost use Rattle.run_signals.specs.OnceCalls.{EndedAndWoke, EndsRun, HasLookedFi
 ghost use Rattle.run_signals.specs.OnceCalls.{MeetsOnce};
 
 use lot_steps::{Place, Reply, advance};
-use parking_lot_core::{Clock, Op, ParkingLot, Token, Word};
+use parking_lot_core::{Clock, Deed, Op, ParkingLot, Token, Word};
 use run_base::driver::{NO_LIMIT, Stop, answer_of, run};
 use run_base::words::Words;
 use spec_locks::{Answer, OnceCall, OnceState};
 use std::sync::Wait;
 use steps_base::bits::is_marked;
 use steps_once::{DONE, OncePlace, POISONED, RunAt};
+
+// Returns what a schedule names a call.
+fn call_name(call: OnceCall) -> &'static Deed {
+    match call {
+        OnceCall::CallOnce { forced: false } => &Deed::Call("call_once"),
+        OnceCall::CallOnce { forced: true } => &Deed::Call("call_once_force"),
+        OnceCall::Wait { forced: false } => &Deed::Call("wait"),
+        OnceCall::Wait { forced: true } => &Deed::Call("wait_force"),
+        OnceCall::WaitTimed => &Deed::Call("wait_timed"),
+    }
+}
+
+// Returns what a schedule names the end of a run.
+#[inline(always)]
+fn end_name(succeeded: bool) -> &'static Deed {
+    if succeeded {
+        &Deed::Call("ok")
+    } else {
+        &Deed::Call("err")
+    }
+}
+
+// Returns the name of the end of a run for which others wait: a schedule has two lines for it.
+fn waking_end_name(succeeded: bool) -> &'static Deed {
+    if succeeded {
+        &Deed::Call("ok, solo")
+    } else {
+        &Deed::Call("err, solo")
+    }
+}
 
 /// The end of a call of a `Once`, or its closure.
 pub(crate) enum Look {
@@ -69,6 +99,7 @@ pub(crate) fn begin_slow<R: Wait, C: Clock>(
         → LookOwns (IsUp C.tells limit.entry) word.number call result (owns_of before)
         (owns_of token.new) (last_of token.new) }
 {
+    lot.renames(token, call_name(call));
     let first = Place::Once {
         lock: word.number(),
         at: OncePlace::first(call),
@@ -105,6 +136,7 @@ fn wake<R: Wait>(
         → OwnsAfter word.number succeeded base (owns_of token.old)
         → IsRunOver word.number succeeded base result (stage_of token.new None) }
 {
+    lot.renames(token, waking_end_name(succeeded));
     let start = Place::Once {
         lock: word.number(),
         at: OncePlace::Run {
@@ -145,7 +177,8 @@ pub(crate) fn close<R: Wait>(
         (without (owning (once_at word.number) Runner) (owns_of token.old))
         (owns_of token.new) }
 {
-    let seen = lot.word(token, word, Op::Swap(word_after(succeeded)));
+    lot.begins(token, end_name(succeeded), word);
+    let seen = lot.word_again(token, word, Op::Swap(word_after(succeeded)));
     if is_marked(seen) {
         wake(rt, lot, token, word, forced, succeeded);
     }

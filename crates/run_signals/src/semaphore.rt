@@ -8,7 +8,7 @@ ghost use Rattle.std.specs.Prelude.{◌≡◌, ◌≢◌, ◌⊎◌, ◌<◌, �
 ghost use Rattle.std.specs.Prelude.{if◌then◌else◌, IfNone, IfSome, MatchResult};
 ghost use Rattle.std.specs.Arc.{arc_value};
 ghost use Rattle.std.specs.Duration.{as_nanos};
-ghost use Rattle.core_base.specs.Clocks.{HasElapsed, HasPassed, IsUp};
+ghost use Rattle.core_clocks.specs.Clocks.{HasElapsed, HasPassed, IsUp};
 ghost use Rattle.spec_locks.specs.declared.calls.Patience.TheVariants.{Patient, Timed, Try};
 ghost use Rattle.spec_locks.specs.declared.calls.SemaphoreCall.TheVariants.{Acquire, Release};
 ghost use Rattle.spec_locks.specs.declared.outcomes.Answer.TheVariants as answers;
@@ -29,7 +29,7 @@ ghost use Rattle.run_signals.specs.SemaphoreCalls.{StaysAs, permit_answer, decid
 
 use crate::semaphore_calls::{acquire_slow, give, give_all, look, take, try_slow, wake_first};
 use core_base::main_key;
-use parking_lot_core::{Clock, Fault, Held, Key, ParkingLot, Token, Want, Word};
+use parking_lot_core::{Clock, Deed, Fault, Held, Key, ParkingLot, Token, Want, Word};
 use run_base::driver::FOR_EVER;
 use run_base::limits::limit_in;
 use spec_locks::Answer;
@@ -166,7 +166,7 @@ impl Semaphore {
         ensures late { IfNone result ((timed ≡ true) × IsUp C.tells limit.now) }
     {
         let lot: &ParkingLot = &self.lot;
-        let seen = look(lot, token, self.word);
+        let seen = look(lot, token, &Deed::Call("acquire"), self.word);
         if free_permits(seen) == 0 {
             return self.wait_after(rt, token, limit, timed, seen);
         }
@@ -229,7 +229,7 @@ impl Semaphore {
         ensures none { IfNone result (SawNoneFree (number_of self.now) (steps_of token.new)) }
     {
         let lot: &ParkingLot = &self.lot;
-        let seen = look(lot, token, self.word);
+        let seen = look(lot, token, &Deed::Call("try_acquire"), self.word);
         if free_permits(seen) == 0 {
             return None;
         }

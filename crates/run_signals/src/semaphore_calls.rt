@@ -2,7 +2,7 @@
 ghost use Rattle.std.specs.Prelude.{ℕ, ◌≡◌, ◌≢◌, ◌≤◌, ◌++◌, ◌∷◌, ◌-◌, ◌*◌, ◌^◌, List, None, true, false};
 ghost use Rattle.std.specs.Prelude.{IsFalse};
 ghost use Rattle.spec_locks.specs.Codes.{has_parked};
-ghost use Rattle.core_base.specs.Clocks.{IsUp};
+ghost use Rattle.core_clocks.specs.Clocks.{IsUp};
 ghost use Rattle.core_base.specs.declared.ops.Op.TheVariants.{Add, Exchange};
 ghost use Rattle.steps_semaphore.specs.SemaphoreSteps.{is_free};
 ghost use Rattle.core_words.specs.Steps.{has, holding, without};
@@ -23,7 +23,7 @@ ghost use Rattle.run_signals.specs.SemaphoreCalls.{deciding, try_place, waking};
 
 use core_words::laws::{semaphore_may_step, semaphore_trades};
 use lot_steps::Place;
-use parking_lot_core::{Clock, Op, ParkingLot, Token, Word};
+use parking_lot_core::{Clock, Deed, Op, ParkingLot, Token, Word};
 use run_base::driver::{NO_LIMIT, Stop, run};
 use run_base::words::Words;
 use spec_locks::Answer;
@@ -32,13 +32,14 @@ use steps_semaphore::{AcquireAt, ReleaseAt, SemaphorePlace, TryAt};
 
 /// Takes one load of the word, with which each call begins that wants a permit.
 #[inline(always)]
-pub(crate) fn look(lot: &ParkingLot, token: &mut Token, word: Word) -> u64
+pub(crate) fn look(lot: &ParkingLot, token: &mut Token, deed: &'static Deed, word: Word) -> u64
     requires own { MeetsSemaphore lot.now token.old word }
     ensures own { IsSameThread lot.now token.old token.new }
     ensures looked { HasLooked word.number result token.old token.new }
 {
     semaphore_may_step();
-    lot.load(token, word)
+    lot.begins(token, deed, word);
+    lot.word_again(token, word, Op::Load)
 }
 
 /// Makes the exchange that takes a permit, after a look that saw one free. Returns what it found:
@@ -74,7 +75,8 @@ pub(crate) fn give(lot: &ParkingLot, token: &mut Token, word: Word) -> u64
 {
     semaphore_may_step();
     semaphore_trades();
-    lot.word(token, word, Op::Add(2))
+    lot.begins(token, &Deed::Call("release"), word);
+    lot.word_again(token, word, Op::Add(2))
 }
 
 /// The addition that gives all permits of a new semaphore, which its thread holds.
@@ -141,6 +143,9 @@ pub(crate) fn acquire_slow<R: Wait, C: Clock>(
     ensures over { IsSemaphoreOver (IsUp C.tells limit.entry) word.number (owns_of token.old)
         (to_acquire timed) result (stage_of token.new None) }
 {
+    if timed {
+        lot.renames(token, &Deed::Call("acquire_timed"));
+    }
     let start = SemaphorePlace::Acquire {
         timed,
         retries: false,

@@ -3,6 +3,7 @@ mod buckets;
 mod clocks;
 mod many;
 mod parts;
+mod records;
 mod rights;
 mod several;
 mod strangers;
@@ -19,7 +20,7 @@ ghost use Rattle.parking_lot_core.specs.Places.{IsPlaceOf};
 ghost use Rattle.parking_lot_core.specs.Sections.{IsUntouched, StaysIn, rightless_in, taken_in};
 ghost use Rattle.parking_lot_core.specs.Tokens.{IsNewTicketOf, IsSameThread, IsTicketOf, IsTokenOf};
 
-use core_base::TickClock;
+use core_clocks::TickClock;
 use parking_lot_core::pauses::{SHORT_PAUSE, pause};
 use parking_lot_core::{
     Key, Keys, Note, ParkingLot, QueuePlace, Right, Section, Slept, Ticket, Token, Want, Word,

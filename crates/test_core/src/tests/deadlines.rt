@@ -1,6 +1,6 @@
 //! The clock of the system, and one of ticks.
 use super::{check, check_eq};
-use core_base::{Clock, SystemClock, TickClock};
+use core_clocks::{Clock, SystemClock, TickClock};
 use std::process::Abort;
 
 #[test]

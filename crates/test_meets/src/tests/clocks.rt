@@ -3,8 +3,10 @@ ghost use Rattle.parking_lot_core.specs.Places.{IsPlaceOf};
 ghost use Rattle.parking_lot_core.specs.Tokens.{IsTicketOf, IsTokenOf, IsSameThread};
 
 use super::buckets::is_told;
-use super::{TURNS, check, check_eq, delay, lot_of, mutex_of, ticket_of, word_of};
-use core_base::TickClock;
+use super::{
+    TURNS, Task, check, check_eq, delay, lot_of, mutex_of, ticket_of, until_taken, word_of,
+};
+use core_clocks::TickClock;
 use parking_lot_core::{
     Clock, Key, Keys, Note, ParkingLot, QueuePlace, Requeue, Slept, SystemClock, Ticket, Token,
     Want, Word, WordKind,
@@ -255,4 +257,62 @@ fn a_moved_waiter_is_late_where_it_stands(rt: HostRuntime) {
         move || move_once_asked(&rt, lot, second, flags),
     );
     check(&rt, late && moved);
+}
+
+// An hour, in nanoseconds.
+const HOUR: u64 = 3_600_000_000_000;
+
+// Sleeps up to a deadline that is an hour off, by the system's clock. Returns whether the thread was woken.
+fn is_woken_in_time<R: Wait + std::time::Clock>(
+    rt: &R,
+    lot: &ParkingLot,
+    ticket: Ticket,
+    word: Word,
+    stands: &AtomicBool,
+) -> bool
+    requires { IsTicketOf lot.now ticket }
+{
+    let mut token = ticket.enter();
+    let clock = SystemClock::new(rt);
+    let deadline = clock.now().saturating_add(HOUR);
+    let place = line_up(rt, lot, &mut token, KEY, Want::Exclusive);
+    stands.store(true, SeqCst);
+    let told = told_until(rt, lot, &mut token, place, word, (&clock, deadline));
+    drop(token.leave());
+    told == Ok(Note::Normal)
+}
+
+// Takes the thread in the line, once that thread has had time to fall asleep.
+fn take_asleep<R: Wait>(rt: &R, lot: &ParkingLot, ticket: Ticket, stands: &AtomicBool) -> bool
+    requires { IsTicketOf lot.now ticket }
+{
+    let mut token = ticket.enter();
+    let told = is_told(stands);
+    delay(TURNS);
+    until_taken(rt, lot, &mut token, KEY, Task::TakeFirst);
+    drop(token.leave());
+    told
+}
+
+#[test]
+fn a_sleeper_by_the_system_clock_is_woken_in_time(rt: HostRuntime) {
+    let (lot, mut token, mut others) = lot_of(&rt, rt.alloc(), 1, 2);
+    let word = word_of(&rt, &lot, &mut token, WordKind::Mutex);
+    let (first, second) = (ticket_of(&rt, &lot, &mut others), token.leave());
+    let stands = AtomicBool::new(false);
+    let (lot, stands) = (&*lot, &stands);
+    let (woken, told) = join(
+        &rt,
+        move || is_woken_in_time(&rt, lot, first, word, stands),
+        move || take_asleep(&rt, lot, second, stands),
+    );
+    check(&rt, woken && told);
+}
+
+#[test]
+fn a_sleeper_by_the_system_clock_is_late(rt: HostRuntime) {
+    let clock = SystemClock::new(&rt);
+    let deadline = clock.now().saturating_add(1_000_000);
+    is_late(&rt, rt.alloc(), (&clock, deadline));
+    check(&rt, clock.now() >= deadline);
 }

@@ -7,7 +7,7 @@ ghost use Rattle.parking_lot_core.specs.Tokens.{IsTokenOf, IsSameThread};
 use super::clocks::told_until;
 use super::threads::try_hand_over;
 use super::{check, check_eq, mutex_of, word_of};
-use core_base::TickClock;
+use core_clocks::TickClock;
 use parking_lot_core::{Key, ParkingLot, Token, Want, Word, WordKind};
 use std::sync::Wait;
 use test_core::lines::line_up;

@@ -10,7 +10,7 @@ ghost use Rattle.parking_lot_core.specs.Tokens.{IsTokenOf, IsSameThread};
 use super::clocks::told_until;
 use super::parts::{Part, play};
 use super::{Task, check_eq, delay, sleep, until_taken};
-use core_base::TickClock;
+use core_clocks::TickClock;
 use parking_lot_core::{Key, Keys, Note, ParkingLot, QueuePlace, Right, Token, Want, Word};
 use std::sync::Wait;
 use std::sync::atomic::AtomicBool;

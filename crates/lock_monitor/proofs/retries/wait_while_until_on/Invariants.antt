@@ -1,7 +1,7 @@
 use Rattle.std.proofs.Common.{◌≡◌, true}
 use denote.Param.Always.{always_mut}
 use Rattle.std.specs.Iterator.Runs.{CallKeepsClosure}
-use Rattle.core_base.specs.Clocks.{HasPassed}
+use Rattle.core_clocks.specs.Clocks.{HasPassed}
 use Rattle.lock_api.specs.Conditions.{WaitedOrNot}
 use Rattle.lock_api.specs.Guards.{lock_of}
 use Rattle.lock_api.proofs.WaitsOn.{WaitedSoFar}

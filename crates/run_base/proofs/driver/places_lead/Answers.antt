@@ -1,4 +1,4 @@
-use Rattle.core_base.specs.Clocks.{IsUp}
+use Rattle.core_clocks.specs.Clocks.{IsUp}
 use Rattle.run_base.proofs.Leading.{places_lead}
 use Rattle.run_base.proofs.driver.places_lead.Goals as goal
 

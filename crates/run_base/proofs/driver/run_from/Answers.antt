@@ -1,5 +1,5 @@
 use Rattle.std.proofs.Common.{ℕ, ◌≡◌, ◌∙◌, true, None, Some, Option, List, sym, refl, ap, subst, rules}
-use Rattle.core_base.specs.Clocks.{IsUp}
+use Rattle.core_clocks.specs.Clocks.{IsUp}
 use Rattle.spec_locks.specs.declared.outcomes.Answer.{Answer}
 use Rattle.lot_steps.specs.Steps.{act_of, next_place, next_act}
 use Rattle.lot_steps.specs.declared.places.Place.{Place}

@@ -1,5 +1,5 @@
 use Rattle.std.proofs.Common.{ℕ, ◌≡◌, true, List, sym, refl, subst}
-use Rattle.core_base.specs.Clocks.{IsUp}
+use Rattle.core_clocks.specs.Clocks.{IsUp}
 use Rattle.lot_steps.specs.Steps.{act_of, next_place}
 use Rattle.steps_base.specs.declared.acts.Act.{Act}
 use Rattle.core_words.specs.declared.owners.Ownership.{Ownership}

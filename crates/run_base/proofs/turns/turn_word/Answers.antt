@@ -1,5 +1,5 @@
 use Rattle.std.proofs.Common.{sym, subst}
-use Rattle.core_base.specs.Clocks.{IsUp}
+use Rattle.core_clocks.specs.Clocks.{IsUp}
 use Rattle.core_words.specs.Indices.{word_index}
 use Rattle.core_words.specs.Steps.{MayStep}
 use Rattle.core_words.specs.declared.words.Word.{Word}

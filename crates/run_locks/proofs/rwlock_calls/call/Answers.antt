@@ -1,6 +1,6 @@
 use Rattle.std.proofs.Common.{rules, ◌≡◌, subst, MatchResult, Err}
 use Rattle.std.specs.declared.result.Result.{Result}
-use Rattle.core_base.specs.Clocks.{IsUp}
+use Rattle.core_clocks.specs.Clocks.{IsUp}
 use Rattle.spec_locks.specs.declared.outcomes.Answer.{Answer}
 use Rattle.run_locks.specs.Halves.{HasBegunRwLock, HasEndedRwLock}
 use Rattle.run_locks.specs.declared.rwlock_calls.Rest.{Rest}

@@ -1,5 +1,5 @@
 use Rattle.std.proofs.Common.{rules, ◌≡◌, ℕ, List, None, refl, ap, sym, subst}
-use Rattle.core_base.specs.Clocks.{IsUp}
+use Rattle.core_clocks.specs.Clocks.{IsUp}
 use Rattle.core_base.specs.declared.ops.Op.{Op}
 use Rattle.core_base.specs.declared.ops.Op.TheVariants.{Exchange}
 use Rattle.spec_locks.specs.declared.outcomes.Answer.{Answer}

@@ -1,6 +1,6 @@
 use Rattle.std.proofs.Common.{None, sym, subst}
 use Rattle.steps_base.specs.declared.acts.Reply.TheVariants.{Value}
-use Rattle.core_base.specs.Clocks.{IsUp}
+use Rattle.core_clocks.specs.Clocks.{IsUp}
 use Rattle.run_base.specs.Fitting.{Reached}
 use Rattle.run_base.specs.RwLockCalls.{BeginsWith, rwlock_deciding}
 use Rattle.run_base.specs.Stages.{stage_of}

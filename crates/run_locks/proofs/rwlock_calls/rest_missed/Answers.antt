@@ -1,7 +1,7 @@
 use Rattle.std.proofs.Common.{rules, ◌≡◌, ◌∙◌, Option, None, Some, List, ap, inl, inr, refl, sym, subst, ℕ}
 use Rattle.std.proofs.Common.{false}
 use Rattle.steps_base.specs.declared.acts.Reply.TheVariants.{Value}
-use Rattle.core_base.specs.Clocks.{IsUp}
+use Rattle.core_clocks.specs.Clocks.{IsUp}
 use Rattle.spec_locks.specs.declared.outcomes.Answer.{Answer}
 use Rattle.lot_steps.specs.Steps.{next_act, next_place}
 use Rattle.lot_steps.specs.declared.places.Place.{Place}

@@ -1,5 +1,5 @@
 use Rattle.std.proofs.Common.{◌≡◌, ◌∙◌, None, subst, sym}
-use Rattle.core_base.specs.Clocks.{IsUp}
+use Rattle.core_clocks.specs.Clocks.{IsUp}
 use Rattle.core_words.specs.declared.words.WordKind.TheVariants.{RwLock, Once, Condvar}
 use Rattle.run_base.specs.Fitting.{AreWordsAfter, IsStopped, call_purpose}
 use Rattle.run_base.specs.Stages.{stage_of}

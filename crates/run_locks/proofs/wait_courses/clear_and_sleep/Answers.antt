@@ -1,5 +1,5 @@
 use Rattle.std.proofs.Common.{◌≡◌, Bool, true, false, refl, ap, rules, sym, ◌∙◌}
-use Rattle.core_base.specs.Clocks.{IsUp}
+use Rattle.core_clocks.specs.Clocks.{IsUp}
 use Rattle.steps_base.specs.declared.acts.Reply.TheVariants.{Value}
 use Rattle.steps_mutex.specs.declared.unlock.UnlockAt.TheVariants as unlock
 use Rattle.run_locks.specs.CondvarCourses.{releases_at, wait_at}

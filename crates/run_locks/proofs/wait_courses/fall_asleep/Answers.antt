@@ -1,5 +1,5 @@
 use Rattle.std.proofs.Common.{◌≡◌, true, None, refl, sym, ap, ◌∙◌, subst, rules}
-use Rattle.core_base.specs.Clocks.{IsUp}
+use Rattle.core_clocks.specs.Clocks.{IsUp}
 use Rattle.core_base.specs.declared.notes.Note.TheVariants.{Normal}
 use Rattle.steps_base.specs.declared.acts.Reply.TheVariants.{Woken}
 use Rattle.steps_condvar.specs.declared.wait.WaiterFate.TheVariants.{Listed}

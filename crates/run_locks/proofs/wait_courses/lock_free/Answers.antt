@@ -1,5 +1,5 @@
 use Rattle.std.proofs.Common.{◌≡◌, ◌≢◌, ◌+◌, Some, refl, sym, ap, ◌∙◌, rules}
-use Rattle.core_base.specs.Clocks.{IsUp}
+use Rattle.core_clocks.specs.Clocks.{IsUp}
 use Rattle.core_base.specs.declared.ops.Op.TheVariants.{Exchange}
 use Rattle.steps_base.specs.declared.acts.Act.TheVariants.{Word}
 use Rattle.steps_base.specs.declared.acts.Reply.TheVariants.{Value}

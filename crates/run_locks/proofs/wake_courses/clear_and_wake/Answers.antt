@@ -1,5 +1,5 @@
 use Rattle.std.proofs.Common.{◌≡◌, Bool, true, false, refl, ap, rules}
-use Rattle.core_base.specs.Clocks.{IsUp}
+use Rattle.core_clocks.specs.Clocks.{IsUp}
 use Rattle.steps_base.specs.declared.acts.Reply.TheVariants.{Value}
 use Rattle.steps_rwlock.specs.declared.release.WakeAt.TheVariants as waking
 use Rattle.run_base.proofs.Coming.{begins, comes, may_do, named}

@@ -1,5 +1,5 @@
 use Rattle.std.proofs.Common.{Some, refl, sym, ap}
-use Rattle.core_base.specs.Clocks.{IsUp}
+use Rattle.core_clocks.specs.Clocks.{IsUp}
 use Rattle.steps_base.specs.declared.acts.Reply.TheVariants.{Done}
 use Rattle.steps_rwlock.specs.RwLockSteps.{ends_with}
 use Rattle.steps_rwlock.specs.declared.release.WakeAt.TheVariants as waking

@@ -17,7 +17,7 @@ returns-then-leave_alone_picked-locked-clause-stepped c = let v = c.args.seat.no
     (λ (e : found ≡ 3). omega (arith, same, c.requires.expects)) c.leave_alone_picked.ensures.coded in (
       one,
       inl refl,
-      c.go_on.ensures.gone_on ∙ ap (goes_on_with v) (c.leave_alone_picked.ensures.left one)
+      c.join_steps.ensures.gone_on ∙ ap (goes_on_with v) (c.leave_alone_picked.ensures.left one)
           ∙ goes_leaving v word found ∙ ap (leaving_alone v word) (same ∙ one),
     )
 
@@ -32,7 +32,7 @@ returns-clause-stepped c = let v = c.args.seat.now.me.0 in let word = c.args.wor
     c.leave_alone_picked.ensures.coded in (
       one,
       inr refl,
-      ap shown c.go_on_as.ensures.gone_on ∙ ap (goes_on_with v)
+      ap shown c.join_owning.ensures.gone_on ∙ ap (goes_on_with v)
           (c.leave_alone_picked.ensures.left one) ∙ goes_leaving v word found
           ∙ ap (leaving_alone v word) three,
     )

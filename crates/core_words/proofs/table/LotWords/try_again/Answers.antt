@@ -28,8 +28,8 @@ returns-then-seen-ne0-clause-stepped g c = tried_locked c.args.self.now c.args.s
     c.index.result c.fetch_or-seen.result c.requires.pick.0 c.index.ensures c.fetch_or-seen.ensures.0
     c.fetch_or-seen.ensures.2 c.if-seen-ne0.true
 
-pub keep-owner-requires-clause-own : goal.keep-owner-requires-clause-own
-keep-owner-requires-clause-own g c = (
+pub split_owner_seat-owner-requires-clause-own : goal.split_owner_seat-owner-requires-clause-own
+split_owner_seat-owner-requires-clause-own g c = (
   tried_own c.args.self.now c.args.seat.now c.fetch_or-seen.new.seat
       c.args.word c.requires.own.0 c.requires.own.2 g.P.PermitPick.family c.index.result
       c.fetch_or-seen.result
@@ -38,18 +38,21 @@ keep-owner-requires-clause-own g c = (
   c.requires.own.2,
 )
 
-pub keep-owner-requires-clause-out : goal.keep-owner-requires-clause-out
-keep-owner-requires-clause-out g c = tried_out c.args.self.now c.args.seat.now c.fetch_or-seen.new.seat
+pub split_owner_seat-owner-requires-clause-out : goal.split_owner_seat-owner-requires-clause-out
+split_owner_seat-owner-requires-clause-out g c =
+    tried_out c.args.self.now c.args.seat.now c.fetch_or-seen.new.seat
     c.args.word c.requires.own.0 c.requires.own.2 g.P.PermitPick.family c.index.result c.fetch_or-seen.result
     c.requires.pick.0 c.index.ensures c.fetch_or-seen.ensures.0 c.fetch_or-seen.ensures.2 c.if-seen-ne0.false
 
-pub keep-owner-requires-clause-named : goal.keep-owner-requires-clause-named
-keep-owner-requires-clause-named g c = tried_named c.args.self.now c.args.seat.now c.fetch_or-seen.new.seat
+pub split_owner_seat-owner-requires-clause-named : goal.split_owner_seat-owner-requires-clause-named
+split_owner_seat-owner-requires-clause-named g c =
+    tried_named c.args.self.now c.args.seat.now c.fetch_or-seen.new.seat
     c.args.word c.requires.own.0 c.requires.own.2 g.P.PermitPick.family c.index.result c.fetch_or-seen.result
     c.requires.pick.0 c.index.ensures c.fetch_or-seen.ensures.0 c.fetch_or-seen.ensures.2 c.if-seen-ne0.false
 
 pub returns-clause-stepped : goal.returns-clause-stepped
-returns-clause-stepped g c = ap shown c.keep-owner.ensures.left ∙ tried_left c.args.self.now c.args.seat.now
+returns-clause-stepped g c = ap shown c.split_owner_seat-owner.ensures.left
+    ∙ tried_left c.args.self.now c.args.seat.now
     c.fetch_or-seen.new.seat c.args.word c.requires.own.0 c.requires.own.2 g.P.PermitPick.family
     c.index.result c.fetch_or-seen.result c.requires.pick.0 c.index.ensures c.fetch_or-seen.ensures.0
     c.fetch_or-seen.ensures.2 c.if-seen-ne0.false

@@ -40,8 +40,8 @@ returns-then-looked-ne0-clause-stepped g c = tried_locked c.args.self.now c.args
     c.index-at.result c.load-looked.result c.requires.pick.0 c.index-at.ensures c.load-looked.ensures.0
     (c.load-looked.ensures.2.1 c.if-looked-ne0.true) c.if-looked-ne0.true
 
-pub keep-owner-requires-clause-own : goal.keep-owner-requires-clause-own
-keep-owner-requires-clause-own g c = (
+pub split_owner_seat-owner-requires-clause-own : goal.split_owner_seat-owner-requires-clause-own
+split_owner_seat-owner-requires-clause-own g c = (
   tried_own c.args.self.now c.load-looked.new.seat c.compare_exchange-seen.new.seat c.args.word
       (same_seat c.args.self.now c.args.seat.now c.load-looked.new.seat c.requires.own.0
       c.load-looked.ensures.0
@@ -52,8 +52,8 @@ keep-owner-requires-clause-own g c = (
   c.requires.own.2,
 )
 
-pub keep-owner-requires-clause-out : goal.keep-owner-requires-clause-out
-keep-owner-requires-clause-out g c = tried_out c.args.self.now c.load-looked.new.seat
+pub split_owner_seat-owner-requires-clause-out : goal.split_owner_seat-owner-requires-clause-out
+split_owner_seat-owner-requires-clause-out g c = tried_out c.args.self.now c.load-looked.new.seat
     c.compare_exchange-seen.new.seat c.args.word (same_seat c.args.self.now c.args.seat.now
     c.load-looked.new.seat c.requires.own.0 c.load-looked.ensures.0 (c.load-looked.ensures.2.0
     c.if-looked-ne0.false)) c.requires.own.2 g.P.PermitPick.family c.index-at.result
@@ -61,8 +61,8 @@ keep-owner-requires-clause-out g c = tried_out c.args.self.now c.load-looked.new
     (c.compare_exchange-seen.ensures.2.0 c.if-seen-looked.true) (ap (λ n. n % 2) c.if-seen-looked.true
     ∙ c.if-looked-ne0.false)
 
-pub keep-owner-requires-clause-named : goal.keep-owner-requires-clause-named
-keep-owner-requires-clause-named g c = tried_named c.args.self.now c.load-looked.new.seat
+pub split_owner_seat-owner-requires-clause-named : goal.split_owner_seat-owner-requires-clause-named
+split_owner_seat-owner-requires-clause-named g c = tried_named c.args.self.now c.load-looked.new.seat
     c.compare_exchange-seen.new.seat c.args.word (same_seat c.args.self.now c.args.seat.now
     c.load-looked.new.seat c.requires.own.0 c.load-looked.ensures.0 (c.load-looked.ensures.2.0
     c.if-looked-ne0.false)) c.requires.own.2 g.P.PermitPick.family c.index-at.result
@@ -71,7 +71,7 @@ keep-owner-requires-clause-named g c = tried_named c.args.self.now c.load-looked
     ∙ c.if-looked-ne0.false)
 
 pub returns-then-seen-looked-clause-stepped : goal.returns-then-seen-looked-clause-stepped
-returns-then-seen-looked-clause-stepped g c = ap shown c.keep-owner.ensures.left
+returns-then-seen-looked-clause-stepped g c = ap shown c.split_owner_seat-owner.ensures.left
     ∙ tried_left c.args.self.now c.load-looked.new.seat c.compare_exchange-seen.new.seat c.args.word
     (same_seat c.args.self.now c.args.seat.now c.load-looked.new.seat c.requires.own.0 c.load-looked.ensures.0
     (c.load-looked.ensures.2.0 c.if-looked-ne0.false)) c.requires.own.2 g.P.PermitPick.family

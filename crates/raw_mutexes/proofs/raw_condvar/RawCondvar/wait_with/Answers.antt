@@ -1,5 +1,5 @@
 use Rattle.std.proofs.Common.{None, ap, inl}
-use Rattle.core_base.specs.Clocks.{IsUp}
+use Rattle.core_clocks.specs.Clocks.{IsUp}
 use Rattle.core_words.specs.declared.views.View.{View}
 use Rattle.run_base.specs.Stages.{stage_of}
 use Rattle.run_base.specs.Telling.{owns_of}

@@ -1,6 +1,6 @@
 use Rattle.std.proofs.Common.{sym, subst}
 use Rattle.std.specs.Duration.{as_nanos}
-use Rattle.core_base.specs.Clocks.{HasElapsed}
+use Rattle.core_clocks.specs.Clocks.{HasElapsed}
 use Rattle.lock_raw.specs.Answers.{LateByClock}
 use Rattle.raw_mutexes.proofs.CondvarAnswers.{ends_late}
 use Rattle.raw_mutexes.proofs.raw_condvar.RawCondvarRawCondvarTimed.wait_for.Goals as goal

@@ -1,6 +1,6 @@
 use Rattle.std.proofs.Common.{◌≡◌, None, true, ap, ◌∙◌, sym, subst, refl}
 use Rattle.std.specs.Arc.{arc_value}
-use Rattle.core_base.specs.Clocks.{IsUp}
+use Rattle.core_clocks.specs.Clocks.{IsUp}
 use Rattle.core_base.specs.declared.wants.Want.{Want}
 use Rattle.spec_locks.specs.declared.outcomes.Answer.{Answer}
 use Rattle.steps_rwlock.specs.declared.purposes.RwLockPurpose.TheVariants.{Enter}

@@ -1,5 +1,5 @@
 use Rattle.std.proofs.Common.{rules, List, Option, ap, ◌∙◌, sym, subst, refl, None}
-use Rattle.core_base.specs.Clocks.{IsUp}
+use Rattle.core_clocks.specs.Clocks.{IsUp}
 use Rattle.steps_rwlock.specs.declared.purposes.RwLockPurpose.TheVariants.{Upgrade}
 use Rattle.spec_locks.specs.declared.outcomes.Answer.{Answer}
 use Rattle.spec_locks.specs.declared.outcomes.Answer.TheVariants.{No}

@@ -1,5 +1,5 @@
 use Rattle.std.proofs.Common.{◌∙◌, sym, subst}
-use Rattle.core_base.specs.Clocks.{IsUp}
+use Rattle.core_clocks.specs.Clocks.{IsUp}
 use Rattle.run_base.specs.Telling.{owns_of}
 use Rattle.parking_lot_core.specs.Tokens.{last_of}
 use Rattle.parking_lot_core.specs.declared.tokens.Token.{Token}

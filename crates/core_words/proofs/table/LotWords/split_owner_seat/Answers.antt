@@ -8,7 +8,7 @@ use Rattle.core_words.specs.Views.{owning, with_out}
 use Rattle.core_words.specs.declared.owners.Owner.TheVariants.{Exclusive}
 use Rattle.core_words.proofs.AtWord.{at_mutex, below}
 use Rattle.core_words.proofs.Seats.{keeps_owner}
-use Rattle.core_words.proofs.table.LotWords.keep.Goals as goal
+use Rattle.core_words.proofs.table.LotWords.split_owner_seat.Goals as goal
 
 pub split_seat-next-requires : goal.split_seat-next-requires
 split_seat-next-requires g c = let lot = c.args.self.now in let seat = c.args.seat.now in let word =

@@ -1,6 +1,6 @@
 use Rattle.std.proofs.Common.{ℕ, ◌≡◌, None, refl, sym, ap, ◌∙◌, rules, subst}
 use Rattle.std.proofs.lemmas.Bool.{false≢true}
-use Rattle.core_base.specs.Clocks.{IsUp}
+use Rattle.core_clocks.specs.Clocks.{IsUp}
 use Rattle.steps_base.specs.declared.acts.Reply.TheVariants.{Value}
 use Rattle.steps_mutex.specs.MutexSteps.{is_locked}
 use Rattle.steps_mutex.specs.declared.lock.LockAt.TheVariants as lock
@@ -8,7 +8,7 @@ use Rattle.run_base.specs.Queued.{is_queued}
 use Rattle.run_base.proofs.Coming.{begins, comes, may_do, named}
 use Rattle.run_mutexes.specs.LockCourses.{IsOfMutex, locks_at}
 use Rattle.run_mutexes.proofs.LockGoing.{looks_on}
-use Rattle.run_mutexes.proofs.lock_courses.lock_through.Goals as goal
+use Rattle.run_mutexes.proofs.lock_courses.lock_course.Goals as goal
 
 pub turn_word-seen-requires : goal.turn_word-seen-requires
 turn_word-seen-requires g c = may_do (begins (IsUp g.C.Clock.tells c.args.limit) c.args.lot.now c.args.words

@@ -1,5 +1,5 @@
 use Rattle.std.proofs.Common.{ℕ, ◌≡◌, true, false, None, refl, sym, ap, ◌∙◌, rules}
-use Rattle.core_base.specs.Clocks.{IsUp}
+use Rattle.core_clocks.specs.Clocks.{IsUp}
 use Rattle.core_base.specs.declared.ops.Op.TheVariants.{Exchange}
 use Rattle.core_base.specs.declared.wants.Want.TheVariants.{Wait}
 use Rattle.steps_base.specs.declared.acts.Act.TheVariants.{Stand, Word}
@@ -11,7 +11,7 @@ use Rattle.run_base.proofs.Coming.{begins, comes, enters_one, leaves_one, may_do
 use Rattle.run_locks.proofs.CondvarGoing.{keyed, shows_on}
 use Rattle.std.proofs.lemmas.Bool.{false≢true}
 use Rattle.run_base.specs.Queued.{is_queued}
-use Rattle.run_locks.proofs.wait_courses.wait_through.Goals as goal
+use Rattle.run_locks.proofs.wait_courses.wait_course.Goals as goal
 
 pub main_key-key-requires : goal.main_key-key-requires
 main_key-key-requires g c = keyed c.args.pair.condvar c.requires.3.0.0

@@ -1,7 +1,7 @@
 use Rattle.std.proofs.Common.{ap, ◌∙◌}
 use Rattle.core_words.specs.Permits.{slots_of}
 use Rattle.core_words.proofs.Seats.{goes_on}
-use Rattle.core_words.proofs.table.LotWords.go_on.Goals as goal
+use Rattle.core_words.proofs.table.LotWords.join_steps.Goals as goal
 
 pub join_seat-requires : goal.join_seat-requires
 join_seat-requires c = let lot = c.args.self.now in let sized = lot.sized in let sized₀ = sized.0 in let

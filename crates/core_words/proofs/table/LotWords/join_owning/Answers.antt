@@ -5,7 +5,7 @@ use Rattle.core_words.specs.Permits.{slots_of}
 use Rattle.core_words.specs.Plays.{BringsNoName}
 use Rattle.core_words.specs.declared.views.View.{View}
 use Rattle.core_words.proofs.Seats.{goes_on_as}
-use Rattle.core_words.proofs.table.LotWords.go_on_as.Goals as goal
+use Rattle.core_words.proofs.table.LotWords.join_owning.Goals as goal
 
 pub join_seat-requires : goal.join_seat-requires
 join_seat-requires c = let lot = c.args.self.now in let sized = lot.sized in let sized₀ = sized.0

@@ -6,6 +6,8 @@
 ghost use Rattle.std.specs.Prelude.{◌≡◌, ℕ, ◌+◌, ◌≤◌, ◌^◌, MatchOption};
 ghost use Rattle.std.specs.Duration.{as_nanos};
 
+use crossbeam_utils::sync::Parker;
+use std::sync::Wait;
 use std::time::Duration;
 
 /// A clock, which reports the time to a sleeper with a deadline.
@@ -18,9 +20,17 @@ pub trait Clock {
     fn now(&self) -> u64
         ensures { tells self.now result };
 
-    /// Waits for a while, `left` nanoseconds at most. The sleeper looks for its wake between two
-    /// pauses, so they are to be short.
+    /// Waits for a while, `left` nanoseconds at most. A sleeper that parks by pauses looks for its wake
+    /// between two of them, so they are to be short.
     fn pause(&self, left: u64);
+
+    /// Sleeps until another thread unparks the parker, or for `left` nanoseconds. May return early: the
+    /// caller looks whether it was woken.
+    ///
+    /// A clock that leaves this out pauses.
+    fn park<W: Wait>(&self, _rt: &W, _parker: &Parker, left: u64) {
+        self.pause(left);
+    }
 }
 
 /// Returns the time, in nanoseconds, that is this much later. None where no `u64` holds it, which

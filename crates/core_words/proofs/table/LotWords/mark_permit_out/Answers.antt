@@ -1,5 +1,5 @@
 use Rattle.core_words.proofs.AtWord.{table_takes_out}
-use Rattle.core_words.proofs.table.LotWords.take_out.Goals as goal
+use Rattle.core_words.proofs.table.LotWords.mark_permit_out.Goals as goal
 
 pub change_view-requires : goal.change_view-requires
 change_view-requires g c = table_takes_out c.args.self.now c.args.seat.now c.args.word (

@@ -1,0 +1,68 @@
+//! Turns of threads, and the endings of a run.
+
+/// What a thread does in its turn.
+#[derive(Clone, Copy, Debug, PartialEq, Eq)]
+pub enum Deed {
+    /// It begins its part of the program.
+    Begin,
+    /// It makes a call, of this name.
+    Call(&'static str),
+    /// It looks at a lock.
+    Look,
+    /// It takes one step on a word.
+    Step,
+    /// It draws a new word.
+    Draw,
+    /// It enters a section.
+    Enter,
+    /// It goes on after a sleep.
+    Wake,
+    /// It is in a timed sleep, and looks whether its time is up.
+    Nap,
+    /// Its time is up, and it gives up a timed sleep.
+    Late,
+    /// Its time was up before it slept, in the turn of its call.
+    LateAtOnce,
+    /// It ends its part of the program.
+    End,
+}
+
+/// A turn of a thread, at a word.
+#[derive(Clone, Copy, Debug, PartialEq, Eq)]
+pub struct Turn {
+    pub thread: usize,
+    pub deed: Deed,
+    pub word: usize,
+    /// The word of the mutex, where the deed is a wait on a condition variable.
+    pub beside: usize,
+}
+
+impl Turn {
+    /// Makes a turn at one word.
+    pub fn at(thread: usize, deed: Deed, word: usize) -> Turn {
+        Turn {
+            thread,
+            deed,
+            word,
+            beside: word,
+        }
+    }
+}
+
+/// How a run ended.
+#[derive(Clone, Copy, Debug, PartialEq, Eq)]
+pub enum Ending {
+    /// The program came to its end.
+    Fine,
+    /// All threads that are left sleep.
+    Deadlock,
+    /// The program says that something is wrong.
+    Failed(&'static str),
+    /// The run took more turns than it may.
+    TooLong,
+    /// No thread took a turn for so long a time. The thread that has the turn, if there is one, waits
+    /// for something else than the locks of the lot.
+    Stuck(Option<usize>),
+    /// The script named a thread that could not run.
+    Strayed,
+}

@@ -1,0 +1,41 @@
+//! Two threads lock two mutexes. Wrong: each in its own order.
+ghost use Rattle.parking_lot.specs.Names.{IsTokenOf, lot_of};
+
+use crate::programs::Version;
+use parking_lot::{Director, Fault, Mutex, Team, Token};
+use std::alloc::Global;
+use std::sync::{Arc, Wait};
+use std::thread::Threads;
+
+fn eat<R: Wait>(rt: &R, first: &Mutex<u32>, second: &Mutex<u32>, token: &mut Token)
+    requires first { IsTokenOf (lot_of first.now) token.old }
+    requires second { IsTokenOf (lot_of second.now) token.old }
+    ensures { IsTokenOf (lot_of first.now) token.new }
+{
+    let one = first.lock(rt, token);
+    let other = second.lock(rt, token);
+    other.unlock(rt, token);
+    one.unlock(rt, token);
+}
+
+pub fn forks<R: Threads + Wait + Sync>(
+    rt: &R,
+    alloc: Global,
+    director: &Arc<Director>,
+    version: Version,
+) -> Result<(), Fault> {
+    let (team, mut token) = Team::directed(alloc, 2, director)?;
+    let left = Mutex::new(team.lot(), &mut token, 0u32)?;
+    let right = Mutex::new(team.lot(), &mut token, 0u32)?;
+    team.run(
+        rt,
+        &|token: &mut Token| {
+            if token.number() == 0 || version == Version::Cured {
+                eat(rt, &left, &right, token);
+            } else {
+                eat(rt, &right, &left, token);
+            }
+        },
+    )?;
+    Ok(())
+}

@@ -1,0 +1,152 @@
+//! Programs that try the search itself.
+ghost use Rattle.parking_lot.specs.Names.{IsTokenOf, lot_of};
+
+use crate::programs::Version;
+use parking_lot::{Director, Fault, Mutex, Semaphore, Team, Token, TurnClock};
+use std::alloc::Global;
+use std::sync::{Arc, Wait};
+use std::thread::Threads;
+use std::time::Duration;
+
+/// Two threads take two permits of two each, one after the other. Wrong: neither gives one back before.
+pub fn permits<R: Threads + Wait + Sync>(
+    rt: &R,
+    alloc: Global,
+    director: &Arc<Director>,
+    version: Version,
+) -> Result<(), Fault> {
+    let (team, mut token) = Team::directed(alloc, 2, director)?;
+    let number = if version == Version::Cured { 3 } else { 2 };
+    let permits = Semaphore::new(team.lot(), &mut token, number)?;
+    team.run(
+        rt,
+        &|token: &mut Token| {
+            let one = permits.acquire(rt, token);
+            let other = permits.acquire(rt, token);
+            other.release(rt, token);
+            one.release(rt, token);
+        },
+    )?;
+    Ok(())
+}
+
+fn eat_in_time<R: Wait>(
+    rt: &R,
+    clock: &TurnClock,
+    first: &Mutex<u32>,
+    second: &Mutex<u32>,
+    token: &mut Token,
+) -> bool
+    requires first { IsTokenOf (lot_of first.now) token.old }
+    requires second { IsTokenOf (lot_of second.now) token.old }
+    ensures { IsTokenOf (lot_of first.now) token.new }
+{
+    let one = first.lock(rt, token);
+    let eats = match second.try_lock_for(rt, token, clock, Duration::from_millis(10)) {
+        Some(other) => {
+            other.unlock(rt, token);
+            true
+        }
+        None => false,
+    };
+    one.unlock(rt, token);
+    eats
+}
+
+/// Two threads lock two mutexes, the second up to a deadline. Wrong: each in its own order, and both may
+/// give up.
+pub fn timed<R: Threads + Wait + Sync>(
+    rt: &R,
+    alloc: Global,
+    director: &Arc<Director>,
+    version: Version,
+) -> Result<(), Fault> {
+    let (team, mut token) = Team::directed(alloc, 2, director)?;
+    let clock = TurnClock::new(director)?;
+    let left = Mutex::new(team.lot(), &mut token, 0u32)?;
+    let right = Mutex::new(team.lot(), &mut token, 0u32)?;
+    let eats = team.run(
+        rt,
+        &|token: &mut Token| -> bool {
+            if token.number() == 0 || version == Version::Cured {
+                eat_in_time(rt, &clock, &left, &right, token)
+            } else {
+                eat_in_time(rt, &clock, &right, &left, token)
+            }
+        },
+    )?;
+    director.check(eats.iter().any(|one| *one), "one of the threads eats");
+    Ok(())
+}
+
+/// A thread tries until the other has set a flag. There is no bug, but that it spins.
+pub fn spin<R: Threads + Wait + Sync>(
+    rt: &R,
+    alloc: Global,
+    director: &Arc<Director>,
+    _version: Version,
+) -> Result<(), Fault> {
+    let (team, mut token) = Team::directed(alloc, 2, director)?;
+    let flag = Mutex::new(team.lot(), &mut token, 0u32)?;
+    team.run(
+        rt,
+        &|token: &mut Token| {
+            if token.number() == 0 {
+                flag.with(rt, token, |flag: &mut u32| *flag = 1);
+            } else {
+                for _ in rt.forever() {
+                    if flag.try_with(rt, token, |flag: &mut u32| *flag) == Some(1) {
+                        break;
+                    }
+                }
+            }
+        },
+    )?;
+    Ok(())
+}
+
+/// Two threads meet at a barrier. Wrong: it is none of the lot's, and a thread that waits there keeps its
+/// turn.
+pub fn meeting<R: Threads + Wait + Sync>(
+    rt: &R,
+    alloc: Global,
+    director: &Arc<Director>,
+    version: Version,
+) -> Result<(), Fault> {
+    let (team, mut token) = Team::directed(alloc, 2, director)?;
+    let total = Mutex::new(team.lot(), &mut token, 0u32)?;
+    let barrier = std::sync::Barrier::new(2);
+    team.run(
+        rt,
+        &|token: &mut Token| {
+            total.with(rt, token, |total: &mut u32| *total = total.wrapping_add(1));
+            if version == Version::Wrong {
+                barrier.wait(rt);
+            }
+        },
+    )?;
+    Ok(())
+}
+
+/// Three threads with ten calls each, and no bug.
+pub fn calls<R: Threads + Wait + Sync>(
+    rt: &R,
+    alloc: Global,
+    director: &Arc<Director>,
+    _version: Version,
+) -> Result<(), Fault> {
+    let (team, mut token) = Team::directed(alloc, 3, director)?;
+    let left = Mutex::new(team.lot(), &mut token, 0u32)?;
+    let right = Mutex::new(team.lot(), &mut token, 0u32)?;
+    team.run(
+        rt,
+        &|token: &mut Token| {
+            for round in 0..5u32 {
+                let lock = if round % 2 == 0 { &left } else { &right };
+                let guard = lock.lock(rt, token);
+                guard.unlock(rt, token);
+            }
+        },
+    )?;
+    Ok(())
+}
