@@ -12,6 +12,6 @@ abbrev pub HasElapsed : (ℕ → Type 0) → ℕ → Type 0
 HasElapsed tells nanos = (start : ℕ) × tells start × HasPassed tells (start + nanos)
 
 -- the deadline of a limit, if there is one, has passed on its clock
-abbrev pub IsUp : {C : Type 0} → (C → ℕ → Type 0) → Option (Bor C × ℕ) → Type 0
-IsUp tells None = ⊥
-IsUp tells (Some limit) = HasPassed (tells limit.0.now) limit.1
+abbrev pub TimeIsUp : {C : Type 0} → (C → ℕ → Type 0) → Option (Bor C × ℕ) → Type 0
+TimeIsUp tells None = ⊥
+TimeIsUp tells (Some limit) = HasPassed (tells limit.0.now) limit.1

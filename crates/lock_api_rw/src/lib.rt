@@ -1,7 +1,7 @@
 //! Reader-writer locks that keep a value, over any raw lock.
 #![tactic(auto)]
 
-mod calls;
+mod timed;
 mod fair;
 pub mod guards;
 pub mod held;

@@ -1,5 +1,5 @@
 //! A meter that is set up once, by the thread that comes first.
-ghost use Rattle.parking_lot.specs.Names.{IsTokenOf, lot_of_once};
+ghost use Rattle.parking_lot.specs.LotOf.{IsTokenOf, lot_of_once};
 
 use parking_lot::{Fault, Once, OnceFault, Team, Token};
 use std::alloc::Global;

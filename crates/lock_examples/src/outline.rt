@@ -1,5 +1,5 @@
 //! An outline that is read by a function which reads it again.
-ghost use Rattle.parking_lot.specs.Names.{IsTokenOf, lot_of_rwlock};
+ghost use Rattle.parking_lot.specs.LotOf.{IsTokenOf, lot_of_rwlock};
 
 use parking_lot::{Fault, RecursiveRwLock, Team, Token};
 use std::alloc::Global;

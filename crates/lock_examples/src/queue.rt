@@ -1,7 +1,7 @@
 //! A queue with few places, under a mutex with two condition variables.
 ghost use Rattle.std.specs.Prelude.{◌≡◌, IfOk};
 ghost use Rattle.std.specs.Arc.{arc_value};
-ghost use Rattle.parking_lot.specs.Names.{IsTokenOf, lot_of, lot_of_condvar};
+ghost use Rattle.parking_lot.specs.LotOf.{IsTokenOf, lot_of, lot_of_condvar};
 
 use parking_lot::{Condvar, Fault, Mutex, ParkingLot, Team, Token};
 use std::alloc::Global;

@@ -1,6 +1,6 @@
 //! Settings that are read by many threads, and written by one that has looked first.
 ghost use Rattle.std.specs.Prelude.{◌≡◌};
-ghost use Rattle.parking_lot.specs.Names.{IsTokenOf, lot_of_rwlock};
+ghost use Rattle.parking_lot.specs.LotOf.{IsTokenOf, lot_of_rwlock};
 
 use parking_lot::{Fault, RwLock, Team, Token};
 use std::alloc::Global;

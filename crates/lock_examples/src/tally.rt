@@ -1,5 +1,5 @@
 //! Votes under a fair mutex, which no thread gets twice while another waits.
-ghost use Rattle.parking_lot.specs.Names.{IsTokenOf, lot_of};
+ghost use Rattle.parking_lot.specs.LotOf.{IsTokenOf, lot_of};
 
 use parking_lot::{FairMutex, Fault, Team, Token};
 use std::alloc::Global;

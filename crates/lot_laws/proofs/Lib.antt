@@ -1,4 +1,4 @@
-mod Names
+mod Imports
 pub mod machine
 pub mod semaphore
 pub mod calls

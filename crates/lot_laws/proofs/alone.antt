@@ -12,7 +12,7 @@ pub mod Bump
 pub mod RwLockEnds
 pub mod BumpEnds
 pub mod Mutex
-pub mod Rests
+pub mod EndsOrSleeps
 pub mod Once
 pub mod Condvar
 pub mod Relock

@@ -10,7 +10,7 @@ use Rattle.core_base.specs.declared.keys.Keys.TheVariants.{One}
 use Rattle.core_base.specs.declared.ops.Op.{Op}
 use Rattle.core_base.specs.declared.wants.Want.{Want}
 use Rattle.steps_base.specs.declared.acts.Act.TheVariants.{Enter, Take, Word}
-use Rattle.steps_base.specs.declared.acts.Whom.TheVariants.{Picked}
+use Rattle.steps_base.specs.declared.acts.TakeWhich.TheVariants.{Picked}
 use Rattle.lot_steps.specs.Steps.{act_of, line_owed}
 use Rattle.lot_machine.specs.Machine.{State, place_at, word_at, section_at}
 use Rattle.lot_laws.specs.Refinement.{call_at}

@@ -10,7 +10,7 @@ use Rattle.steps_base.specs.declared.acts.Act.{Act}
 use Rattle.steps_base.specs.declared.acts.Act.TheVariants.{Enter, Sleep}
 use Rattle.core_base.specs.declared.keys.Keys.{Keys}
 use Rattle.lot_steps.specs.Steps.{act_of, beside_of, respins_from, called_lock, calls, is_lock, profile}
-use Rattle.lot_steps.specs.Steps.{profile_beside}
+use Rattle.lot_steps.specs.Steps.{profile_at_mutex}
 pub use Rattle.steps_mutex.specs.MutexProfiles.{mutex_profile, is_bump, entry_purpose, release_purpose}
 pub use Rattle.steps_mutex.specs.MutexProfiles.{before_entry, before_release}
 pub use Rattle.lot_machine.specs.Machine.{runs_closure}
@@ -26,7 +26,7 @@ use Rattle.spec_locks.specs.Locks as locks
 abbrev pub taken_at : Place → ℕ → Option Taken
 taken_at p l =
     if is_lock l (beside_of p) && not (calls p l)
-    then taken_from (profile_beside p).hand (profile_beside p).wants true
+    then taken_from (profile_at_mutex p).hand (profile_at_mutex p).wants true
     else taken_from (profile p).hand (profile p).wants (calls p l)
 
 abbrev pub lock_state : State → ℕ → LockState
@@ -79,7 +79,7 @@ call_on_both (Some m) None row beside rights = no_call
 call_on_both (Some m) (Some l) row beside rights = call_of_two l m row beside rights
 
 abbrev pub call_state : Place → (ℕ → Rights) → CallState
-call_state p rights = call_on_both (beside_of p) (called_lock p) (profile p) (profile_beside p) rights
+call_state p rights = call_on_both (beside_of p) (called_lock p) (profile p) (profile_at_mutex p) rights
 
 -- ---------------------------------------------------------------- the world
 

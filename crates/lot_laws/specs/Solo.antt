@@ -63,11 +63,11 @@ IsUnobstructed w t =
     → section_at w (key_of l m) ≡ Some u → u ≡ t
 
 -- the call has ended, sleeps or is in its closure
-abbrev pub Rests : Outcome → Type 0
-Rests (outcome.TheVariants.End a) = Unit {0}
-Rests outcome.TheVariants.Sleep = Unit {0}
-Rests (outcome.TheVariants.Closure state) = Unit {0}
-Rests o = ⊥
+abbrev pub EndsOrSleeps : Outcome → Type 0
+EndsOrSleeps (outcome.TheVariants.End a) = Unit {0}
+EndsOrSleeps outcome.TheVariants.Sleep = Unit {0}
+EndsOrSleeps (outcome.TheVariants.Closure state) = Unit {0}
+EndsOrSleeps o = ⊥
 
 -- the act enters the section of this key
 abbrev pub EntersSection : ℕ → Act → Type 0

@@ -12,7 +12,7 @@ use Rattle.steps_base.specs.declared.acts.Act.TheVariants.{Word, HandOver, Enter
 use Rattle.steps_base.specs.declared.acts.Check.{Check}
 use Rattle.steps_base.specs.declared.acts.Wakes.{Wakes}
 use Rattle.steps_base.specs.declared.acts.Wakes as wakes
-use Rattle.steps_base.specs.declared.acts.Whom as whom
+use Rattle.steps_base.specs.declared.acts.TakeWhich as whom
 use Rattle.steps_base.specs.Acts.{takes_effect, holds}
 use Rattle.lot_steps.specs.declared.places.Place.{Place}
 use Rattle.lot_machine.specs.Machine.{state_after_hand_over_by, State, unlocked, word_at, kind_at, queue_at}

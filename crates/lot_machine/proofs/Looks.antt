@@ -7,32 +7,32 @@ use Rattle.steps_mutex.specs.declared.lock.Entry.{Entry}
 use Rattle.steps_mutex.specs.declared.places.MutexPlace.{MutexPlace}
 use Rattle.steps_mutex.specs.declared.places.MutexPlace.TheVariants.{Lock}
 use Rattle.steps_mutex.specs.declared.lock.LockAt.TheVariants as lock
-use Rattle.steps_mutex.specs.MutexSteps.{mutex_looking}
+use Rattle.steps_mutex.specs.MutexSteps.{mutex_respin}
 use Rattle.steps_rwlock.specs.declared.places.Admission.{Admission}
 use Rattle.steps_rwlock.specs.declared.places.RwLockPlace.{RwLockPlace}
 use Rattle.steps_rwlock.specs.declared.places.RwLockAt.{RwLockAt}
 use Rattle.steps_rwlock.specs.declared.places.RwLockAt.TheVariants as at
 use Rattle.steps_rwlock.specs.RwLockSteps.{rwlock_act}
-use Rattle.steps_rwlock.specs.RwLockProfiles.{rwlock_looking, looking_at, gone_to}
+use Rattle.steps_rwlock.specs.RwLockProfiles.{rwlock_respin, looking_at, gone_to}
 use Rattle.steps_rwlock_fair.specs.declared.places.RwLockCallPlace.{RwLockCallPlace}
 use Rattle.steps_rwlock_fair.specs.declared.places.RwLockCallPlace.TheVariants.{Plain, PeekQueue, HandOver}
 use Rattle.steps_rwlock_fair.specs.declared.places.RwLockCallPlace.TheVariants.{Bump}
 use Rattle.steps_rwlock_fair.specs.declared.places.RwLockCallPlace.TheVariants.{Handed}
 use Rattle.steps_rwlock_fair.specs.FairSteps.{call_act}
-use Rattle.steps_rwlock_fair.specs.FairProfiles.{call_looking, in_call}
+use Rattle.steps_rwlock_fair.specs.FairProfiles.{call_respin, in_call}
 use Rattle.steps_rwlock_fair.proofs.FairSleepers.{fair_looks_stand}
 use Rattle.steps_once.specs.declared.places.OncePlace.{OncePlace}
 use Rattle.steps_once.specs.declared.places.OncePlace.TheVariants.{Look, Run, GiveUp}
 use Rattle.steps_once.specs.declared.look.LookAt.TheVariants as look_at
-use Rattle.steps_once.specs.OnceSteps.{once_looking}
+use Rattle.steps_once.specs.OnceSteps.{once_respin}
 use Rattle.steps_semaphore.specs.declared.acquire.AcquireAt.TheVariants as acquire
 use Rattle.steps_semaphore.specs.declared.places.SemaphorePlace.{SemaphorePlace}
 use Rattle.steps_semaphore.specs.declared.places.SemaphorePlace.TheVariants.{Acquire, Try, Release}
-use Rattle.steps_semaphore.specs.SemaphoreSteps.{semaphore_looking}
+use Rattle.steps_semaphore.specs.SemaphoreSteps.{semaphore_respin}
 use Rattle.steps_condvar.specs.declared.places.CondvarPlace.{CondvarPlace}
 use Rattle.steps_condvar.specs.declared.places.CondvarPlace.TheVariants.{Wait}
 use Rattle.steps_condvar.specs.declared.wait.WaitAt.TheVariants as wait
-use Rattle.steps_condvar.specs.CondvarSteps.{condvar_looking, in_lock}
+use Rattle.steps_condvar.specs.CondvarSteps.{condvar_respin, in_lock}
 use Rattle.lot_steps.specs.declared.places.Place.{Place}
 use Rattle.lot_steps.specs.declared.places.Place.TheVariants.{Idle, Mutex, RwLock, Once, Condvar, Semaphore}
 use Rattle.lot_steps.specs.Steps.{act_of, called_lock, respins_from, in_mutex, in_rwlock, in_once, in_condvar}
@@ -55,7 +55,7 @@ some_is : (p q : Place) → Some p ≡ Some q → p ≡ q
 some_is p q e = cc
 
 -- a look of a reader-writer call
-rwlock_loads : (l : ℕ) (a : Admission) (p p2 : RwLockPlace) → rwlock_looking a p ≡ Some p2 → rwlock_act l a p2
+rwlock_loads : (l : ℕ) (a : Admission) (p p2 : RwLockPlace) → rwlock_respin a p ≡ Some p2 → rwlock_act l a p2
     ≡ Word l Load
 rwlock_loads l a p p2 is = loads p.at is
   where
@@ -71,18 +71,18 @@ rwlock_loads l a p p2 is = loads p.at is
         in subst (λ x. rwlock_act l a x ≡ Word l Load) there refl
     loads to e = absurd cc
 
-call_loads : (l : ℕ) (a : Admission) (c d : RwLockCallPlace) → call_looking a c ≡ Some d → call_act l a d
+call_loads : (l : ℕ) (a : Admission) (c d : RwLockCallPlace) → call_respin a c ≡ Some d → call_act l a d
     ≡ Word l Load
-call_loads l a (Plain p) d is = by_place (rwlock_looking a p) refl is
+call_loads l a (Plain p) d is = by_place (rwlock_respin a p) refl is
   where
-    by_place : (o : Option RwLockPlace) → rwlock_looking a p ≡ o → in_call false o ≡ Some d → call_act l a d
+    by_place : (o : Option RwLockPlace) → rwlock_respin a p ≡ o → in_call false o ≡ Some d → call_act l a d
         ≡ Word l Load
     by_place None e is = absurd cc
     by_place (Some p2) e is = let there : Plain p2 ≡ d = cc in subst (λ x. call_act l a x ≡ Word l Load) there
         (rwlock_loads l a p p2 e)
-call_loads l a (Bump p) d is = by_place (rwlock_looking a p) refl is
+call_loads l a (Bump p) d is = by_place (rwlock_respin a p) refl is
   where
-    by_place : (o : Option RwLockPlace) → rwlock_looking a p ≡ o → in_call true o ≡ Some d → call_act l a d
+    by_place : (o : Option RwLockPlace) → rwlock_respin a p ≡ o → in_call true o ≡ Some d → call_act l a d
         ≡ Word l Load
     by_place None e is = absurd cc
     by_place (Some p2) e is = let there : Bump p2 ≡ d = cc in subst (λ x. call_act l a x ≡ Word l Load) there
@@ -91,11 +91,11 @@ call_loads l a (PeekQueue x) d is = absurd cc
 call_loads l a (HandOver x b to) d is = absurd cc
 call_loads l a (Handed x how b to) d is = absurd cc
 
-rwlock_look : (l : ℕ) (a : Admission) (c : RwLockCallPlace) (q : Place) → in_rwlock l a (call_looking a c)
+rwlock_look : (l : ℕ) (a : Admission) (c : RwLockCallPlace) (q : Place) → in_rwlock l a (call_respin a c)
     ≡ Some q → IsLook (RwLock l a c) q
-rwlock_look l a c q is = by_place (call_looking a c) refl is
+rwlock_look l a c q is = by_place (call_respin a c) refl is
   where
-    by_place : (o : Option RwLockCallPlace) → call_looking a c ≡ o → in_rwlock l a o ≡ Some q
+    by_place : (o : Option RwLockCallPlace) → call_respin a c ≡ o → in_rwlock l a o ≡ Some q
         → IsLook (RwLock l a c) q
     by_place None e is = absurd cc
     by_place (Some d) e is = subst (IsLook (RwLock l a c)) (some_is (RwLock l a d) q is)
@@ -121,7 +121,7 @@ look (Mutex l at) q is = mutex_look at is
     by_mark true at at2 h is = subst (IsLook (Mutex l at)) (some_is (Mutex l at2) q is) h
     by_mark false at at2 h is = absurd cc
 
-    mutex_look : (at : MutexPlace) → in_mutex l (mutex_looking at) ≡ Some q → IsLook (Mutex l at) q
+    mutex_look : (at : MutexPlace) → in_mutex l (mutex_respin at) ≡ Some q → IsLook (Mutex l at) q
     mutex_look (Lock e again (lock.Decide seen)) is =
         by_mark _ (Lock e again (lock.Decide seen)) (Lock e again lock.Load) (record {
           lock = l;
@@ -143,7 +143,7 @@ look (Once l at) q is = once_look at is
     by_mark true at at2 h is = subst (IsLook (Once l at)) (some_is (Once l at2) q is) h
     by_mark false at at2 h is = absurd cc
 
-    once_look : (at : OncePlace) → in_once l (once_looking at) ≡ Some q → IsLook (Once l at) q
+    once_look : (at : OncePlace) → in_once l (once_respin at) ≡ Some q → IsLook (Once l at) q
     once_look (Look c again (look_at.Decide seen)) is =
         by_mark _ (Look c again (look_at.Decide seen)) (Look c again look_at.Load) (record {
           lock = l;
@@ -166,7 +166,7 @@ look (Semaphore l at) q is = semaphore_look at is
     by_mark true at at2 h is = subst (IsLook (Semaphore l at)) (some_is (Semaphore l at2) q is) h
     by_mark false at at2 h is = absurd cc
 
-    semaphore_look : (at : SemaphorePlace) → in_semaphore l (semaphore_looking at) ≡ Some q
+    semaphore_look : (at : SemaphorePlace) → in_semaphore l (semaphore_respin at) ≡ Some q
         → IsLook (Semaphore l at) q
     semaphore_look (Acquire timed again (acquire.Decide seen)) is =
         by_mark _ (Acquire timed again (acquire.Decide seen)) (Acquire timed again acquire.Load) (record {
@@ -195,7 +195,7 @@ look (Condvar l at) q is = condvar_look at is
     by_mark false m timed late at at2 h is = absurd cc
 
     locks : (m : ℕ) (timed late : Bool) (at : MutexPlace)
-        → in_condvar l (in_lock m timed late (mutex_looking at)) ≡ Some q
+        → in_condvar l (in_lock m timed late (mutex_respin at)) ≡ Some q
         → IsLook (Condvar l (Wait m timed (wait.Lock late at))) q
     locks m timed late (Lock e again (lock.Decide seen)) is =
         by_mark _ m timed late (Lock e again (lock.Decide seen)) (Lock e again lock.Load) (record {
@@ -212,7 +212,7 @@ look (Condvar l at) q is = condvar_look at is
     locks m timed late (Lock e again to) is = absurd cc
     locks m timed late at is = absurd cc
 
-    condvar_look : (at : CondvarPlace) → in_condvar l (condvar_looking at) ≡ Some q → IsLook (Condvar l at) q
+    condvar_look : (at : CondvarPlace) → in_condvar l (condvar_respin at) ≡ Some q → IsLook (Condvar l at) q
     condvar_look (Wait m timed (wait.Lock late at)) is = locks m timed late at is
     condvar_look at is = absurd cc
 

@@ -87,7 +87,7 @@ use Rattle.lot_machine.specs.Machine.{is_open_to, state_after_spin, state_after_
 use Rattle.lot_machine.specs.Machine.{state_after_turn, can_turn, is_possible, after, state_after_look}
 use Rattle.lot_machine.specs.Machine.{look_outcome, spin_outcome, can_spin, can_go, go_outcome}
 use Rattle.steps_mutex.specs.declared.lock.LockAt as lock
-use Rattle.steps_base.specs.declared.acts.Whom as whom
+use Rattle.steps_base.specs.declared.acts.TakeWhich as whom
 use Rattle.lot_machine.specs.Fits.{ActFits, AllBelow, IsOfItsKind, IsWellFormed, PlaceFits, SameSize}
 use Rattle.lot_machine.specs.Fits.{ShowsPlainMutex}
 use Rattle.steps_condvar.specs.declared.notify.NotifyAt.{NotifyAt}

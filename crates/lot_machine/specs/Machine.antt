@@ -34,8 +34,8 @@ use Rattle.steps_base.specs.declared.acts.Reply.{Reply}
 use Rattle.steps_base.specs.declared.acts.Reply.TheVariants.{Done, Value, Parked, Took, Picked, Requeued}
 use Rattle.steps_base.specs.declared.acts.Reply.TheVariants.{Removed, TakenBy, MovedTo, HandedBy, Late, Woken}
 use Rattle.steps_base.specs.declared.acts.Reply.TheVariants.{Closed}
-use Rattle.steps_base.specs.declared.acts.Whom.{Whom}
-use Rattle.steps_base.specs.declared.acts.Whom as whom
+use Rattle.steps_base.specs.declared.acts.TakeWhich.{TakeWhich}
+use Rattle.steps_base.specs.declared.acts.TakeWhich as whom
 use Rattle.spec_locks.specs.declared.calls.Call.{Call}
 use Rattle.spec_locks.specs.declared.calls.Turn.{Turn}
 use Rattle.spec_locks.specs.declared.calls.Turn as turn
@@ -329,7 +329,7 @@ state_after_takes w t key taken left =
       places = places_told (TakenBy t) taken w.places;
     }
 
-abbrev pub state_after_take : State → ℕ → ℕ → Whom → State
+abbrev pub state_after_take : State → ℕ → ℕ → TakeWhich → State
 state_after_take w t key whom.TheVariants.First = state_after_take_first w t key
 state_after_take w t key (whom.TheVariants.Picked start recursive) =
     state_after_takes w t key (threads_of (lock_picked start recursive (queue_at w key)))
@@ -400,7 +400,7 @@ state_after_act w t p (Leave keys wakes) = state_after_leave w t keys wakes
 state_after_act w t p act = w
 
 -- the outcome of a take
-abbrev pub reply_to_take : State → ℕ → ℕ → Whom → Reply
+abbrev pub reply_to_take : State → ℕ → ℕ → TakeWhich → Reply
 reply_to_take w t key whom.TheVariants.First =
     Took (is_there (first_of (queue_at w key))) (length (drop 1 (queue_at w key)) == 0)
 reply_to_take w t key (whom.TheVariants.Picked start recursive) =

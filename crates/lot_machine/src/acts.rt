@@ -23,7 +23,7 @@ use crate::locks::{Lock, is_full};
 use crate::machine::Machine;
 use crate::shares::{give_shares, nobody_shares, owners_of_successor, set_share_in};
 use core_base::{Key, Keys, LockPicker, Queues, Requeue, Want};
-use lot_steps::{Act, Check, Op, Owners, Reply, Wakes, Whom};
+use lot_steps::{Act, Check, Op, Owners, Reply, Wakes, TakeWhich};
 use steps_base::takes_effect;
 
 /// Lists the waiters under a key.
@@ -227,23 +227,23 @@ impl<Q: Queues + Drop> Machine<Q> {
     }
 
     /// Takes waiters of a queue.
-    fn take(&mut self, thread: usize, key: Key, whom: Whom) -> Reply
+    fn take(&mut self, thread: usize, key: Key, whom: TakeWhich) -> Reply
         requires { key < length self.old.sections }
         ensures reply { result ≡ reply_to self.old thread (Act.Take key whom) }
         ensures state { self.new ≡ state_after_take self.old thread key whom }
     {
         match whom {
-            Whom::First => self.take_first(thread, key),
-            Whom::Picked { start, recursive } => self.take_picked(thread, key, start, recursive),
-            Whom::All => self.take_all(thread, key),
+            TakeWhich::First => self.take_first(thread, key),
+            TakeWhich::Picked { start, recursive } => self.take_picked(thread, key, start, recursive),
+            TakeWhich::All => self.take_all(thread, key),
         }
     }
 
     /// Takes all of a queue.
     pub(crate) fn take_all(&mut self, thread: usize, key: Key) -> Reply
         requires { key < length self.old.sections }
-        ensures reply { result ≡ reply_to self.old thread (Act.Take key Whom.All) }
-        ensures state { self.new ≡ state_after_take self.old thread key Whom.All }
+        ensures reply { result ≡ reply_to self.old thread (Act.Take key TakeWhich.All) }
+        ensures state { self.new ≡ state_after_take self.old thread key TakeWhich.All }
     {
         self.taken.clear();
         self.queues.take_all(key, &mut self.taken);
@@ -268,9 +268,9 @@ impl<Q: Queues + Drop> Machine<Q> {
     ) -> Reply
         requires { key < length self.old.sections }
         ensures reply { result
-            ≡ reply_to self.old thread (Act.Take key (Whom.Picked start recursive)) }
+            ≡ reply_to self.old thread (Act.Take key (TakeWhich.Picked start recursive)) }
         ensures state { self.new
-            ≡ state_after_take self.old thread key (Whom.Picked start recursive) }
+            ≡ state_after_take self.old thread key (TakeWhich.Picked start recursive) }
     {
         self.taken.clear();
         self.queues
@@ -311,7 +311,7 @@ impl<Q: Queues + Drop> Machine<Q> {
     /// Takes the first of a queue.
     fn take_first(&mut self, thread: usize, key: Key) -> Reply
         requires { key < length self.old.sections }
-        ensures reply { result ≡ reply_to self.old thread (Act.Take key Whom.First) }
+        ensures reply { result ≡ reply_to self.old thread (Act.Take key TakeWhich.First) }
         ensures state { self.new ≡ state_after_take_first self.old thread key }
     {
         let first = self.take_from(key);

@@ -10,7 +10,7 @@ ghost use Rattle.spec_locks.specs.Kinds.{fits};
 ghost use Rattle.lot_program.specs.Runs.{step_by};
 
 use crate::grains::Grain;
-use lot_parts::MOST;
+use lot_rows::MOST;
 use lot_world::{Answer, Call, Kind, MOST_LOCKS, Step, Turn};
 
 /// A number, or what a variable has.

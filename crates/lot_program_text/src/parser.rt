@@ -1,6 +1,6 @@
 //! A program's text, line by line.
 ghost use Rattle.std.specs.Prelude.{◌≡◌, None, IfOk};
-ghost use Rattle.lot_text.specs.Names.{lock_named};
+ghost use Rattle.lot_text.specs.LockNames.{lock_named};
 
 use crate::properties::Stations;
 use lot_program::{Deadlines, Grain, Instruction, Program, Property};

@@ -24,7 +24,7 @@ use Rattle.lot_text.specs.declared.grammar.Command as command
 use Rattle.lot_text.specs.declared.grammar.NamedTurn.{NamedTurn}
 use Rattle.lot_text.specs.declared.grammar.NamedTurn as named
 use Rattle.lot_text.specs.Lines.{line_len}
-use Rattle.lot_text.specs.Names.{lock_named}
+use Rattle.lot_text.specs.LockNames.{lock_named}
 use Rattle.lot_text.specs.Grammar.{meaning}
 use Rattle.lot_replay.specs.Shows.{show_lines}
 use Rattle.lot_replay.specs.Drains.{drain_lines}

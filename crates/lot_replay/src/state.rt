@@ -34,7 +34,7 @@ pub enum Refusal {
 
 /// The stage to which the lines of a replay have led, to be looked at.
 #[derive(Clone, Copy, Drop)]
-pub enum Stage<'a, Q: Queues + Drop> {
+pub enum ReplayStage<'a, Q: Queues + Drop> {
     /// The threads are not there yet.
     Nothing,
     /// Locks of these names and kinds are declared, and no line has taken a turn.
@@ -74,16 +74,16 @@ impl<Q: Queues + Drop> State<Q> {
     }
 
     /// Returns the stage, to be looked at.
-    pub fn stage(&self) -> Stage<'_, Q>
+    pub fn stage(&self) -> ReplayStage<'_, Q>
         ensures { replay_stage_of self.now.session ≡ stage_shown result }
     {
         let Some(session) = &self.session else {
-            return Stage::Nothing;
+            return ReplayStage::Nothing;
         };
         let names = session.names.as_slice();
         match &session.world {
-            Some(world) => Stage::Running { names, world },
-            None => Stage::Declaring {
+            Some(world) => ReplayStage::Running { names, world },
+            None => ReplayStage::Declaring {
                 threads: session.threads,
                 names,
                 kinds: session.kinds.as_slice(),

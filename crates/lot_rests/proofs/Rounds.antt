@@ -12,7 +12,7 @@ use Rattle.lot_machine.specs.Machine.{State, after, can_go, go_of, go_outcome, i
 use Rattle.lot_machine.specs.Machine.{step_outcome}
 use Rattle.lot_machine.specs.Machine.{filled_at}
 use Rattle.lot_machine.specs.Fits.{SameSize}
-use Rattle.spec_locks.specs.EachState.{Rests}
+use Rattle.spec_locks.specs.EachState.{WaitersWaitRightly}
 use Rattle.lot_laws.specs.Refinement.{locks_of}
 use Rattle.lot_laws.proofs.promises.Headline.{holds_after}
 use Rattle.lot_laws.specs.SitesOf.{IsWorld}
@@ -125,7 +125,7 @@ pub gone_size : (w v : State) → HasGone w v → SameSize w v
 gone_size w v so = subst (SameSize w) (sym so.leads) (goes_size so.threads w)
 
 -- where nobody goes on, nobody waits for a lock that is open
-pub gone_rests : (v : State) → IsWorld v → NobodyGoes v → Rests (locks_of v) (filled_at v)
+pub gone_rests : (v : State) → IsWorld v → NobodyGoes v → WaitersWaitRightly (locks_of v) (filled_at v)
 gone_rests v h stuck = (holds_after [] v v h refl).rests (quiet v h stuck)
 
 pub settles : (w v : State) → IsWorld w → HasGone w v → NobodyGoes v → Settles w v

@@ -14,7 +14,7 @@ use Rattle.steps_base.specs.declared.acts.Next.{Next}
 use Rattle.steps_base.specs.declared.acts.Next.TheVariants.{At, End}
 use Rattle.steps_base.specs.declared.owners.Owners.{Owners}
 use Rattle.spec_locks.specs.Kinds.{is_fair}
-use Rattle.steps_mutex.specs.MutexSteps.{mutex_first, mutex_right, mutex_act, mutex_next, mutex_looking}
+use Rattle.steps_mutex.specs.MutexSteps.{mutex_first, mutex_right, mutex_act, mutex_next, mutex_respin}
 use Rattle.steps_mutex.specs.MutexSteps.{mutex_owners}
 use Rattle.core_base.specs.declared.keys.Line.{Line}
 use Rattle.core_base.specs.declared.wants.Want.{Want}
@@ -25,17 +25,17 @@ use Rattle.steps_rwlock.specs.RwLockBegins.{admission_of_kind}
 use Rattle.steps_rwlock_fair.specs.declared.places.RwLockCallPlace.{RwLockCallPlace}
 use Rattle.steps_rwlock_fair.specs.FairBegins.{call_first, call_right}
 use Rattle.steps_rwlock_fair.specs.FairSteps.{call_act, call_next, call_owners, call_shares}
-use Rattle.steps_rwlock_fair.specs.FairProfiles.{call_profile, call_looking}
+use Rattle.steps_rwlock_fair.specs.FairProfiles.{call_profile, call_respin}
 use Rattle.steps_mutex.specs.MutexProfiles.{mutex_profile}
 use Rattle.steps_once.specs.declared.places.OncePlace.{OncePlace}
-use Rattle.steps_once.specs.OnceSteps.{once_first, once_act, once_next, once_looking, once_owners}
+use Rattle.steps_once.specs.OnceSteps.{once_first, once_act, once_next, once_respin, once_owners}
 use Rattle.steps_once.specs.OnceProfiles.{once_profile}
 use Rattle.steps_condvar.specs.declared.places.CondvarPlace.{CondvarPlace}
 use Rattle.steps_condvar.specs.CondvarSteps.{HasMutexKey, condvar_act, condvar_first, condvar_right}
-use Rattle.steps_condvar.specs.CondvarSteps.{condvar_next, condvar_looking, condvar_owners, mutex_beside}
+use Rattle.steps_condvar.specs.CondvarSteps.{condvar_next, condvar_respin, condvar_owners, mutex_beside}
 use Rattle.steps_condvar.specs.CondvarProfiles.{condvar_profile, mutex_side}
 use Rattle.steps_semaphore.specs.declared.places.SemaphorePlace.{SemaphorePlace}
-use Rattle.steps_semaphore.specs.SemaphoreSteps.{semaphore_act, semaphore_first, semaphore_looking}
+use Rattle.steps_semaphore.specs.SemaphoreSteps.{semaphore_act, semaphore_first, semaphore_respin}
 use Rattle.steps_semaphore.specs.SemaphoreSteps.{semaphore_next, semaphore_right, semaphore_shares}
 use Rattle.steps_semaphore.specs.SemaphoreProfiles.{semaphore_profile}
 
@@ -101,18 +101,18 @@ beside_of (Condvar lock at) = mutex_beside at
 beside_of (Semaphore lock at) = None
 
 -- What a place says of its thread at the second lock.
-abbrev pub profile_beside : Place → Profile
-profile_beside Idle = blank_row
-profile_beside (Mutex lock at) = blank_row
-profile_beside (RwLock lock a at) = blank_row
-profile_beside (Once lock at) = blank_row
-profile_beside (Condvar lock at) = mutex_side at
-profile_beside (Semaphore lock at) = blank_row
+abbrev pub profile_at_mutex : Place → Profile
+profile_at_mutex Idle = blank_row
+profile_at_mutex (Mutex lock at) = blank_row
+profile_at_mutex (RwLock lock a at) = blank_row
+profile_at_mutex (Once lock at) = blank_row
+profile_at_mutex (Condvar lock at) = mutex_side at
+profile_at_mutex (Semaphore lock at) = blank_row
 
 -- at any lock
 abbrev pub profile_at : Place → ℕ → Profile
 profile_at p lock = if calls p lock then profile p else if is_lock lock (beside_of p)
-    then profile_beside p else blank_row
+    then profile_at_mutex p else blank_row
 
 -- this, or else that
 abbrev pub or_else : {A : Type 0} → Option A → Option A → Option A
@@ -225,11 +225,11 @@ shares_after (Semaphore lock at) seen shares = semaphore_shares at seen shares
 
 -- the want of a thread, where it waits
 abbrev pub wants : Place → Option Want
-wants p = or_else (profile_beside p).wants (profile p).wants
+wants p = or_else (profile_at_mutex p).wants (profile p).wants
 
 -- the thread that took this one from its queue, and has not left its section yet
 abbrev pub taker : Place → Option ℕ
-taker p = hand_owner (or_else (profile_beside p).hand (profile p).hand)
+taker p = hand_owner (or_else (profile_at_mutex p).hand (profile p).hand)
 
 abbrev pub in_mutex : ℕ → Option MutexPlace → Option Place
 in_mutex lock None = None
@@ -254,11 +254,11 @@ in_semaphore lock (Some at) = Some (Semaphore lock at)
 -- from where a thread looks at the word once more, in place of an act that leads to sleep
 abbrev pub respins_from : Place → Option Place
 respins_from Idle = None
-respins_from (Mutex lock at) = in_mutex lock (mutex_looking at)
-respins_from (RwLock lock a at) = in_rwlock lock a (call_looking a at)
-respins_from (Once lock at) = in_once lock (once_looking at)
-respins_from (Condvar lock at) = in_condvar lock (condvar_looking at)
-respins_from (Semaphore lock at) = in_semaphore lock (semaphore_looking at)
+respins_from (Mutex lock at) = in_mutex lock (mutex_respin at)
+respins_from (RwLock lock a at) = in_rwlock lock a (call_respin a at)
+respins_from (Once lock at) = in_once lock (once_respin at)
+respins_from (Condvar lock at) = in_condvar lock (condvar_respin at)
+respins_from (Semaphore lock at) = in_semaphore lock (semaphore_respin at)
 
 -- the key of a line of the lock that a thread calls
 abbrev pub key_in : Option ℕ → Option Line → Option ℕ
@@ -267,12 +267,12 @@ key_in lock m = None
 
 -- the key under which a thread sleeps in a call that may give up
 abbrev pub late_key : Place → Option ℕ
-late_key p = or_else (key_in (beside_of p) (profile_beside p).late_line)
+late_key p = or_else (key_in (beside_of p) (profile_at_mutex p).late_line)
     (key_in (called_lock p) (profile p).late_line)
 
 -- the line on which a thread owes a wake on a lock
 abbrev pub line_owed : Place → ℕ → Option Line
-line_owed p lock = or_else (if is_lock lock (beside_of p) then (profile_beside p).owes else None)
+line_owed p lock = or_else (if is_lock lock (beside_of p) then (profile_at_mutex p).owes else None)
     (if calls p lock then (profile p).owes else None)
 
 abbrev pub is_line : Option Line → Bool
@@ -285,5 +285,5 @@ owes_on p lock = is_line (line_owed p lock)
 
 -- a thread was woken and tries again on a lock
 abbrev pub retries_on : Place → ℕ → Bool
-retries_on p lock = (is_lock lock (beside_of p) && (profile_beside p).retries)
+retries_on p lock = (is_lock lock (beside_of p) && (profile_at_mutex p).retries)
     || ((profile p).retries && calls p lock)

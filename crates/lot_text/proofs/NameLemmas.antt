@@ -10,7 +10,7 @@ use Rattle.std.proofs.lemmas.List.Folds.{list_all_more}
 use Rattle.std.proofs.lemmas.List.Sums.{take_while-cons, position_or_len_is}
 use Rattle.std.proofs.lemmas.Slice.Eq.{bytes_eq-Decides}
 use Rattle.std.proofs.lemmas.Bool.Decides.{nat_tests, same_from_decides}
-use Rattle.lot_text.specs.Names.{is_letter, is_digit, are_name_bytes, is_name, name_of, padded, spelled}
+use Rattle.lot_text.specs.LockNames.{is_letter, is_digit, are_name_bytes, is_name, name_of, padded, spelled}
 
 abbrev pub is_name_byte : ℕ → Bool
 is_name_byte b = is_letter b || is_digit b

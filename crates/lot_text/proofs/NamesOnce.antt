@@ -9,7 +9,7 @@ use Rattle.std.proofs.lemmas.Bool.Decides.{nat_tests}
 use Rattle.std.proofs.lemmas.List.{get_or_append_left, get_or_push}
 use Rattle.std.proofs.lemmas.List.Folds.{position_or_len_push}
 use Rattle.std.proofs.lemmas.Slice.Eq.{bytes_eq-Decides}
-use Rattle.lot_text.specs.Names.{lock_named, NamesAreDistinct}
+use Rattle.lot_text.specs.LockNames.{lock_named, NamesAreDistinct}
 
 -- the place of a name, where it is found
 placed : (p : List ℕ → Bool) (xs : List (List ℕ)) (k : ℕ) → position p xs ≡ Some k → position_or_len p xs ≡ k

@@ -6,7 +6,7 @@ use Rattle.std.specs.Int.{IsInRange}
 use Rattle.std.proofs.lemmas.Fmt.{decimal-digits_value}
 use Rattle.std.proofs.lemmas.Str.Parse.{IsNumeralModel, numerals_by_fold, digits_value_short}
 use Rattle.std.proofs.lemmas.Bool.Decides.{nat_tests}
-use Rattle.lot_text.specs.Names.{is_digit}
+use Rattle.lot_text.specs.LockNames.{is_digit}
 use Rattle.lot_text.specs.Grammar.{digits_after, has_form, number_read}
 
 abbrev pub AreDigits : List ℕ → Type 0

@@ -34,7 +34,7 @@ use Rattle.lot_text.specs.declared.grammar.NamedTurn.TheVariants as turns
 use Rattle.lot_text.specs.Grammar.{call_of, calling_command_of, calling_turn_of, command_of, digits_after}
 use Rattle.lot_text.specs.Grammar.{has_form, limited_kind_of, lock_command, meaning, number_read}
 use Rattle.lot_text.specs.Grammar.{turn_command, turn_of, wait_of, words_of}
-use Rattle.lot_text.specs.Names.{is_digit, is_name, name_of}
+use Rattle.lot_text.specs.LockNames.{is_digit, is_name, name_of}
 use Rattle.lot_text.specs.Steps.{AreNamed, StepsAreReadBack, condvar_word, mutex_word, name_at, once_word}
 use Rattle.lot_text.specs.Steps.{semaphore_word, rwlock_word, step_text, turn_named}
 use Rattle.lot_text.proofs.GrammarLemmas.{words_only}

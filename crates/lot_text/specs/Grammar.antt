@@ -25,7 +25,7 @@ use Rattle.lot_text.specs.declared.grammar.Command.{Command}
 use Rattle.lot_text.specs.declared.grammar.Command as command
 use Rattle.lot_text.specs.declared.grammar.NamedTurn.{NamedTurn}
 use Rattle.lot_text.specs.declared.grammar.NamedTurn as turn
-use Rattle.lot_text.specs.Names.{is_digit, name_of}
+use Rattle.lot_text.specs.LockNames.{is_digit, name_of}
 
 -- words are parted by one space
 abbrev pub words_of : List ℕ → List (List ℕ)

@@ -1,6 +1,6 @@
 pub mod Lines
 pub mod Reads
-pub mod Names
+pub mod LockNames
 pub mod Grammar
 pub mod Sent
 pub mod Text

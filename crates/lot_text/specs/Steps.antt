@@ -29,7 +29,7 @@ use Rattle.lot_text.specs.declared.grammar.NamedCall.TheVariants as named
 use Rattle.lot_text.specs.declared.grammar.NamedTurn.{NamedTurn}
 use Rattle.lot_text.specs.declared.grammar.NamedTurn.TheVariants as turns
 use Rattle.lot_text.specs.Grammar.{meaning}
-use Rattle.lot_text.specs.Names.{is_name}
+use Rattle.lot_text.specs.LockNames.{is_name}
 
 -- ---------------------------------------------------------------- the words of calls
 

@@ -1,7 +1,7 @@
 //! The meaning of a line.
 ghost use Rattle.std.specs.Prelude.{ℕ, List, Some, decimal, ◌^◌, ◌≡◌, ◌≢◌, ◌<◌, ◌≤◌, [], ◌∷◌, length, take};
 ghost use Rattle.std.specs.Prelude.{slice_index, All, MatchOption};
-ghost use Rattle.lot_text.specs.Names.{name_of};
+ghost use Rattle.lot_text.specs.LockNames.{name_of};
 ghost use Rattle.lot_text.specs.Grammar.{words_of, number_read, digits_after, kind_of, rwlock_kind_of};
 ghost use Rattle.lot_text.specs.Grammar.{limited_kind_of, mutex_call_of, entering_call_of, fair_call_of};
 ghost use Rattle.lot_text.specs.Grammar.{other_call_of, once_call_of, semaphore_call_of, notification_of};

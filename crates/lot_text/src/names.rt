@@ -6,7 +6,7 @@
 ghost use Rattle.std.specs.Prelude.{◌≡◌, ◌≢◌, ◌<◌, ◌≤◌, ◌||◌, ◌++◌, ◌∷◌, [], ℕ, Some, None, IfErr, IfOk};
 ghost use Rattle.std.specs.Prelude.{if◌then◌else◌, length, slice_index};
 ghost use Rattle.std.specs.Str.{bytes_eq};
-ghost use Rattle.lot_text.specs.Names.{is_letter, is_digit, are_name_bytes, name_of, lock_named, padded};
+ghost use Rattle.lot_text.specs.LockNames.{is_letter, is_digit, are_name_bytes, name_of, lock_named, padded};
 
 use std::alloc::{AllocError, Global};
 use std::marker::Model;
@@ -32,7 +32,7 @@ pub struct Name {
 impl Model for Name {
     ghost use Rattle.std.specs.Prelude.{ℕ, List, ◌≡◌};
     ghost use Rattle.std.proofs.Common.{sym, ap};
-    ghost use Rattle.lot_text.specs.Names.{padded, spelled};
+    ghost use Rattle.lot_text.specs.LockNames.{padded, spelled};
 
     ghost Value = { List ℕ };
 
@@ -132,7 +132,7 @@ pub struct Names {
 
 impl Model for Names {
     ghost use Rattle.std.specs.Prelude.{ℕ, List};
-    ghost use Rattle.lot_text.specs.Names.{NamesAreDistinct};
+    ghost use Rattle.lot_text.specs.LockNames.{NamesAreDistinct};
 
     ghost Value = { List (List ℕ) };
 

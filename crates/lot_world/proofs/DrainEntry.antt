@@ -14,7 +14,7 @@ use Rattle.lot_laws.specs.Solo.{IsUnobstructed, IsUnderWay}
 use Rattle.lot_laws.specs.SitesOf.{key_of}
 use Rattle.lot_laws.specs.Locations.{location, location_at}
 use Rattle.lot_laws.proofs.calls.OwnPlace.{gone_place}
-use Rattle.lot_laws.proofs.alone.Rests.{rests_alone}
+use Rattle.lot_laws.proofs.alone.EndsOrSleeps.{rests_alone}
 use Rattle.lot_world.specs.Second.{left_inside}
 use Rattle.lot_world.specs.Quiet.{IsDraining}
 use Rattle.lot_world.specs.Full.{IsStrict}

@@ -22,8 +22,8 @@ use Rattle.spec_locks.specs.Calls.{lock_in}
 use Rattle.steps_base.specs.declared.acts.Act.TheVariants as act
 use Rattle.steps_base.specs.declared.acts.Reply.TheVariants.{Done, Value, Took, Picked, TakenBy}
 use Rattle.steps_base.specs.declared.acts.Wakes.TheVariants as wakes
-use Rattle.steps_base.specs.declared.acts.Whom.{Whom}
-use Rattle.steps_base.specs.declared.acts.Whom.TheVariants as whoms
+use Rattle.steps_base.specs.declared.acts.TakeWhich.{TakeWhich}
+use Rattle.steps_base.specs.declared.acts.TakeWhich.TheVariants as whoms
 use Rattle.steps_base.specs.Acts.{outcome_of}
 use Rattle.lot_steps.specs.declared.places.Place.{Place}
 use Rattle.lot_steps.specs.declared.places.Place.TheVariants.{Idle}
@@ -233,7 +233,7 @@ module _ (k : Kind) (w : State) (p : Place) (v : ℕ) (f : Passes k w p v) where
     no_successor u (x ∷ ps) h = ap (λ o. successor_or u (wants_more_in_hand 0 o)
         (successor_from 0 (suc u) ps)) (h 0) ∙ no_successor (suc u) ps (λ i. h (suc i))
 
-    abbrev picking : Bool → Whom
+    abbrev picking : Bool → TakeWhich
     picking recursive = whoms.Picked None recursive
 
     pub none_picked : (n : ℕ) (e : ℕ) (recursive : Bool) → act_of p ≡ act.Take 0 (whoms.Picked None recursive)

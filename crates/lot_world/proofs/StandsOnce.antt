@@ -20,7 +20,7 @@ use Rattle.steps_condvar.specs.declared.wait.WaitAt.TheVariants as wait
 use Rattle.steps_condvar.specs.CondvarProfiles.{condvar_row, is_listed, is_moved, notify_row, wait_row}
 use Rattle.lot_steps.specs.declared.places.Place.{Place}
 use Rattle.lot_steps.specs.declared.places.Place.TheVariants as place
-use Rattle.lot_steps.specs.Steps.{beside_of, called_lock, is_lock, profile_beside}
+use Rattle.lot_steps.specs.Steps.{beside_of, called_lock, is_lock, profile_at_mutex}
 use Rattle.lot_machine.specs.Copies.{StandOnce}
 use Rattle.lot_machine.specs.Machine.{State, place_at, queue_at}
 use Rattle.lot_machine.specs.Views.{StandUnder}
@@ -98,7 +98,7 @@ in_no_line false m e h = absurd (omega (arith, h))
 
 -- a thread stands at the lock that it calls, or at the mutex beside it, and not at both
 not_both : (p : Place) (m n : Line) → 1 ≤ stood_in (location p).stands m → 1
-    ≤ stood_in (location_by (profile_beside p)).stands n → ⊥
+    ≤ stood_in (location_by (profile_at_mutex p)).stands n → ⊥
 not_both place.Idle m n h k = absurd (omega (arith, k))
 not_both (place.Mutex l at) m n h k = absurd (omega (arith, k))
 not_both (place.RwLock l a at) m n h k = absurd (omega (arith, k))
@@ -116,12 +116,12 @@ same_lock (Some own) l k h e = sym (eqb-true own l h) ∙ eqb-true own k e
 -- where it stands
 data StandsAt (p : Place) (l : ℕ) (m : Line) : Type 0 where
   called : is_lock l (called_lock p) ≡ true → 1 ≤ stood_in (location p).stands m → StandsAt p l m
-  beside : is_lock l (beside_of p) ≡ true → 1 ≤ stood_in (location_by (profile_beside p)).stands m
+  beside : is_lock l (beside_of p) ≡ true → 1 ≤ stood_in (location_by (profile_at_mutex p)).stands m
       → StandsAt p l m
 
 by_tests : (p : Place) (l : ℕ) (m : Line) (a b : Bool) → is_lock l (called_lock p) ≡ a
     → is_lock l (beside_of p) ≡ b
-    → 1 ≤ stood_in (cond a (location p) (cond b (location_by (profile_beside p)) nowhere)).stands m
+    → 1 ≤ stood_in (cond a (location p) (cond b (location_by (profile_at_mutex p)) nowhere)).stands m
     → StandsAt p l m
 by_tests p l m true b e f h = called e h
 by_tests p l m false true e f h = beside f h
@@ -145,7 +145,7 @@ one_key p l k m n (called a h) (called b e) = ap (λ j. key_of j m) (same_lock (
 one_key p l k m n (called a h) (beside b e) = absurd (not_both p m n h e)
 one_key p l k m n (beside a h) (called b e) = absurd (not_both p n m e h)
 one_key p l k m n (beside a h) (beside b e) = ap (λ j. key_of j m) (same_lock (beside_of p) l k a b)
-    ∙ ap (key_of k) (one_line (location_by (profile_beside p)).stands m n h e)
+    ∙ ap (key_of k) (one_line (location_by (profile_at_mutex p)).stands m n h e)
 
 none_if : (n : ℕ) → (1 ≤ n → ⊥) → n ≡ 0
 none_if zero h = refl

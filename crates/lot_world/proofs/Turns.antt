@@ -11,7 +11,7 @@ use Rattle.spec_locks.specs.declared.outcomes.Outcome.TheVariants as outcome
 use Rattle.steps_base.specs.Calls.{IsNotLate}
 use Rattle.steps_base.specs.declared.acts.Act.{Act}
 use Rattle.steps_base.specs.declared.acts.Act.TheVariants as act
-use Rattle.steps_base.specs.declared.acts.Whom.TheVariants as whom
+use Rattle.steps_base.specs.declared.acts.TakeWhich.TheVariants as whom
 use Rattle.spec_locks.specs.Locks.{Rights, rights_of}
 use Rattle.spec_locks.specs.Onces.{Start}
 use Rattle.spec_locks.specs.Locks.{LockCase, OfOnce}
@@ -28,7 +28,7 @@ use Rattle.lot_machine.specs.Machine.{reply_to, solo, state_after_go, step_outco
 use Rattle.lot_machine.specs.Fits.{SameSize}
 use Rattle.lot_machine.proofs.Shape.{after_size, both}
 use Rattle.lot_laws.specs.Refinement.{call_state, lock_state, locks_of, runs_closure, sleeps}
-use Rattle.lot_laws.specs.Solo.{IsUnobstructed, IsUnderWay, Rests}
+use Rattle.lot_laws.specs.Solo.{IsUnobstructed, IsUnderWay, EndsOrSleeps}
 use Rattle.lot_laws.specs.SitesOf.{key_of}
 use Rattle.lot_laws.specs.Promises.{IsKept}
 use Rattle.lot_laws.proofs.machine.Befallen.{others_keep_it}
@@ -36,7 +36,7 @@ use Rattle.lot_laws.proofs.machine.KindsStay.{after_kinds}
 use Rattle.lot_laws.proofs.calls.LockSteps.{IsTurn, after_step}
 use Rattle.lot_laws.proofs.machine.Parts.{IsSingle}
 use Rattle.lot_laws.proofs.calls.OwnPlace.{gone_place}
-use Rattle.lot_laws.proofs.alone.Rests.{rests_alone}
+use Rattle.lot_laws.proofs.alone.EndsOrSleeps.{rests_alone}
 use Rattle.lot_laws.proofs.alone.WorldRuns.{world_after, world_kept}
 use Rattle.lot_world.specs.Drained.{Drains}
 use Rattle.lot_world.specs.Few.{AllHaveFew, HasFew, IsOfOneLock, number}
@@ -258,7 +258,7 @@ module _ (w : State) (t : ℕ) (h : IsOrdered w) where
       (λ l. rights_of (lock_state (after w (go_of t)) l) t) (here (after w (go_of t)) (ordered w t h) t)
       ∙ ap is_none none)
 
-  told_rest : (x : Outcome) → step_outcome w (go_of t) ≡ x → Rests x → AtRest (place_at (after w (go_of t)) t)
+  told_rest : (x : Outcome) → step_outcome w (go_of t) ≡ x → EndsOrSleeps x → AtRest (place_at (after w (go_of t)) t)
   told_rest outcome.NotNow e r = absurd r
   told_rest outcome.Step e r = absurd r
   told_rest outcome.Sleep e r =
@@ -268,16 +268,16 @@ module _ (w : State) (t : ℕ) (h : IsOrdered w) where
   told_rest (outcome.Closure found) e r = absurd (closes_never found e)
   told_rest (outcome.End a) e r = inl (ends a e)
 
-pub solo_rests_there : (t n : ℕ) (w : State) (last : Outcome) → IsOrdered w → (Rests last → ⊥)
-    → Rests (solo n w t last).outcome → AtRest (place_at (solo n w t last).state t)
+pub solo_rests_there : (t n : ℕ) (w : State) (last : Outcome) → IsOrdered w → (EndsOrSleeps last → ⊥)
+    → EndsOrSleeps (solo n w t last).outcome → AtRest (place_at (solo n w t last).state t)
 unfolding solo
 solo_rests_there t zero w last h busy rests = absurd (busy rests)
 solo_rests_there t (suc n) w last h busy rests = by_outcome (step_outcome w (go_of t)) refl rests
     (solo_rests_there t n (after w (go_of t)) outcome.Step (ordered w t h) (λ r. r))
   where
     by_outcome : (o : Outcome) → step_outcome w (go_of t) ≡ o
-        → Rests (alone_after o w (after w (go_of t)) last (solo n (after w (go_of t)) t outcome.Step)).outcome
-        → (Rests (solo n (after w (go_of t)) t outcome.Step).outcome
+        → EndsOrSleeps (alone_after o w (after w (go_of t)) last (solo n (after w (go_of t)) t outcome.Step)).outcome
+        → (EndsOrSleeps (solo n (after w (go_of t)) t outcome.Step).outcome
         → AtRest (place_at (solo n (after w (go_of t)) t outcome.Step).state t))
         → AtRest (place_at (alone_after o w (after w (go_of t)) last (solo n (after w (go_of t)) t
         outcome.Step)).state t)

@@ -26,7 +26,7 @@ ghost use Rattle.lot_laws.specs.Overtaking.{NobodyIsOvertaken};
 ghost use Rattle.lot_laws.specs.WorldRuns.{IsWorldRun, Tells, states_of, LooksNoMore, SleepersStay};
 ghost use Rattle.lot_laws.specs.WorldRuns.{TouchesOnlyByGoing, TriesAtOnce};
 ghost use Rattle.lot_laws.specs.Solo.{IsUnderWay, IsUnobstructed, HasWhatItReads, IsBarred, OnlyTries};
-ghost use Rattle.lot_laws.specs.Solo.{Rests, EndsAlone, IsSoloRun};
+ghost use Rattle.lot_laws.specs.Solo.{EndsOrSleeps, EndsAlone, IsSoloRun};
 ghost use Rattle.lot_machine.specs.Views.{StandUnder, owners_of, queue_of, debts_of};
 ghost use Rattle.lot_rests.specs.Rests.{ComesToRest, GoesRound, Settles, is_turn};
 ghost use Rattle.spec_locks.specs.EachState as each_state;
@@ -195,7 +195,7 @@ impl<Q: Queues + Drop> World<Q> {
         ensures run { IsSoloRun self.old thread result self.new }
 
         // A call under way ends or sleeps, where nobody else is inside the section that it enters.
-        ensures rests { IsUnderWay self.old thread → IsUnobstructed self.old thread → Rests result }
+        ensures rests { IsUnderWay self.old thread → IsUnobstructed self.old thread → EndsOrSleeps result }
 
         // From its beginning a call enters where it may. Else it sleeps as the last of the queue,
         // or aside where it waits for readers. A try ends; a release ends without its right, and a
@@ -208,7 +208,7 @@ impl<Q: Queues + Drop> World<Q> {
         // A call under way ends, sleeps or is barred, whatever other threads are inside sections.
         // It is barred where its next act enters a section that another thread is inside.
         ensures rests_or_barred { IsUnderWay self.old thread
-            → Rests result ⊎ IsBarred self.new thread }
+            → EndsOrSleeps result ⊎ IsBarred self.new thread }
 
         // From its beginning a call ends as above, or is barred. A fair release of a mutex, a bump
         // of a right that isn't shared and a notification read a queue: they need that nobody else
@@ -353,7 +353,7 @@ impl<Q: Queues + Drop> World<Q> {
 
         // Each thread in a call sleeps or runs a closure.
         ensures quiet { each_state.IsQuiet (locks_of self.new) }
-        ensures rests { each_state.Rests (locks_of self.new) (filled_at self.new) }
+        ensures rests { each_state.WaitersWaitRightly (locks_of self.new) (filled_at self.new) }
         ensures same_size { SameSize self.old self.new }
     {
         // Brings the world's invariant into the proof, as above.

@@ -1,6 +1,6 @@
 -- The lot of a desk.
 use Rattle.lotbench.specs.declared.condvars.Desk.{Desk}
-use Rattle.parking_lot.specs.Names.{lot_of_condvar}
+use Rattle.parking_lot.specs.LotOf.{lot_of_condvar}
 use Rattle.parking_lot_core.specs.declared.lot.ParkingLot.{ParkingLot}
 
 abbrev pub desk_lot : Desk → ParkingLot

@@ -1,7 +1,7 @@
 //! The operations on condition variables.
 ghost use Rattle.std.specs.Prelude.{◌≡◌, IfOk};
 ghost use Rattle.std.specs.Arc.{arc_value};
-ghost use Rattle.parking_lot.specs.Names.{IsTokenOf, lock_of, lot_of, lot_of_condvar};
+ghost use Rattle.parking_lot.specs.LotOf.{IsTokenOf, lock_of, lot_of, lot_of_condvar};
 
 use crate::made::{both, unless_refused};
 use parking_lot::{Condvar, Fault, Mutex, MutexGuard, ParkingLot, Token};

@@ -3,7 +3,7 @@ ghost use Rattle.std.specs.Prelude.{◌≡◌, ◌≤◌, All, IfOk};
 ghost use Rattle.std.specs.Arc.{arc_value};
 ghost use Rattle.crossbeam_utils.specs.Padded.{padded_value};
 ghost use Rattle.lotbench.specs.Desks.{desk_lot};
-ghost use Rattle.parking_lot.specs.Names.{IsTokenOf};
+ghost use Rattle.parking_lot.specs.LotOf.{IsTokenOf};
 
 use crate::condvars::{DESK, Desk, desk_for};
 use crate::plans::Plan;

@@ -1,7 +1,7 @@
 //! The operations on mutexes.
 ghost use Rattle.std.specs.Prelude.{◌≡◌, ◌+◌, IfOk};
 ghost use Rattle.std.specs.Arc.{arc_value};
-ghost use Rattle.parking_lot.specs.Names.{lock_of, lot_of, thread_of};
+ghost use Rattle.parking_lot.specs.LotOf.{lock_of, lot_of, thread_of};
 ghost use Rattle.parking_lot_core.specs.Tokens.{IsSameThread, IsTokenOf};
 
 use crate::made::{both, unless_refused};

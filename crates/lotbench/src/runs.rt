@@ -8,8 +8,8 @@ ghost use Rattle.std.proofs.Props.{props};
 ghost use Rattle.std.specs.Arc.{arc_value};
 ghost use Rattle.crossbeam_utils.specs.Padded.{padded_value};
 ghost use Rattle.lotbench.specs.Desks.{desk_lot};
-ghost use Rattle.parking_lot.specs.Names.{lot_of, lot_of_condvar, lot_of_once, lot_of_rwlock};
-ghost use Rattle.parking_lot.specs.Names.{lot_of_semaphore};
+ghost use Rattle.parking_lot.specs.LotOf.{lot_of, lot_of_condvar, lot_of_once, lot_of_rwlock};
+ghost use Rattle.parking_lot.specs.LotOf.{lot_of_semaphore};
 ghost use Rattle.parking_lot_core.specs.Tokens.{IsTicketOf, IsTokenOf};
 
 use crate::condvars::{DESK, Desk, Way, desk_for, done_at, notify_nobody, work_at};

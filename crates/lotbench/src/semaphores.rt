@@ -1,7 +1,7 @@
 //! The operations on semaphores.
 ghost use Rattle.std.specs.Prelude.{◌≡◌, IfOk};
 ghost use Rattle.std.specs.Arc.{arc_value};
-ghost use Rattle.parking_lot.specs.Names.{lot_of_semaphore};
+ghost use Rattle.parking_lot.specs.LotOf.{lot_of_semaphore};
 ghost use Rattle.parking_lot_core.specs.Tokens.{IsTokenOf};
 
 use crate::made::both;

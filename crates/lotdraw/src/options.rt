@@ -7,7 +7,7 @@ use crate::values::{line_number, line_numbers, thread_numbers, width_in, words_i
 use clap::error::{Error, ErrorKind};
 use clap::{Arg, ArgAction, ArgMatches, Command};
 use lot_picture::Span;
-use lot_sheet::Length;
+use picture_layout::Length;
 use std::alloc::{AllocError, Global};
 
 /// In what form a picture is written.

@@ -5,10 +5,10 @@ ghost use Rattle.lotdraw.specs.Endings.{is_malformed, is_silent};
 
 use crate::options::{Form, Options, Refused};
 use core_base::Queues;
-use lot_page::draw_page;
+use picture_html::draw_page;
 use lot_picture::{Failure, Recording, Span, record_schedule};
 use lot_replay::status::{BROKEN, DONE, MALFORMED, NO_MEMORY};
-use lot_svg::{Drawing, draw};
+use picture_svg::{Drawing, draw};
 use lot_text::{Page, print_malformed, print_no_memory, send_all};
 use std::alloc::{AllocError, Global};
 use std::io;

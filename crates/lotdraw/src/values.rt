@@ -2,7 +2,7 @@
 
 use crate::options::Refused;
 use clap::ArgMatches;
-use lot_sheet::Length;
+use picture_layout::Length;
 use std::alloc::{AllocError, Global};
 
 const A_LINE: &str = "a line's number, from 1 on";

@@ -10,7 +10,7 @@
 //! locked instructions, only then. A queued thread polls so twelve times, for 0.8 microseconds, before
 //! it parks.
 ghost use Rattle.std.specs.Prelude.{◌≡◌, ◌<◌, ◌++◌, ◌∷◌, [], IfSome, None};
-ghost use Rattle.core_clocks.specs.Clocks.{IsUp};
+ghost use Rattle.core_clocks.specs.Clocks.{TimeIsUp};
 ghost use Rattle.parking_lot_core.specs.declared.tellings.Telling.TheVariants as tellings;
 
 use crate::lot::ParkingLot;
@@ -142,7 +142,7 @@ impl ParkingLot {
         ensures same { token.new ≡ token.old }
         ensures slept { IsSlept self.now token.old word want result }
         ensures unlimited { limit.entry ≡ None → IsWoken self.now word want result }
-        ensures late { WasLate result → IsUp C.tells limit.entry }
+        ensures late { WasLate result → TimeIsUp C.tells limit.entry }
     {
         let mut limit = limit;
         if !self.is_directed() {
@@ -194,7 +194,7 @@ impl ParkingLot {
         ensures told { told_of token.new ≡ told_of token.old ++ tellings.Slept (count_of token.old) ∷ [] }
         ensures slept { IsSlept self.now token.old word want result }
         ensures unlimited { limit.entry ≡ None → IsWoken self.now word want result }
-        ensures late { WasLate result → IsUp C.tells limit.entry }
+        ensures late { WasLate result → TimeIsUp C.tells limit.entry }
     {
         let slept = self.sleep(rt, token, place, word, want, limit);
         let after = token.step_count();

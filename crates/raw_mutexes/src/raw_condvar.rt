@@ -4,7 +4,7 @@
 //! word of a condition variable to its queue. A thread that found nobody would stay there.
 ghost use Rattle.std.specs.Prelude.{◌≡◌, ◌≢◌, ◌<◌, ◌*◌};
 ghost use Rattle.std.specs.Arc.{arc_value};
-ghost use Rattle.core_clocks.specs.Clocks.{IsUp};
+ghost use Rattle.core_clocks.specs.Clocks.{TimeIsUp};
 ghost use Rattle.spec_locks.specs.declared.outcomes.Answer.{Answer};
 ghost use Rattle.core_words.specs.Lots.{IsWordOf};
 ghost use Rattle.core_words.specs.declared.words.WordKind.TheVariants.{Condvar};
@@ -109,7 +109,7 @@ impl RawCondvar {
         ensures path { WaitsBy (word_of self.now).number
             (mutexes.word_of mutex.now).number timed result.0 token.old token.new }
         ensures told { AnswersWait timed result.0 }
-        ensures late { result.0 ≡ Answer.TimedOut → IsUp C.tells limit.entry }
+        ensures late { result.0 ≡ Answer.TimedOut → TimeIsUp C.tells limit.entry }
     {
         if self.word.number() == mutex.word.number() {
             return (Answer::TwoMutexes, guard);

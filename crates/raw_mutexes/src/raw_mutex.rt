@@ -5,7 +5,7 @@
 //! subtraction whether it found 1; an owner finds 1 or 3, so the slow half is told 3.
 ghost use Rattle.std.specs.Prelude.{◌≡◌, ◌<◌, ◌*◌, ◌++◌, List, None, true, IfNone, IfSome};
 ghost use Rattle.std.specs.Arc.{arc_value};
-ghost use Rattle.core_clocks.specs.Clocks.{IsUp};
+ghost use Rattle.core_clocks.specs.Clocks.{TimeIsUp};
 ghost use Rattle.lock_raw.specs.Answers.{answer_by};
 ghost use Rattle.spec_locks.specs.declared.calls.MutexCall.TheVariants.{Bump, LockTimed, Unlock, UnlockFair};
 ghost use Rattle.spec_locks.specs.declared.outcomes.Answer.TheVariants.{Ok as ok};
@@ -209,7 +209,7 @@ impl RawMutex {
             (answer_by result) token.old token.new }
         ensures left { IfNone result
             (TookNobodyAt (word_of self.now).number (last_of token.new)) }
-        ensures late { IfNone result (IsUp C.tells limit.entry) }
+        ensures late { IfNone result (TimeIsUp C.tells limit.entry) }
     {
         match self.lot.enter_open(token, self.word) {
             Ok((opened, permit)) => Some(RawGuard { opened, permit }),
@@ -238,7 +238,7 @@ impl RawMutex {
             × HasWalkedMutex (word_of self.now).number LockTimed (answer_by result) before token.new }
         ensures left { IfNone result
             (TookNobodyAt (word_of self.now).number (last_of token.new)) }
-        ensures late { IfNone result (IsUp C.tells limit.entry) }
+        ensures late { IfNone result (TimeIsUp C.tells limit.entry) }
     {
         let lot: &ParkingLot = &self.lot;
         lot.renames(token, &Deed::Call("lock_timed"));

@@ -8,7 +8,7 @@ use std::sync::Wait;
 impl<const RECURSIVE: bool> RawRwLock<RECURSIVE> {
     ghost use Rattle.std.specs.Prelude.{◌≡◌, IfErr, IfNone, IfOk, IfSome, MatchResult};
     ghost use Rattle.lock_raw.specs.Answers.{answer_by, counted_answer, upgrade_answer};
-    ghost use Rattle.core_clocks.specs.Clocks.{IsUp};
+    ghost use Rattle.core_clocks.specs.Clocks.{TimeIsUp};
     ghost use Rattle.spec_locks.specs.declared.calls.Access.TheVariants as access;
     ghost use Rattle.spec_locks.specs.declared.calls.Patience.TheVariants.{Timed};
     ghost use Rattle.steps_rwlock.specs.declared.purposes.RwLockPurpose.TheVariants.{Enter, Upgrade};
@@ -39,7 +39,7 @@ impl<const RECURSIVE: bool> RawRwLock<RECURSIVE> {
         ensures left { IfOk result (λ entered. IfNone entered
             (LeftGivingUp (word_of self.now).number (admission_of self.now)
             (Enter access.Shared Timed) token.new)) }
-        ensures late { IfOk result (λ entered. IfNone entered (IsUp C.tells limit.entry)) }
+        ensures late { IfOk result (λ entered. IfNone entered (TimeIsUp C.tells limit.entry)) }
     {
         match self
             .lock
@@ -72,7 +72,7 @@ impl<const RECURSIVE: bool> RawRwLock<RECURSIVE> {
         ensures left { IfOk result (λ entered. IfNone entered
             (LeftGivingUp (word_of self.now).number (admission_of self.now)
             (Enter access.Upgradable Timed) token.new)) }
-        ensures late { IfOk result (λ entered. IfNone entered (IsUp C.tells limit.entry)) }
+        ensures late { IfOk result (λ entered. IfNone entered (TimeIsUp C.tells limit.entry)) }
     {
         match self
             .lock
@@ -100,7 +100,7 @@ impl<const RECURSIVE: bool> RawRwLock<RECURSIVE> {
         ensures left { IfNone result
             (LeftGivingUp (word_of self.now).number (admission_of self.now)
             (Enter access.Exclusive Timed) token.new) }
-        ensures late { IfNone result (IsUp C.tells limit.entry) }
+        ensures late { IfNone result (TimeIsUp C.tells limit.entry) }
     {
         match self
             .lock
@@ -131,7 +131,7 @@ impl<const RECURSIVE: bool> RawRwLock<RECURSIVE> {
         ensures left { IfErr result
             (λ _. LeftGivingUp (word_of self.now).number (admission_of self.now)
             (Upgrade Timed) token.new) }
-        ensures late { IfErr result (λ _. IsUp C.tells limit.entry) }
+        ensures late { IfErr result (λ _. TimeIsUp C.tells limit.entry) }
     {
         let RawUpgradableGuard { right } = guard;
         match self.lock.upgrade(rt, token, &limit, Patience::Timed, right) {

@@ -3,7 +3,7 @@ ghost use Rattle.std.specs.Prelude.{◌≡◌, ◌⊎◌, ◌<◌, ◌≤◌, �
 ghost use Rattle.std.specs.Prelude.{IfNone, IfOk, IfSome, MatchOption, MatchResult};
 ghost use Rattle.std.specs.Arc.{arc_value};
 ghost use Rattle.lock_raw.specs.Answers.{IsRefusal, answer_by, reading_answer};
-ghost use Rattle.core_clocks.specs.Clocks.{IsUp};
+ghost use Rattle.core_clocks.specs.Clocks.{TimeIsUp};
 ghost use Rattle.core_base.specs.declared.ops.Op.TheVariants.{Load};
 ghost use Rattle.core_base.specs.declared.wants.Want.TheVariants.{Exclusive, Upgradable};
 ghost use Rattle.spec_locks.specs.declared.calls.Access.TheVariants as access;
@@ -184,13 +184,13 @@ impl LotRwLock {
     ) -> Result<Option<Held>, Fault>
         requires lot { lot.now ≡ lot_in self.now }
         requires own { IsTokenOf (lot_in self.now) token.old }
-        requires ended { (before : Token) × HasEndedRwLock (IsUp C.tells _limit.now) (word_in self.now)
+        requires ended { (before : Token) × HasEndedRwLock (TimeIsUp C.tells _limit.now) (word_in self.now)
             (admission_in self.now) (Enter access _patience) answer before token.old }
         ensures own { IsTokenOf (lot_in self.now) token.new }
         ensures entered { (before : Token)
-            → HasEndedRwLock (IsUp C.tells _limit.now) (word_in self.now) (admission_in self.now)
+            → HasEndedRwLock (TimeIsUp C.tells _limit.now) (word_in self.now) (admission_in self.now)
             (Enter access _patience) answer before token.old
-            → HasEntered (IsUp C.tells _limit.now) self.now access _patience result
+            → HasEntered (TimeIsUp C.tells _limit.now) self.now access _patience result
             before token.new }
     {
         match answer {
@@ -213,7 +213,7 @@ impl LotRwLock {
         requires { IsTokenOf (lot_in self.now) token.old }
         ensures own { IsTokenOf (lot_in self.now) token.new }
         ensures over { MatchResult result
-            (λ entered. HasEntered (IsUp C.tells limit.now) self.now access patience entered
+            (λ entered. HasEntered (TimeIsUp C.tells limit.now) self.now access patience entered
             token.old token.new)
             (λ rest. HasBegunRwLock (word_in self.now) (admission_in self.now) (Enter access patience)
             rest token.old token.new) }
@@ -244,7 +244,7 @@ impl LotRwLock {
         ensures entered { (before : Token)
             → HasBegunRwLock (word_in self.now) (admission_in self.now) (Enter access patience) rest
             before token.old
-            → HasEntered (IsUp C.tells limit.now) self.now access patience result
+            → HasEntered (TimeIsUp C.tells limit.now) self.now access patience result
             before token.new }
     {
         let lot: &ParkingLot = &self.lot;
@@ -288,7 +288,7 @@ impl LotRwLock {
             (Enter access patience)
             (entry_answer patience result) token.old token.new }
         ensures late { IfOk result
-            (λ entered. IfNone entered (MayGiveUp (IsUp C.tells limit.now) patience)) }
+            (λ entered. IfNone entered (MayGiveUp (TimeIsUp C.tells limit.now) patience)) }
         ensures counted { IfErr result (λ fault. IsCounted access) }
         ensures full { IfErr result
             (λ fault. SawReadersFull (word_in self.now).number
@@ -530,7 +530,7 @@ impl LotRwLock {
         ensures path { HasWalkedRwLock (word_in self.now).number (admission_in self.now)
             (Upgrade patience)
             (turn_answer patience result) token.old token.new }
-        ensures late { IfErr result (λ right. MayGiveUp (IsUp C.tells limit.now) patience) }
+        ensures late { IfErr result (λ right. MayGiveUp (TimeIsUp C.tells limit.now) patience) }
         ensures left { IfErr result
             (λ right. LeftGivingUp (word_in self.now).number (admission_in self.now)
             (Upgrade patience) token.new) }

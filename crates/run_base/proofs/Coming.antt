@@ -8,7 +8,7 @@ use Rattle.steps_base.specs.declared.acts.Act.{Act}
 use Rattle.steps_base.specs.declared.acts.Act.TheVariants.{Enter, Leave, Requeue, Take}
 use Rattle.steps_base.specs.declared.acts.Reply.{Reply}
 use Rattle.steps_base.specs.declared.acts.Wakes.{Wakes}
-use Rattle.steps_base.specs.declared.acts.Whom.TheVariants.{First, Picked}
+use Rattle.steps_base.specs.declared.acts.TakeWhich.TheVariants.{First, Picked}
 use Rattle.spec_locks.specs.declared.outcomes.Answer.{Answer}
 use Rattle.lot_steps.specs.Steps.{act_of, next_act, next_place}
 use Rattle.lot_steps.specs.declared.places.Place.{Place}

@@ -6,14 +6,14 @@ use Rattle.core_base.specs.declared.keys.Keys.TheVariants.{One}
 use Rattle.core_base.specs.declared.notes.Note.TheVariants.{Normal, HandOff}
 use Rattle.core_base.specs.declared.ops.Op.{Op}
 use Rattle.core_base.specs.declared.ops.Op.TheVariants.{Load, And, Exchange}
-use Rattle.steps_mutex.specs.MutexSteps.{mutex_act, mutex_looking, lock_act, unlock_act, decided}
-use Rattle.steps_rwlock_fair.specs.FairProfiles.{call_looking}
+use Rattle.steps_mutex.specs.MutexSteps.{mutex_act, mutex_respin, lock_act, unlock_act, decided}
+use Rattle.steps_rwlock_fair.specs.FairProfiles.{call_respin}
 use Rattle.steps_rwlock_fair.specs.FairSteps.{call_act}
 use Rattle.steps_rwlock_fair.specs.declared.places.RwLockCallPlace.{RwLockCallPlace}
 use Rattle.steps_condvar.specs.CondvarSteps as condvar_steps
 use Rattle.steps_condvar.specs.declared.places.CondvarPlace.TheVariants.{Wait}
 use Rattle.steps_condvar.specs.declared.wait.WaitAt.TheVariants as waiting
-use Rattle.steps_once.specs.OnceSteps.{once_act, once_looking}
+use Rattle.steps_once.specs.OnceSteps.{once_act, once_respin}
 use Rattle.steps_once.specs.declared.places.OncePlace.{OncePlace}
 use Rattle.lot_steps.specs.Steps.{late_key, in_condvar, in_mutex, in_rwlock, in_once, in_semaphore}
 use Rattle.steps_base.specs.declared.acts.Act.{Act}
@@ -55,7 +55,7 @@ use Rattle.run_base.proofs.Leaving.{has_done}
 use Rattle.run_base.proofs.OnceLeading.{once_place_leads}
 use Rattle.run_base.proofs.RwLockLeading.{rwlock_place_leads}
 use Rattle.run_base.proofs.SemaphoreLeading.{semaphore_place_leads}
-use Rattle.steps_semaphore.specs.SemaphoreSteps.{semaphore_act, semaphore_looking}
+use Rattle.steps_semaphore.specs.SemaphoreSteps.{semaphore_act, semaphore_respin}
 use Rattle.steps_semaphore.specs.declared.places.SemaphorePlace.{SemaphorePlace}
 
 -- a reply to an operation on the word, which saw one of the four codes
@@ -374,24 +374,24 @@ pub words_from : (kinds : ℕ → WordKind) (at : ℕ → ℕ) (p q : Place) →
     → AreWordsFor q kinds at
 words_from kinds at p q (inl same) words = subst (λ r. AreWordsFor r kinds at) (sym same) words
 words_from kinds at Idle q (inr is) words = absurd cc
-words_from kinds at (RwLock l a p) q (inr is) words = by_place (call_looking a p) is
+words_from kinds at (RwLock l a p) q (inr is) words = by_place (call_respin a p) is
   where
     by_place : (o : Option RwLockCallPlace) → in_rwlock l a o ≡ Some q → AreWordsFor q kinds at
     by_place None e = absurd cc
     by_place (Some p2) e = let there : RwLock l a p2 ≡ q = cc in subst (λ r. AreWordsFor r kinds at) there
         words
-words_from kinds at (Once l p) q (inr is) words = by_place (once_looking p) is
+words_from kinds at (Once l p) q (inr is) words = by_place (once_respin p) is
   where
     by_place : (o : Option OncePlace) → in_once l o ≡ Some q → AreWordsFor q kinds at
     by_place None e = absurd cc
     by_place (Some p2) e = let there : Once l p2 ≡ q = cc in subst (λ r. AreWordsFor r kinds at) there words
-words_from kinds at (Mutex l p) q (inr is) words = by_place (mutex_looking p) is
+words_from kinds at (Mutex l p) q (inr is) words = by_place (mutex_respin p) is
   where
     by_place : (o : Option MutexPlace) → in_mutex l o ≡ Some q → AreWordsFor q kinds at
     by_place None e = absurd cc
     by_place (Some p2) e = let there : Mutex l p2 ≡ q = cc in subst (λ r. AreWordsFor r kinds at) there words
 words_from kinds at (Condvar l (Wait m timed (waiting.Lock timed_out p))) q (inr is) words =
-    by_place (mutex_looking p) is
+    by_place (mutex_respin p) is
   where
     by_place : (o : Option MutexPlace) → in_condvar l (condvar_steps.in_lock m timed timed_out o) ≡ Some q
         → AreWordsFor q kinds at
@@ -399,7 +399,7 @@ words_from kinds at (Condvar l (Wait m timed (waiting.Lock timed_out p))) q (inr
     by_place (Some p2) e = let there : Condvar l (Wait m timed (waiting.Lock timed_out p2)) ≡ q = cc
         in subst (λ r. AreWordsFor r kinds at) there words
 words_from kinds at (Condvar l p) q (inr is) words = absurd cc
-words_from kinds at (Semaphore l p) q (inr is) words = by_place (semaphore_looking p) is
+words_from kinds at (Semaphore l p) q (inr is) words = by_place (semaphore_respin p) is
   where
     by_place : (o : Option SemaphorePlace) → in_semaphore l o ≡ Some q → AreWordsFor q kinds at
     by_place None e = absurd cc

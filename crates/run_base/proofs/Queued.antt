@@ -13,8 +13,8 @@ use Rattle.steps_base.specs.declared.acts.Next.{Next}
 use Rattle.steps_base.specs.declared.acts.Next.TheVariants.{At, End}
 use Rattle.steps_base.specs.declared.acts.Reply.{Reply}
 use Rattle.steps_base.specs.declared.acts.Reply.TheVariants.{Done, Value, Took, Woken}
-use Rattle.steps_base.specs.declared.acts.Whom.TheVariants as whom
-use Rattle.steps_mutex.specs.MutexSteps.{decided, is_locked, lock_act, mutex_act, mutex_looking, mutex_next}
+use Rattle.steps_base.specs.declared.acts.TakeWhich.TheVariants as whom
+use Rattle.steps_mutex.specs.MutexSteps.{decided, is_locked, lock_act, mutex_act, mutex_respin, mutex_next}
 use Rattle.steps_mutex.specs.MutexSteps.{unlock_act}
 use Rattle.steps_mutex.specs.declared.places.MutexPlace.{MutexPlace}
 use Rattle.steps_mutex.specs.declared.places.MutexPlace.TheVariants.{Lock, TryLock, Unlock, UnlockFair, Bump}
@@ -35,7 +35,7 @@ use Rattle.steps_once.specs.declared.look.LookAt.TheVariants as look
 use Rattle.steps_once.specs.declared.run.RunAt.TheVariants as run
 use Rattle.steps_once.specs.declared.give_up.GiveUpAt.TheVariants as give_up
 use Rattle.steps_rwlock.specs.RwLockCalls.{StandsAt}
-use Rattle.steps_rwlock.specs.RwLockProfiles.{gone_to, is_mark, looking_at, rwlock_looking}
+use Rattle.steps_rwlock.specs.RwLockProfiles.{gone_to, is_mark, looking_at, rwlock_respin}
 use Rattle.steps_rwlock.specs.RwLockSteps as rw
 use Rattle.steps_rwlock.specs.declared.enter.Decision.{Decision}
 use Rattle.steps_rwlock.specs.declared.enter.Decision.TheVariants as decisions
@@ -47,7 +47,7 @@ use Rattle.steps_rwlock.specs.declared.places.RwLockPlace.{RwLockPlace}
 use Rattle.steps_rwlock.specs.declared.purposes.RwLockPurpose.{RwLockPurpose}
 use Rattle.steps_rwlock.specs.declared.purposes.RwLockPurpose.TheVariants as purpose
 use Rattle.steps_rwlock.specs.declared.release.WakeAt.TheVariants as waking
-use Rattle.steps_rwlock_fair.specs.FairProfiles.{call_looking, in_call}
+use Rattle.steps_rwlock_fair.specs.FairProfiles.{call_respin, in_call}
 use Rattle.steps_rwlock_fair.specs.FairSteps as fair
 use Rattle.steps_rwlock_fair.specs.declared.handed.HandedAt.TheVariants as handed
 use Rattle.steps_rwlock_fair.specs.declared.hand_over.HandOverAt.{HandOverAt}
@@ -443,7 +443,7 @@ pick_off : {A : Type 0} (queued : A → Bool) (b : Bool) (x : A) → queued x �
 pick_off queued true x e = e
 pick_off queued false x e = refl
 
-mutex_looks : (at : MutexPlace) → if_there mutex_queued (mutex_looking at) ≡ false
+mutex_looks : (at : MutexPlace) → if_there mutex_queued (mutex_respin at) ≡ false
 mutex_looks (Lock e retries (lock.Decide seen)) = pick_off mutex_queued (seen == 1) _ refl
 mutex_looks (Lock e retries at) = refl
 mutex_looks at = refl
@@ -465,18 +465,18 @@ in_call_off a b None = refl
 in_call_off a true (Some q) = refl
 in_call_off a false (Some q) = refl
 
-call_looks : (a : Admission) (c : RwLockCallPlace) → if_there (call_queued a) (call_looking a c) ≡ false
-call_looks a (places.Plain p) = in_call_off a false (rwlock_looking a p) ∙ rw_looks a p p.at
-call_looks a (places.Bump p) = in_call_off a true (rwlock_looking a p) ∙ rw_looks a p p.at
+call_looks : (a : Admission) (c : RwLockCallPlace) → if_there (call_queued a) (call_respin a c) ≡ false
+call_looks a (places.Plain p) = in_call_off a false (rwlock_respin a p) ∙ rw_looks a p p.at
+call_looks a (places.Bump p) = in_call_off a true (rwlock_respin a p) ∙ rw_looks a p p.at
 call_looks a c = refl
 
-once_looks : (at : OncePlace) → if_there once_queued (once.once_looking at) ≡ false
+once_looks : (at : OncePlace) → if_there once_queued (once.once_respin at) ≡ false
 once_looks (onces.Look c retries (look.Decide seen)) = pick_off once_queued
     (is_running seen && once.is_mark (once.course_of c seen)) _ refl
 once_looks (onces.Look c retries at) = refl
 once_looks at = refl
 
-semaphore_looks : (at : SemaphorePlace) → if_there semaphore_queued (semaphores.semaphore_looking at) ≡ false
+semaphore_looks : (at : SemaphorePlace) → if_there semaphore_queued (semaphores.semaphore_respin at) ≡ false
 semaphore_looks (semaphore.Acquire timed retries (acquire.Decide seen)) = pick_off semaphore_queued
     (seen == 0) _ refl
 semaphore_looks (semaphore.Acquire timed retries at) = refl
@@ -487,8 +487,8 @@ in_wait_off : (m : ℕ) (timed late : Bool) (o : Option MutexPlace)
 in_wait_off m timed late None = refl
 in_wait_off m timed late (Some at) = beside_same m timed late at
 
-condvar_looks : (at : CondvarPlace) → if_there condvar_queued (condvar.condvar_looking at) ≡ false
-condvar_looks (condvars.Wait m timed (wait.Lock late at)) = in_wait_off m timed late (mutex_looking at)
+condvar_looks : (at : CondvarPlace) → if_there condvar_queued (condvar.condvar_respin at) ≡ false
+condvar_looks (condvars.Wait m timed (wait.Lock late at)) = in_wait_off m timed late (mutex_respin at)
     ∙ mutex_looks at
 condvar_looks (condvars.Wait m timed at) = refl
 condvar_looks at = refl
@@ -518,11 +518,11 @@ semaphore_there l (Some at) = refl
 
 looks_off : (p : Place) → if_there is_queued (respins_from p) ≡ false
 looks_off Idle = refl
-looks_off (Mutex l at) = mutex_there l (mutex_looking at) ∙ mutex_looks at
-looks_off (RwLock l a c) = call_there l a (call_looking a c) ∙ call_looks a c
-looks_off (Once l at) = once_there l (once.once_looking at) ∙ once_looks at
-looks_off (Condvar l at) = condvar_there l (condvar.condvar_looking at) ∙ condvar_looks at
-looks_off (Semaphore l at) = semaphore_there l (semaphores.semaphore_looking at) ∙ semaphore_looks at
+looks_off (Mutex l at) = mutex_there l (mutex_respin at) ∙ mutex_looks at
+looks_off (RwLock l a c) = call_there l a (call_respin a c) ∙ call_looks a c
+looks_off (Once l at) = once_there l (once.once_respin at) ∙ once_looks at
+looks_off (Condvar l at) = condvar_there l (condvar.condvar_respin at) ∙ condvar_looks at
+looks_off (Semaphore l at) = semaphore_there l (semaphores.semaphore_respin at) ∙ semaphore_looks at
 
 -- a thread that goes on from where it looks is not queued there
 pub queued_from : (p q : Place) → GoesFrom p q → is_queued q ≡ true → is_queued p ≡ true

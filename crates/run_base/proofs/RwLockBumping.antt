@@ -26,7 +26,7 @@ use Rattle.lot_steps.specs.Steps.{in_rwlock, rwlock_goes, rwlock_does}
 use Rattle.lot_steps.specs.declared.places.Place.{Place}
 use Rattle.lot_steps.specs.declared.places.Place.TheVariants.{RwLock}
 use Rattle.steps_rwlock.proofs.RwLockOpenings.{rwlock_calls_open}
-use Rattle.steps_rwlock.specs.RwLockProfiles.{rwlock_looking}
+use Rattle.steps_rwlock.specs.RwLockProfiles.{rwlock_respin}
 use Rattle.steps_rwlock.specs.RwLockSteps.{rwlock_act, rwlock_next}
 use Rattle.steps_rwlock.specs.declared.places.Admission.{Admission}
 use Rattle.steps_rwlock.specs.declared.places.RwLockAt.{RwLockAt}
@@ -84,9 +84,9 @@ module _ (up : Type 0) (l : ℕ) (a : Admission) (base : List Ownership) where
   module _ (p : RwLockPlace) (st : ThreadState) (of : IsOfBump p.purpose p.retries)
       (f : FitsRwLock up l base a p st) where
     looks_on : LooksLeadOn up base (RwLock l a (Bump p)) st
-    looks_on r is = by_place (rwlock_looking a p) refl is
+    looks_on r is = by_place (rwlock_respin a p) refl is
       where
-        there : (p2 : RwLockPlace) → rwlock_looking a p ≡ Some p2 → Fits up base (RwLock l a (Bump p2)) st
+        there : (p2 : RwLockPlace) → rwlock_respin a p ≡ Some p2 → Fits up base (RwLock l a (Bump p2)) st
             × (call_purpose (RwLock l a (Bump p2)) ≡ call_purpose (RwLock l a (Bump p)))
         there p2 e = let place = looks_from l a p.purpose p.retries p.at p2 e in (
           bump_fits p2 st (subst (IsOfBump p2.purpose) place.1
@@ -95,7 +95,7 @@ module _ (up : Type 0) (l : ℕ) (a : Admission) (base : List Ownership) where
           ap (λ (q : RwLockPurpose). of_rwlock l a (purpose.Enter (access_of q) Patient)) (sym place.0),
         )
 
-        by_place : (o : Option RwLockPlace) → rwlock_looking a p ≡ o → in_rwlock l a (in_call true o) ≡ Some r
+        by_place : (o : Option RwLockPlace) → rwlock_respin a p ≡ o → in_rwlock l a (in_call true o) ≡ Some r
             → Fits up base r st × (call_purpose r ≡ call_purpose (RwLock l a (Bump p)))
         by_place None e is = absurd cc
         by_place (Some p2) e is = let same : RwLock l a (Bump p2) ≡ r = cc

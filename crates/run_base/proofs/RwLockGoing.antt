@@ -11,7 +11,7 @@ use Rattle.steps_rwlock.specs.RwLockCalls.{IsDecided, IsNoRefusal, MayStand}
 use Rattle.spec_locks.specs.Sites.{Role}
 use Rattle.steps_base.specs.Profiles.{Profile}
 use Rattle.steps_rwlock.specs.RwLockDeeds.{rwlock_role}
-use Rattle.steps_rwlock.specs.RwLockProfiles.{gone_to, is_mark, rwlock_looking}
+use Rattle.steps_rwlock.specs.RwLockProfiles.{gone_to, is_mark, rwlock_respin}
 use Rattle.steps_rwlock.specs.RwLockSteps.{act_at, decided_act, decided_for, exchange, park_act, plus}
 use Rattle.steps_rwlock.specs.RwLockSteps.{rwlock_act, wake_act, want_at}
 use Rattle.steps_rwlock.specs.declared.enter.Decision.{Decision}
@@ -89,7 +89,7 @@ module _ (l : ℕ) (a : Admission) where
 
   -- where a thread looks once more
   pub looks_from : (q : RwLockPurpose) (again : Bool) (to : RwLockAt) (p : RwLockPlace)
-      → rwlock_looking a (of q again to) ≡ Some p → (q ≡ p.purpose) × (again ≡ p.retries) × HasGivenWay p.at
+      → rwlock_respin a (of q again to) ≡ Some p → (q ≡ p.purpose) × (again ≡ p.retries) × HasGivenWay p.at
       × SeenInRange p.at × ((steps : List WordStep) → HasStood l p.at steps)
   looks_from q again (at.Decide seen) p e = by_test (is_mark (decided_for a q seen) && not (has_aside seen)) e
     where
@@ -114,7 +114,7 @@ module _ (l : ℕ) (a : Admission) where
 module _ (up : Type 0) (l : ℕ) (a : Admission) (base : List Ownership) (p : RwLockPlace) (st : ThreadState)
     (f : FitsRwLock up l base a p st) where
   -- the thread has there what it had
-  pub looks_fit : (p2 : RwLockPlace) → rwlock_looking a p ≡ Some p2 → FitsRwLock up l base a p2 st
+  pub looks_fit : (p2 : RwLockPlace) → rwlock_respin a p ≡ Some p2 → FitsRwLock up l base a p2 st
   looks_fit p2 e = let row = (rwlock_looks_stand a p p2 e).0 in let place =
       looks_from l a p.purpose p.retries p.at p2 e in
       let role : rwlock_role p2 ≡ rwlock_role p = ap (λ (r : Profile). r.role) row in record {

@@ -28,7 +28,7 @@ use Rattle.steps_base.specs.declared.acts.Act.{Act}
 use Rattle.steps_base.specs.declared.acts.Act.TheVariants as act
 use Rattle.steps_base.specs.declared.acts.Reply.{Reply}
 use Rattle.steps_base.specs.declared.acts.Reply.TheVariants.{HandedBy, Woken}
-use Rattle.steps_base.specs.declared.acts.Whom.TheVariants as whom
+use Rattle.steps_base.specs.declared.acts.TakeWhich.TheVariants as whom
 use Rattle.core_base.specs.declared.notes.Note.TheVariants as note
 use Rattle.lot_steps.specs.Steps.{rwlock_goes, rwlock_does}
 use Rattle.lot_steps.specs.declared.places.Place.TheVariants.{RwLock}

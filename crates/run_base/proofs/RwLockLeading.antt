@@ -28,7 +28,7 @@ use Rattle.lot_steps.specs.declared.places.Place.{Place}
 use Rattle.lot_steps.specs.declared.places.Place.TheVariants.{RwLock}
 use Rattle.steps_rwlock.proofs.RwLockStands.{rwlock_calls_stand}
 use Rattle.steps_rwlock.specs.RwLockCalls.{MayStandNext}
-use Rattle.steps_rwlock.specs.RwLockProfiles.{rwlock_looking}
+use Rattle.steps_rwlock.specs.RwLockProfiles.{rwlock_respin}
 use Rattle.steps_rwlock.specs.RwLockSteps.{act_at, rwlock_act, rwlock_next}
 use Rattle.steps_rwlock.specs.declared.places.Admission.{Admission}
 use Rattle.steps_rwlock.specs.declared.places.RwLockAt.{RwLockAt}
@@ -52,9 +52,9 @@ use Rattle.run_base.proofs.RwLockNeeds.{rwlock_needs}
 module _ (up : Type 0) (l : ℕ) (a : Admission) (base : List Ownership) (p : RwLockPlace) (st : ThreadState)
     (f : FitsRwLock up l base a p st) where
   pub rwlock_looks : LooksLeadOn up base (RwLock l a (Plain p)) st
-  rwlock_looks r is = by_place (rwlock_looking a p) refl is
+  rwlock_looks r is = by_place (rwlock_respin a p) refl is
     where
-      by_place : (o : Option RwLockPlace) → rwlock_looking a p ≡ o → in_rwlock l a (in_call false o) ≡ Some r
+      by_place : (o : Option RwLockPlace) → rwlock_respin a p ≡ o → in_rwlock l a (in_call false o) ≡ Some r
           → Fits up base r st × (call_purpose r ≡ of_rwlock l a p.purpose)
       by_place None e is = absurd cc
       by_place (Some p2) e is = let there : RwLock l a (Plain p2) ≡ r = cc

@@ -18,7 +18,7 @@ use Rattle.steps_base.specs.declared.acts.Next.TheVariants.{At, End}
 use Rattle.steps_base.specs.declared.acts.Reply.{Reply}
 use Rattle.steps_base.specs.declared.acts.Reply.TheVariants.{Done, Late, MovedTo, Parked, Picked, Removed}
 use Rattle.steps_base.specs.declared.acts.Reply.TheVariants.{Requeued, Took, Value, Woken}
-use Rattle.steps_mutex.specs.MutexSteps.{hand_off_act, is_locked, lock_act, mutex_act, mutex_looking}
+use Rattle.steps_mutex.specs.MutexSteps.{hand_off_act, is_locked, lock_act, mutex_act, mutex_respin}
 use Rattle.steps_mutex.specs.MutexSteps.{mutex_next, unlock_act}
 use Rattle.steps_mutex.specs.declared.hand_off.HandOffAt.{HandOffAt}
 use Rattle.steps_mutex.specs.declared.hand_off.HandOffAt.TheVariants as hand_off
@@ -54,7 +54,7 @@ use Rattle.steps_rwlock.specs.declared.release.WakeAt.TheVariants as waking
 use Rattle.core_base.specs.declared.keys.Line.{Line}
 use Rattle.core_base.specs.declared.keys.Line.TheVariants.{Main, Second}
 use Rattle.core_base.specs.declared.wants.Want.{Want}
-use Rattle.steps_rwlock_fair.specs.FairProfiles.{call_looking}
+use Rattle.steps_rwlock_fair.specs.FairProfiles.{call_respin}
 use Rattle.steps_rwlock_fair.specs.FairSteps as fair
 use Rattle.steps_rwlock_fair.specs.FairSteps.{call_act, call_next}
 use Rattle.steps_rwlock_fair.specs.declared.hand_over.HandOverAt.{HandOverAt}
@@ -347,18 +347,18 @@ lock_there : (c m : ℕ) (timed late : Bool) (o : Option MutexPlace)
 lock_there c m timed late None = refl
 lock_there c m timed late (Some to) = mutex_off m to
 
-condvar_there : (c : ℕ) (to : CondvarPlace) → stands_there (in_condvar c (condvar.condvar_looking to)) ≡ false
-condvar_there c (condvars.Wait m timed (wait.Lock late to)) = lock_there c m timed late (mutex_looking to)
+condvar_there : (c : ℕ) (to : CondvarPlace) → stands_there (in_condvar c (condvar.condvar_respin to)) ≡ false
+condvar_there c (condvars.Wait m timed (wait.Lock late to)) = lock_there c m timed late (mutex_respin to)
 condvar_there c (condvars.Wait m timed w) = refl
 condvar_there c to = refl
 
 looks_off : (p : Place) → stands_there (respins_from p) ≡ false
 looks_off Idle = refl
-looks_off (Mutex l to) = mutex_there l (mutex_looking to)
-looks_off (RwLock l a to) = rwlock_there l a (call_looking a to)
-looks_off (Once l to) = once_there l (once.once_looking to)
+looks_off (Mutex l to) = mutex_there l (mutex_respin to)
+looks_off (RwLock l a to) = rwlock_there l a (call_respin a to)
+looks_off (Once l to) = once_there l (once.once_respin to)
 looks_off (Condvar c to) = condvar_there c to
-looks_off (Semaphore l to) = semaphore_there l (semaphores.semaphore_looking to)
+looks_off (Semaphore l to) = semaphore_there l (semaphores.semaphore_respin to)
 
 looks_on : (p q : Place) → respins_from p ≡ Some q → only_stands (act_of q) ≡ false
 looks_on p q is = sym (ap stands_there is) ∙ looks_off p

@@ -14,8 +14,8 @@ use Rattle.steps_base.specs.declared.acts.Act as act
 use Rattle.steps_base.specs.declared.acts.Reply.{Reply}
 use Rattle.steps_base.specs.declared.acts.Reply.TheVariants.{Done, Parked, Picked, Removed, Requeued, Took}
 use Rattle.steps_base.specs.declared.acts.Reply.TheVariants.{Value}
-use Rattle.steps_base.specs.declared.acts.Whom.{Whom}
-use Rattle.steps_base.specs.declared.acts.Whom as whom
+use Rattle.steps_base.specs.declared.acts.TakeWhich.{TakeWhich}
+use Rattle.steps_base.specs.declared.acts.TakeWhich as whom
 use Rattle.parking_lot_core.specs.Tokens.{told_of}
 use Rattle.parking_lot_core.specs.declared.sections.Section.{Section}
 use Rattle.parking_lot_core.specs.declared.tellings.Telling.{Telling}
@@ -137,7 +137,7 @@ module _ (me : ℕ) (old new : Token) (so sn : Option Section) where
     (steps.0, done.0, refl, steps.2, done.2, stays),
   )
 
-  takes : (key : ℕ) (who : Whom) (reply : Reply) → HasKey key (section_view so)
+  takes : (key : ℕ) (who : TakeWhich) (reply : Reply) → HasKey key (section_view so)
       → TookBy key who reply (section_view so) (section_view sn) → TellsTake key who reply so sn
       → TellsFound key who reply (taking key who (length (threads_taken sn)) (length (line_in key sn)))
   takes key whom.TheVariants.First (Took any left) has b q = (

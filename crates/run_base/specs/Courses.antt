@@ -14,8 +14,8 @@ use Rattle.steps_base.specs.declared.acts.Act as act
 use Rattle.steps_base.specs.declared.acts.Reply.{Reply}
 use Rattle.steps_base.specs.declared.acts.Reply.TheVariants.{Done, Late, MovedTo, Parked, Picked, Removed}
 use Rattle.steps_base.specs.declared.acts.Reply.TheVariants.{Requeued, Took, Woken}
-use Rattle.steps_base.specs.declared.acts.Whom.{Whom}
-use Rattle.steps_base.specs.declared.acts.Whom as whom
+use Rattle.steps_base.specs.declared.acts.TakeWhich.{TakeWhich}
+use Rattle.steps_base.specs.declared.acts.TakeWhich as whom
 use Rattle.spec_locks.specs.declared.outcomes.Answer.{Answer}
 use Rattle.lot_steps.specs.Steps.{act_of, respins_from, next_act, next_place}
 use Rattle.lot_steps.specs.declared.places.Place.{Place}
@@ -128,13 +128,13 @@ visit_within None = None
 visit_within (Some section) = Some (open_visit section.keys section.since)
 
 -- what a take does in a section
-abbrev pub did_by : ℕ → Whom → Did
+abbrev pub did_by : ℕ → TakeWhich → Did
 did_by key whom.TheVariants.First = did.TheVariants.TakeFirst key
 did_by key whom.TheVariants.All = did.TheVariants.TakeAll key
 did_by key (whom.TheVariants.Picked start recursive) = did.TheVariants.TakePicked key start recursive
 
 -- a take tells how many it took, and how many are left
-abbrev pub taking : ℕ → Whom → ℕ → ℕ → List Telling
+abbrev pub taking : ℕ → TakeWhich → ℕ → ℕ → List Telling
 taking key who taken left =
     telling.TheVariants.Took (did_by key who) taken 0 ∷ telling.TheVariants.Counted key left ∷ []
 
@@ -149,7 +149,7 @@ abbrev pub leaving : ℕ → ℕ → ℕ → List Telling
 leaving me key left = telling.TheVariants.Left me ∷ telling.TheVariants.Counted key left ∷ []
 
 -- by these it found somebody, and left nobody
-abbrev pub TellsFound : ℕ → Whom → Reply → List Telling → Type 0
+abbrev pub TellsFound : ℕ → TakeWhich → Reply → List Telling → Type 0
 TellsFound key who (Took any none_left) tellings = (taken left : ℕ)
     × (tellings ≡ taking key who taken left) × (any ≡ not (taken == 0)) × (none_left ≡ (left == 0))
 TellsFound key who (Picked sharers successor none_left) tellings = (taken left : ℕ)

@@ -4,7 +4,7 @@ use Rattle.steps_base.specs.declared.acts.Act.{Act}
 use Rattle.steps_base.specs.declared.acts.Act as act
 use Rattle.steps_base.specs.declared.acts.Reply.{Reply}
 use Rattle.steps_base.specs.declared.acts.Reply.TheVariants.{Done, Parked, Removed, Woken}
-use Rattle.lot_steps.specs.Steps.{act_of, next_place, or_else, profile, profile_beside, taker}
+use Rattle.lot_steps.specs.Steps.{act_of, next_place, or_else, profile, profile_at_mutex, taker}
 use Rattle.lot_steps.specs.declared.places.Place.{Place}
 use Rattle.parking_lot_core.specs.Places.{IsPlaceOf}
 use Rattle.parking_lot_core.specs.declared.lot.ParkingLot.{ParkingLot}
@@ -12,7 +12,7 @@ use Rattle.parking_lot_core.specs.declared.places.QueuePlace.{QueuePlace}
 
 -- a thread there stood last in a queue, and was not woken since
 abbrev pub is_queued : Place → Bool
-is_queued p = is_some (or_else (profile_beside p).stands (profile p).stands) || is_some (taker p)
+is_queued p = is_some (or_else (profile_at_mutex p).stands (profile p).stands) || is_some (taker p)
 
 -- a thread sleeps, and leaves its queue, by its place there
 abbrev pub needs_place : Act → Bool

@@ -20,8 +20,8 @@ use Rattle.spec_locks.specs.declared.outcomes.Answer.{Answer}
 use Rattle.spec_locks.specs.declared.outcomes.Answer.TheVariants as answers
 use Rattle.spec_locks.specs.Codes.{has_parked}
 use Rattle.spec_locks.specs.Sites.{Claim, Has, Pends}
-use Rattle.steps_base.specs.declared.acts.Whom.{Whom}
-use Rattle.steps_base.specs.declared.acts.Whom.TheVariants as whom_taken
+use Rattle.steps_base.specs.declared.acts.TakeWhich.{TakeWhich}
+use Rattle.steps_base.specs.declared.acts.TakeWhich.TheVariants as whom_taken
 use Rattle.steps_rwlock.specs.RwLockCalls.{MayStand}
 use Rattle.steps_rwlock.specs.RwLockDeeds.{rwlock_role}
 use Rattle.steps_rwlock.specs.RwLockProfiles.{rwlock_profile}
@@ -93,7 +93,7 @@ OwnsRight l x base owns = OwnsBeside l (Some (Has x)) base owns
 
 -- ---------------------------------------------------------------- sections
 
-abbrev pub did_take : ℕ → Whom → Did
+abbrev pub did_take : ℕ → TakeWhich → Did
 did_take key whom_taken.First = did.TakeFirst key
 did_take key (whom_taken.Picked start recursive) = did.TakePicked key start recursive
 did_take key whom_taken.All = did.TakeAll key

@@ -31,8 +31,8 @@ use Rattle.steps_base.specs.declared.acts.Reply.TheVariants.{Done, Value, Parked
 use Rattle.steps_base.specs.declared.acts.Reply.TheVariants.{Removed, MovedTo, Late, Woken}
 use Rattle.steps_base.specs.declared.acts.Wakes.{Wakes}
 use Rattle.steps_base.specs.declared.acts.Wakes as wakes
-use Rattle.steps_base.specs.declared.acts.Whom.{Whom}
-use Rattle.steps_base.specs.declared.acts.Whom as whom
+use Rattle.steps_base.specs.declared.acts.TakeWhich.{TakeWhich}
+use Rattle.steps_base.specs.declared.acts.TakeWhich as whom
 use Rattle.parking_lot_core.specs.Keys.{AreKeys, IsKeyOf, first_key}
 use Rattle.parking_lot_core.specs.Sections.{waiting_in, taken_in, wants_in, rightless_in, moved_in, MayNote}
 use Rattle.parking_lot_core.specs.Tokens.{view_of, last_of}
@@ -247,7 +247,7 @@ IsLeft (Some inside) last =
 
 -- the waiters that a take took, by its reply; among those that were picked one at most wants more than to
 -- share, and a list holds them
-abbrev pub TookBy : ℕ → Whom → Reply → Option SectionView → Option SectionView → Type 0
+abbrev pub TookBy : ℕ → TakeWhich → Reply → Option SectionView → Option SectionView → Type 0
 TookBy key whom.TheVariants.First (Took any none_left) old new =
     (first : Option Waiter) × (any ≡ is_there first)
     × (new ≡ took_as (TakeFirst key) (listed first) old)

@@ -6,8 +6,8 @@ use Rattle.steps_base.specs.declared.acts.Act as act
 use Rattle.steps_base.specs.declared.acts.Reply.{Reply}
 use Rattle.steps_base.specs.declared.acts.Reply.TheVariants.{Done, Late, Parked, Took, Picked, Requeued}
 use Rattle.steps_base.specs.declared.acts.Reply.TheVariants.{Removed}
-use Rattle.steps_base.specs.declared.acts.Whom.{Whom}
-use Rattle.steps_base.specs.declared.acts.Whom as whom
+use Rattle.steps_base.specs.declared.acts.TakeWhich.{TakeWhich}
+use Rattle.steps_base.specs.declared.acts.TakeWhich as whom
 use Rattle.core_base.specs.Lines.{queued_under, line, lines, waiter, without, without_first, without_key}
 use Rattle.core_base.specs.Picks.{lock_picked, without_lock_picked}
 use Rattle.core_base.specs.Requeues.{moved_by, requeued}
@@ -82,7 +82,7 @@ WereTaken lot did waiters old new =
     IsSectionOf lot new × (section_view new ≡ took_as did waiters (section_view old))
 
 -- a take tells of the line under its key, and of what it leaves of it
-abbrev pub TellsTake : ℕ → Whom → Reply → Option Section → Option Section → Type 0
+abbrev pub TellsTake : ℕ → TakeWhich → Reply → Option Section → Option Section → Type 0
 TellsTake key whom.TheVariants.First (Took any none_left) old new =
     (any ≡ is_there (front_waiter (line_in key old)))
     × AreQueued (without_first key (waiting_of old)) new × (none_left ≡ is_empty_at key new)

@@ -6,13 +6,13 @@
 //! so the driver does nothing for them. A sleeper learns its note alone, so `Asleep` goes on by `Woken`
 //! too.
 ghost use Rattle.std.specs.Prelude.{◌≡◌, ◌++◌, ◌∷◌, ◌==◌, ℕ, [], None, Some, false, length, true, MatchBool};
-ghost use Rattle.core_clocks.specs.Clocks.{IsUp};
+ghost use Rattle.core_clocks.specs.Clocks.{TimeIsUp};
 ghost use Rattle.core_base.specs.Lines.{queued_under, waiter, line, lines, without};
 ghost use Rattle.steps_base.specs.declared.acts.Act.TheVariants.{Sleep};
 ghost use Rattle.core_base.specs.declared.keys.Keys.TheVariants.{One};
 ghost use Rattle.core_base.specs.declared.ops.Op.TheVariants.{Load};
 ghost use Rattle.steps_base.specs.declared.acts.Reply.TheVariants.{Picked};
-ghost use Rattle.steps_base.specs.declared.acts.Whom.TheVariants as whoms;
+ghost use Rattle.steps_base.specs.declared.acts.TakeWhich.TheVariants as whoms;
 ghost use Rattle.steps_base.specs.Acts.{holds};
 ghost use Rattle.lot_steps.specs.Steps.{HasKeys};
 ghost use Rattle.core_words.specs.Lots.{IsWordOf};
@@ -40,7 +40,7 @@ ghost use Rattle.run_base.specs.Stages.{entered_now, ActNeeds, Became};
 use crate::sleepers::{Sleeper, sleeper_at};
 use crate::taking::{requeue, take_all, take_first, take_picked, tell_wants};
 use crate::words::Words;
-use lot_steps::{Act, Check, Place, Reply, Wakes, Whom};
+use lot_steps::{Act, Check, Place, Reply, Wakes, TakeWhich};
 use parking_lot_core::{
     Clock, Key, Keys, Note, Op, ParkingLot, QueuePlace, Section, Slept, Token, Want, Word,
 };
@@ -254,7 +254,7 @@ pub(crate) fn take_wanted(
     (sharers, successor, none_left)
 }
 
-fn take(lot: &ParkingLot, section: &mut Option<Section>, key: Key, whom: Whom) -> Reply
+fn take(lot: &ParkingLot, section: &mut Option<Section>, key: Key, whom: TakeWhich) -> Reply
     requires { MayTakeAt lot.now key section.old }
     ensures took { IsSectionOf lot.now section.new
         × TookBy key whom result (section_view section.old) (section_view section.new) }
@@ -264,15 +264,15 @@ fn take(lot: &ParkingLot, section: &mut Option<Section>, key: Key, whom: Whom) -
         × (visit_within section.new ≡ visit_within section.old) }
 {
     match whom {
-        Whom::First => {
+        TakeWhich::First => {
             let (any, none_left) = take_first(lot, section, key);
             Reply::Took { any, none_left }
         }
-        Whom::All => {
+        TakeWhich::All => {
             let (any, none_left) = take_all(lot, section, key);
             Reply::Took { any, none_left }
         }
-        Whom::Picked { start, recursive } => {
+        TakeWhich::Picked { start, recursive } => {
             let (sharers, successor, none_left) = take_wanted(lot, section, key, start, recursive);
             Reply::Picked {
                 sharers,
@@ -345,7 +345,7 @@ pub(crate) fn sleep<'a, R: Wait, C: Clock>(
     requires queued { HasPlace lot.now token.old.number queue.old }
     ensures own { IsSameThread lot.now token.old token.new × IsSectionOf lot.now section.new
         × (steps_of token.new ≡ steps_of token.old) }
-    ensures awoke { Awoke (IsUp C.tells limit.entry) word.kind (index_of word) sleeper
+    ensures awoke { Awoke (TimeIsUp C.tells limit.entry) word.kind (index_of word) sleeper
         (stage_of token.old section.old) result (stage_of token.new section.new) }
     ensures queues { TellsQueues Sleep result token.old.number section.old section.new }
     ensures place { KeepsPlace lot.now token.old.number Sleep result queue.old queue.new }
@@ -391,7 +391,7 @@ pub(crate) fn perform<'a, R: Wait, C: Clock>(
     requires needs { ActNeeds (kind_in words) (at_in words) (stage_of token.old section.old) act }
     requires no_closure { closure_of act ≡ None }
     ensures own { IsSameThread lot.now token.old token.new × IsSectionOf lot.now section.new }
-    ensures became { Became (IsUp C.tells limit.entry) (kind_in words) (at_in words)
+    ensures became { Became (TimeIsUp C.tells limit.entry) (kind_in words) (at_in words)
         (sleeper_at place)
         (stage_of token.old section.old) act result (stage_of token.new section.new) }
     ensures adds { Adds (at_in words) act result (steps_of token.old) (steps_of token.new) }

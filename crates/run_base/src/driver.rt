@@ -4,7 +4,7 @@
 //! world and the driver both lead on by the same `next` of a place. A thread that waits without a limit
 //! is never late, by the contract of `sleep`, so one driver serves timed and other calls.
 ghost use Rattle.std.specs.Prelude.{◌≡◌, ◌++◌, List, None, IsTrue, IsFalse};
-ghost use Rattle.core_clocks.specs.Clocks.{IsUp};
+ghost use Rattle.core_clocks.specs.Clocks.{TimeIsUp};
 ghost use Rattle.lot_steps.specs.Steps.{act_of, next_place};
 ghost use Rattle.steps_base.specs.declared.acts.Reply.TheVariants.{Value};
 ghost use Rattle.core_words.specs.Steps.{MayStep, CodesWith, after_step};
@@ -133,7 +133,7 @@ fn go_from(words: Words, place: &mut Place, act: Act, loads: &mut u32) -> Act
 
 /// All calls keep what fits at their places.
 pub(crate) fn places_lead<C: Clock>(_limit: Option<(&C, u64)>)
-    ensures { PlacesLead (IsUp C.tells _limit.entry) }
+    ensures { PlacesLead (TimeIsUp C.tells _limit.entry) }
 {}
 
 // Takes one turn of a call: the act of its place. Each stage that fitted there leads on to one that
@@ -155,7 +155,7 @@ fn turn<'a, R: Wait, C: Clock>(
     requires words { AreWordsFor place (kind_in words) (at_in words) }
     requires act { act ≡ act_of place }
     requires fits { (base : List Ownership)
-        × Fits (IsUp C.tells limit) base place (stage_of token.old section.old) }
+        × Fits (TimeIsUp C.tells limit) base place (stage_of token.old section.old) }
     requires no_closure { closure_of (act_of place) ≡ None }
     ensures own { IsSameThread lot.now token.old token.new × IsSectionOf lot.now section.new }
     ensures queues { TellsQueues act result token.old.number section.old section.new }
@@ -164,8 +164,8 @@ fn turn<'a, R: Wait, C: Clock>(
     ensures queued { IsTrue (is_queued (next_place place result))
         → HasPlace lot.now token.new.number queue.new }
     ensures reached { (base : List Ownership)
-        → Fits (IsUp C.tells limit.entry) base place (stage_of token.old section.old)
-        → Reached (IsUp C.tells limit.entry) base place result (stage_of token.new section.new) }
+        → Fits (TimeIsUp C.tells limit.entry) base place (stage_of token.old section.old)
+        → Reached (TimeIsUp C.tells limit.entry) base place result (stage_of token.new section.new) }
 {
     perform(rt, lot, token, words, limit, section, queue, place, act)
 }
@@ -192,11 +192,11 @@ pub fn run_from<'a, R: Wait, C: Clock>(
     requires queued { IsTrue (is_queued start) → HasPlace lot.now token.old.number queued }
     requires words { AreWordsFor start (kind_in words) (at_in words) }
     requires start { (base : List Ownership)
-        × Fits (IsUp C.tells limit) base start (stage_of token.old inside) }
+        × Fits (TimeIsUp C.tells limit) base start (stage_of token.old inside) }
     ensures own { IsSameThread lot.now token.old token.new }
     ensures stopped { (base : List Ownership)
-        → Fits (IsUp C.tells limit.entry) base start (stage_of token.old inside.entry)
-        → IsStopped (IsUp C.tells limit.entry) base (call_purpose start) result
+        → Fits (TimeIsUp C.tells limit.entry) base start (stage_of token.old inside.entry)
+        → IsStopped (TimeIsUp C.tells limit.entry) base (call_purpose start) result
         (stage_of token.new None) }
     ensures words { AreWordsAfter result (kind_in words) (at_in words) }
     ensures path { RunsCourse (at_in words) token.old.number start
@@ -249,11 +249,11 @@ pub fn run<R: Wait, C: Clock>(
     requires unqueued { IsFalse (is_queued start) }
     requires words { AreWordsFor start (kind_in words) (at_in words) }
     requires start { (base : List Ownership)
-        × Fits (IsUp C.tells limit) base start (stage_of token.old None) }
+        × Fits (TimeIsUp C.tells limit) base start (stage_of token.old None) }
     ensures own { IsSameThread lot.now token.old token.new }
     ensures stopped { (base : List Ownership)
-        → Fits (IsUp C.tells limit.entry) base start (stage_of token.old None)
-        → IsStopped (IsUp C.tells limit.entry) base (call_purpose start) result
+        → Fits (TimeIsUp C.tells limit.entry) base start (stage_of token.old None)
+        → IsStopped (TimeIsUp C.tells limit.entry) base (call_purpose start) result
         (stage_of token.new None) }
     ensures words { AreWordsAfter result (kind_in words) (at_in words) }
     ensures path { RunsCourse (at_in words) token.old.number start
@@ -290,7 +290,7 @@ pub fn call_slow<R: Wait, C: Clock>(
     ensures own { IsSameThread lot.now token.old token.new }
     ensures path { WalksAfter word.number call seen token.old token.new result }
     ensures rest { (more : List WordStep) × (steps_of token.new ≡ steps_of token.old ++ more) }
-    ensures over { IsMutexOver (IsUp C.tells limit.entry) word.number (owns_of token.old)
+    ensures over { IsMutexOver (TimeIsUp C.tells limit.entry) word.number (owns_of token.old)
         (purpose_in call) result (stage_of token.new None) }
 {
     let start = place_after(word, call, seen);

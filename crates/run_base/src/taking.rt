@@ -12,7 +12,7 @@ ghost use Rattle.run_base.specs.Stages.{listed, with_moved, taken_waiter, thread
 ghost use Rattle.run_base.specs.Stages.{waiting_of, wants_taken};
 ghost use Rattle.run_base.specs.Telling.{AreQueued, WereTaken, MayTakeAt, is_empty_at, line_in};
 ghost use Rattle.run_base.specs.Courses.{moving, taking, told_within, visit_within};
-ghost use Rattle.steps_base.specs.declared.acts.Whom.TheVariants as whom;
+ghost use Rattle.steps_base.specs.declared.acts.TakeWhich.TheVariants as whom;
 ghost use Rattle.run_base.specs.Takes.{shares, sharers_in, successor_in};
 
 use parking_lot_core::{Key, ParkingLot, Requeue, Section, Want};

@@ -1,9 +1,9 @@
 //! Turns whose act is known where their call is compiled. A call does most of its work by these,
 //! and all else by `run_from`.
-ghost use Rattle.core_clocks.specs.Clocks.{IsUp};
+ghost use Rattle.core_clocks.specs.Clocks.{TimeIsUp};
 ghost use Rattle.steps_base.specs.declared.acts.Act.TheVariants as acts;
 ghost use Rattle.steps_base.specs.declared.acts.Reply.TheVariants.{Done, Parked, Picked, Requeued, Took, Value};
-ghost use Rattle.steps_base.specs.declared.acts.Whom.TheVariants as whom;
+ghost use Rattle.steps_base.specs.declared.acts.TakeWhich.TheVariants as whom;
 ghost use Rattle.std.specs.Prelude.{◌≡◌, IsTrue, MatchBool};
 ghost use Rattle.lot_steps.specs.Steps.{act_of, next_place};
 ghost use Rattle.parking_lot_core.specs.Places.{IsPlaceOf};
@@ -34,9 +34,9 @@ pub fn turn_word<C: Clock>(
     lock: usize,
     op: Op,
 ) -> u64
-    requires { MayAct (IsUp C.tells _limit) lot.now words
+    requires { MayAct (TimeIsUp C.tells _limit) lot.now words
         (acts.Word lock op) token.old _section.now }
-    ensures { HasActed (IsUp C.tells _limit.entry) lot.now words (acts.Word lock op) (Value result)
+    ensures { HasActed (TimeIsUp C.tells _limit.entry) lot.now words (acts.Word lock op) (Value result)
         token.old _section.now token.new _section.now }
 {
     lot.word(token, words.of(lock), op)
@@ -55,9 +55,9 @@ pub fn turn_hand_over<R: Wait, C: Clock>(
     lock: usize,
     op: Op,
 ) -> u64
-    requires { MayAct (IsUp C.tells _limit) lot.now words
+    requires { MayAct (TimeIsUp C.tells _limit) lot.now words
         (acts.HandOver lock op) token.old section.old }
-    ensures { HasActed (IsUp C.tells _limit.entry) lot.now words (acts.HandOver lock op) (Value result)
+    ensures { HasActed (TimeIsUp C.tells _limit.entry) lot.now words (acts.HandOver lock op) (Value result)
         token.old section.old token.new section.new }
 {
     hand_over(rt, lot, token, words.of(lock), section, op)
@@ -74,8 +74,8 @@ pub fn turn_enter<'a, R: Wait, C: Clock>(
     section: &mut Option<Section<'a>>,
     keys: Keys,
 )
-    requires { MayAct (IsUp C.tells _limit) lot.now _words (acts.Enter keys) token.old section.old }
-    ensures { HasActed (IsUp C.tells _limit.entry) lot.now _words (acts.Enter keys) Done
+    requires { MayAct (TimeIsUp C.tells _limit) lot.now _words (acts.Enter keys) token.old section.old }
+    ensures { HasActed (TimeIsUp C.tells _limit.entry) lot.now _words (acts.Enter keys) Done
         token.old section.old token.new section.new }
 {
     enter(rt, lot, token, section, keys);
@@ -96,9 +96,9 @@ pub fn turn_park<'a, C: Clock>(
     check: Check,
     want: Want,
 ) -> bool
-    requires { MayAct (IsUp C.tells _limit) lot.now words
+    requires { MayAct (TimeIsUp C.tells _limit) lot.now words
         (acts.Park lock key check want) token.old section.old }
-    ensures done { HasActed (IsUp C.tells _limit.entry) lot.now words (acts.Park lock key check want)
+    ensures done { HasActed (TimeIsUp C.tells _limit.entry) lot.now words (acts.Park lock key check want)
         (Parked result) token.old section.old token.new section.new }
     ensures stands { MatchBool result (StandsLast key token.old.number want section.old section.new)
         (waiting_of section.new ≡ waiting_of section.old) }
@@ -118,9 +118,9 @@ pub fn turn_stand<'a, C: Clock>(
     key: Key,
     want: Want,
 ) -> QueuePlace<'a>
-    requires { MayAct (IsUp C.tells _limit) lot.now _words
+    requires { MayAct (TimeIsUp C.tells _limit) lot.now _words
         (acts.Stand key want) token.now section.old }
-    ensures done { HasActed (IsUp C.tells _limit.entry) lot.now _words (acts.Stand key want) Done
+    ensures done { HasActed (TimeIsUp C.tells _limit.entry) lot.now _words (acts.Stand key want) Done
         token.now section.old token.now section.new }
     ensures stands { StandsLast key token.now.number want section.old section.new }
     ensures place { IsPlaceOf lot.now token.now.number result }
@@ -138,9 +138,9 @@ pub fn turn_take_first<C: Clock>(
     section: &mut Option<Section>,
     key: Key,
 ) -> (bool, bool)
-    requires { MayAct (IsUp C.tells _limit) lot.now _words
+    requires { MayAct (TimeIsUp C.tells _limit) lot.now _words
         (acts.Take key whom.First) _token.now section.old }
-    ensures done { HasActed (IsUp C.tells _limit.entry) lot.now _words (acts.Take key whom.First)
+    ensures done { HasActed (TimeIsUp C.tells _limit.entry) lot.now _words (acts.Take key whom.First)
         (Took result.0 result.1)
         _token.now section.old _token.now section.new }
     ensures told { TellsTake key whom.First (Took result.0 result.1) section.old section.new }
@@ -161,9 +161,9 @@ pub fn turn_take_wanted<C: Clock>(
     start: Option<Want>,
     recursive: bool,
 ) -> (usize, Option<Want>, bool)
-    requires { MayAct (IsUp C.tells _limit) lot.now _words
+    requires { MayAct (TimeIsUp C.tells _limit) lot.now _words
         (acts.Take key (whom.Picked start recursive)) _token.now section.old }
-    ensures done { HasActed (IsUp C.tells _limit.entry) lot.now _words
+    ensures done { HasActed (TimeIsUp C.tells _limit.entry) lot.now _words
         (acts.Take key (whom.Picked start recursive)) (Picked result.0 result.1 result.2)
         _token.now section.old _token.now section.new }
     ensures told { TellsTake key (whom.Picked start recursive) (Picked result.0 result.1 result.2)
@@ -185,9 +185,9 @@ pub fn turn_requeue<C: Clock>(
     to: Key,
     how: Requeue,
 ) -> (usize, bool)
-    requires { MayAct (IsUp C.tells _limit) lot.now _words
+    requires { MayAct (TimeIsUp C.tells _limit) lot.now _words
         (acts.Requeue from to how) _token.now section.old }
-    ensures done { HasActed (IsUp C.tells _limit.entry) lot.now _words (acts.Requeue from to how)
+    ensures done { HasActed (TimeIsUp C.tells _limit.entry) lot.now _words (acts.Requeue from to how)
         (Requeued result.0 result.1)
         _token.now section.old _token.now section.new }
     ensures told { TellsRequeue from to how result.0 result.1 section.old section.new }
@@ -207,9 +207,9 @@ pub fn turn_leave<R: Wait, C: Clock>(
     _keys: Keys,
     wakes: Wakes,
 )
-    requires { MayAct (IsUp C.tells _limit) lot.now _words
+    requires { MayAct (TimeIsUp C.tells _limit) lot.now _words
         (acts.Leave _keys wakes) token.old section.old }
-    ensures { HasActed (IsUp C.tells _limit.entry) lot.now _words (acts.Leave _keys wakes) Done
+    ensures { HasActed (TimeIsUp C.tells _limit.entry) lot.now _words (acts.Leave _keys wakes) Done
         token.old section.old token.new section.new }
 {
     leave(rt, lot, token, section, note_of(wakes));
@@ -227,10 +227,10 @@ pub fn turn_sleep<'a, R: Wait, C: Clock>(
     queue: &mut Option<QueuePlace<'a>>,
     place: Place,
 ) -> Reply
-    requires at { IsAtPlace (IsUp C.tells limit) lot.now words place token.old section.old }
+    requires at { IsAtPlace (TimeIsUp C.tells limit) lot.now words place token.old section.old }
     requires act { act_of place ≡ acts.Sleep }
     requires queued { HasPlace lot.now token.old.number queue.old }
-    ensures turned { HasTurned (IsUp C.tells limit.entry) lot.now words place result token.old
+    ensures turned { HasTurned (TimeIsUp C.tells limit.entry) lot.now words place result token.old
         section.old token.new section.new }
     ensures queues { TellsQueues acts.Sleep result token.old.number section.old section.new }
     ensures queued { IsTrue (is_queued (next_place place result))

@@ -15,7 +15,7 @@ use Rattle.steps_base.specs.declared.acts.Next.TheVariants.{At, End}
 use Rattle.steps_base.specs.declared.acts.Reply.{Reply}
 use Rattle.steps_base.specs.declared.acts.Reply.TheVariants as reply
 use Rattle.steps_rwlock.specs.RwLockCalls.{IsDecided}
-use Rattle.steps_rwlock.specs.RwLockProfiles.{rwlock_looking}
+use Rattle.steps_rwlock.specs.RwLockProfiles.{rwlock_respin}
 use Rattle.steps_rwlock.specs.RwLockSteps.{rwlock_next}
 use Rattle.steps_rwlock.specs.declared.park.ParkAt.TheVariants as parking
 use Rattle.steps_rwlock.specs.declared.places.Admission.{Admission}
@@ -255,7 +255,7 @@ module _ (a : Admission) (x : Access) where
 
   -- ---------------------------------------------------------------- where it looks once more
 
-  gone_on : (p n : RwLockPlace) → rwlock_looking a p ≡ Some n → IsOfBump (Bump p) → IsOfBump (Bump n)
+  gone_on : (p n : RwLockPlace) → rwlock_respin a p ≡ Some n → IsOfBump (Bump p) → IsOfBump (Bump n)
   gone_on p n e (inl w) = inl (gone_at a leaves p p.at w n e)
   gone_on p n e (inr w) = inr (gone_at a enters p p.at w n e)
 
@@ -265,9 +265,9 @@ module _ (a : Admission) (x : Access) where
   looks_on l (PeekQueue y) r e w = absurd cc
   looks_on l (HandOver y b to) r e w = absurd cc
   looks_on l (Handed y how b to) r e w = absurd cc
-  looks_on l (Bump p) r e w = by_place (rwlock_looking a p) refl e
+  looks_on l (Bump p) r e w = by_place (rwlock_respin a p) refl e
     where
-      by_place : (o : Option RwLockPlace) → rwlock_looking a p ≡ o → in_rwlock l a (in_call true o) ≡ Some r
+      by_place : (o : Option RwLockPlace) → rwlock_respin a p ≡ o → in_rwlock l a (in_call true o) ≡ Some r
           → IsIn a x Patient IsOfBump r
       by_place None f is = absurd cc
       by_place (Some n) f is = let there : RwLock l a (Bump n) ≡ r = cc in subst (IsIn a x Patient IsOfBump)

@@ -23,7 +23,7 @@ use Rattle.steps_base.specs.declared.acts.Next.TheVariants.{At, End}
 use Rattle.steps_base.specs.declared.acts.Reply.{Reply}
 use Rattle.steps_base.specs.declared.acts.Reply.TheVariants as reply
 use Rattle.steps_rwlock.specs.RwLockCalls.{IsDecided, IsNoRefusal}
-use Rattle.steps_rwlock.specs.RwLockProfiles.{gone_to, is_mark, looking_at, rwlock_looking}
+use Rattle.steps_rwlock.specs.RwLockProfiles.{gone_to, is_mark, looking_at, rwlock_respin}
 use Rattle.steps_rwlock.specs.RwLockSteps.{access_of, came_in, came_in_for, count_act, after_count, decided}
 use Rattle.steps_rwlock.specs.RwLockSteps.{decided_act, decided_for, decision, decision_blocked, ends_with}
 use Rattle.steps_rwlock.specs.RwLockSteps.{entered, exchanged_next, gave_way_by, goes, is_counted, looked}
@@ -629,9 +629,9 @@ module _ (x : Access) (how : Patience) (a : Admission) where
   looks_on l (Bump p) r e w = absurd w
   looks_on l (PeekQueue y) r e w = absurd w
   looks_on l (HandOver y d to) r e w = absurd w
-  looks_on l (Plain p) r e w = by_place (rwlock_looking a p) refl e
+  looks_on l (Plain p) r e w = by_place (rwlock_respin a p) refl e
     where
-      by_place : (o : Option RwLockPlace) → rwlock_looking a p ≡ o → in_rwlock l a (in_call false o) ≡ Some r
+      by_place : (o : Option RwLockPlace) → rwlock_respin a p ≡ o → in_rwlock l a (in_call false o) ≡ Some r
           → IsIn a x how (IsCall a (purpose.Enter x how)) r
       by_place None f is = absurd cc
       by_place (Some n) f is = let there : RwLock l a (Plain n) ≡ r = cc

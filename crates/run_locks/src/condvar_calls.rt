@@ -2,7 +2,7 @@
 //!
 //! A notification's first load is inlined, and the rest is out of line: mostly no thread waits.
 ghost use Rattle.std.specs.Prelude.{◌≡◌, ◌≢◌, Bool, None};
-ghost use Rattle.core_clocks.specs.Clocks.{IsUp};
+ghost use Rattle.core_clocks.specs.Clocks.{TimeIsUp};
 ghost use Rattle.parking_lot_core.specs.Tokens.{IsSameThread};
 ghost use Rattle.parking_lot_core.specs.declared.tokens.Token.{Token};
 ghost use Rattle.steps_condvar.specs.CondvarSteps.{notified};
@@ -50,7 +50,7 @@ pub fn wait<R: Wait, C: Clock>(
     requires owned { OwnsIt mutex.number (owns_of token.old) }
     ensures own { IsSameThread lot.now token.old token.new }
     ensures path { HasWaited condvar.number mutex.number timed result token.old token.new }
-    ensures over { IsWaitOver (IsUp C.tells limit.entry) mutex.number timed
+    ensures over { IsWaitOver (TimeIsUp C.tells limit.entry) mutex.number timed
         (owns_of token.old) result
         (stage_of token.new None) }
 {

@@ -1,7 +1,7 @@
 //! The straight courses of waits and of notifications, where nothing comes between. Anything else
 //! leads off them, to the driver, which goes on through the places one by one.
 ghost use Rattle.std.specs.Prelude.{◌≡◌, IsTrue};
-ghost use Rattle.core_clocks.specs.Clocks.{IsUp};
+ghost use Rattle.core_clocks.specs.Clocks.{TimeIsUp};
 ghost use Rattle.run_base.specs.Queued.{HasPlace, is_queued};
 ghost use Rattle.run_base.specs.Turns.{HasEnded, IsAtPlace};
 ghost use Rattle.run_locks.specs.CondvarCourses.{IsOfCondvar, notify_at, wait_at};
@@ -65,10 +65,10 @@ pub(crate) fn rest<'a, R: Wait, C: Clock>(
     queue: Option<QueuePlace<'a>>,
     place: Place,
 ) -> Answer
-    requires at { IsAtPlace (IsUp C.tells limit) lot.now words place token.old section }
+    requires at { IsAtPlace (TimeIsUp C.tells limit) lot.now words place token.old section }
     requires call { IsOfCondvar place }
     requires queued { IsTrue (is_queued place) → HasPlace lot.now token.old.number queue }
-    ensures { HasEnded (IsUp C.tells limit.entry) lot.now words place result token.old section.entry
+    ensures { HasEnded (TimeIsUp C.tells limit.entry) lot.now words place result token.old section.entry
         token.new }
 {
     match run_from(rt, lot, token, words, limit, section, queue, place) {

@@ -7,7 +7,7 @@
 //! word has it.
 ghost use Rattle.std.specs.Prelude.{◌≡◌, List, None, MatchResult, IsFalse};
 ghost use Rattle.steps_base.specs.declared.acts.Reply.TheVariants.{Value};
-ghost use Rattle.core_clocks.specs.Clocks.{IsUp};
+ghost use Rattle.core_clocks.specs.Clocks.{TimeIsUp};
 ghost use Rattle.steps_rwlock.specs.declared.purposes.RwLockPurpose.TheVariants.{Enter};
 ghost use Rattle.lot_steps.specs.Steps.{next_place};
 ghost use Rattle.core_words.specs.Lots.{IsWordOf};
@@ -67,13 +67,13 @@ pub(crate) fn run_out<R: Wait, C: Clock>(
     requires kind { word.kind ≡ RwLock }
     requires unqueued { IsFalse (is_queued start) }
     requires fits { (base : List Ownership)
-        × Fits (IsUp C.tells limit) base start (stage_of token.old None) }
+        × Fits (TimeIsUp C.tells limit) base start (stage_of token.old None) }
     ensures own { IsSameThread lot.now token.old token.new }
     ensures path { Courses (at_in (single_word word)) token.old.number start
         (trail_of token.old None) (trail_of token.new None) result }
     ensures over { (base : List Ownership)
-        → Fits (IsUp C.tells limit.entry) base start (stage_of token.old None)
-        → IsOver (IsUp C.tells limit.entry) base (call_purpose start) result (stage_of token.new None) }
+        → Fits (TimeIsUp C.tells limit.entry) base start (stage_of token.old None)
+        → IsOver (TimeIsUp C.tells limit.entry) base (call_purpose start) result (stage_of token.new None) }
 {
     let words = Words::alone(word);
     match start {
@@ -209,15 +209,15 @@ fn rest_slow<R: Wait, C: Clock>(
     seen: u64,
 ) -> Answer
     requires own { MeetsAt lot.now token.old word.now admission.now }
-    requires fits { (base : List Ownership) × Fits (IsUp C.tells limit.now) base
+    requires fits { (base : List Ownership) × Fits (TimeIsUp C.tells limit.now) base
         (next_place (rwlock_begin word.now.number admission.now purpose.now) (Value seen)) (stage_of token.old None) }
     ensures own { IsSameThread lot.now token.old token.new }
     ensures path { Courses (at_rwlock word.now.number) token.old.number
         (next_place (rwlock_begin word.now.number admission.now purpose.now) (Value seen))
         (trail_of token.old None) (trail_of token.new None) result }
-    ensures over { (base : List Ownership) → Fits (IsUp C.tells limit.now) base
+    ensures over { (base : List Ownership) → Fits (TimeIsUp C.tells limit.now) base
         (next_place (rwlock_begin word.now.number admission.now purpose.now) (Value seen)) (stage_of token.old None)
-        → IsOver (IsUp C.tells limit.now) base
+        → IsOver (TimeIsUp C.tells limit.now) base
         (call_purpose (next_place (rwlock_begin word.now.number admission.now purpose.now) (Value seen))) result (stage_of token.new None) }
 {
     let start = place_after(word.number(), *admission, *purpose, seen);
@@ -244,7 +244,7 @@ pub fn call_slow<R: Wait, C: Clock>(
     ensures over { (before : Token) (base : List Ownership)
         → BeginsWith word.now.number purpose base (owns_of before)
         → HasBegunRwLock word.now admission.now purpose (GoesOn seen) before token.old
-        → HasEndedRwLock (IsUp C.tells limit.now) word.now admission.now purpose result before token.new }
+        → HasEndedRwLock (TimeIsUp C.tells limit.now) word.now admission.now purpose result before token.new }
 {
     rest_slow(
         rt,
@@ -275,15 +275,15 @@ fn rest_missed<R: Wait, C: Clock>(
     found: u64,
 ) -> Answer
     requires own { MeetsAt lot.now token.old word.now admission.now }
-    requires reached { (base : List Ownership) × Reached (IsUp C.tells limit.now) base
+    requires reached { (base : List Ownership) × Reached (TimeIsUp C.tells limit.now) base
         (rwlock_deciding word.now.number admission.now purpose.now expected) (Value found) (stage_of token.old None) }
     ensures own { IsSameThread lot.now token.old token.new }
     ensures path { CoursesAfterReply (at_rwlock word.now.number) token.old.number
         (rwlock_deciding word.now.number admission.now purpose.now expected) (Value found)
         (trail_of token.old None) (trail_of token.new None) result }
-    ensures over { (base : List Ownership) → Reached (IsUp C.tells limit.now) base
+    ensures over { (base : List Ownership) → Reached (TimeIsUp C.tells limit.now) base
         (rwlock_deciding word.now.number admission.now purpose.now expected) (Value found) (stage_of token.old None)
-        → IsOver (IsUp C.tells limit.now) base
+        → IsOver (TimeIsUp C.tells limit.now) base
         (of_rwlock word.now.number admission.now purpose.now) result
         (stage_of token.new None) }
 {
@@ -319,7 +319,7 @@ pub fn missed<R: Wait, C: Clock>(
     ensures over { (before : Token) (base : List Ownership)
         → BeginsWith word.now.number purpose base (owns_of before)
         → HasBegunRwLock word.now admission.now purpose (Missed seen found) before token.old
-        → HasEndedRwLock (IsUp C.tells limit.now) word.now admission.now purpose result before token.new }
+        → HasEndedRwLock (TimeIsUp C.tells limit.now) word.now admission.now purpose result before token.new }
 {
     rest_missed(
         rt,
@@ -350,7 +350,7 @@ pub fn call_fast<C: Clock>(
         × BeginsWith word.now.number purpose base (owns_of token.old) }
     ensures own { IsSameThread lot.now token.old token.new }
     ensures over { MatchResult result
-        (λ answer. HasEndedRwLock (IsUp C.tells _limit.now) word.now settings.now.admission purpose answer
+        (λ answer. HasEndedRwLock (TimeIsUp C.tells _limit.now) word.now settings.now.admission purpose answer
         token.old token.new)
         (λ rest. HasBegunRwLock word.now settings.now.admission purpose rest token.old token.new) }
 {
@@ -390,7 +390,7 @@ pub fn call<R: Wait, C: Clock>(
         token.new }
     ensures over { (base : List Ownership)
         → BeginsWith word.now.number purpose base (owns_of token.old)
-        → AnswersCall (IsUp C.tells limit.now) word.now.number base settings.now.admission purpose result
+        → AnswersCall (TimeIsUp C.tells limit.now) word.now.number base settings.now.admission purpose result
         (stage_of token.new None) }
     ensures record { WakesBy word.now.number settings.now.admission purpose token.old token.new }
 {

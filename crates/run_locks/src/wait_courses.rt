@@ -2,7 +2,7 @@
 //!
 //! No part of a wait is inlined: it sleeps, or is about to.
 ghost use Rattle.std.specs.Prelude.{◌≡◌, ◌==◌, ◌||◌, None, false};
-ghost use Rattle.core_clocks.specs.Clocks.{IsUp};
+ghost use Rattle.core_clocks.specs.Clocks.{TimeIsUp};
 ghost use Rattle.steps_condvar.specs.CondvarSteps.{is_shown, waited};
 ghost use Rattle.steps_condvar.specs.declared.wait.WaiterFate.TheVariants.{Listed};
 ghost use Rattle.steps_condvar.specs.declared.wait.WaitAt.TheVariants as wait;
@@ -58,10 +58,10 @@ fn lock_free<'a, R: Wait, C: Clock>(
     timed: bool,
     seen: u64,
 ) -> Answer
-    requires at { IsAtPlace (IsUp C.tells limit) lot.now pair.words
+    requires at { IsAtPlace (TimeIsUp C.tells limit) lot.now pair.words
         (wait_at pair.condvar pair.mutex timed (locks_at (lock.Decide seen))) token.old section }
     requires free { is_locked seen ≡ false }
-    ensures { HasEnded (IsUp C.tells limit.entry) lot.now pair.words
+    ensures { HasEnded (TimeIsUp C.tells limit.entry) lot.now pair.words
         (wait_at pair.condvar pair.mutex timed (locks_at (lock.Decide seen))) result token.old section.entry token.new }
 {
     let op = Op::Exchange {
@@ -88,9 +88,9 @@ fn lock_seen<'a, R: Wait, C: Clock>(
     section: Option<Section<'a>>,
     timed: bool,
 ) -> Answer
-    requires { IsAtPlace (IsUp C.tells limit) lot.now pair.words
+    requires { IsAtPlace (TimeIsUp C.tells limit) lot.now pair.words
         (wait_at pair.condvar pair.mutex timed (locks_at lock.Load)) token.old section }
-    ensures { HasEnded (IsUp C.tells limit.entry) lot.now pair.words
+    ensures { HasEnded (TimeIsUp C.tells limit.entry) lot.now pair.words
         (wait_at pair.condvar pair.mutex timed (locks_at lock.Load)) result token.old section.entry token.new }
 {
     let seen = turn_word(
@@ -119,9 +119,9 @@ fn lock_again<'a, R: Wait, C: Clock>(
     section: Option<Section<'a>>,
     timed: bool,
 ) -> Answer
-    requires { IsAtPlace (IsUp C.tells limit) lot.now pair.words
+    requires { IsAtPlace (TimeIsUp C.tells limit) lot.now pair.words
         (wait_at pair.condvar pair.mutex timed (locks_at lock.First)) token.old section }
-    ensures { HasEnded (IsUp C.tells limit.entry) lot.now pair.words
+    ensures { HasEnded (TimeIsUp C.tells limit.entry) lot.now pair.words
         (wait_at pair.condvar pair.mutex timed (locks_at lock.First)) result token.old section.entry token.new }
 {
     let op = Op::Exchange {
@@ -147,10 +147,10 @@ fn fall_asleep<'a, R: Wait, C: Clock>(
     queue: QueuePlace<'a>,
     timed: bool,
 ) -> Answer
-    requires at { IsAtPlace (IsUp C.tells limit) lot.now pair.words
+    requires at { IsAtPlace (TimeIsUp C.tells limit) lot.now pair.words
         (wait_at pair.condvar pair.mutex timed (wait.Asleep Listed)) token.old section }
     requires queued { IsPlaceOf lot.now token.old.number queue }
-    ensures { HasEnded (IsUp C.tells limit.entry) lot.now pair.words
+    ensures { HasEnded (TimeIsUp C.tells limit.entry) lot.now pair.words
         (wait_at pair.condvar pair.mutex timed (wait.Asleep Listed)) result token.old section.entry token.new }
 {
     let mut section = section;
@@ -185,10 +185,10 @@ fn wake_and_sleep<'a, R: Wait, C: Clock>(
     timed: bool,
     any: bool,
 ) -> Answer
-    requires at { IsAtPlace (IsUp C.tells limit) lot.now pair.words
+    requires at { IsAtPlace (TimeIsUp C.tells limit) lot.now pair.words
         (wait_at pair.condvar pair.mutex timed (releases_at (unlock.Leave any))) token.old section }
     requires queued { IsPlaceOf lot.now token.old.number queue }
-    ensures { HasEnded (IsUp C.tells limit.entry) lot.now pair.words
+    ensures { HasEnded (TimeIsUp C.tells limit.entry) lot.now pair.words
         (wait_at pair.condvar pair.mutex timed (releases_at (unlock.Leave any))) result token.old section.entry token.new }
 {
     let mut section = section;
@@ -211,10 +211,10 @@ fn clear_and_sleep<'a, R: Wait, C: Clock>(
     any: bool,
     none_left: bool,
 ) -> Answer
-    requires at { IsAtPlace (IsUp C.tells limit) lot.now pair.words
+    requires at { IsAtPlace (TimeIsUp C.tells limit) lot.now pair.words
         (wait_at pair.condvar pair.mutex timed (releases_at (taken_on any none_left))) token.old section }
     requires queued { IsPlaceOf lot.now token.old.number queue }
-    ensures { HasEnded (IsUp C.tells limit.entry) lot.now pair.words
+    ensures { HasEnded (TimeIsUp C.tells limit.entry) lot.now pair.words
         (wait_at pair.condvar pair.mutex timed (releases_at (taken_on any none_left))) result token.old section.entry token.new }
 {
     if none_left {
@@ -236,10 +236,10 @@ fn wake_first_and_sleep<'a, R: Wait, C: Clock>(
     queue: QueuePlace<'a>,
     timed: bool,
 ) -> Answer
-    requires at { IsAtPlace (IsUp C.tells limit) lot.now pair.words
+    requires at { IsAtPlace (TimeIsUp C.tells limit) lot.now pair.words
         (wait_at pair.condvar pair.mutex timed (releases_at unlock.Enter)) token.old section }
     requires queued { IsPlaceOf lot.now token.old.number queue }
-    ensures { HasEnded (IsUp C.tells limit.entry) lot.now pair.words
+    ensures { HasEnded (TimeIsUp C.tells limit.entry) lot.now pair.words
         (wait_at pair.condvar pair.mutex timed (releases_at unlock.Enter)) result token.old section.entry token.new }
 {
     let mut section = section;
@@ -263,10 +263,10 @@ fn release<'a, R: Wait, C: Clock>(
     queue: QueuePlace<'a>,
     timed: bool,
 ) -> Answer
-    requires at { IsAtPlace (IsUp C.tells limit) lot.now pair.words
+    requires at { IsAtPlace (TimeIsUp C.tells limit) lot.now pair.words
         (wait_at pair.condvar pair.mutex timed (releases_at unlock.Subtract)) token.old section }
     requires queued { IsPlaceOf lot.now token.old.number queue }
-    ensures { HasEnded (IsUp C.tells limit.entry) lot.now pair.words
+    ensures { HasEnded (TimeIsUp C.tells limit.entry) lot.now pair.words
         (wait_at pair.condvar pair.mutex timed (releases_at unlock.Subtract)) result token.old section.entry token.new }
 {
     let op = Op::Sub(LOCKED);
@@ -294,9 +294,9 @@ pub(crate) fn wait_course<R: Wait, C: Clock>(
     limit: Option<(&C, u64)>,
     timed: bool,
 ) -> Answer
-    requires { IsAtPlace (IsUp C.tells limit) lot.now pair.words
+    requires { IsAtPlace (TimeIsUp C.tells limit) lot.now pair.words
         (wait_at pair.condvar pair.mutex timed wait.Enter) token.old None }
-    ensures { HasEnded (IsUp C.tells limit.entry) lot.now pair.words
+    ensures { HasEnded (TimeIsUp C.tells limit.entry) lot.now pair.words
         (wait_at pair.condvar pair.mutex timed wait.Enter) result token.old None token.new }
 {
     let words = pair.words;

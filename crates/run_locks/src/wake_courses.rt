@@ -1,6 +1,6 @@
 //! The straight course of a call of a reader-writer lock that wakes those in the main queue.
 ghost use Rattle.std.specs.Prelude.{◌≡◌, None};
-ghost use Rattle.core_clocks.specs.Clocks.{IsUp};
+ghost use Rattle.core_clocks.specs.Clocks.{TimeIsUp};
 ghost use Rattle.run_base.specs.Turns.{HasEnded, IsAtPlace};
 ghost use Rattle.steps_base.specs.Acts.{any_picked};
 ghost use Rattle.steps_rwlock.specs.RwLockSteps.{ends_with};
@@ -50,9 +50,9 @@ fn leave_and_wake<'a, R: Wait, C: Clock>(
     purpose: RwLockPurpose,
     any: bool,
 ) -> Answer
-    requires { IsAtPlace (IsUp C.tells limit) lot.now words
+    requires { IsAtPlace (TimeIsUp C.tells limit) lot.now words
         (wakes_at lock _admission purpose (waking.Leave any)) token.old section }
-    ensures { HasEnded (IsUp C.tells limit.entry) lot.now words
+    ensures { HasEnded (TimeIsUp C.tells limit.entry) lot.now words
         (wakes_at lock _admission purpose (waking.Leave any)) result token.old section.entry token.new }
 {
     let mut section = section;
@@ -77,9 +77,9 @@ fn clear_and_wake<'a, R: Wait, C: Clock>(
     any: bool,
     none_left: bool,
 ) -> Answer
-    requires { IsAtPlace (IsUp C.tells limit) lot.now words
+    requires { IsAtPlace (TimeIsUp C.tells limit) lot.now words
         (wakes_at lock admission purpose (left_on any none_left)) token.old section }
-    ensures { HasEnded (IsUp C.tells limit.entry) lot.now words
+    ensures { HasEnded (TimeIsUp C.tells limit.entry) lot.now words
         (wakes_at lock admission purpose (left_on any none_left)) result token.old section.entry token.new }
 {
     if none_left {
@@ -105,9 +105,9 @@ pub(crate) fn wake_through<R: Wait, C: Clock>(
     admission: Admission,
     purpose: RwLockPurpose,
 ) -> Answer
-    requires { IsAtPlace (IsUp C.tells limit) lot.now words
+    requires { IsAtPlace (TimeIsUp C.tells limit) lot.now words
         (wakes_at lock admission purpose waking.Enter) token.old None }
-    ensures { HasEnded (IsUp C.tells limit.entry) lot.now words
+    ensures { HasEnded (TimeIsUp C.tells limit.entry) lot.now words
         (wakes_at lock admission purpose waking.Enter) result token.old None token.new }
 {
     let key = main_key(lock);

@@ -1,6 +1,6 @@
 //! The slow half of a call of a mutex.
 ghost use Rattle.std.specs.Prelude.{◌≡◌, ◌++◌, List, None, true};
-ghost use Rattle.core_clocks.specs.Clocks.{IsUp};
+ghost use Rattle.core_clocks.specs.Clocks.{TimeIsUp};
 ghost use Rattle.core_words.specs.Steps.{has};
 ghost use Rattle.core_words.specs.declared.views.WordStep.{WordStep};
 ghost use Rattle.parking_lot_core.specs.Tokens.{IsSameThread, view_of};
@@ -32,7 +32,7 @@ fn lock_after_others<R: Wait, C: Clock>(
     ensures own { IsSameThread lot.now token.old token.new }
     ensures path { WalksAfter word.number Lock locked_and_parked token.old token.new result }
     ensures rest { (more : List WordStep) × (steps_of token.new ≡ steps_of token.old ++ more) }
-    ensures over { IsMutexOver (IsUp C.tells limit.entry) word.number (owns_of token.old)
+    ensures over { IsMutexOver (TimeIsUp C.tells limit.entry) word.number (owns_of token.old)
         (purpose_in Lock) result (stage_of token.new None) }
 {
     let words = Words::alone(word);
@@ -52,7 +52,7 @@ fn lock_timed_after_others<R: Wait, C: Clock>(
     ensures own { IsSameThread lot.now token.old token.new }
     ensures path { WalksAfter word.number LockTimed locked_and_parked token.old token.new result }
     ensures rest { (more : List WordStep) × (steps_of token.new ≡ steps_of token.old ++ more) }
-    ensures over { IsMutexOver (IsUp C.tells limit.entry) word.number (owns_of token.old)
+    ensures over { IsMutexOver (TimeIsUp C.tells limit.entry) word.number (owns_of token.old)
         (purpose_in LockTimed) result (stage_of token.new None) }
 {
     let words = Words::alone(word);
@@ -73,7 +73,7 @@ fn hand_over_to_first<R: Wait, C: Clock>(
     ensures own { IsSameThread lot.now token.old token.new }
     ensures path { WalksAfter word.number UnlockFair locked_and_parked token.old token.new result }
     ensures rest { (more : List WordStep) × (steps_of token.new ≡ steps_of token.old ++ more) }
-    ensures over { IsMutexOver (IsUp C.tells limit.entry) word.number (owns_of token.old)
+    ensures over { IsMutexOver (TimeIsUp C.tells limit.entry) word.number (owns_of token.old)
         (purpose_in UnlockFair) result (stage_of token.new None) }
 {
     let words = Words::alone(word);
@@ -97,7 +97,7 @@ pub fn call_slow<R: Wait, C: Clock>(
     ensures own { IsSameThread lot.now token.old token.new }
     ensures path { WalksAfter word.number call seen token.old token.new result }
     ensures rest { (more : List WordStep) × (steps_of token.new ≡ steps_of token.old ++ more) }
-    ensures over { IsMutexOver (IsUp C.tells limit.entry) word.number (owns_of token.old)
+    ensures over { IsMutexOver (TimeIsUp C.tells limit.entry) word.number (owns_of token.old)
         (purpose_in call) result (stage_of token.new None) }
 {
     if seen != LOCKED + PARKED {

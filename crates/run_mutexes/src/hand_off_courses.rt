@@ -1,7 +1,7 @@
 //! The straight course of a fair unlock that saw a waiter: it hands the mutex to the first that
 //! waits.
 ghost use Rattle.std.specs.Prelude.{◌≡◌, None, true};
-ghost use Rattle.core_clocks.specs.Clocks.{IsUp};
+ghost use Rattle.core_clocks.specs.Clocks.{TimeIsUp};
 ghost use Rattle.run_base.specs.Turns.{HasEnded, IsAtPlace};
 ghost use Rattle.steps_mutex.specs.MutexSteps.{hand_off_word};
 ghost use Rattle.steps_mutex.specs.declared.hand_off.HandOffAt.TheVariants as hand_off;
@@ -47,9 +47,9 @@ fn give<'a, R: Wait, C: Clock>(
     mutex: usize,
     none_left: bool,
 ) -> Answer
-    requires { IsAtPlace (IsUp C.tells limit) lot.now words
+    requires { IsAtPlace (TimeIsUp C.tells limit) lot.now words
         (hands_at mutex (hand_off.Store true none_left)) token.old section }
-    ensures { HasEnded (IsUp C.tells limit.entry) lot.now words
+    ensures { HasEnded (TimeIsUp C.tells limit.entry) lot.now words
         (hands_at mutex (hand_off.Store true none_left)) result token.old section.entry token.new }
 {
     let mut section = section;
@@ -73,9 +73,9 @@ pub(crate) fn hand_over_through<R: Wait, C: Clock>(
     limit: Option<(&C, u64)>,
     mutex: usize,
 ) -> Answer
-    requires { IsAtPlace (IsUp C.tells limit) lot.now words
+    requires { IsAtPlace (TimeIsUp C.tells limit) lot.now words
         (hands_at mutex hand_off.Enter) token.old None }
-    ensures { HasEnded (IsUp C.tells limit.entry) lot.now words
+    ensures { HasEnded (TimeIsUp C.tells limit.entry) lot.now words
         (hands_at mutex hand_off.Enter) result token.old None token.new }
 {
     let mut section = None;

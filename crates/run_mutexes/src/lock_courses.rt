@@ -1,7 +1,7 @@
 //! The straight course of a lock whose mutex is owned, and for which others wait already: it stands
 //! after the last of them, sleeps, and is handed the mutex.
 ghost use Rattle.std.specs.Prelude.{◌≡◌, None, IsTrue};
-ghost use Rattle.core_clocks.specs.Clocks.{IsUp};
+ghost use Rattle.core_clocks.specs.Clocks.{TimeIsUp};
 ghost use Rattle.run_base.specs.Queued.{HasPlace};
 ghost use Rattle.run_base.specs.Turns.{HasEnded, IsAtPlace};
 ghost use Rattle.steps_mutex.specs.MutexSteps.{entered};
@@ -57,10 +57,10 @@ fn fall_asleep<'a, R: Wait, C: Clock>(
     mutex: usize,
     entry: Entry,
 ) -> Answer
-    requires at { IsAtPlace (IsUp C.tells limit) lot.now words
+    requires at { IsAtPlace (TimeIsUp C.tells limit) lot.now words
         (locks_at mutex entry lock.Asleep) token.old section }
     requires queued { HasPlace lot.now token.old.number queue }
-    ensures { HasEnded (IsUp C.tells limit.entry) lot.now words
+    ensures { HasEnded (TimeIsUp C.tells limit.entry) lot.now words
         (locks_at mutex entry lock.Asleep) result token.old section.entry token.new }
 {
     let mut section = section;
@@ -94,9 +94,9 @@ fn park<R: Wait, C: Clock>(
     mutex: usize,
     entry: Entry,
 ) -> Answer
-    requires { IsAtPlace (IsUp C.tells limit) lot.now words
+    requires { IsAtPlace (TimeIsUp C.tells limit) lot.now words
         (locks_at mutex entry (lock.Decide 3)) token.old None }
-    ensures { HasEnded (IsUp C.tells limit.entry) lot.now words
+    ensures { HasEnded (TimeIsUp C.tells limit.entry) lot.now words
         (locks_at mutex entry (lock.Decide 3)) result token.old None token.new }
 {
     let key = main_key(mutex);
@@ -137,9 +137,9 @@ pub(crate) fn lock_course<R: Wait, C: Clock>(
     mutex: usize,
     entry: Entry,
 ) -> Answer
-    requires { IsAtPlace (IsUp C.tells limit) lot.now words
+    requires { IsAtPlace (TimeIsUp C.tells limit) lot.now words
         (locks_at mutex entry lock.Load) token.old None }
-    ensures { HasEnded (IsUp C.tells limit.entry) lot.now words
+    ensures { HasEnded (TimeIsUp C.tells limit.entry) lot.now words
         (locks_at mutex entry lock.Load) result token.old None token.new }
 {
     let section = None;

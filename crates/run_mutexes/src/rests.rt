@@ -1,6 +1,6 @@
 //! The rest of a call of a mutex that has left its straight course.
 ghost use Rattle.std.specs.Prelude.{IsTrue};
-ghost use Rattle.core_clocks.specs.Clocks.{IsUp};
+ghost use Rattle.core_clocks.specs.Clocks.{TimeIsUp};
 ghost use Rattle.run_base.specs.Queued.{HasPlace, is_queued};
 ghost use Rattle.run_base.specs.Turns.{HasEnded, IsAtPlace};
 ghost use Rattle.run_mutexes.specs.LockCourses.{IsOfMutex};
@@ -25,10 +25,10 @@ pub(crate) fn rest<'a, R: Wait, C: Clock>(
     queue: Option<QueuePlace<'a>>,
     place: Place,
 ) -> Answer
-    requires at { IsAtPlace (IsUp C.tells limit) lot.now words place token.old section }
+    requires at { IsAtPlace (TimeIsUp C.tells limit) lot.now words place token.old section }
     requires call { IsOfMutex place }
     requires queued { IsTrue (is_queued place) → HasPlace lot.now token.old.number queue }
-    ensures { HasEnded (IsUp C.tells limit.entry) lot.now words place result token.old section.entry
+    ensures { HasEnded (TimeIsUp C.tells limit.entry) lot.now words place result token.old section.entry
         token.new }
 {
     match run_from(rt, lot, token, words, limit, section, queue, place) {

@@ -1,6 +1,6 @@
 //! The straight course of an unlock that saw a waiter: it takes the first that waits, and wakes it.
 ghost use Rattle.std.specs.Prelude.{◌≡◌, ◌<◌, ◌++◌, None, List};
-ghost use Rattle.core_clocks.specs.Clocks.{IsUp};
+ghost use Rattle.core_clocks.specs.Clocks.{TimeIsUp};
 ghost use Rattle.spec_locks.specs.declared.calls.MutexCall.TheVariants.{Unlock};
 ghost use Rattle.spec_locks.specs.declared.outcomes.Answer.TheVariants.{Ok as ok};
 ghost use Rattle.run_base.specs.Calls.{MeetAt, WalksAfter};

@@ -1,7 +1,7 @@
 //! Counts to 4000 in four threads.
 #![tactic(auto)]
 
-ghost use Rattle.parking_lot.specs.Names.{IsTokenOf, lot_of};
+ghost use Rattle.parking_lot.specs.LotOf.{IsTokenOf, lot_of};
 
 use anyhow::Result;
 use parking_lot::{Fault, Mutex, Team, Token};

@@ -31,7 +31,7 @@ use Rattle.spec_locks.specs.Runs.{LocksState, CallState, Event, Nothing, AtLock,
 use Rattle.spec_locks.specs.Runs.{AreFree, Does, GoesOn, IsNotified, IsStep, IsTimely, MayBegin, MayDo, MayGo}
 use Rattle.spec_locks.specs.Runs.{MayHappen, MayTurn, MovedNobody, NotifiesAnswer, Turned, going_on, gives_up}
 use Rattle.spec_locks.specs.Runs.{new_call, rights_in, rules_at}
-use Rattle.spec_locks.specs.EachState.{IsQuiet, IsUp, Opens, Rests, WaitsForSome, full_by, sort_in}
+use Rattle.spec_locks.specs.EachState.{IsQuiet, IsAwake, Opens, WaitersWaitRightly, WaitsForSome, full_by, sort_in}
 use Rattle.spec_locks.specs.EachStep.{Recalls, StepHolds}
 use Rattle.spec_locks.specs.Guarantees.{AllHold}
 use Rattle.spec_locks.proofs.CallTable.{answer_is, goal_is, is_possible, may_turn}
@@ -121,7 +121,7 @@ module _ (w : LocksState) (full : ℕ → Bool) (safe : IsSafe w full) where
     ]
   ]
 
-  somebody : (t : ℕ) → (w.calls t).purpose ≢ None → IsUp (w.stances t) → (u : ℕ) × MayGo w u
+  somebody : (t : ℕ) → (w.calls t).purpose ≢ None → IsAwake (w.stances t) → (u : ℕ) × MayGo w u
   somebody t called up = elim (sections (w.stances t).enters) [
     | inl free ↦ (t, record { called = called; awake = up.0; outside = up.1; free = free })
     | inr other ↦ other
@@ -130,7 +130,7 @@ module _ (w : LocksState) (full : ℕ → Bool) (safe : IsSafe w full) where
   -- ------------------------------------------------ quiet worlds
 
   module _ (quiet : IsQuiet w) where
-    not_up : (u : ℕ) → (w.calls u).purpose ≢ None → IsUp (w.stances u) → ⊥
+    not_up : (u : ℕ) → (w.calls u).purpose ≢ None → IsAwake (w.stances u) → ⊥
     not_up u called up = elim (quiet u called) [
       | inl asleep ↦ (let e : false ≡ true = sym up.0 ∙ asleep in cc)
       | inr closure ↦ (let e : false ≡ true = sym up.1 ∙ closure in cc)
@@ -205,7 +205,7 @@ module _ (w : LocksState) (full : ℕ → Bool) (safe : IsSafe w full) where
           in omega arith))
     ]
 
-    rests : Rests w full
+    rests : WaitersWaitRightly w full
     rests = record {
       waits = λ t l some room. owner_there (sort_in w l) (rules_at w l).limit (w.locks l)
           (λ way. unattended l Main (safe.waiters.main t l some way room)) (shows t l some);

@@ -18,7 +18,7 @@ use Rattle.spec_locks.specs.Locks.{IsLockState, after_case, left_after, one_if_s
 use Rattle.spec_locks.specs.Locks.{sharing_from, standing}
 use Rattle.spec_locks.specs.Purposes.{MayWait, Purpose, Enters, Releases, Converts, Bumps, CallsOnce, Awaits}
 use Rattle.spec_locks.specs.Purposes.{Waits, Notifies, CondvarMemory, AwaitsBy, CallsOnceBy, IsMadeOf}
-use Rattle.spec_locks.specs.Purposes.{NotifiesBeside, NotifiesThere, WaitsThere}
+use Rattle.spec_locks.specs.Purposes.{NotifiesAtMutex, NotifiesAtCondvar, WaitsAtCondvar}
 use Rattle.spec_locks.specs.Runs.{LocksState, AreLockStates, Event, Nothing, AtLock, Moves, Does, GoesOn}
 use Rattle.spec_locks.specs.Runs.{MayDo, MayHappen, Turned, is_taken_by, joined_by, locks_after, rights_in}
 use Rattle.spec_locks.specs.Runs.{rules_at}
@@ -147,7 +147,7 @@ module _ (r : Rules) (s : LockState) (t : ℕ) where
   await_call case forced timed gave_up made = absurd made
 
   wait_call : (case : LockCase) (m : ℕ) (timed : Bool) (gave_up : Option ℕ) (released : Bool)
-      → WaitsThere m timed gave_up released case
+      → WaitsAtCondvar m timed gave_up released case
       → rights_of (after_case r case s t) t ≡ rights_of s t
   wait_call (OfCondvar (Show m)) k timed gave_up released made = refl
   wait_call (OfCondvar Hide) k timed gave_up released made = refl
@@ -155,13 +155,13 @@ module _ (r : Rules) (s : LockState) (t : ℕ) where
   wait_call Late k timed gave_up released made = refl
   wait_call case k timed gave_up released made = absurd made
 
-  notify_there : (case : LockCase) (recalls : CondvarMemory) → NotifiesThere recalls case
+  notify_there : (case : LockCase) (recalls : CondvarMemory) → NotifiesAtCondvar recalls case
       → rights_of (after_case r case s t) t ≡ rights_of s t
   notify_there (OfCondvar (Look seen)) recalls made = refl
   notify_there (OfCondvar Hide) recalls made = refl
   notify_there case recalls made = absurd made
 
-  notify_beside : (case : LockCase) (recalls : CondvarMemory) (m : ℕ) → NotifiesBeside recalls m case
+  notify_beside : (case : LockCase) (recalls : CondvarMemory) (m : ℕ) → NotifiesAtMutex recalls m case
       → rights_of (after_case r case s t) t ≡ rights_of s t
   notify_beside (SeeOwner owned) recalls m made = refl
   notify_beside Wake recalls m made = refl

@@ -21,8 +21,8 @@ abbrev pub sort_in : LocksState → ℕ → Sort
 sort_in w l = (rules_at w l).sort
 
 -- a thread is awake, and runs no closure
-abbrev pub IsUp : Status → Type 0
-IsUp stance = (stance.asleep ≡ false) × (stance.in_closure ≡ false)
+abbrev pub IsAwake : Status → Type 0
+IsAwake stance = (stance.asleep ≡ false) × (stance.in_closure ≡ false)
 
 -- no thread has anything to do: each one in a call sleeps, or runs a closure
 abbrev pub IsQuiet : LocksState → Type 0
@@ -40,7 +40,7 @@ WaitsForSome Semaphore limit s = limit ≤ readers s
 WaitsForSome Once limit s = (s.phase ≢ Done) × (has_caller s.queue ≡ true → IsRunning s.phase)
 WaitsForSome Condvar limit s = s.shown ≢ None
 
-pub record Rests (w : LocksState) (was_full : ℕ → Bool) : Type 0 where
+pub record WaitersWaitRightly (w : LocksState) (was_full : ℕ → Bool) : Type 0 where
   -- a lock that is shared and was once at its limit is left out
   pub waits : (t l : ℕ) → 1 ≤ times t (w.locks l).queue
       → (has_readers (sort_in w l) ≡ true → was_full l ≡ false)
@@ -60,9 +60,9 @@ pub record StateHolds (w : LocksState) (was_full : ℕ → Bool) : Type 0 where
   -- owners exclude each other, and each thread stands once in a queue at most
   pub exclude : AreLockStates w
   -- where no thread has anything to do, nobody waits for a lock that is open
-  pub rests : IsQuiet w → Rests w was_full
+  pub rests : IsQuiet w → WaitersWaitRightly w was_full
   -- While a thread is awake in a call, some thread can go on.
-  pub goes : (t : ℕ) → (w.calls t).purpose ≢ None → IsUp (w.stances t) → (u : ℕ) × MayGo w u
+  pub goes : (t : ℕ) → (w.calls t).purpose ≢ None → IsAwake (w.stances t) → (u : ℕ) × MayGo w u
   -- a condition variable shows the mutex with which all wait there
   pub shown : (c : ℕ) → sort_in w c ≡ Condvar → ShowsWaiters w c
   -- A sleeper that waits for a notification has let its mutex go, and owns till then what else it owned.

@@ -9,7 +9,7 @@ use Rattle.spec_locks.specs.declared.outcomes.Outcome as outcome
 use Rattle.spec_locks.specs.Locks.{Condvar, times}
 use Rattle.spec_locks.specs.Purposes.{Blank, Notifies, Saw}
 use Rattle.spec_locks.specs.Runs.{LocksState, AreLockStates, IsBeingEmptied, IsOpening, IsRun, IsStep, MayGo}
-use Rattle.spec_locks.specs.EachState.{IsUp, IsQuiet, Rests, StateHolds, sort_in}
+use Rattle.spec_locks.specs.EachState.{IsAwake, IsQuiet, WaitersWaitRightly, StateHolds, sort_in}
 use Rattle.spec_locks.specs.Guarantees.{IsGuaranteed}
 use Rattle.spec_locks.specs.Headline.{IsSafe, MayTell}
 
@@ -27,14 +27,14 @@ OwnersExcludeInRuns =
 abbrev pub SomebodyGoes : Type 0
 SomebodyGoes =
     (w : LocksState) (full : ℕ → Bool) (t : ℕ) → IsSafe w full → (w.calls t).purpose ≢ None
-    → IsUp (w.stances t) → (u : ℕ) × MayGo w u
+    → IsAwake (w.stances t) → (u : ℕ) × MayGo w u
 
 -- ---------------------------------------------------------------- no lost wake-up
 
 -- Where no thread has anything to do, each waiter waits for an owner, a permit, a run or a
 -- notification: nobody waits for a lock that is open.
 abbrev pub QuietWorldsRest : Type 0
-QuietWorldsRest = (w : LocksState) (full : ℕ → Bool) → IsSafe w full → IsQuiet w → Rests w full
+QuietWorldsRest = (w : LocksState) (full : ℕ → Bool) → IsSafe w full → IsQuiet w → WaitersWaitRightly w full
 
 -- ---------------------------------------------------------------- no lost notification
 

@@ -22,7 +22,7 @@ use Rattle.spec_locks.specs.Purposes.{MayWait}
 use Rattle.spec_locks.specs.Sites.{Line, Main, Second, IsOpen, counts_some, has_readers}
 use Rattle.spec_locks.specs.Runs.{LocksState, Status, AreLockStates, IsNotified, IsStep, LetsGo, ShowsWaiters}
 use Rattle.spec_locks.specs.Runs.{rules_at}
-pub use Rattle.spec_locks.specs.EachState.{IsUp, Opens, full_by, sort_in}
+pub use Rattle.spec_locks.specs.EachState.{IsAwake, Opens, full_by, sort_in}
 
 -- ---------------------------------------------------------------- threads that wake the next waiter
 
@@ -83,13 +83,13 @@ IsDebtor w t l Second = IsAtLine w t l Second × ((w.calls t).purpose ≢ None)
 pub record IsLookedAfter (w : LocksState) (l : ℕ) (m : Line) : Type 0 where
   pub debtor : ℕ
   pub debt : IsDebtor w debtor l m
-  pub awake : IsUp (w.stances debtor)
+  pub awake : IsAwake (w.stances debtor)
 
 -- this many different threads are such debtors, and awake
 pub record AreLookedAfter (w : LocksState) (l number : ℕ) : Type 0 where
   pub debtor : ℕ → ℕ
   pub apart : (i j : ℕ) → i < number → j < number → debtor i ≡ debtor j → i ≡ j
-  pub each : (i : ℕ) → i < number → IsDebtor w (debtor i) l Main × IsUp (w.stances (debtor i))
+  pub each : (i : ℕ) → i < number → IsDebtor w (debtor i) l Main × IsAwake (w.stances (debtor i))
 
 -- ---------------------------------------------------------------- nobody is forgotten
 

@@ -253,12 +253,12 @@ AwaitsBy forced timed gave_up case = ⊥
 
 -- the deeds of a wait at its condition variable: it gives up only where it has a deadline, and hides only
 -- after it gave up
-abbrev pub WaitsThere : ℕ → Bool → Option ℕ → Bool → LockCase → Type 0
-WaitsThere m timed gave_up released (OfCondvar (Show shown)) = (shown ≡ m) × (released ≡ false)
-WaitsThere m timed gave_up released (OfCondvar Hide) = gave_up ≢ None
-WaitsThere m timed gave_up released (Park x) = (x ≡ Wait) × (released ≡ false)
-WaitsThere m timed gave_up released Late = (timed ≡ true) × (gave_up ≡ None)
-WaitsThere m timed gave_up released case = ⊥
+abbrev pub WaitsAtCondvar : ℕ → Bool → Option ℕ → Bool → LockCase → Type 0
+WaitsAtCondvar m timed gave_up released (OfCondvar (Show shown)) = (shown ≡ m) × (released ≡ false)
+WaitsAtCondvar m timed gave_up released (OfCondvar Hide) = gave_up ≢ None
+WaitsAtCondvar m timed gave_up released (Park x) = (x ≡ Wait) × (released ≡ false)
+WaitsAtCondvar m timed gave_up released Late = (timed ≡ true) × (gave_up ≡ None)
+WaitsAtCondvar m timed gave_up released case = ⊥
 
 -- a wait releases its mutex once
 abbrev pub ReleasesOnce : Bool → LockCase → Type 0
@@ -267,22 +267,22 @@ ReleasesOnce released case = ReleasesBy Exclusive false case
 
 -- A wait has its mutex again by that release alone. It gives up in the queue of the mutex too, where it was
 -- moved there.
-abbrev pub WaitsBeside : Bool → Option ℕ → Bool → CondvarMemory → LockCase → Type 0
-WaitsBeside timed gave_up released recalls Late = (timed ≡ true) × (recalls ≡ WasMoved)
-WaitsBeside timed gave_up released recalls case =
+abbrev pub WaitsAtMutex : Bool → Option ℕ → Bool → CondvarMemory → LockCase → Type 0
+WaitsAtMutex timed gave_up released recalls Late = (timed ≡ true) × (recalls ≡ WasMoved)
+WaitsAtMutex timed gave_up released recalls case =
     ReleasesOnce released case ⊎ ((released ≡ true) × EntersBy Exclusive Patient gave_up case)
 
 -- the deeds of a notification at its condition variable, and at the mutex that it has seen; its move is one
 -- event of both
-abbrev pub NotifiesThere : CondvarMemory → LockCase → Type 0
-NotifiesThere recalls (OfCondvar (Look seen)) = recalls ≡ Blank
-NotifiesThere recalls (OfCondvar Hide) = Unit {0}
-NotifiesThere recalls case = ⊥
+abbrev pub NotifiesAtCondvar : CondvarMemory → LockCase → Type 0
+NotifiesAtCondvar recalls (OfCondvar (Look seen)) = recalls ≡ Blank
+NotifiesAtCondvar recalls (OfCondvar Hide) = Unit {0}
+NotifiesAtCondvar recalls case = ⊥
 
-abbrev pub NotifiesBeside : CondvarMemory → ℕ → LockCase → Type 0
-NotifiesBeside recalls m (SeeOwner owned) = recalls ≡ Saw m
-NotifiesBeside recalls m Wake = (number : ℕ) × (recalls ≡ HasMoved m number)
-NotifiesBeside recalls m case = ⊥
+abbrev pub NotifiesAtMutex : CondvarMemory → ℕ → LockCase → Type 0
+NotifiesAtMutex recalls m (SeeOwner owned) = recalls ≡ Saw m
+NotifiesAtMutex recalls m Wake = (number : ℕ) × (recalls ≡ HasMoved m number)
+NotifiesAtMutex recalls m case = ⊥
 
 -- the call does this to this lock; gave_up is the lock whose queue it left because its time was up,
 -- released whether it has given its right up: a bump enters only then
@@ -297,7 +297,7 @@ IsMadeOf (CallsOnce l forced) gave_up released recalls k case = (k ≡ l) × Cal
 IsMadeOf (Awaits l forced timed) gave_up released recalls k case =
     (k ≡ l) × AwaitsBy forced timed gave_up case
 IsMadeOf (Waits l m timed) gave_up released recalls k case =
-    ((k ≡ l) × WaitsThere m timed gave_up released case)
-    ⊎ ((k ≡ m) × WaitsBeside timed gave_up released recalls case)
+    ((k ≡ l) × WaitsAtCondvar m timed gave_up released case)
+    ⊎ ((k ≡ m) × WaitsAtMutex timed gave_up released recalls case)
 IsMadeOf (Notifies l all) gave_up released recalls k case =
-    ((k ≡ l) × NotifiesThere recalls case) ⊎ NotifiesBeside recalls k case
+    ((k ≡ l) × NotifiesAtCondvar recalls case) ⊎ NotifiesAtMutex recalls k case

@@ -18,7 +18,7 @@ use Rattle.steps_base.specs.declared.acts.Reply.{Reply}
 use Rattle.steps_base.specs.declared.acts.Reply.TheVariants.{Done, Value, Parked, Took, Picked, Removed}
 use Rattle.steps_base.specs.declared.acts.Reply.TheVariants.{TakenBy, HandedBy, Woken}
 use Rattle.steps_base.specs.declared.acts.Wakes.{Wakes}
-use Rattle.steps_base.specs.declared.acts.Whom as whom
+use Rattle.steps_base.specs.declared.acts.TakeWhich as whom
 use Rattle.steps_base.specs.Acts.{holds, takes_effect, wakes_taken, any_picked}
 use Rattle.steps_base.specs.Profiles.{Profile, blank_row, hand, in_hand}
 use Rattle.steps_base.specs.Locations.{Location, location_by, nowhere}

@@ -24,7 +24,7 @@ pub enum Check {
 
 /// The waiters that a thread takes from a queue.
 #[derive(Clone, Copy, PartialEq, Eq)]
-pub enum Whom {
+pub enum TakeWhich {
     First,
     /// The waiters that a reader-writer lock picks, by the right of its own that the thread keeps.
     Picked {
@@ -76,7 +76,7 @@ pub enum Act {
     /// Takes waiters of a queue.
     Take {
         key: Key,
-        whom: Whom,
+        whom: TakeWhich,
     },
     /// Moves waiters of a queue after the last of another, and may take the first of them.
     Requeue {

@@ -49,16 +49,16 @@ use Rattle.steps_condvar.specs.CondvarDeeds.{relocked_deeds}
 use Rattle.steps_condvar.specs.CondvarWaits as waits
 use Rattle.steps_condvar.specs.CondvarCalls.{IsLockOf, IsReached}
 use Rattle.steps_condvar.specs.CondvarMoves.{WaitersLookAgain, WaitsBegin, CondvarMoves, IsInHand, LooksMove}
-use Rattle.steps_condvar.specs.CondvarMoves.{NotifiesMove, SleepsBeside, SleepsThere, StayBeside, StayThere}
-use Rattle.steps_condvar.specs.CondvarMoves.{StaysPutBeside, StaysThere, WaitersMove, WaitsAtBoth, WaitsMove}
-use Rattle.steps_condvar.specs.CondvarMoves.{move_beside, row_beside, row_there, there}
+use Rattle.steps_condvar.specs.CondvarMoves.{NotifiesMove, SleepsAtMutex, SleepsAtCondvar, StayAtMutex, StayAtCondvar}
+use Rattle.steps_condvar.specs.CondvarMoves.{StaysPutAtMutex, StaysAtCondvar, WaitersMove, WaitsAtBoth, WaitsMove}
+use Rattle.steps_condvar.specs.CondvarMoves.{move_at_mutex, row_at_mutex, row_at_condvar, there}
 
 -- where a thread is next, at each lock
 abbrev there_next : Next CondvarPlace → Location
-there_next n = location_by (row_there n)
+there_next n = location_by (row_at_condvar n)
 
 abbrev beside_next : Next CondvarPlace → Location
-beside_next n = location_by (row_beside n)
+beside_next n = location_by (row_at_mutex n)
 
 -- ---------------------------------------------------------------- the release
 
@@ -87,8 +87,8 @@ module _ (c m : ℕ) (timed : Bool) where
   after_beside (stands.Noted note.Normal) = refl
   after_beside (stands.Noted note.HandOff) = refl
 
-  subtracts : (st : WaiterFate) (seen : ℕ) → StaysThere (releasing st unlock.Subtract) (Value seen)
-      × StaysPutBeside (move_beside [] (releasing st unlock.Subtract)) (Value seen)
+  subtracts : (st : WaiterFate) (seen : ℕ) → StaysAtCondvar (releasing st unlock.Subtract) (Value seen)
+      × StaysPutAtMutex (move_at_mutex [] (releasing st unlock.Subtract)) (Value seen)
   subtracts st seen = (
     record { deeds = tt; goes = by_there (is_parked seen) },
     record { deeds = by_deeds (is_parked seen); goes = by_beside (is_parked seen) },
@@ -106,7 +106,7 @@ module _ (c m : ℕ) (timed : Bool) where
       by_beside true = refl
       by_beside false = after_beside st
 
-      by_deeds : (b : Bool) → StayBeside
+      by_deeds : (b : Bool) → StayAtMutex
           (waits.unended (Case (Leave Exclusive) ∷ (if b then [] else End ∷ [])))
       by_deeds true = tt
       by_deeds false = tt
@@ -167,26 +167,26 @@ module _ (c m : ℕ) (timed : Bool) where
     lock_next n = in_wait m timed (relocked timed timed_out (in_lock entry.Lock retries n))
 
     abbrev StayBoth : LockAt → Reply → Type 0
-    StayBoth at told = StaysThere (locking at) told × StaysPutBeside (move_beside [] (locking at)) told
+    StayBoth at told = StaysAtCondvar (locking at) told × StaysPutAtMutex (move_at_mutex [] (locking at)) told
 
     tries : (seen : ℕ) → StayBoth lock.First (Value seen)
     tries seen = (
-      record { deeds = deeds_there (seen == 0); goes = by_there (seen == 0) },
+      record { deeds = deeds_at_condvar (seen == 0); goes = by_there (seen == 0) },
       record { deeds = deeds_by (seen == 0); goes = by_beside (seen == 0) },
     )
       where
-        deeds_there : (b : Bool) → StayThere
+        deeds_at_condvar : (b : Bool) → StayAtCondvar
             (relocked_deeds (in_lock entry.Lock retries (if b then Over (entered entry.Lock)
             else At lock.Load)))
-        deeds_there true = tt
-        deeds_there false = tt
+        deeds_at_condvar true = tt
+        deeds_at_condvar false = tt
 
         by_there : (b : Bool) → there_next (lock_next (if b then Over (entered entry.Lock) else At lock.Load))
             ≡ nowhere
         by_there true = refl
         by_there false = refl
 
-        deeds_by : (b : Bool) → StayBeside (if b then enter_deeds else [])
+        deeds_by : (b : Bool) → StayAtMutex (if b then enter_deeds else [])
         deeds_by true = tt
         deeds_by false = tt
 
@@ -202,7 +202,7 @@ module _ (c m : ℕ) (timed : Bool) where
     exchanges : (expected seen : ℕ) → StayBoth (lock.Decide expected) (Value seen)
     exchanges expected seen = (
       record {
-        deeds = deeds_there (seen == expected) (is_locked seen);
+        deeds = deeds_at_condvar (seen == expected) (is_locked seen);
         goes = by_there (seen == expected) (is_locked seen);
       },
       record {
@@ -211,18 +211,18 @@ module _ (c m : ℕ) (timed : Bool) where
       },
     )
       where
-        deeds_there : (same locked : Bool)
-            → StayThere (relocked_deeds (in_lock entry.Lock retries (after_exchange seen same locked)))
-        deeds_there false locked = tt
-        deeds_there true true = tt
-        deeds_there true false = tt
+        deeds_at_condvar : (same locked : Bool)
+            → StayAtCondvar (relocked_deeds (in_lock entry.Lock retries (after_exchange seen same locked)))
+        deeds_at_condvar false locked = tt
+        deeds_at_condvar true true = tt
+        deeds_at_condvar true false = tt
 
         by_there : (same locked : Bool) → there_next (lock_next (after_exchange seen same locked)) ≡ nowhere
         by_there false locked = refl
         by_there true true = refl
         by_there true false = refl
 
-        deeds_by : (same locked : Bool) → StayBeside (if not same then [] else if locked then Mark Main ∷ []
+        deeds_by : (same locked : Bool) → StayAtMutex (if not same then [] else if locked then Mark Main ∷ []
             else enter_deeds)
         deeds_by false locked = tt
         deeds_by true true = tt
@@ -291,19 +291,19 @@ module _ (c m : ℕ) (timed : Bool) where
 
   -- ---------------------------------------------------------------- each place of a wait
 
-  shows : (seen : ℕ) → StaysThere (place wait.Show) (Value seen)
-      × StaysPutBeside (move_beside [] (place wait.Show)) (Value seen)
+  shows : (seen : ℕ) → StaysAtCondvar (place wait.Show) (Value seen)
+      × StaysPutAtMutex (move_at_mutex [] (place wait.Show)) (Value seen)
   shows seen = (
     record {
-      deeds = deeds_there ((seen == 0) || is_shown seen m);
+      deeds = deeds_at_condvar ((seen == 0) || is_shown seen m);
       goes = by_there ((seen == 0) || is_shown seen m);
     },
     record { deeds = tt; goes = by_beside ((seen == 0) || is_shown seen m) },
   )
     where
-      deeds_there : (b : Bool) → StayThere (if b then Show m ∷ [] else SeeOther m ∷ [])
-      deeds_there true = tt
-      deeds_there false = tt
+      deeds_at_condvar : (b : Bool) → StayAtCondvar (if b then Show m ∷ [] else SeeOther m ∷ [])
+      deeds_at_condvar true = tt
+      deeds_at_condvar false = tt
 
       by_there : (b : Bool) → there_next (in_wait m timed (if b then At wait.Stand else At wait.Refuse))
           ≡ inside_of Main
@@ -399,7 +399,7 @@ module _ (c m : ℕ) (q : List Queued) where
   notifying all at = Notify all m at
 
   abbrev Stays : Bool → NotifyAt → Reply → Type 0
-  Stays all at told = StaysThere (notifying all at) told × StaysPutBeside (move_beside q (notifying all at))
+  Stays all at told = StaysAtCondvar (notifying all at) told × StaysPutAtMutex (move_at_mutex q (notifying all at))
       told
 
   -- inside both sections, with those that it has taken, if any, in hand
@@ -420,13 +420,13 @@ module _ (c m : ℕ) (q : List Queued) where
 
   sees : (all : Bool) (seen : ℕ) → Stays all notify.Again (Value seen)
   sees all seen = (
-    record { deeds = deeds_there (is_shown seen m); goes = by_there all (is_shown seen m) },
+    record { deeds = deeds_at_condvar (is_shown seen m); goes = by_there all (is_shown seen m) },
     record { deeds = tt; goes = by_beside all (is_shown seen m) },
   )
     where
-      deeds_there : (b : Bool) → StayThere (if b then SeeAgain m ∷ [] else MissIt m ∷ [])
-      deeds_there true = tt
-      deeds_there false = tt
+      deeds_at_condvar : (b : Bool) → StayAtCondvar (if b then SeeAgain m ∷ [] else MissIt m ∷ [])
+      deeds_at_condvar true = tt
+      deeds_at_condvar false = tt
 
       by_there : (all b : Bool) → there_next (again_after all b) ≡ inside_of Main
       by_there true true = refl
@@ -461,7 +461,7 @@ module _ (c m : ℕ) (q : List Queued) where
         by_there true = refl
         by_there false = marked_there seen (is_locked seen)
 
-        deeds_by : (b : Bool) → StayBeside (if b then MarkOwned ∷ [] else [])
+        deeds_by : (b : Bool) → StayAtMutex (if b then MarkOwned ∷ [] else [])
         deeds_by true = tt
         deeds_by false = tt
 
@@ -497,8 +497,8 @@ module _ (c m : ℕ) (q : List Queued) where
     refl,
     λ number none_left. record {
       inside = (refl, refl);
-      deeds_there = refl;
-      deeds_beside = refl;
+      deeds_at_condvar = refl;
+      deeds_at_mutex = refl;
       stays = refl;
       carries = leaving_is true false number;
     },
@@ -508,8 +508,8 @@ module _ (c m : ℕ) (q : List Queued) where
     refl,
     λ number none_left. record {
       inside = (refl, refl);
-      deeds_there = refl;
-      deeds_beside = refl;
+      deeds_at_condvar = refl;
+      deeds_at_mutex = refl;
       stays = all_there true number (nat_lt 1 number);
       carries = all_beside number (nat_lt 1 number);
     },
@@ -539,8 +539,8 @@ module _ (c m : ℕ) (q : List Queued) where
     refl,
     λ number none_left. record {
       inside = (refl, refl);
-      deeds_there = refl;
-      deeds_beside = refl;
+      deeds_at_condvar = refl;
+      deeds_at_mutex = refl;
       stays = one_there false none_left;
       carries = one_beside false none_left;
     },
@@ -549,8 +549,8 @@ module _ (c m : ℕ) (q : List Queued) where
     refl,
     λ none_left. record {
       inside = (refl, refl);
-      deeds_there = refl;
-      deeds_beside = refl;
+      deeds_at_condvar = refl;
+      deeds_at_mutex = refl;
       stays = one_there true none_left;
       carries = one_beside true none_left;
     },
@@ -601,8 +601,8 @@ looks_move c m all = (
 -- ---------------------------------------------------------------- effects on a waiter
 
 -- the thread stands in neither queue, and is in nobody's hand
-awake : (p : CondvarPlace) → (there p).stands ≡ None → (location_of (move_beside [] p)).stands ≡ None
-    → (location_of (move_beside [] p)).hand ≡ None → WaitsAtBoth p
+awake : (p : CondvarPlace) → (there p).stands ≡ None → (location_of (move_at_mutex [] p)).stands ≡ None
+    → (location_of (move_at_mutex [] p)).hand ≡ None → WaitsAtBoth p
 awake p out off free = record {
   listed = λ e. absurd (let g : ◌≡◌ {A = Option Line} None (Some Main) = sym out ∙ e in cc);
   moved = λ e. absurd (let g : ◌≡◌ {A = Option Line} None (Some Main) = sym off ∙ e in cc);
@@ -613,8 +613,8 @@ module _ (m : ℕ) (timed : Bool) where
   abbrev waiting : WaitAt → CondvarPlace
   waiting at = Wait m timed at
 
-  listed : (p : CondvarPlace) → ((there p).inside ≡ Some Main) ⊎ SleepsThere p
-      → (location_of (move_beside [] p)).stands ≡ None → (location_of (move_beside [] p)).hand ≡ None
+  listed : (p : CondvarPlace) → ((there p).inside ≡ Some Main) ⊎ SleepsAtCondvar p
+      → (location_of (move_at_mutex [] p)).stands ≡ None → (location_of (move_at_mutex [] p)).hand ≡ None
       → WaitsAtBoth p
   listed p so off free = record {
     listed = λ e. so;
@@ -622,8 +622,8 @@ module _ (m : ℕ) (timed : Bool) where
     held = λ u handed e. absurd (let g : ◌≡◌ {A = Option Hand} None (hand u handed) = sym free ∙ e in cc);
   }
 
-  moved : (p : CondvarPlace) → ((location_of (move_beside [] p)).inside ≡ Some Main) ⊎ SleepsBeside p
-      → (there p).stands ≡ None → (location_of (move_beside [] p)).hand ≡ None → WaitsAtBoth p
+  moved : (p : CondvarPlace) → ((location_of (move_at_mutex [] p)).inside ≡ Some Main) ⊎ SleepsAtMutex p
+      → (there p).stands ≡ None → (location_of (move_at_mutex [] p)).hand ≡ None → WaitsAtBoth p
   moved p so out free = record {
     listed = λ e. absurd (let g : ◌≡◌ {A = Option Line} None (Some Main) = sym out ∙ e in cc);
     moved = λ e. so;
@@ -631,7 +631,7 @@ module _ (m : ℕ) (timed : Bool) where
   }
 
   in_hand_of : (p : CondvarPlace) (by : ℕ) (given : Bool) → (there p).stands ≡ None
-      → (location_of (move_beside [] p)).stands ≡ None → (location_of (move_beside [] p)).hand ≡ hand by given
+      → (location_of (move_at_mutex [] p)).stands ≡ None → (location_of (move_at_mutex [] p)).hand ≡ hand by given
       → ((u : ℕ) → hand by given ≡ hand u given → IsInHand p u given) → WaitsAtBoth p
   in_hand_of p by given out off holds so = record {
     listed = λ e. absurd (let g : ◌≡◌ {A = Option Line} None (Some Main) = sym out ∙ e in cc);

@@ -23,7 +23,7 @@ use Rattle.steps_condvar.specs.declared.notify.NotifyAt.{NotifyAt}
 use Rattle.steps_condvar.specs.declared.notify.NotifyAt.TheVariants as notify
 use Rattle.steps_condvar.specs.CondvarSteps.{is_shown, marks, notify_act}
 use Rattle.steps_condvar.specs.CondvarProfiles.{has_moved, notify_row}
-use Rattle.steps_condvar.specs.CondvarMutex.{FollowsBeside, MayHearBeside, NotifiersCode, NotifiersFollow}
+use Rattle.steps_condvar.specs.CondvarMutex.{FollowsAtMutex, MayGetReplyAtMutex, NotifiersCode, NotifiersFollow}
 use Rattle.steps_condvar.specs.CondvarMutex.{beside_deeds, role_next}
 use Rattle.steps_base.proofs.Deeds.{put_same}
 use Rattle.steps_mutex.proofs.MutexWords.{coded, owned_word, word_of}
@@ -147,7 +147,7 @@ module _ (r : Rules) (s : Site) (c : CondvarSite) (t m : ℕ) (sort : r.sort ≡
       )
 
   notifies : (all : Bool) (p : NotifyAt) (told : Reply) → s.role t ≡ (notify_row all m p).role
-      → MayHearBeside r s c t m all p told → FollowsBeside r s c t m all p told
+      → MayGetReplyAtMutex r s c t m all p told → FollowsAtMutex r s c t m all p told
   notifies all notify.Enter Done is h = record {
     needed = ((h, ap (λ (d : Role). d.inside) is, ap (λ (d : Role). d.empty) is), tt);
     role = put_same s.role t _ ∙ ap (λ (d : Role). record d { inside = Some Main }) is;
@@ -227,7 +227,7 @@ module _ (r : Rules) (s : Site) (c : CondvarSite) (t k m : ℕ) (sort : r.sort �
       locked) ∙ sym (coded r (record s { parked = true }) sort)
   set_word expected v e locked false same = e
 
-  leaves_word : (all : Bool) (p : NotifyAt) (f : Op) → MayHearBeside r s c t m all p (Value (code r s))
+  leaves_word : (all : Bool) (p : NotifyAt) (f : Op) → MayGetReplyAtMutex r s c t m all p (Value (code r s))
       → notify_act all k m p ≡ act.Word m f
       → apply f (code r s) ≡ code r (after_all r (beside_deeds all c.waiters p (Value (code r s))) s t)
   leaves_word all notify.Mark f h is = let e : op.Load ≡ f = cc in rw (← e) refl

@@ -44,7 +44,7 @@ use Rattle.steps_condvar.specs.CondvarSteps.{notified, released, relocked}
 use Rattle.steps_condvar.specs.CondvarProfiles.{has_mutex, may_give_up}
 use Rattle.steps_condvar.specs.CondvarDeeds.{IsAt, MayReply, condvar_deeds, word_showing}
 use Rattle.steps_condvar.specs.CondvarDeeds as deeds
-use Rattle.steps_condvar.specs.CondvarMutex.{MayHearBeside, beside_deeds}
+use Rattle.steps_condvar.specs.CondvarMutex.{MayGetReplyAtMutex, beside_deeds}
 use Rattle.steps_condvar.specs.CondvarCalls.{CallOfTwoFollows, CondvarPlacesReached, IsLockOf, IsReached}
 use Rattle.steps_condvar.specs.CondvarCalls.{IsReachedNext, LooksTell, NotifiesTell, condvar_call_by, heard}
 use Rattle.steps_condvar.specs.CondvarCalls.{notify_event}
@@ -182,7 +182,7 @@ module _ (v : CondvarSite) (r : Rules) (s : Site) (t c m : ℕ) (site : IsCondva
   -- ---------------------------------------------------------------- each place
 
   tells : (all : Bool) (at : NotifyAt) (told : Reply) → IsAt v t (Notify all m at)
-      → MayReply v t (Notify all m at) told → MayHearBeside r s v t m all at told
+      → MayReply v t (Notify all m at) told → MayGetReplyAtMutex r s v t m all at told
       → IsReached (Notify all m at)
       → Follows all at told
   tells all notify.Enter Done a h f reached = keeps c m t _ _ Done Nothing v.shown s.lock _ tt refl

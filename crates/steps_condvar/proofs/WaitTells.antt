@@ -47,7 +47,7 @@ use Rattle.steps_condvar.specs.CondvarDeeds as deeds
 use Rattle.steps_condvar.specs.CondvarWaits.{MayHearLocking, MayHearReleasing, MayHearWaiter, waiter_deeds}
 use Rattle.steps_condvar.specs.CondvarWaits as waits
 use Rattle.steps_condvar.specs.CondvarCalls.{CallOfTwoFollows, IsReached, MayComeOfTwo, WaitersAreTold}
-use Rattle.steps_condvar.specs.CondvarCalls.{WaitsTell, condvar_call_by, case_there, heard, or_else}
+use Rattle.steps_condvar.specs.CondvarCalls.{WaitsTell, condvar_call_by, case_at_condvar, heard, or_else}
 use Rattle.steps_condvar.specs.CondvarCalls.{wait_event}
 use Rattle.steps_mutex.proofs.MutexWords.{unlocked_free, zero_free}
 use Rattle.steps_condvar.proofs.WaiterFit.{owns}
@@ -251,7 +251,7 @@ module _ (v : CondvarSite) (limit : ℕ) (s : Site) (t c m : ℕ) (timed : Bool)
     }
 
     abbrev goes : List Deed → Next LockAt → Event
-    goes ds n = or_else (event_of m None ds) (event_by c (case_there (relocked_deeds (in_lock e retries n))))
+    goes ds n = or_else (event_of m None ds) (event_by c (case_at_condvar (relocked_deeds (in_lock e retries n))))
 
     abbrev Locks : LockAt → Reply → List Deed → Next LockAt → Type 0
     Locks at told ds n =
@@ -317,7 +317,7 @@ module _ (v : CondvarSite) (limit : ℕ) (s : Site) (t c m : ℕ) (timed : Bool)
 
   shows : (seen : ℕ) (b : Bool)
       → CallOfTwoFollows c m (place wait.Show) (Value seen)
-      (event_by c (case_there (if b then Show m ∷ [] else SeeOther m ∷ [])))
+      (event_by c (case_at_condvar (if b then Show m ∷ [] else SeeOther m ∷ [])))
       (deeds.after_condvar_deeds (if b then Show m ∷ [] else SeeOther m ∷ []) v t).shown s.lock s.lock t
       (in_wait m timed (if b then At wait.Stand else At wait.Refuse))
   shows seen true = keeps c m t _ _ (Value seen) (AtLock c (OfCondvar (cases.Show m))) (Some m) s.lock _

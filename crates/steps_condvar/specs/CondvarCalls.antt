@@ -42,20 +42,20 @@ use Rattle.steps_condvar.specs.CondvarProfiles.{condvar_profile, has_mutex, may_
 use Rattle.steps_condvar.specs.CondvarProfiles.{notify_row, wait_carries, wait_row}
 use Rattle.steps_condvar.specs.CondvarDeeds as deeds
 use Rattle.steps_condvar.specs.CondvarDeeds.{IsAt, MayReply, condvar_deeds, wait_deeds}
-use Rattle.steps_condvar.specs.CondvarMutex.{MayHearBeside, beside_deeds}
+use Rattle.steps_condvar.specs.CondvarMutex.{MayGetReplyAtMutex, beside_deeds}
 use Rattle.steps_condvar.specs.CondvarWaits.{MayBefall, MayHearWaiter, waiter_deeds}
 
 -- ---------------------------------------------------------------- the effects on the two locks
 
 -- at the condition variable: a mutex is shown, or none, and a thread stands after the last, or
 -- leaves
-abbrev pub case_there : List CondvarDeed → Option LockCase
-case_there (Show m ∷ ds) = Some (OfCondvar (locks.Show m))
-case_there (condvars.HideAndTakeAll ∷ ds) = Some (OfCondvar locks.Hide)
-case_there (condvars.ShowNone ∷ ds) = Some (OfCondvar locks.Hide)
-case_there (StandLast ∷ ds) = Some (Park WaitHere)
-case_there (LeaveList ∷ ds) = Some locks.Late
-case_there ds = None
+abbrev pub case_at_condvar : List CondvarDeed → Option LockCase
+case_at_condvar (Show m ∷ ds) = Some (OfCondvar (locks.Show m))
+case_at_condvar (condvars.HideAndTakeAll ∷ ds) = Some (OfCondvar locks.Hide)
+case_at_condvar (condvars.ShowNone ∷ ds) = Some (OfCondvar locks.Hide)
+case_at_condvar (StandLast ∷ ds) = Some (Park WaitHere)
+case_at_condvar (LeaveList ∷ ds) = Some locks.Late
+case_at_condvar ds = None
 
 abbrev pub or_else : Event → Event → Event
 or_else Nothing other = other
@@ -65,7 +65,7 @@ or_else event other = event
 abbrev pub wait_event : ℕ → ℕ → WaitAt → Option ℕ → Reply → Event
 wait_event c m at whom told =
     or_else (event_of m (wait_carries at) (waiter_deeds at whom told))
-    (event_by c (case_there (wait_deeds m at told)))
+    (event_by c (case_at_condvar (wait_deeds m at told)))
 
 -- a notification sees whether the mutex is owned once it has marked it, or need not
 abbrev pub marked_event : ℕ → ℕ → Event
@@ -196,7 +196,7 @@ NotifiesTell =
     (v : CondvarSite) (r : Rules) (s : Site) (t c m : ℕ) (all : Bool) (at : NotifyAt) (told : Reply)
     → r.sort ≡ Mutex → IsCondvar v → IsAt v t (Notify all m at)
     → s.role t ≡ (notify_row all m at).role
-    → MayReply v t (Notify all m at) told → MayHearBeside r s v t m all at told
+    → MayReply v t (Notify all m at) told → MayGetReplyAtMutex r s v t m all at told
     → IsReached (Notify all m at)
     → CallOfTwoFollows c m (Notify all m at) told (notify_event c all m at told)
     (deeds.after_condvar_deeds (condvar_deeds (Notify all m at) told) v t).shown

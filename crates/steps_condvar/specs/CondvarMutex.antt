@@ -35,30 +35,30 @@ beside_deeds all q (notify.Leave any number) Done = Out ∷ End ∷ []
 beside_deeds all q at told = []
 
 -- the news that it may be told, beside this mutex
-abbrev pub MayHearBeside : Rules → Site → CondvarSite → ℕ → ℕ → Bool → NotifyAt → Reply → Type 0
-MayHearBeside r s c t m all notify.Enter Done = (u : ℕ) → (s.role u).inside ≢ Some Main
-MayHearBeside r s c t m all notify.Again (Value seen) = Unit {0}
-MayHearBeside r s c t m all notify.Hide (Value seen) = Unit {0}
-MayHearBeside r s c t m all notify.Mark (Value seen) = seen ≡ code r s
-MayHearBeside r s c t m all (notify.Set expected) (Value seen) =
+abbrev pub MayGetReplyAtMutex : Rules → Site → CondvarSite → ℕ → ℕ → Bool → NotifyAt → Reply → Type 0
+MayGetReplyAtMutex r s c t m all notify.Enter Done = (u : ℕ) → (s.role u).inside ≢ Some Main
+MayGetReplyAtMutex r s c t m all notify.Again (Value seen) = Unit {0}
+MayGetReplyAtMutex r s c t m all notify.Hide (Value seen) = Unit {0}
+MayGetReplyAtMutex r s c t m all notify.Mark (Value seen) = seen ≡ code r s
+MayGetReplyAtMutex r s c t m all (notify.Set expected) (Value seen) =
     (seen ≡ code r s) × (is_locked expected ≡ true)
-MayHearBeside r s c t m false (notify.Move false) (Took any none_left) =
+MayGetReplyAtMutex r s c t m false (notify.Move false) (Took any none_left) =
     (any ≡ true) × MoveFits r false false c s t m
-MayHearBeside r s c t m false (notify.Move true) (Requeued number none_left) =
+MayGetReplyAtMutex r s c t m false (notify.Move true) (Requeued number none_left) =
     MoveFits r false true c s t m
-MayHearBeside r s c t m true (notify.Move locked) (Requeued number none_left) =
+MayGetReplyAtMutex r s c t m true (notify.Move locked) (Requeued number none_left) =
     (number ≡ length c.waiters) × MoveFits r true locked c s t m
-MayHearBeside r s c t m all (notify.Clear any) (Value seen) = Unit {0}
-MayHearBeside r s c t m all (notify.MarkMoved number) (Value seen) = number ≢ 0
-MayHearBeside r s c t m all (notify.Leave any number) Done = s.lock.taken t ≡ None
-MayHearBeside r s c t m all at told = ⊥
+MayGetReplyAtMutex r s c t m all (notify.Clear any) (Value seen) = Unit {0}
+MayGetReplyAtMutex r s c t m all (notify.MarkMoved number) (Value seen) = number ≢ 0
+MayGetReplyAtMutex r s c t m all (notify.Leave any number) Done = s.lock.taken t ≡ None
+MayGetReplyAtMutex r s c t m all at told = ⊥
 
 abbrev pub role_next : Bool → ℕ → Next NotifyAt → Role
 role_next all m (At at) = (notify_row all m at).role
 role_next all m (Over answer) = idle
 
 -- the deeds may be done, and the next place says what the thread does about the mutex after them
-pub record FollowsBeside (r : Rules) (s : Site) (c : CondvarSite) (t m : ℕ) (all : Bool)
+pub record FollowsAtMutex (r : Rules) (s : Site) (c : CondvarSite) (t m : ℕ) (all : Bool)
     (at : NotifyAt) (told : Reply) : Type 0 where
   pub needed : AllNeeded r (beside_deeds all c.waiters at told) s t
   pub role : (after_all r (beside_deeds all c.waiters at told) s t).role t
@@ -68,14 +68,14 @@ abbrev pub NotifiersFollow : Type 0
 NotifiersFollow =
     (r : Rules) (s : Site) (c : CondvarSite) (t m : ℕ) (all : Bool) (at : NotifyAt) (told : Reply)
     → r.sort ≡ Mutex
-    → s.role t ≡ (notify_row all m at).role → MayHearBeside r s c t m all at told
-    → FollowsBeside r s c t m all at told
+    → s.role t ≡ (notify_row all m at).role → MayGetReplyAtMutex r s c t m all at told
+    → FollowsAtMutex r s c t m all at told
 
 -- A notification's steps on the word of the mutex leave the word of the mutex after the deeds.
 abbrev pub NotifiersCode : Type 0
 NotifiersCode =
     (r : Rules) (s : Site) (c : CondvarSite) (t k m : ℕ) (all : Bool) (at : NotifyAt) (f : Op)
     → r.sort ≡ Mutex → k ≢ m
-    → MayHearBeside r s c t m all at (Value (code r s)) → notify_act all k m at ≡ act.Word m f
+    → MayGetReplyAtMutex r s c t m all at (Value (code r s)) → notify_act all k m at ≡ act.Word m f
     → apply f (code r s)
     ≡ code r (after_all r (beside_deeds all c.waiters at (Value (code r s))) s t)

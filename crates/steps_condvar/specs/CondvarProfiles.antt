@@ -223,13 +223,13 @@ section_in None = None
 section_in (Some stage) = Some Main
 
 -- a thread that waits to be notified does so at the condition variable, and all others at the mutex
-abbrev pub wants_there : Option Want → Option Want
-wants_there (Some wants.Wait) = Some wants.Wait
-wants_there x = None
+abbrev pub wants_at_condvar : Option Want → Option Want
+wants_at_condvar (Some wants.Wait) = Some wants.Wait
+wants_at_condvar x = None
 
-abbrev pub wants_beside : Option Want → Option Want
-wants_beside (Some wants.Wait) = None
-wants_beside x = x
+abbrev pub wants_at_mutex : Option Want → Option Want
+wants_at_mutex (Some wants.Wait) = None
+wants_at_mutex x = x
 
 -- whether its call has a deadline, and whether it sleeps in such a call
 abbrev pub has_deadline : CondvarPlace → Bool
@@ -255,9 +255,9 @@ has_given_up (Wait m timed wait.Remove) = false
 has_given_up (Wait m timed wait.RemoveMoved) = false
 has_given_up p = is_late p
 
-abbrev pub is_late_beside : CondvarPlace → Bool
-is_late_beside (Wait m timed wait.RemoveMoved) = true
-is_late_beside p = false
+abbrev pub is_late_at_mutex : CondvarPlace → Bool
+is_late_at_mutex (Wait m timed wait.RemoveMoved) = true
+is_late_at_mutex p = false
 
 -- the goal of its call
 abbrev pub condvar_place_purpose : CondvarPlace → ℕ → Purpose
@@ -324,17 +324,17 @@ notify_carries (notify.MarkMoved number) = in_hand true false
 notify_carries (notify.Leave any number) = in_hand any false
 notify_carries at = None
 
-abbrev pub carries_beside : CondvarPlace → Option Bool
-carries_beside (Wait m timed at) = wait_carries at
-carries_beside (Look all) = None
-carries_beside (Notify all m at) = notify_carries at
+abbrev pub carries_at_mutex : CondvarPlace → Option Bool
+carries_at_mutex (Wait m timed at) = wait_carries at
+carries_at_mutex (Look all) = None
+carries_at_mutex (Notify all m at) = notify_carries at
 
 -- the row of a place at the condition variable: nobody is in a hand there
 abbrev pub condvar_profile : CondvarPlace → Profile
 condvar_profile p = record profiles.blank_row {
   role = record idle { inside = section_in (condvar_row p).stage };
   stands = in_line (condvar_row p).listed Main;
-  wants = wants_there (condvar_row p).wants;
+  wants = wants_at_condvar (condvar_row p).wants;
   owes = in_line (condvar_row p).owes Main;
   timed = has_deadline p;
   late_line = if may_give_up p then in_line (condvar_row p).listed Main else None;
@@ -352,13 +352,13 @@ abbrev pub mutex_side : CondvarPlace → Profile
 mutex_side p = record profiles.blank_row {
   role = (condvar_row p).role;
   stands = in_line (condvar_row p).moved Main;
-  carries = carries_beside p;
+  carries = carries_at_mutex p;
   hand = (condvar_row p).hand;
-  wants = wants_beside (condvar_row p).wants;
+  wants = wants_at_mutex (condvar_row p).wants;
   owes = in_line (condvar_row p).owes_mutex Main;
   retries = (condvar_row p).retries;
   timed = has_deadline p;
   late_line = if may_give_up p then in_line (condvar_row p).moved Main else None;
-  late = is_late_beside p;
+  late = is_late_at_mutex p;
   former = owned_before p;
 }

@@ -12,7 +12,7 @@ use Rattle.spec_locks.specs.declared.outcomes.Answer.TheVariants as answer
 use Rattle.steps_base.specs.declared.acts.Act.{Act}
 use Rattle.steps_base.specs.declared.acts.Act.TheVariants as act
 use Rattle.steps_base.specs.declared.acts.Wakes.TheVariants.{Nobody}
-use Rattle.steps_base.specs.declared.acts.Whom.TheVariants.{First}
+use Rattle.steps_base.specs.declared.acts.TakeWhich.TheVariants.{First}
 use Rattle.steps_base.specs.declared.acts.Reply.{Reply}
 use Rattle.steps_base.specs.declared.acts.Reply.TheVariants.{Done, Value, Took, Requeued, Removed, TakenBy}
 use Rattle.steps_base.specs.declared.acts.Reply.TheVariants.{MovedTo, HandedBy, Late, Woken}
@@ -26,7 +26,7 @@ use Rattle.steps_mutex.specs.declared.lock.LockAt.TheVariants as lock
 use Rattle.steps_mutex.specs.declared.places.MutexPlace.{MutexPlace}
 use Rattle.steps_mutex.specs.declared.places.MutexPlace.TheVariants as mutex
 use Rattle.steps_mutex.specs.declared.unlock.UnlockAt.TheVariants as unlock
-use Rattle.steps_mutex.specs.MutexSteps.{is_locked, mutex_act, mutex_looking, mutex_next, mutex_owners}
+use Rattle.steps_mutex.specs.MutexSteps.{is_locked, mutex_act, mutex_respin, mutex_next, mutex_owners}
 use Rattle.steps_condvar.specs.declared.notify.NotifyAt.{NotifyAt}
 use Rattle.steps_condvar.specs.declared.notify.NotifyAt.TheVariants as notify
 use Rattle.spec_locks.specs.declared.calls.CondvarCall.{CondvarCall}
@@ -252,10 +252,10 @@ abbrev pub in_lock : ℕ → Bool → Bool → Option MutexPlace → Option Cond
 in_lock m timed timed_out None = None
 in_lock m timed timed_out (Some at) = Some (Wait m timed (wait.Lock timed_out at))
 
-abbrev pub condvar_looking : CondvarPlace → Option CondvarPlace
-condvar_looking (Wait m timed (wait.Lock timed_out at)) =
-    in_lock m timed timed_out (mutex_looking at)
-condvar_looking p = None
+abbrev pub condvar_respin : CondvarPlace → Option CondvarPlace
+condvar_respin (Wait m timed (wait.Lock timed_out at)) =
+    in_lock m timed timed_out (mutex_respin at)
+condvar_respin p = None
 
 -- ---------------------------------------------------------------- owners
 

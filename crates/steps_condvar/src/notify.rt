@@ -20,7 +20,7 @@ ghost use Rattle.steps_condvar.specs.CondvarSteps.{next_notify, move_act, notify
 use crate::places::shows;
 use core_base::{Keys, Note, Op, Requeue, main_key};
 use spec_locks::Answer;
-use steps_base::{Act, Next, Reply, Wakes, Whom};
+use steps_base::{Act, Next, Reply, Wakes, TakeWhich};
 use steps_mutex::places::{LOCKED, PARKED, is_locked};
 
 /// Where a thread stands that notifies.
@@ -162,7 +162,7 @@ fn move_act(all: bool, locked: bool, condvar: usize, mutex: usize) -> Act
     }
     Act::Take {
         key: from,
-        whom: Whom::First,
+        whom: TakeWhich::First,
     }
 }
 

@@ -10,7 +10,7 @@ ghost use Rattle.std.specs.Prelude.{ℕ, ◌≡◌, ◌<◌, ◌^◌};
 ghost use Rattle.steps_base.specs.Acts.{outcome_of};
 ghost use Rattle.steps_condvar.specs.CondvarProfiles.{condvar_taker, condvar_wants, condvar_late_key};
 ghost use Rattle.steps_condvar.specs.CondvarProfiles.{condvar_owes, condvar_retries};
-ghost use Rattle.steps_condvar.specs.CondvarSteps.{HasMutexKey, condvar_act, condvar_first, condvar_looking};
+ghost use Rattle.steps_condvar.specs.CondvarSteps.{HasMutexKey, condvar_act, condvar_first, condvar_respin};
 ghost use Rattle.steps_condvar.specs.CondvarSteps.{condvar_next, condvar_owners, condvar_right, is_shown};
 ghost use Rattle.steps_condvar.specs.CondvarSteps.{look_next, mutex_beside, mutex_shown, shown_as};
 
@@ -216,7 +216,7 @@ impl CondvarPlace {
 
     /// From where the thread looks at its mutex once more, in place of an act that leads to sleep.
     pub fn respins_from(self) -> Option<CondvarPlace>
-        ensures { result ≡ condvar_looking self }
+        ensures { result ≡ condvar_respin self }
     {
         match self {
             CondvarPlace::Wait {

@@ -23,7 +23,7 @@ use Rattle.steps_base.specs.declared.acts.Act.{Act}
 use Rattle.steps_base.specs.declared.acts.Act as act
 use Rattle.steps_base.specs.declared.acts.Check.TheVariants.{WordIs}
 use Rattle.steps_base.specs.declared.acts.Wakes as wakes
-use Rattle.steps_base.specs.declared.acts.Whom as whom
+use Rattle.steps_base.specs.declared.acts.TakeWhich as whom
 use Rattle.steps_base.specs.declared.acts.Reply.{Reply}
 use Rattle.steps_base.specs.declared.acts.Reply.TheVariants.{Done, Value, Parked, Took, Removed, TakenBy}
 use Rattle.steps_base.specs.declared.acts.Reply.TheVariants.{HandedBy, Late, Woken}
@@ -230,10 +230,10 @@ mutex_next (HandOff bumps at) reply = in_hand_off bumps (next_hand_off at reply)
 
 -- from where a thread looks at the word once more, in place of the act that would set the parked
 -- bit
-abbrev pub mutex_looking : MutexPlace → Option MutexPlace
-mutex_looking (Lock e retries (lock.TheVariants.Decide seen)) =
+abbrev pub mutex_respin : MutexPlace → Option MutexPlace
+mutex_respin (Lock e retries (lock.TheVariants.Decide seen)) =
     if seen == 1 then Some (Lock e retries lock.TheVariants.Load) else None
-mutex_looking at = None
+mutex_respin at = None
 
 -- ---------------------------------------------------------------- owners
 

@@ -13,7 +13,7 @@ ghost use Rattle.steps_mutex.specs.MutexSteps.{hand_off_act};
 use crate::places::{LOCKED, MutexPlace, PARKED};
 use core_base::{Keys, Note, Op, main_key};
 use spec_locks::Answer;
-use steps_base::{Act, Next, Reply, Wakes, Whom};
+use steps_base::{Act, Next, Reply, Wakes, TakeWhich};
 
 /// Where an owner stands that saw `PARKED` in `unlock_fair` or `bump`.
 #[derive(Clone, Copy, PartialEq, Eq)]
@@ -87,7 +87,7 @@ pub(super) fn hand_off_act(lock: usize, at: HandOffAt) -> Act
         HandOffAt::Enter => Act::Enter(Keys::One(main_key(lock))),
         HandOffAt::Take => Act::Take {
             key: main_key(lock),
-            whom: Whom::First,
+            whom: TakeWhich::First,
         },
         HandOffAt::Store { any, none_left } => hand_off_store(lock, any, none_left),
         HandOffAt::Leave { any } => Act::Leave {

@@ -11,7 +11,7 @@ ghost use Rattle.steps_base.specs.Acts.{outcome_of};
 ghost use Rattle.steps_mutex.specs.MutexProfiles.{mutex_taker, mutex_wants, mutex_late_line, mutex_owes};
 ghost use Rattle.steps_mutex.specs.MutexProfiles.{mutex_retries};
 ghost use Rattle.steps_mutex.specs.MutexSteps.{is_locked, is_parked, mutex_first, mutex_right, mutex_act};
-ghost use Rattle.steps_mutex.specs.MutexSteps.{mutex_next, mutex_looking, mutex_owners};
+ghost use Rattle.steps_mutex.specs.MutexSteps.{mutex_next, mutex_respin, mutex_owners};
 
 use crate::hand_off::{HandOffAt, hand_off_act, looked, next_hand_off};
 use crate::lock::{Entry, LockAt, lock_act, lock_owners, next_lock, still_retries};
@@ -223,7 +223,7 @@ impl MutexPlace {
 
     /// From where the thread looks at the word once more, in place of an act that leads to sleep.
     pub fn respins_from(self) -> Option<MutexPlace>
-        ensures { result ≡ mutex_looking self }
+        ensures { result ≡ mutex_respin self }
     {
         match self {
             MutexPlace::Lock {

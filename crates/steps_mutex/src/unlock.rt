@@ -13,7 +13,7 @@ ghost use Rattle.steps_mutex.specs.MutexSteps.{next_unlock, unlock_act};
 use crate::places::{LOCKED, NOT_PARKED, is_parked};
 use core_base::{Keys, Note, Op, main_key};
 use spec_locks::Answer;
-use steps_base::{Act, Next, Reply, Wakes, Whom};
+use steps_base::{Act, Next, Reply, Wakes, TakeWhich};
 
 /// Where a thread stands in `unlock`.
 #[derive(Clone, Copy, PartialEq, Eq)]
@@ -62,7 +62,7 @@ pub(super) fn unlock_act(lock: usize, at: UnlockAt) -> Act
         UnlockAt::Enter => Act::Enter(Keys::One(main_key(lock))),
         UnlockAt::Take => Act::Take {
             key: main_key(lock),
-            whom: Whom::First,
+            whom: TakeWhich::First,
         },
         UnlockAt::Clear { .. } => Act::Word {
             lock,

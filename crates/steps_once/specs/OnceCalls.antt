@@ -49,7 +49,7 @@ CallBecomes l p told becomes =
 
 -- nothing, where it is taken; it tries again, where it is woken that was taken; and it is late,
 -- where its time is up
-pub record SleepersHear (l : ℕ) (p : OncePlace) : Type 0 where
+pub record SleepersGetReply (l : ℕ) (p : OncePlace) : Type 0 where
   pub taken : (u : ℕ) → CallBecomes l p (reply.TakenBy u) (λ c. c)
   pub woken : (u : ℕ) → (once_profile p).hand ≡ hand u false
       → CallBecomes l p (reply.Woken Normal) (λ c. record c { retries = Some l })
@@ -57,4 +57,4 @@ pub record SleepersHear (l : ℕ) (p : OncePlace) : Type 0 where
       → CallBecomes l p reply.Late (λ c. record c { late = true })
 
 abbrev pub OnceSleepersHear : Type 0
-OnceSleepersHear = (l : ℕ) (p : OncePlace) → SleepersHear l p
+OnceSleepersHear = (l : ℕ) (p : OncePlace) → SleepersGetReply l p

@@ -6,7 +6,7 @@ use Rattle.steps_base.specs.declared.acts.Act.{Act}
 use Rattle.steps_base.specs.declared.acts.Act.TheVariants as act
 use Rattle.steps_base.specs.declared.acts.Check.{Check}
 use Rattle.steps_base.specs.declared.acts.Reply.TheVariants.{Parked, Took, Late, Closed}
-use Rattle.steps_base.specs.declared.acts.Whom.TheVariants.{All}
+use Rattle.steps_base.specs.declared.acts.TakeWhich.TheVariants.{All}
 use Rattle.steps_base.specs.Acts.{holds}
 use Rattle.steps_base.specs.Moves.{StepView, Hears, GoesIn, MovesByAct, RowWaits, row_of, location_of}
 use Rattle.steps_base.specs.Moves.{location_then, inside_of}

@@ -17,7 +17,7 @@ use Rattle.steps_base.specs.declared.acts.Act.TheVariants as act
 use Rattle.steps_base.specs.declared.acts.Check.{Check}
 use Rattle.steps_base.specs.declared.acts.Check.TheVariants.{WordIs, Unfinished}
 use Rattle.steps_base.specs.declared.acts.Wakes.TheVariants.{Nobody}
-use Rattle.steps_base.specs.declared.acts.Whom.TheVariants.{All}
+use Rattle.steps_base.specs.declared.acts.TakeWhich.TheVariants.{All}
 use Rattle.steps_base.specs.declared.acts.Reply.{Reply}
 use Rattle.steps_base.specs.declared.acts.Reply.TheVariants.{Done, Value, Parked, Took, Removed, TakenBy}
 use Rattle.steps_base.specs.declared.acts.Reply.TheVariants.{Late, Woken, Closed}
@@ -230,10 +230,10 @@ once_next (GiveUp retries at) reply = in_give_up retries (next_give_up at reply)
 
 -- from where a thread looks at the word once more, in place of the act that would set the bit:
 -- while another runs
-abbrev pub once_looking : OncePlace → Option OncePlace
-once_looking (Look c retries (look.Decide seen)) =
+abbrev pub once_respin : OncePlace → Option OncePlace
+once_respin (Look c retries (look.Decide seen)) =
     if is_running seen && is_mark (course_of c seen) then Some (Look c retries look.Load) else None
-once_looking at = None
+once_respin at = None
 
 -- ---------------------------------------------------------------- how far it has come
 

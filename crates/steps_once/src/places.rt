@@ -12,7 +12,7 @@ ghost use Rattle.std.specs.Prelude.{ℕ, ◌≡◌, ◌<◌, ◌^◌};
 ghost use Rattle.steps_base.specs.Acts.{outcome_of};
 ghost use Rattle.steps_once.specs.OnceProfiles.{once_taker, once_wants, once_late_line, once_owes};
 ghost use Rattle.steps_once.specs.OnceProfiles.{once_retries};
-ghost use Rattle.steps_once.specs.OnceSteps.{once_first, once_act, once_next, once_looking, once_owners};
+ghost use Rattle.steps_once.specs.OnceSteps.{once_first, once_act, once_next, once_respin, once_owners};
 
 use crate::give_up::{GiveUpAt, give_up_act, next_give_up};
 use crate::look::{
@@ -198,7 +198,7 @@ impl OncePlace {
 
     /// From where the thread looks at the word once more, in place of an act that leads to sleep.
     pub fn respins_from(self) -> Option<OncePlace>
-        ensures { result ≡ once_looking self }
+        ensures { result ≡ once_respin self }
     {
         match self {
             OncePlace::Look {

@@ -16,7 +16,7 @@ use crate::places::{DONE, POISONED};
 use core_base::{Keys, Note, Op, main_key};
 use spec_locks::{Answer, OnceState};
 use steps_base::bits::{is_marked, is_poisoned};
-use steps_base::{Act, Next, Phase, Reply, Wakes, Whom};
+use steps_base::{Act, Next, Phase, Reply, Wakes, TakeWhich};
 
 /// Where a thread stands that runs its closure, or ends its run.
 #[derive(Clone, Copy, PartialEq, Eq)]
@@ -118,7 +118,7 @@ pub(super) fn run_act(lock: usize, at: RunAt) -> Act
         RunAt::Enter { .. } => Act::Enter(Keys::One(main_key(lock))),
         RunAt::Take { .. } => Act::Take {
             key: main_key(lock),
-            whom: Whom::All,
+            whom: TakeWhich::All,
         },
         RunAt::Leave { any, .. } => Act::Leave {
             keys: Keys::One(main_key(lock)),

@@ -27,7 +27,7 @@ use Rattle.steps_rwlock.specs.declared.park.ParkAt.{ParkAt}
 use Rattle.steps_rwlock.specs.declared.park.ParkAt.TheVariants as parking
 use Rattle.steps_rwlock.specs.RwLockSteps.{patience_of, decided, rwlock_act, rwlock_next, decided_for}
 use Rattle.steps_rwlock.specs.RwLockDeeds.{IsAt, MayReply, rwlock_deeds, IsFreshTry}
-use Rattle.steps_rwlock.specs.RwLockProfiles.{rwlock_profile, rwlock_looking, parked_hand, late_line_at}
+use Rattle.steps_rwlock.specs.RwLockProfiles.{rwlock_profile, rwlock_respin, parked_hand, late_line_at}
 use Rattle.spec_locks.specs.Locks.{Rules, Rights, standing}
 use Rattle.spec_locks.specs.Codes.{code}
 use Rattle.spec_locks.specs.Runs.{CallState}
@@ -139,7 +139,7 @@ RwLockCallsStand =
 -- where a thread looks once more, its row is as it was, and its call stands where it may
 abbrev pub RwLockLooksStand : Type 0
 RwLockLooksStand =
-    (a : Admission) (p q : RwLockPlace) → rwlock_looking a p ≡ Some q
+    (a : Admission) (p q : RwLockPlace) → rwlock_respin a p ≡ Some q
     → (rwlock_profile a q ≡ rwlock_profile a p) × (MayStand a p → MayStand a q)
 
 -- ---------------------------------------------------------------- the laws
@@ -183,7 +183,7 @@ CallBecomes a l p told becomes =
 
 -- nothing, where it is taken; it tries again, where it is woken that was taken; and it is late,
 -- where its time is up
-pub record SleepersHear (a : Admission) (l : ℕ) (p : RwLockPlace) : Type 0 where
+pub record SleepersGetReply (a : Admission) (l : ℕ) (p : RwLockPlace) : Type 0 where
   pub taken : (u : ℕ) → CallBecomes a l p (reply.TakenBy u) (λ c. c)
   pub woken : (u : ℕ) → parked_hand p.at ≡ hand u false
       → CallBecomes a l p (reply.Woken Normal) (λ c. record c { retries = Some l })
@@ -191,4 +191,4 @@ pub record SleepersHear (a : Admission) (l : ℕ) (p : RwLockPlace) : Type 0 whe
       → CallBecomes a l p reply.Late (λ c. record c { late = true })
 
 abbrev pub RwLockSleepersHear : Type 0
-RwLockSleepersHear = (a : Admission) (l : ℕ) (p : RwLockPlace) → MayStand a p → SleepersHear a l p
+RwLockSleepersHear = (a : Admission) (l : ℕ) (p : RwLockPlace) → MayStand a p → SleepersGetReply a l p

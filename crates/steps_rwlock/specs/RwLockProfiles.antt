@@ -202,8 +202,8 @@ gone_to p None = None
 gone_to p (Some to) = Some (record p { at = to })
 
 -- from where it looks at the word once more, in place of an act that leads to sleep
-abbrev pub rwlock_looking : Admission → RwLockPlace → Option RwLockPlace
-rwlock_looking a p = gone_to p (looking_at a p p.at)
+abbrev pub rwlock_respin : Admission → RwLockPlace → Option RwLockPlace
+rwlock_respin a p = gone_to p (looking_at a p p.at)
 
 abbrev pub rwlock_late_line : RwLockPlace → Option Line
 rwlock_late_line p = late_line_at (patience_of p.purpose) p.at

@@ -33,8 +33,8 @@ use Rattle.steps_base.specs.declared.acts.Reply.{Reply}
 use Rattle.steps_base.specs.declared.acts.Reply.TheVariants.{Done, Value, Parked, Took, Picked, Removed}
 use Rattle.steps_base.specs.declared.acts.Reply.TheVariants.{TakenBy, Late, Woken}
 use Rattle.steps_base.specs.declared.acts.Wakes as wake_notes
-use Rattle.steps_base.specs.declared.acts.Whom.{Whom}
-use Rattle.steps_base.specs.declared.acts.Whom as whom_taken
+use Rattle.steps_base.specs.declared.acts.TakeWhich.{TakeWhich}
+use Rattle.steps_base.specs.declared.acts.TakeWhich as whom_taken
 use Rattle.steps_rwlock.specs.declared.places.Admission.{Admission}
 use Rattle.steps_base.specs.declared.owners.Fallback.{Fallback}
 use Rattle.steps_base.specs.declared.owners.Fallback.TheVariants as fallbacks
@@ -208,7 +208,7 @@ IsTold told at = (l : ℕ) (a : Admission) (x : Want) (m : Line)
     → told ≡ outcome_of (park_act l a x m at)
 
 -- the waiters that a thread takes of a queue: those that the lock lets in, or the writer aside
-abbrev pub whom : Admission → Option Want → Line → Whom
+abbrev pub whom : Admission → Option Want → Line → TakeWhich
 whom a start Main = whom_taken.TheVariants.Picked start a.recursive
 whom a start Second = whom_taken.TheVariants.First
 

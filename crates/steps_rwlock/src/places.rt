@@ -4,7 +4,7 @@ ghost use Rattle.steps_base.specs.Acts.{outcome_of};
 ghost use Rattle.spec_locks.specs.Codes as codes;
 ghost use Rattle.steps_rwlock.specs.RwLockSteps.{wanted, goes, rwlock_act, rwlock_next};
 ghost use Rattle.core_base.specs.Keys.{key_of};
-ghost use Rattle.steps_rwlock.specs.RwLockProfiles.{rwlock_taker, rwlock_wants, rwlock_looking};
+ghost use Rattle.steps_rwlock.specs.RwLockProfiles.{rwlock_taker, rwlock_wants, rwlock_respin};
 ghost use Rattle.steps_rwlock.specs.RwLockProfiles.{rwlock_late_line, rwlock_owes};
 
 use crate::enter::{Decision, decided_act, looked, next_decided, next_first};
@@ -197,7 +197,7 @@ impl RwLockPlace {
 
     /// From where the thread looks at the word once more, in place of an act that leads to sleep.
     pub fn respins_from(self, admission: Admission) -> Option<RwLockPlace>
-        ensures { result ≡ rwlock_looking admission self }
+        ensures { result ≡ rwlock_respin admission self }
     {
         let at = match self.at {
             RwLockAt::Decide(seen)

@@ -21,7 +21,7 @@ use crate::purposes::{RwLockPurpose, entered};
 use core_base::{Keys, Line, Note, Want};
 use spec_locks::{Access, Answer};
 use steps_base::bits::{count_in, has_aside, has_parked};
-use steps_base::{Act, Next, Reply, Wakes, Whom};
+use steps_base::{Act, Next, Reply, Wakes, TakeWhich};
 
 #[derive(Clone, Copy, PartialEq, Eq)]
 pub enum WakeAt {
@@ -74,15 +74,15 @@ fn sees_waiter(place: RwLockPlace, line: Line, is_there: bool) -> Next<RwLockPla
 
 /// Returns the waiters that a thread takes from a queue: those that the lock lets in, or the writer
 /// aside.
-fn whom(admission: Admission, start: Option<Want>, line: Line) -> Whom
+fn whom(admission: Admission, start: Option<Want>, line: Line) -> TakeWhich
     ensures { result ≡ whom admission start line }
 {
     match line {
-        Line::Main => Whom::Picked {
+        Line::Main => TakeWhich::Picked {
             start,
             recursive: admission.recursive,
         },
-        Line::Second => Whom::First,
+        Line::Second => TakeWhich::First,
     }
 }
 

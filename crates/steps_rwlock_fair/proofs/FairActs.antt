@@ -22,7 +22,7 @@ use Rattle.steps_base.specs.declared.acts.Next.TheVariants as next
 use Rattle.steps_base.specs.declared.acts.Reply.{Reply}
 use Rattle.steps_base.specs.declared.acts.Reply.TheVariants.{Done, Value, Parked, Took, Picked, Removed}
 use Rattle.steps_base.specs.declared.acts.Reply.TheVariants.{TakenBy, HandedBy, Woken, Late}
-use Rattle.steps_base.specs.declared.acts.Whom as whom
+use Rattle.steps_base.specs.declared.acts.TakeWhich as whom
 use Rattle.steps_base.specs.Acts.{any_picked}
 use Rattle.steps_base.specs.Moves.{StepView, Hears, StaysPut, GoesIn, Parks, Picks, TakesAside, LeavesLine}
 use Rattle.steps_base.specs.Moves.{GoesOut, MovesByAct, Sleeps, IsHeld, RowWaits, AreOfWord, AreLeaving}

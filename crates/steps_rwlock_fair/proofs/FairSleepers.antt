@@ -32,7 +32,7 @@ use Rattle.steps_rwlock.specs.declared.purposes.RwLockPurpose.TheVariants as pur
 use Rattle.steps_rwlock.specs.declared.release.WakeAt.{WakeAt}
 use Rattle.steps_rwlock.specs.declared.release.WakeAt.TheVariants as waking
 use Rattle.steps_rwlock.specs.RwLockSteps.{wanted, rwlock_next}
-use Rattle.steps_rwlock.specs.RwLockProfiles.{rwlock_profile, rwlock_looking, looking_at, gone_to}
+use Rattle.steps_rwlock.specs.RwLockProfiles.{rwlock_profile, rwlock_respin, looking_at, gone_to}
 use Rattle.steps_rwlock.specs.RwLockProfiles.{parked_hand}
 use Rattle.steps_rwlock.specs.RwLockCalls.{MayStand, StandsAt}
 use Rattle.steps_rwlock.proofs.RwLockCallPlaces.{rwlock_sleepers_hear, rwlock_looks_stand}
@@ -331,7 +331,7 @@ fair_sleepers_hear a l (Handed x how b to) stands = handed_hears a l x how b to
 
 -- ---------------------------------------------------------------- looks
 
-looked_purpose : (a : Admission) (p q : RwLockPlace) → rwlock_looking a p ≡ Some q → (q.purpose ≡ p.purpose)
+looked_purpose : (a : Admission) (p q : RwLockPlace) → rwlock_respin a p ≡ Some q → (q.purpose ≡ p.purpose)
     × (q.retries ≡ p.retries)
 looked_purpose a p q is = by_at (looking_at a p p.at) is
   where
@@ -343,17 +343,17 @@ looked_purpose a p q is = by_at (looking_at a p p.at) is
     )
 
 pub fair_looks_stand : FairLooksStand
-fair_looks_stand a (Plain p) d is = by_place (rwlock_looking a p) refl is
+fair_looks_stand a (Plain p) d is = by_place (rwlock_respin a p) refl is
   where
-    by_place : (o : Option RwLockPlace) → rwlock_looking a p ≡ o → in_call false o ≡ Some d
+    by_place : (o : Option RwLockPlace) → rwlock_respin a p ≡ o → in_call false o ≡ Some d
         → (call_profile a d ≡ call_profile a (Plain p)) × (CallStands a (Plain p) → CallStands a d)
     by_place None f g = absurd cc
     by_place (Some q) f g = let z : Plain q ≡ d = cc in let looks = rwlock_looks_stand a p q f
         in subst (λ c. (call_profile a c ≡ call_profile a (Plain p)) × (CallStands a (Plain p)
         → CallStands a c)) z looks
-fair_looks_stand a (Bump p) d is = by_place (rwlock_looking a p) refl is
+fair_looks_stand a (Bump p) d is = by_place (rwlock_respin a p) refl is
   where
-    by_place : (o : Option RwLockPlace) → rwlock_looking a p ≡ o → in_call true o ≡ Some d
+    by_place : (o : Option RwLockPlace) → rwlock_respin a p ≡ o → in_call true o ≡ Some d
         → (call_profile a d ≡ call_profile a (Bump p)) × (CallStands a (Bump p) → CallStands a d)
     by_place None f g = absurd cc
     by_place (Some q) f g =

@@ -29,7 +29,7 @@ use Rattle.steps_base.specs.Moves.{claim_handed}
 use Rattle.spec_locks.specs.declared.calls.RwLockCall.{RwLockCall}
 use Rattle.spec_locks.specs.Purposes.{rwlock_purpose}
 use Rattle.steps_rwlock_fair.specs.FairBegins.{call_first, call_right}
-use Rattle.steps_rwlock_fair.specs.FairProfiles.{call_profile, call_looking}
+use Rattle.steps_rwlock_fair.specs.FairProfiles.{call_profile, call_respin}
 use Rattle.steps_rwlock_fair.specs.declared.places.RwLockCallPlace.{RwLockCallPlace}
 use Rattle.spec_locks.specs.declared.calls.Access.{Access}
 use Rattle.steps_rwlock.specs.RwLockSteps.{wanted}
@@ -231,7 +231,7 @@ FairSleepersHear = (a : Admission) (l : ℕ) (c : RwLockCallPlace) → CallStand
 -- where a thread looks once more, its row is as it was, and its call stands where it may
 abbrev pub FairLooksStand : Type 0
 FairLooksStand =
-    (a : Admission) (c d : RwLockCallPlace) → call_looking a c ≡ Some d
+    (a : Admission) (c d : RwLockCallPlace) → call_respin a c ≡ Some d
     → (call_profile a d ≡ call_profile a c) × (CallStands a c → CallStands a d)
 
 -- each step on the word that hands nothing over leaves the owners and shares of the lock after its

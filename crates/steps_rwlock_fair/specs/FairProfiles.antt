@@ -16,7 +16,7 @@ use Rattle.steps_rwlock.specs.declared.purposes.RwLockPurpose.{RwLockPurpose}
 use Rattle.steps_rwlock.specs.declared.purposes.RwLockPurpose.TheVariants as purpose
 use Rattle.steps_rwlock.specs.RwLockSteps.{wanted, access_of}
 use Rattle.steps_rwlock.specs.RwLockProfiles.{is_timed, without_pending, rwlock_profile, rwlock_taker}
-use Rattle.steps_rwlock.specs.RwLockProfiles.{rwlock_wants, rwlock_looking, rwlock_late_line, rwlock_owes}
+use Rattle.steps_rwlock.specs.RwLockProfiles.{rwlock_wants, rwlock_respin, rwlock_late_line, rwlock_owes}
 use Rattle.steps_rwlock_fair.specs.declared.places.RwLockCallPlace.{RwLockCallPlace}
 use Rattle.steps_rwlock_fair.specs.declared.places.RwLockCallPlace.TheVariants.{Plain, PeekQueue, HandOver}
 use Rattle.steps_rwlock_fair.specs.declared.places.RwLockCallPlace.TheVariants.{Bump}
@@ -144,10 +144,10 @@ in_call bumps None = None
 in_call bumps (Some p) = Some (entering bumps p)
 
 -- from where it looks at the word once more, in place of an act that leads to sleep
-abbrev pub call_looking : Admission → RwLockCallPlace → Option RwLockCallPlace
-call_looking a (Plain p) = in_call false (rwlock_looking a p)
-call_looking a (Bump p) = in_call true (rwlock_looking a p)
-call_looking a c = None
+abbrev pub call_respin : Admission → RwLockCallPlace → Option RwLockCallPlace
+call_respin a (Plain p) = in_call false (rwlock_respin a p)
+call_respin a (Bump p) = in_call true (rwlock_respin a p)
+call_respin a c = None
 
 abbrev pub call_late_line : RwLockCallPlace → Option Line
 call_late_line (Plain p) = rwlock_late_line p

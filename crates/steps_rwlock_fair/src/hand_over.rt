@@ -21,7 +21,7 @@ use crate::places::{RwLockCallPlace, enters_again};
 use core_base::{Keys, Note, Op, Want, main_key};
 use spec_locks::{Access, Answer};
 use steps_base::bits::{count_in, has_parked};
-use steps_base::{Act, Next, Reply, Wakes, Whom};
+use steps_base::{Act, Next, Reply, Wakes, TakeWhich};
 use steps_rwlock::Admission;
 use steps_rwlock::places::{PARKED, READER, UPGRADABLE, WRITER};
 use steps_rwlock::purposes::token;
@@ -189,7 +189,7 @@ pub(super) fn hand_over_act(
         HandOverAt::Enter => Act::Enter(Keys::One(key)),
         HandOverAt::Take => Act::Take {
             key,
-            whom: Whom::Picked {
+            whom: TakeWhich::Picked {
                 start: None,
                 recursive: admission.recursive,
             },

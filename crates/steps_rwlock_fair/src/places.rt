@@ -7,7 +7,7 @@ ghost use Rattle.steps_base.specs.Acts.{outcome_of};
 ghost use Rattle.steps_rwlock_fair.specs.FairSteps.{entering, enters_again, call_act, call_next, gives_way};
 ghost use Rattle.steps_rwlock_fair.specs.FairSteps.{gives_up_at, glance_next, given, plain_next, bump_next};
 ghost use Rattle.steps_rwlock_fair.specs.FairSteps.{call_owners, call_shares};
-ghost use Rattle.steps_rwlock_fair.specs.FairProfiles.{call_taker, call_wants, call_looking, call_late_line};
+ghost use Rattle.steps_rwlock_fair.specs.FairProfiles.{call_taker, call_wants, call_respin, call_late_line};
 ghost use Rattle.steps_rwlock_fair.specs.FairProfiles.{call_owes, call_retries};
 
 use crate::hand_over::{HandOverAt, hand_over_act, hand_over_next};
@@ -270,7 +270,7 @@ impl RwLockCallPlace {
 
     /// From where the thread looks at the word once more, in place of an act that leads to sleep.
     pub fn respins_from(self, admission: Admission) -> Option<RwLockCallPlace>
-        ensures { result ≡ call_looking admission self }
+        ensures { result ≡ call_respin admission self }
     {
         match self {
             RwLockCallPlace::Plain(place) => {

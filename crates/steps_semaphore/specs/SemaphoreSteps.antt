@@ -15,7 +15,7 @@ use Rattle.steps_base.specs.declared.acts.Act.{Act}
 use Rattle.steps_base.specs.declared.acts.Act.TheVariants as act
 use Rattle.steps_base.specs.declared.acts.Check.TheVariants.{WordIs}
 use Rattle.steps_base.specs.declared.acts.Wakes.TheVariants.{Nobody}
-use Rattle.steps_base.specs.declared.acts.Whom.TheVariants.{First}
+use Rattle.steps_base.specs.declared.acts.TakeWhich.TheVariants.{First}
 use Rattle.steps_base.specs.declared.acts.Reply.{Reply}
 use Rattle.steps_base.specs.declared.acts.Reply.TheVariants.{Done, Value, Parked, Took, Removed, TakenBy}
 use Rattle.steps_base.specs.declared.acts.Reply.TheVariants.{Late, Woken}
@@ -160,10 +160,10 @@ semaphore_next (Try at) reply = in_try (next_try at reply)
 semaphore_next (Release at) reply = in_release (next_release at reply)
 
 -- from where a thread looks at the word once more, in place of the act that would set the bit
-abbrev pub semaphore_looking : SemaphorePlace → Option SemaphorePlace
-semaphore_looking (Acquire timed retries (acquire.Decide seen)) =
+abbrev pub semaphore_respin : SemaphorePlace → Option SemaphorePlace
+semaphore_respin (Acquire timed retries (acquire.Decide seen)) =
     if seen == 0 then Some (Acquire timed retries acquire.Load) else None
-semaphore_looking at = None
+semaphore_respin at = None
 
 -- ---------------------------------------------------------------- holders of permits
 

@@ -11,7 +11,7 @@ ghost use Rattle.steps_semaphore.specs.SemaphoreProfiles.{semaphore_late_line, s
 ghost use Rattle.steps_semaphore.specs.SemaphoreProfiles.{semaphore_retries};
 ghost use Rattle.steps_semaphore.specs.SemaphoreSteps.{free_permits, is_free, semaphore_first};
 ghost use Rattle.steps_semaphore.specs.SemaphoreSteps.{semaphore_right, semaphore_act, semaphore_next};
-ghost use Rattle.steps_semaphore.specs.SemaphoreSteps.{semaphore_looking, semaphore_shares};
+ghost use Rattle.steps_semaphore.specs.SemaphoreSteps.{semaphore_respin, semaphore_shares};
 
 use crate::acquire::{AcquireAt, acquire_act, acquire_shares, next_acquire, still_retries};
 use crate::release::{ReleaseAt, next_release, release_act, release_shares};
@@ -177,7 +177,7 @@ impl SemaphorePlace {
 
     /// From where the thread looks at the word once more, in place of an act that leads to sleep.
     pub fn respins_from(self) -> Option<SemaphorePlace>
-        ensures { result ≡ semaphore_looking self }
+        ensures { result ≡ semaphore_respin self }
     {
         match self {
             SemaphorePlace::Acquire {

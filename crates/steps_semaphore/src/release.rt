@@ -14,7 +14,7 @@ use crate::places::{NOT_PARKED, ONE_FREE};
 use core_base::{Keys, Note, Op, main_key};
 use spec_locks::Answer;
 use steps_base::bits::has_parked;
-use steps_base::{Act, Next, Reply, Wakes, Whom};
+use steps_base::{Act, Next, Reply, Wakes, TakeWhich};
 
 /// Where a thread stands that gives a permit back.
 #[derive(Clone, Copy, PartialEq, Eq)]
@@ -63,7 +63,7 @@ pub(super) fn release_act(lock: usize, at: ReleaseAt) -> Act
         ReleaseAt::Enter => Act::Enter(Keys::One(main_key(lock))),
         ReleaseAt::Take => Act::Take {
             key: main_key(lock),
-            whom: Whom::First,
+            whom: TakeWhich::First,
         },
         ReleaseAt::Clear { .. } => Act::Word {
             lock,

@@ -2,7 +2,7 @@
 use Rattle.std.specs.Prelude.{ℕ}
 use Rattle.core_words.specs.declared.words.Word.{Word}
 use Rattle.parking_lot_core.specs.declared.lot.ParkingLot.{ParkingLot}
-use Rattle.parking_lot.specs.Names.{admission_of, lot_of_rwlock, word_of_rwlock}
+use Rattle.parking_lot.specs.LotOf.{admission_of, lot_of_rwlock, word_of_rwlock}
 use Rattle.test_any_rwlock.specs.declared.any_rwlock.AnyRwLock.{AnyRwLock}
 use Rattle.test_any_rwlock.specs.declared.any_rwlock.AnyRwLock.TheVariants.{Normal, Recursive}
 

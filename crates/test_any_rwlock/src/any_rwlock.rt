@@ -2,7 +2,7 @@
 ghost use Rattle.std.specs.Prelude.{◌≡◌, ◌≤◌, ◌+◌, ◌*◌, IfOk, IfSome, MatchResult};
 ghost use Rattle.std.specs.Arc.{arc_value};
 ghost use Rattle.parking_lot_core.specs.Tokens.{IsTokenOf};
-ghost use Rattle.parking_lot.specs.Names.{IsExclusiveOf, IsSharedOf, IsUpgradableOf};
+ghost use Rattle.parking_lot.specs.LotOf.{IsExclusiveOf, IsSharedOf, IsUpgradableOf};
 ghost use Rattle.test_any_rwlock.specs.AnyLocks.{limit_of, lot_of, word_of};
 
 use parking_lot::lock_api_rw::{

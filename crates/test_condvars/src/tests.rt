@@ -7,7 +7,7 @@ mod two;
 
 ghost use Rattle.std.specs.Prelude.{◌≡◌, ◌<◌, ◌≤◌, All, IfSome};
 ghost use Rattle.std.specs.Arc.{arc_value};
-ghost use Rattle.parking_lot.specs.Names.{IsTicketOf, IsTokenOf, lock_of, lot_of, lot_of_condvar};
+ghost use Rattle.parking_lot.specs.LotOf.{IsTicketOf, IsTokenOf, lock_of, lot_of, lot_of_condvar};
 
 use parking_lot::{Clock, Condvar, Fault, Mutex, MutexGuard, ParkingLot, TickClock, Ticket, Token};
 use std::alloc::Global;

@@ -10,7 +10,7 @@ mod spawned;
 mod visits;
 mod workers;
 
-ghost use Rattle.parking_lot.specs.Names.{IsTokenOf, lot_of};
+ghost use Rattle.parking_lot.specs.LotOf.{IsTokenOf, lot_of};
 
 use parking_lot::{Fault, Mutex, Team, TickClock, Token};
 use std::fmt::Debug;

@@ -7,7 +7,7 @@ mod texts;
 ghost use Rattle.std.specs.Prelude.{◌≡◌, ◌<◌, ◌≤◌};
 ghost use Rattle.std.specs.Arc.{arc_value};
 ghost use Rattle.parking_lot_core.specs.Tokens.{IsTokenOf};
-ghost use Rattle.parking_lot.specs.Names.{lot_of, lot_of_rwlock};
+ghost use Rattle.parking_lot.specs.LotOf.{lot_of, lot_of_rwlock};
 
 use parking_lot::{Mutex, ParkingLot, RwLock, Token};
 use std::alloc::Global;

@@ -8,10 +8,10 @@ mod timed;
 
 ghost use Rattle.std.specs.Prelude.{◌≡◌, ◌<◌, ◌≤◌, All, IfSome};
 ghost use Rattle.std.specs.Arc.{arc_value};
-ghost use Rattle.run_signals.specs.OnceUsers.{IsTicketOf, IsTokenOf, lot_of};
+ghost use Rattle.run_once_and_semaphores.specs.OnceUsers.{IsTicketOf, IsTokenOf, lot_of};
 
 use parking_lot_core::{Fault, ParkingLot, Ticket, Token};
-use run_signals::{Once, OnceCell, OnceFault};
+use run_once_and_semaphores::{Once, OnceCell, OnceFault};
 use std::alloc::Global;
 use std::fmt::Debug;
 use std::process::Abort;

@@ -7,7 +7,7 @@ mod timed;
 
 ghost use Rattle.std.specs.Prelude.{IfOk, IfSome, MatchResult};
 ghost use Rattle.parking_lot_core.specs.Tokens.{IsTokenOf};
-ghost use Rattle.parking_lot.specs.Names.{IsExclusiveOf, IsSharedOf, IsUpgradableOf};
+ghost use Rattle.parking_lot.specs.LotOf.{IsExclusiveOf, IsSharedOf, IsUpgradableOf};
 ghost use Rattle.test_any_rwlock.specs.AnyLocks.{lot_of, word_of};
 
 use fixtures::{AnyRwLock, Sort, lock_alone};

@@ -10,7 +10,7 @@ ghost use Rattle.std.specs.Prelude.{◌≡◌, ◌<◌, ◌≤◌, All, IfSome};
 ghost use Rattle.std.specs.Arc.{arc_value};
 ghost use Rattle.lock_api_rw.specs.Guards.{lock_of};
 ghost use Rattle.parking_lot_core.specs.Tokens.{IsTicketOf, IsTokenOf};
-ghost use Rattle.parking_lot.specs.Names.{lot_of_rwlock};
+ghost use Rattle.parking_lot.specs.LotOf.{lot_of_rwlock};
 
 use parking_lot::{
     ParkingLot, RwLock, RwLockReadGuard, RwLockUpgradableReadGuard, RwLockWriteGuard, Ticket, Token,

@@ -1,5 +1,5 @@
 //! Two threads lock two mutexes. Wrong: each in its own order.
-ghost use Rattle.parking_lot.specs.Names.{IsTokenOf, lot_of};
+ghost use Rattle.parking_lot.specs.LotOf.{IsTokenOf, lot_of};
 
 use crate::programs::Version;
 use parking_lot::{Director, Fault, Mutex, Team, Token};

@@ -1,6 +1,6 @@
 //! Two threads want a value that is made once. Wrong: a thread that finds it missing makes it before it
 //! calls the `Once`.
-ghost use Rattle.parking_lot.specs.Names.{IsTokenOf, lot_of_once};
+ghost use Rattle.parking_lot.specs.LotOf.{IsTokenOf, lot_of_once};
 
 use crate::programs::Version;
 use parking_lot::{Director, Fault, Once, Team, Token};

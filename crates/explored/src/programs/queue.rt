@@ -1,7 +1,7 @@
 //! A queue of one place, a thread that fills it twice, and two that take one job each. Wrong: one
 //! condition variable for two conditions, and each change notifies one thread.
 ghost use Rattle.std.specs.Prelude.{◌≡◌};
-ghost use Rattle.parking_lot.specs.Names.{IsTokenOf, lot_of, lot_of_condvar};
+ghost use Rattle.parking_lot.specs.LotOf.{IsTokenOf, lot_of, lot_of_condvar};
 
 use crate::programs::Version;
 use parking_lot::{Condvar, Director, Fault, Mutex, Team, Token};

@@ -1,5 +1,5 @@
 //! A thread reads beside one that writes. Wrong: it reads again while it reads.
-ghost use Rattle.parking_lot.specs.Names.{IsTokenOf, lot_of_rwlock};
+ghost use Rattle.parking_lot.specs.LotOf.{IsTokenOf, lot_of_rwlock};
 
 use crate::programs::Version;
 use parking_lot::{Director, Fault, RwLock, Team, Token};

@@ -1,5 +1,5 @@
 //! Programs that try the search itself.
-ghost use Rattle.parking_lot.specs.Names.{IsTokenOf, lot_of};
+ghost use Rattle.parking_lot.specs.LotOf.{IsTokenOf, lot_of};
 
 use crate::programs::Version;
 use parking_lot::{Director, Fault, Mutex, Semaphore, Team, Token, TurnClock};

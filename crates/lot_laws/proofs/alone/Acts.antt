@@ -1,23 +1,23 @@
 -- A thread that steps alone: what each of its acts leads to, of the lock that it calls.
-use Rattle.lot_laws.proofs.Names
-use Names.{subst, ℕ, true, false, Option, Some, None, if◌then◌else◌, ◌==◌, ◌≡◌, ◌+◌, ◌*◌, ◌<◌, List, [], ◌∷◌}
-use Names.{◌++◌, length, get_or, map, drop, is_none, refl, sym, ◌∙◌, ap, get_or-set_same, length-set, lt-ltb}
-use Names.{length-map, get_or-map, One, Note, Op, Waiter, Exclusive, apply, waiter, without, first_of, WordIs}
-use Names.{Done, Value, Parked, Took, Removed, TakenBy, Woken, Outcome, Place, Idle, Mutex, MutexPlace}
-use Names.{takes_effect, outcome_of, act_of, next_place, next_act, state_after_hand_over_by, hand_over_told}
-use Names.{State, unlocked, place_at, word_at, owners_at, section_at, queue_at, put, state_after_operation}
-use Names.{state_with_sections, queues_with_last, queues_without, queues_without_first, state_after_taking}
-use Names.{state_after_reply, state_after_act, reply_to, can_do, state_after_go, go_of, is_possible, after}
-use Names.{step_outcome, go_outcome, place_after_telling, state_after_telling, state_after_hand_over}
-use Names.{owners_handed_over, is_there, going_outcome, state_after_going, IsWellFormed, SameSize, owner_at}
-use Names.{Main, EntersSection, location, location_at, AreCondvars, AreCounted, IsInductive}
-use Names.{after_well_formed, after_size, main_key_there, main_line_there, Owners, with_exclusive}
-use Names.{owners_after}
+use Rattle.lot_laws.proofs.Imports
+use Imports.{subst, ℕ, true, false, Option, Some, None, if◌then◌else◌, ◌==◌, ◌≡◌, ◌+◌, ◌*◌, ◌<◌, List, [], ◌∷◌}
+use Imports.{◌++◌, length, get_or, map, drop, is_none, refl, sym, ◌∙◌, ap, get_or-set_same, length-set, lt-ltb}
+use Imports.{length-map, get_or-map, One, Note, Op, Waiter, Exclusive, apply, waiter, without, first_of, WordIs}
+use Imports.{Done, Value, Parked, Took, Removed, TakenBy, Woken, Outcome, Place, Idle, Mutex, MutexPlace}
+use Imports.{takes_effect, outcome_of, act_of, next_place, next_act, state_after_hand_over_by, hand_over_told}
+use Imports.{State, unlocked, place_at, word_at, owners_at, section_at, queue_at, put, state_after_operation}
+use Imports.{state_with_sections, queues_with_last, queues_without, queues_without_first, state_after_taking}
+use Imports.{state_after_reply, state_after_act, reply_to, can_do, state_after_go, go_of, is_possible, after}
+use Imports.{step_outcome, go_outcome, place_after_telling, state_after_telling, state_after_hand_over}
+use Imports.{owners_handed_over, is_there, going_outcome, state_after_going, IsWellFormed, SameSize, owner_at}
+use Imports.{Main, EntersSection, location, location_at, AreCondvars, AreCounted, IsInductive}
+use Imports.{after_well_formed, after_size, main_key_there, main_line_there, Owners, with_exclusive}
+use Imports.{owners_after}
 use Rattle.spec_locks.specs.declared.kinds.Kind as kind
 use Rattle.steps_base.specs.declared.acts.Act as act
 use Rattle.steps_base.specs.declared.acts.Wakes as wakes
 use Rattle.spec_locks.specs.declared.outcomes.Outcome as outcome
-use Rattle.steps_base.specs.declared.acts.Whom as whoms
+use Rattle.steps_base.specs.declared.acts.TakeWhich as whoms
 use Rattle.lot_laws.proofs.machine.Parts.{IsSingle, next_single, nothing_at}
 use Rattle.lot_laws.proofs.alone.Leads.{Leads, leads_barred, leads_step}
 use Rattle.lot_laws.proofs.calls.OwnPlace.{goes_from_there, told_from_there}

@@ -1,10 +1,10 @@
 -- Steps of a thread alone, one after another.
-use Rattle.lot_laws.proofs.Names
-use Names.{◌≡◌, ◌≢◌, ℕ, zero, suc, ◌+◌, ◌-◌, ◌<◌, Bool, true, false, Option, Some, None, is_some, nat_lt}
-use Names.{length, if◌then◌else◌, refl, ap, sym, ◌∙◌, arith, Act, Sleep, Closure, Step, Turn, Outcome}
-use Names.{outcome_of, act_of, next_act, respins_from, State, SoloEnd, alone_after, solo, after, step_outcome}
-use Names.{is_possible, state_after_turn, turn_outcome, go_of, reply_to, closed_place, place_at, put}
-use Names.{can_turn, going_outcome, look_outcome, state_after_act, Place, both}
+use Rattle.lot_laws.proofs.Imports
+use Imports.{◌≡◌, ◌≢◌, ℕ, zero, suc, ◌+◌, ◌-◌, ◌<◌, Bool, true, false, Option, Some, None, is_some, nat_lt}
+use Imports.{length, if◌then◌else◌, refl, ap, sym, ◌∙◌, arith, Act, Sleep, Closure, Step, Turn, Outcome}
+use Imports.{outcome_of, act_of, next_act, respins_from, State, SoloEnd, alone_after, solo, after, step_outcome}
+use Imports.{is_possible, state_after_turn, turn_outcome, go_of, reply_to, closed_place, place_at, put}
+use Imports.{can_turn, going_outcome, look_outcome, state_after_act, Place, both}
 use Rattle.steps_base.specs.declared.acts.Act.TheVariants.{End}
 use Rattle.spec_locks.specs.declared.calls.Turn as turn
 use Rattle.spec_locks.specs.declared.outcomes.Outcome as outcome

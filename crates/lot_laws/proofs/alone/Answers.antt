@@ -1,12 +1,12 @@
 -- The answer of a call that has stepped alone to its end is true.
-use Rattle.lot_laws.proofs.Names
-use Names.{Some, None, ℕ, zero, suc, Bool, true, false, Option, if◌then◌else◌, ◌≡◌, ◌≢◌, inl, inr, List, []}
-use Names.{◌∷◌, length, replicate, refl, sym, ◌∙◌, ap, subst, Answer, Outcome, Rights, Pend, Settle, Leave}
-use Names.{Park, Aside, Wake, HandOff, OfOnce, OnceCase, Start, Finish, Fail, Rest, TakeAll, Purpose}
-use Names.{CondvarMemory}
-use Names.{WasMoved, moved_of, LocksState, CallState, Event, Nothing, AtLock, IsStep, IsRun, GoesOn}
-use Names.{AnswerHolds, after_wake, going_on, is_among, is_taken_by, woken, Moves, gives_up, go_of}
-use Names.{GoesOnUntil, last_told}
+use Rattle.lot_laws.proofs.Imports
+use Imports.{Some, None, ℕ, zero, suc, Bool, true, false, Option, if◌then◌else◌, ◌≡◌, ◌≢◌, inl, inr, List, []}
+use Imports.{◌∷◌, length, replicate, refl, sym, ◌∙◌, ap, subst, Answer, Outcome, Rights, Pend, Settle, Leave}
+use Imports.{Park, Aside, Wake, HandOff, OfOnce, OnceCase, Start, Finish, Fail, Rest, TakeAll, Purpose}
+use Imports.{CondvarMemory}
+use Imports.{WasMoved, moved_of, LocksState, CallState, Event, Nothing, AtLock, IsStep, IsRun, GoesOn}
+use Imports.{AnswerHolds, after_wake, going_on, is_among, is_taken_by, woken, Moves, gives_up, go_of}
+use Imports.{GoesOnUntil, last_told}
 use Rattle.spec_locks.specs.declared.outcomes.Outcome.TheVariants as outcome
 use Rattle.spec_locks.specs.Locks.{Enter, Late}
 use Rattle.spec_locks.specs.Locks as locks

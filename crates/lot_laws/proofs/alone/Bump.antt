@@ -1,21 +1,21 @@
 -- A bump that enters again steps alone as a call that enters: each of its steps is the same, but for the call
 -- that its place is of.
-use Rattle.lot_laws.proofs.Names
-use Names.{ℕ, zero, suc, Bool, true, false, Option, Some, None, if◌then◌else◌, ◌==◌, ◌&&◌, ◌≡◌, ◌≢◌, ◌+◌, ◌*◌}
-use Names.{◌^◌, ◌<◌, List, [], ◌∷◌, length, set, get_or, nat_lt, replicate, slice_index_or, inl, inr, refl}
-use Names.{sym, ◌∙◌, ap, subst, arith, get_or-set_same, length-set, One, Waiter, Access, Patient, Outcome}
-use Names.{Act, Next, At, Reply, holds, outcome_of, Admission, RwLockPlace, RwLockAt, RwLockPurpose, Decision}
-use Names.{ParkAt, Admits, decided, decided_act, exchange, plus, rwlock_act, rwlock_next, act_at, IsDecided}
-use Names.{IsNoRefusal, MayBeTold, MayStand, MayStandNext, ParksBy, StandsAt, rwlock_calls_stand}
-use Names.{RwLockCallPlace, Plain, PeekQueue, HandOver, Bump, Handed, CallStands, IsOfBump, bump_next}
-use Names.{enters_again, gives_way, plain_next, unless_given, rwlock_first, StaysFor, stays_for, has_aside}
-use Names.{Place, Idle, RwLock, act_of, next_act, next_place, rwlock_does, rwlock_goes, shares_after}
-use Names.{SoloEnd as Ran, State, state_after_operation, after, alone_after, can_do, can_go, go_of}
-use Names.{go_outcome, held, is_possible, owners_at, place_at, put, queue_at, queues_with_last, reply_to}
-use Names.{runs_closure, solo, state_after_act, state_after_go, step_outcome, word_at, going_outcome}
-use Names.{state_after_going, kind_at, IsWellFormed, SameSize, IsOfItsKind, after_well_formed, after_size}
-use Names.{performed_counts, put_well_formed, AreCondvars, AreCounted, IsInductive, rules_in, role_on}
-use Names.{location, lock_seen, lock_state, taken_at, IsBarred, Rests}
+use Rattle.lot_laws.proofs.Imports
+use Imports.{ℕ, zero, suc, Bool, true, false, Option, Some, None, if◌then◌else◌, ◌==◌, ◌&&◌, ◌≡◌, ◌≢◌, ◌+◌, ◌*◌}
+use Imports.{◌^◌, ◌<◌, List, [], ◌∷◌, length, set, get_or, nat_lt, replicate, slice_index_or, inl, inr, refl}
+use Imports.{sym, ◌∙◌, ap, subst, arith, get_or-set_same, length-set, One, Waiter, Access, Patient, Outcome}
+use Imports.{Act, Next, At, Reply, holds, outcome_of, Admission, RwLockPlace, RwLockAt, RwLockPurpose, Decision}
+use Imports.{ParkAt, Admits, decided, decided_act, exchange, plus, rwlock_act, rwlock_next, act_at, IsDecided}
+use Imports.{IsNoRefusal, MayBeTold, MayStand, MayStandNext, ParksBy, StandsAt, rwlock_calls_stand}
+use Imports.{RwLockCallPlace, Plain, PeekQueue, HandOver, Bump, Handed, CallStands, IsOfBump, bump_next}
+use Imports.{enters_again, gives_way, plain_next, unless_given, rwlock_first, StaysFor, stays_for, has_aside}
+use Imports.{Place, Idle, RwLock, act_of, next_act, next_place, rwlock_does, rwlock_goes, shares_after}
+use Imports.{SoloEnd as Ran, State, state_after_operation, after, alone_after, can_do, can_go, go_of}
+use Imports.{go_outcome, held, is_possible, owners_at, place_at, put, queue_at, queues_with_last, reply_to}
+use Imports.{runs_closure, solo, state_after_act, state_after_go, step_outcome, word_at, going_outcome}
+use Imports.{state_after_going, kind_at, IsWellFormed, SameSize, IsOfItsKind, after_well_formed, after_size}
+use Imports.{performed_counts, put_well_formed, AreCondvars, AreCounted, IsInductive, rules_in, role_on}
+use Imports.{location, lock_seen, lock_state, taken_at, IsBarred, EndsOrSleeps}
 use Rattle.std.proofs.Common.{slice_set}
 use Rattle.core_base.specs.declared.keys.Line.{Line}
 use Rattle.core_base.specs.declared.keys.Line.TheVariants.{Main, Second}
@@ -600,7 +600,7 @@ module _ (t l : ℕ) (a : Admission) where
       as_entry x retries to v w q shares may f k last in
       elim (rwlock_rests t l a entry v (as_plain w t l a entry) q (small_at w v q (Bump entry) shares f)
       (is_ready t l a entry may up) (plain_alone w entry v q shares may f) k last enough) [
-        | inl rests ↦ inl (subst Rests same_end.0 rests)
+        | inl rests ↦ inl (subst EndsOrSleeps same_end.0 rests)
         | inr barred ↦ inr (same_end.2 barred)
       ]
     where
@@ -645,7 +645,7 @@ module _ (t l : ℕ) (a : Admission) where
       subst (λ (z : State × Outcome). OrBarred t Resting z.0 z.1) (λ i. (again.state i, again.outcome_is i))
       (again_rests x again.word _ again.queues again.shares again.alone again.room again.last
       again.enough)) h
-  ends_rest false x k w h = leads_so k w t (Ends t l a false x w) Resting (λ v o e. subst Rests
+  ends_rest false x k w h = leads_so k w t (Ends t l a false x w) Resting (λ v o e. subst EndsOrSleeps
       (sym (e.1 refl)) tt) h
 
   bump_rests : (q : RwLockPurpose) (retries : Bool) (to : RwLockAt) (v : ℕ) (w : State) (line : Line

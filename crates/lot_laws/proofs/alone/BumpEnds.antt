@@ -1,20 +1,20 @@
 -- Each call of a reader-writer lock that steps alone from its beginning: a bump ends with its right, or
 -- gives it up and is as a call that enters.
-use Rattle.lot_laws.proofs.Names
-use Names.{ℕ, zero, suc, Bool, true, false, Option, Some, None, ◌==◌, ◌&&◌, ◌||◌, not, ◌≡◌, ◌≢◌, ◌+◌, ◌-◌}
-use Names.{◌≤◌, ◌<◌, ◌^◌, ◌⊎◌, inl, inr, [], length, replicate, refl, sym, ◌∙◌, ap, subst, arith, slice_index}
-use Names.{slice_set, sum, eqb-true, nat_tests, Exclusive, Upgradable, Shared, Access, Patient, Timed, Try}
-use Names.{RwLockCall, Outcome, Admission, RwLockPlace, rwlock_first, Admits, wanted, Plain, PeekQueue}
-use Names.{call_first, call_role, enters_again, gives_way, IsLockState, LockState, Rights, Sort, Recursive}
-use Names.{Rules, IsBlocked, IsFree, MayEnter, Owns, count, is_recursive, one_if_some, readers, rights_of}
-use Names.{with_right, TellsTrue, bit, code, count_in, has_parked, has_writer, writers, Bumps, rwlock_purpose}
-use Names.{LocksState, IsRun, one_more_at, rules_at, Role, Has, IsSite, Main, has_readers, rw_is}
-use Names.{words_tell_true, packed_writer, fewer_share, RwLock, act_of, SoloEnd as Ran, State, after}
-use Names.{after_steps, alone_after, go_of, place_at, queue_at, section_at, solo, step_outcome, step_outcomes}
-use Names.{word_at, call_at, call_state, lock_state, locks_of, IsInductive, IsWorld, key_of, rules_in}
-use Names.{site_of, role_on, BumpsShared, ComesBack, EndsAlone, locks_afterwards, EntersAlone, BumpGivesWay}
-use Names.{MayEnterAtOnce, NeedsNoWay, Rests, WaitsAlone, WaitsForReaders, EntersSection, HasWhatItReads}
-use Names.{IsBarred, IsWorldRun}
+use Rattle.lot_laws.proofs.Imports
+use Imports.{ℕ, zero, suc, Bool, true, false, Option, Some, None, ◌==◌, ◌&&◌, ◌||◌, not, ◌≡◌, ◌≢◌, ◌+◌, ◌-◌}
+use Imports.{◌≤◌, ◌<◌, ◌^◌, ◌⊎◌, inl, inr, [], length, replicate, refl, sym, ◌∙◌, ap, subst, arith, slice_index}
+use Imports.{slice_set, sum, eqb-true, nat_tests, Exclusive, Upgradable, Shared, Access, Patient, Timed, Try}
+use Imports.{RwLockCall, Outcome, Admission, RwLockPlace, rwlock_first, Admits, wanted, Plain, PeekQueue}
+use Imports.{call_first, call_role, enters_again, gives_way, IsLockState, LockState, Rights, Sort, Recursive}
+use Imports.{Rules, IsBlocked, IsFree, MayEnter, Owns, count, is_recursive, one_if_some, readers, rights_of}
+use Imports.{with_right, TellsTrue, bit, code, count_in, has_parked, has_writer, writers, Bumps, rwlock_purpose}
+use Imports.{LocksState, IsRun, one_more_at, rules_at, Role, Has, IsSite, Main, has_readers, rw_is}
+use Imports.{words_tell_true, packed_writer, fewer_share, RwLock, act_of, SoloEnd as Ran, State, after}
+use Imports.{after_steps, alone_after, go_of, place_at, queue_at, section_at, solo, step_outcome, step_outcomes}
+use Imports.{word_at, call_at, call_state, lock_state, locks_of, IsInductive, IsWorld, key_of, rules_in}
+use Imports.{site_of, role_on, BumpsShared, ComesBack, EndsAlone, locks_afterwards, EntersAlone, BumpGivesWay}
+use Imports.{MayEnterAtOnce, NeedsNoWay, EndsOrSleeps, WaitsAlone, WaitsForReaders, EntersSection, HasWhatItReads}
+use Imports.{IsBarred, IsWorldRun}
 use Rattle.spec_locks.specs.declared.calls.Access.TheVariants as access
 use Rattle.spec_locks.specs.declared.calls.RwLockCall.TheVariants as call
 use Rattle.spec_locks.specs.declared.outcomes.Answer.TheVariants as answer
@@ -50,7 +50,7 @@ steps_run n w t h told = run_refines w (after_steps w (replicate n (go_of t))) (
 
 -- a run ends so, or is barred
 abbrev ComesTo : ℕ → Ran → Type 0
-ComesTo t r = Rests r.outcome ⊎ IsBarred r.state t
+ComesTo t r = EndsOrSleeps r.outcome ⊎ IsBarred r.state t
 
 -- a call that comes to rest steps first, unless it is barred
 moves : (k : ℕ) (w : State) (t : ℕ) → Leads k w t Resting → (IsBarred w t → ⊥) → step_outcome w (go_of t)

@@ -1,13 +1,13 @@
 -- A thread that steps alone in a call of a condition variable: where each of its acts leads it.
-use Rattle.lot_laws.proofs.Names
-use Names.{ℕ, true, Option, Some, None, if◌then◌else◌, ◌≡◌, ◌⊎◌, ◌+◌, ◌*◌, ◌<◌, length, get_or-set_same, inl}
-use Names.{inr, refl, sym, ◌∙◌, ap, subst, arith, lt-ltb, Op, apply, Outcome, Next, Reply, outcome_of}
-use Names.{Location, location_by, CondvarPlace, IsReached, MayReply, after_condvar_deeds, condvar_deeds}
-use Names.{condvar_profile, mutex_side, condvar_act, condvar_next, mutex_beside, Place, Idle, Condvar, act_of}
-use Names.{condvar_does, condvar_goes, next_act, next_place, Line, Main, IsThere, PlaceFits, SameSize, State}
-use Names.{after, can_do, go_of, go_outcome, going_outcome, is_possible, place_at, put, reply_to, section_at}
-use Names.{state_after_act, state_after_go, state_after_going, step_outcome, unlocked, word_at, after_size}
-use Names.{performed_counts, lock_state, location_at, IsWorld, condvar_of, EntersSection, IsBarred}
+use Rattle.lot_laws.proofs.Imports
+use Imports.{ℕ, true, Option, Some, None, if◌then◌else◌, ◌≡◌, ◌⊎◌, ◌+◌, ◌*◌, ◌<◌, length, get_or-set_same, inl}
+use Imports.{inr, refl, sym, ◌∙◌, ap, subst, arith, lt-ltb, Op, apply, Outcome, Next, Reply, outcome_of}
+use Imports.{Location, location_by, CondvarPlace, IsReached, MayReply, after_condvar_deeds, condvar_deeds}
+use Imports.{condvar_profile, mutex_side, condvar_act, condvar_next, mutex_beside, Place, Idle, Condvar, act_of}
+use Imports.{condvar_does, condvar_goes, next_act, next_place, Line, Main, IsThere, PlaceFits, SameSize, State}
+use Imports.{after, can_do, go_of, go_outcome, going_outcome, is_possible, place_at, put, reply_to, section_at}
+use Imports.{state_after_act, state_after_go, state_after_going, step_outcome, unlocked, word_at, after_size}
+use Imports.{performed_counts, lock_state, location_at, IsWorld, condvar_of, EntersSection, IsBarred}
 use Rattle.spec_locks.specs.declared.kinds.Kind.TheVariants as kind
 use Rattle.spec_locks.specs.declared.outcomes.Outcome.TheVariants as outcome
 use Rattle.steps_base.specs.declared.acts.Act.TheVariants as act

@@ -1,10 +1,10 @@
 -- A call of a condition variable whose thread steps alone: from any place it ends or sleeps, and from its
 -- beginning it does what it is for.
-use Rattle.lot_laws.proofs.Names
-use Names.{ℕ, Bool, Option, Some, None, ◌≡◌, ◌≢◌, ◌*◌, ◌<◌, length, refl, sym, ◌∙◌, ap, arith, CondvarCall}
-use Names.{Outcome, CondvarPlace, Wait, Look, Notify, condvar_act, condvar_first, Condvar, condvar_purpose}
-use Names.{Line, Main, State, place_at, section_at, lock_state, IsWorld, EndsAlone, HasWhatItReads, IsOnly}
-use Names.{Rests, location_at, Location}
+use Rattle.lot_laws.proofs.Imports
+use Imports.{ℕ, Bool, Option, Some, None, ◌≡◌, ◌≢◌, ◌*◌, ◌<◌, length, refl, sym, ◌∙◌, ap, arith, CondvarCall}
+use Imports.{Outcome, CondvarPlace, Wait, Look, Notify, condvar_act, condvar_first, Condvar, condvar_purpose}
+use Imports.{Line, Main, State, place_at, section_at, lock_state, IsWorld, EndsAlone, HasWhatItReads, IsOnly}
+use Imports.{EndsOrSleeps, location_at, Location}
 use Rattle.spec_locks.specs.declared.calls.CondvarCall.TheVariants as condvar_call
 use Rattle.steps_base.specs.declared.acts.Act.TheVariants as act
 use Rattle.lot_laws.proofs.alone.Condvar.{GoesAlone, Keeps}
@@ -34,12 +34,12 @@ module _ (t : ℕ) (keeps : Keeps t) (w : State) (world : IsWorld w) (there : t 
 
   -- from any place where it is awake
   pub condvar_rests : (p : CondvarPlace) → place_at w t ≡ Condvar l p → condvar_act l p ≢ act.Sleep
-      → Leads 17 w t (λ v o. Rests o)
+      → Leads 17 w t (λ v o. EndsOrSleeps o)
   condvar_rests (Wait m timed at) is up = wait_rests t l m keeps timed w at
       (fits_here w t l (Wait m timed at) world.inductive is).reached up (goes_alone m (Wait m timed at) is)
-  condvar_rests (Look all) is up = leads_more 9 17 w t (λ v o. Rests o) (omega arith)
-      (looks_at all is (λ v o. Rests o) (λ m g. look_rests t l m keeps w all g))
-  condvar_rests (Notify all m at) is up = leads_more 8 17 w t (λ v o. Rests o) (omega arith)
+  condvar_rests (Look all) is up = leads_more 9 17 w t (λ v o. EndsOrSleeps o) (omega arith)
+      (looks_at all is (λ v o. EndsOrSleeps o) (λ m g. look_rests t l m keeps w all g))
+  condvar_rests (Notify all m at) is up = leads_more 8 17 w t (λ v o. EndsOrSleeps o) (omega arith)
       (notify_rests t l m keeps w all at (goes_alone m (Notify all m at) is))
 
   -- nobody is inside its section, where only this thread may be

@@ -1,16 +1,16 @@
 -- A fair release, a bump, or a call that was handed the lock, whose thread steps alone: from each place it
 -- ends, or begins to enter again.
-use Rattle.lot_laws.proofs.Names
-use Names.{ℕ, suc, Bool, true, false, None, if◌then◌else◌, ◌==◌, ◌&&◌, ◌≡◌, ◌+◌, ◌*◌, ◌≤◌, List, ◌∷◌}
-use Names.{replicate, inl, inr, refl, sym, ◌∙◌, ap, subst, arith, One, Waiter, first_of, apply, Access}
-use Names.{Patience, Ok, Outcome, Act, Next, At, Done, outcome_of, wakes_taken, Admission, RwLockAt, WakeAt}
-use Names.{entered, unparked, Admits, RwLockCallPlace, PeekQueue, HandOver, Bump, Handed, HandOverAt}
-use Names.{any_taken}
-use Names.{bump_next, enters_again, exchange_act, freed_next, gives_up_at, gives_way, has_room, looked}
-use Names.{note_by, parked_as, with_taken, word_without, HandsOverAt, count_in, has_aside, has_parked}
-use Names.{rules_of, RwLock, act_of, next_act, next_place, rwlock_does, rwlock_goes, State, after}
-use Names.{after_steps, go_of, queue_at, queues_without_first, solo, step_outcome, step_outcomes, key_of}
-use Names.{rules_in, Rests, location}
+use Rattle.lot_laws.proofs.Imports
+use Imports.{ℕ, suc, Bool, true, false, None, if◌then◌else◌, ◌==◌, ◌&&◌, ◌≡◌, ◌+◌, ◌*◌, ◌≤◌, List, ◌∷◌}
+use Imports.{replicate, inl, inr, refl, sym, ◌∙◌, ap, subst, arith, One, Waiter, first_of, apply, Access}
+use Imports.{Patience, Ok, Outcome, Act, Next, At, Done, outcome_of, wakes_taken, Admission, RwLockAt, WakeAt}
+use Imports.{entered, unparked, Admits, RwLockCallPlace, PeekQueue, HandOver, Bump, Handed, HandOverAt}
+use Imports.{any_taken}
+use Imports.{bump_next, enters_again, exchange_act, freed_next, gives_up_at, gives_way, has_room, looked}
+use Imports.{note_by, parked_as, with_taken, word_without, HandsOverAt, count_in, has_aside, has_parked}
+use Imports.{rules_of, RwLock, act_of, next_act, next_place, rwlock_does, rwlock_goes, State, after}
+use Imports.{after_steps, go_of, queue_at, queues_without_first, solo, step_outcome, step_outcomes, key_of}
+use Imports.{rules_in, EndsOrSleeps, location}
 use Rattle.core_base.specs.declared.keys.Line.{Line}
 use Rattle.core_base.specs.declared.keys.Line.TheVariants.{Main, Second}
 use Rattle.core_base.specs.declared.ops.Op.TheVariants as op
@@ -18,7 +18,7 @@ use Rattle.spec_locks.specs.declared.calls.Access.TheVariants as access
 use Rattle.spec_locks.specs.declared.outcomes.Outcome.TheVariants as outcome
 use Rattle.steps_base.specs.declared.acts.Act.TheVariants as act
 use Rattle.steps_base.specs.declared.acts.Next.TheVariants.{End}
-use Rattle.steps_base.specs.declared.acts.Whom.TheVariants as whoms
+use Rattle.steps_base.specs.declared.acts.TakeWhich.TheVariants as whoms
 use Rattle.steps_rwlock.specs.declared.places.RwLockAt.TheVariants as at
 use Rattle.steps_rwlock.specs.declared.purposes.RwLockPurpose.TheVariants as purpose
 use Rattle.steps_rwlock.specs.declared.release.WakeAt.TheVariants as waking
@@ -35,7 +35,7 @@ use Rattle.lot_laws.proofs.alone.TwoLines.{StepsAlone, Comes, word_comes, enter_
 use Rattle.lot_laws.proofs.alone.TwoLines.{take_comes, hand_comes, accept_comes, finds_free}
 
 abbrev pub Resting : State → Outcome → Type 0
-Resting v x = Rests x
+Resting v x = EndsOrSleeps x
 
 module _ (t l : ℕ) (a : Admission) where
   abbrev pub Alone : State → RwLockCallPlace → ℕ → (Line → List Waiter) → Type 0

@@ -1,9 +1,9 @@
 -- Some steps of a thread alone, and to where they lead.
-use Rattle.lot_laws.proofs.Names
-use Names.{ℕ, zero, suc, Bool, true, false, Some, None, if◌then◌else◌, ◌&&◌, ◌≡◌, ◌+◌, ◌≤◌, ◌⊎◌, nat_lt}
-use Names.{length, is_none, inl, inr, refl, sym, ◌∙◌, ap, subst, arith, slice_index_or, One, Two, Act}
-use Names.{Outcome, act_of, State, after, can_do, go_of, go_outcome, place_at, section_at, solo, step_outcome}
-use Names.{key_of, EntersSection, IsBarred, Rests}
+use Rattle.lot_laws.proofs.Imports
+use Imports.{ℕ, zero, suc, Bool, true, false, Some, None, if◌then◌else◌, ◌&&◌, ◌≡◌, ◌+◌, ◌≤◌, ◌⊎◌, nat_lt}
+use Imports.{length, is_none, inl, inr, refl, sym, ◌∙◌, ap, subst, arith, slice_index_or, One, Two, Act}
+use Imports.{Outcome, act_of, State, after, can_do, go_of, go_outcome, place_at, section_at, solo, step_outcome}
+use Imports.{key_of, EntersSection, IsBarred, EndsOrSleeps}
 use Rattle.steps_base.specs.declared.acts.Act.TheVariants as act
 use Rattle.spec_locks.specs.declared.outcomes.Outcome as outcome
 use Rattle.lot_laws.proofs.alone.AloneSteps.{rests_after}
@@ -63,7 +63,7 @@ barred_as w v t sections acts b = record {
 -- ---------------------------------------------------------------- step by step
 
 module _ (w : State) (t : ℕ) (P : State → Outcome → Type 0) where
-  pub surely_rest : (o : Outcome) → step_outcome w (go_of t) ≡ o → Rests o → P (after w (go_of t)) o
+  pub surely_rest : (o : Outcome) → step_outcome w (go_of t) ≡ o → EndsOrSleeps o → P (after w (go_of t)) o
       → LeadsSurely 1 w t P
   unfolding solo
   surely_rest o told rest h zero last le = absurd (omega arith)
@@ -71,8 +71,8 @@ module _ (w : State) (t : ℕ) (P : State → Outcome → Type 0) where
       rw (
         told,
         rests_after o w (after w (go_of t)) last
-            (solo n (after w (go_of t)) t outcome.TheVariants.Step) (λ e. subst Rests e rest)
-            (λ e. subst Rests e rest),
+            (solo n (after w (go_of t)) t outcome.TheVariants.Step) (λ e. subst EndsOrSleeps e rest)
+            (λ e. subst EndsOrSleeps e rest),
       ) h
 
   pub surely_step : (k : ℕ) → step_outcome w (go_of t) ≡ outcome.TheVariants.Step
@@ -83,7 +83,7 @@ module _ (w : State) (t : ℕ) (P : State → Outcome → Type 0) where
   surely_step k told more (suc n) last le = rw told (more n outcome.TheVariants.Step (omega arith))
 
 module _ (w : State) (t : ℕ) (P : State → Outcome → Type 0) where
-  pub leads_rest : (o : Outcome) → step_outcome w (go_of t) ≡ o → Rests o → P (after w (go_of t)) o
+  pub leads_rest : (o : Outcome) → step_outcome w (go_of t) ≡ o → EndsOrSleeps o → P (after w (go_of t)) o
       → Leads 1 w t P
   leads_rest o told rest h = surely_rest w t (OrBarred t P) o told rest (inl h)
 

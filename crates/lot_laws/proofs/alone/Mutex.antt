@@ -1,14 +1,14 @@
 -- A call of a mutex whose thread steps alone: from each place, where it ends or falls asleep.
-use Rattle.lot_laws.proofs.Names
-use Names.{append-nil, ℕ, zero, suc, Bool, true, false, Option, Some, None, if◌then◌else◌, ◌==◌, ◌&&◌, not}
-use Names.{◌≡◌, ◌≢◌, ◌+◌, ◌*◌, ◌≤◌, ◌<◌, inl, inr, List, [], ◌∷◌, ◌++◌, length, drop, map, refl, sym, ◌∙◌, ap}
-use Names.{subst, arith, cases_eq, eqb-true, Waiter, Exclusive, apply, waiter, without, first_of, Value, Took}
-use Names.{Removed, Outcome, NOT_PARKED, Entry, Lock, TryLock, Unlock, UnlockFair, LockAt, First, Load}
-use Names.{Decide, Asleep, Accept, Remove, UnlockAt, HandOffAt, Place, Mutex, outcome_of, is_locked}
-use Names.{is_parked, hand_off_word, in_unlock, act_of, next_place, next_act, mutex_goes, mutex_does, State}
-use Names.{place_at, word_at, queue_at, go_of, after, owners_handed_over, is_there, IsMutexWord, Site, acts}
-use Names.{queued, IsInductive, Goes, hand_at, first_thread, queued_of, owner_at, taken_at, Rests, decides}
-use Names.{MutexPlace, Owners, with_exclusive}
+use Rattle.lot_laws.proofs.Imports
+use Imports.{append-nil, ℕ, zero, suc, Bool, true, false, Option, Some, None, if◌then◌else◌, ◌==◌, ◌&&◌, not}
+use Imports.{◌≡◌, ◌≢◌, ◌+◌, ◌*◌, ◌≤◌, ◌<◌, inl, inr, List, [], ◌∷◌, ◌++◌, length, drop, map, refl, sym, ◌∙◌, ap}
+use Imports.{subst, arith, cases_eq, eqb-true, Waiter, Exclusive, apply, waiter, without, first_of, Value, Took}
+use Imports.{Removed, Outcome, NOT_PARKED, Entry, Lock, TryLock, Unlock, UnlockFair, LockAt, First, Load}
+use Imports.{Decide, Asleep, Accept, Remove, UnlockAt, HandOffAt, Place, Mutex, outcome_of, is_locked}
+use Imports.{is_parked, hand_off_word, in_unlock, act_of, next_place, next_act, mutex_goes, mutex_does, State}
+use Imports.{place_at, word_at, queue_at, go_of, after, owners_handed_over, is_there, IsMutexWord, Site, acts}
+use Imports.{queued, IsInductive, Goes, hand_at, first_thread, queued_of, owner_at, taken_at, EndsOrSleeps, decides}
+use Imports.{MutexPlace, Owners, with_exclusive}
 use Rattle.core_base.specs.declared.notes.Note.TheVariants as note
 use Rattle.core_base.specs.declared.ops.Op as op
 use Rattle.steps_base.specs.declared.acts.Act as act
@@ -30,7 +30,7 @@ use Rattle.lot_laws.proofs.hands.Counts.{first_times}
 use Rattle.lot_laws.proofs.machine.Parts.{taken_held, put_here, own_stance, differ, aparts}
 use Rattle.lot_laws.proofs.hands.Handed.{successor_one, of_carries}
 use Rattle.lot_laws.proofs.promises.SitesPromise.{parked_at}
-use Rattle.steps_base.specs.declared.acts.Whom as whoms
+use Rattle.steps_base.specs.declared.acts.TakeWhich as whoms
 use Rattle.lot_laws.proofs.sites.SitesKept.{go_by, unshared_at, single_at, alone_at}
 use Rattle.lot_laws.proofs.mutex.MutexStaysASite.{goes_mutex}
 use Rattle.lot_laws.proofs.machine.AtPlaces.{coded_for, rules_for, owns}
@@ -128,9 +128,9 @@ module _ (t l : ℕ) (entry : Entry) (q : List Waiter) where
   -- ---------------------------------------------------------------- from any place
 
   abbrev Resting : State → Outcome → Type 0
-  Resting v x = Rests x
+  Resting v x = EndsOrSleeps x
 
-  rests_so : (o : Option ℕ) (v : State) (x : Outcome) → LockEnds t l entry o q v x → Rests x
+  rests_so : (o : Option ℕ) (v : State) (x : Outcome) → LockEnds t l entry o q v x → EndsOrSleeps x
   rests_so None v x h = rw (h.0) tt
   rests_so (Some u) v x h = rw (h.0) tt
 
@@ -144,32 +144,32 @@ module _ (t l : ℕ) (entry : Entry) where
   -- from this place it rests within so many steps
   abbrev RestsFrom : LockAt → ℕ → Type 0
   RestsFrom at steps = (retries : Bool) (v : ℕ) (o s : Option ℕ) (q : List Waiter) (w : State)
-      → Facing w t l (Mutex l (Lock entry retries at)) v o s q → Leads steps w t (λ x y. Rests y)
+      → Facing w t l (Mutex l (Lock entry retries at)) v o s q → Leads steps w t (λ x y. EndsOrSleeps y)
 
   leave_rests : (b : Bool) → RestsFrom (Leave b) 6
   leave_rests true retries v o s q w f = let h = leave_faces w t l _ v o s q f refl
-      in leads_more 1 6 w t (λ x y. Rests y) (omega arith)
-      (leads_rest w t (λ x y. Rests y) outcome.TheVariants.Sleep h.0 tt tt)
+      in leads_more 1 6 w t (λ x y. EndsOrSleeps y) (omega arith)
+      (leads_rest w t (λ x y. EndsOrSleeps y) outcome.TheVariants.Sleep h.0 tt tt)
   leave_rests false retries v o s q w f = let h = leave_faces w t l _ v o s q f refl
-      in leads_step w t (λ x y. Rests y) 5 h.0 (load_rests t l entry q retries v o None _ h.1)
+      in leads_step w t (λ x y. EndsOrSleeps y) 5 h.0 (load_rests t l entry q retries v o None _ h.1)
 
   check_rests : RestsFrom Check 7
   check_rests retries v o s q w f = either (v == 3) refl
     where
-      either : (b : Bool) → (v == 3) ≡ b → Leads 7 w t (λ x y. Rests y)
+      either : (b : Bool) → (v == 3) ≡ b → Leads 7 w t (λ x y. EndsOrSleeps y)
       either true e = let h = park_faces w t l _ v o s q f refl (eqb-true v 3 e) refl
-          in leads_step w t (λ x y. Rests y) 6 h.0 (leave_rests true (retries && not true) v o s _ _ h.1)
-      either false e = let h = unparked_faces w t l _ v o s q f refl e in leads_step w t (λ x y. Rests y) 6
+          in leads_step w t (λ x y. EndsOrSleeps y) 6 h.0 (leave_rests true (retries && not true) v o s _ _ h.1)
+      either false e = let h = unparked_faces w t l _ v o s q f refl e in leads_step w t (λ x y. EndsOrSleeps y) 6
           h.0 (leave_rests false (retries && not false) v o s q _ h.1)
 
   gives_up_rests : RestsFrom GiveUp 1
   gives_up_rests retries v o s q w f =
-      leads_rest w t (λ x y. Rests y) (outcome.TheVariants.End answer.TheVariants.No)
+      leads_rest w t (λ x y. EndsOrSleeps y) (outcome.TheVariants.End answer.TheVariants.No)
       (leave_faces w t l _ v o s q f refl).0 tt tt
 
   clear_rests : RestsFrom Clear 2
   clear_rests retries v o s q w f = let h = word_faces w t l _ v o s q f (op.TheVariants.And NOT_PARKED) refl
-      in leads_step w t (λ x y. Rests y) 1 h.0 (gives_up_rests retries _ o s q _ h.1)
+      in leads_step w t (λ x y. EndsOrSleeps y) 1 h.0 (gives_up_rests retries _ o s q _ h.1)
 
   remove_rests : RestsFrom Remove 3
   remove_rests retries v o s q w f = either (length (without t q) == 0)
@@ -177,19 +177,19 @@ module _ (t l : ℕ) (entry : Entry) where
     where
       either : (b : Bool) → Faces w t l (next_place (Mutex l (Lock entry retries Remove)) (Removed b))
           (outcome_of (next_act (Mutex l (Lock entry retries Remove)) (Removed b))) v o s (without t q)
-          → Leads 3 w t (λ x y. Rests y)
-      either true h = leads_step w t (λ x y. Rests y) 2 h.0 (clear_rests retries v o s _ _ h.1)
-      either false h = leads_more 2 3 w t (λ x y. Rests y) (omega arith) (leads_step w t (λ x y. Rests y) 1
+          → Leads 3 w t (λ x y. EndsOrSleeps y)
+      either true h = leads_step w t (λ x y. EndsOrSleeps y) 2 h.0 (clear_rests retries v o s _ _ h.1)
+      either false h = leads_more 2 3 w t (λ x y. EndsOrSleeps y) (omega arith) (leads_step w t (λ x y. EndsOrSleeps y) 1
           h.0 (gives_up_rests retries v o s _ _ h.1))
 
   -- the thread decides by a value that the word has no longer, or still
   decide_rests : (retries : Bool) (x v : ℕ) (o s : Option ℕ) (q : List Waiter) (w : State)
-      → Facing w t l (Mutex l (Lock entry retries (Decide x))) v o s q → Leads 8 w t (λ a y. Rests y)
+      → Facing w t l (Mutex l (Lock entry retries (Decide x))) v o s q → Leads 8 w t (λ a y. EndsOrSleeps y)
   decide_rests retries x v o s q w f = elim (cases_eq v x) [
     | inl e ↦ let g : Facing w t l (Mutex l (Lock entry retries (Decide v))) v o s q =
         subst (λ y. Facing w t l (Mutex l (Lock entry retries (Decide y))) v o s q) (sym e) f in
-        leads_more 4 8 w t (λ a y. Rests y) (omega arith) (leads_so 4 w t (LockEnds t l entry o q)
-        (λ a y. Rests y) (rests_so t l entry q o) (decide_leads t l entry q retries v o
+        leads_more 4 8 w t (λ a y. EndsOrSleeps y) (omega arith) (leads_so 4 w t (LockEnds t l entry o q)
+        (λ a y. EndsOrSleeps y) (rests_so t l entry q o) (decide_leads t l entry q retries v o
         (coded t l entry q w _ v o s f) s w g))
     | inr ne ↦ either (is_locked x) (x == 1) refl refl (stale ne)
   ]
@@ -203,13 +203,13 @@ module _ (t l : ℕ) (entry : Entry) where
       -- the exchange fails, and it decides by what it has seen
       exchanged : (y : op.Op) → act_of (Mutex l (Lock entry retries (Decide x))) ≡ act.TheVariants.Word l y
           → apply y v ≡ v
-          → (v == x) ≡ false → Leads 8 w t (λ a z. Rests z)
+          → (v == x) ≡ false → Leads 8 w t (λ a z. EndsOrSleeps z)
       exchanged y is stays no_more = again (word_faces w t l (Lock entry retries (Decide x)) v o s q f y is)
         where
           again : Faces w t l (next_place (Mutex l (Lock entry retries (Decide x))) (Value v))
               (outcome_of (next_act (Mutex l (Lock entry retries (Decide x))) (Value v))) (apply y v)
               (mutex_owner_after (Lock entry retries (Decide x)) t v o) s q
-              → Leads 8 w t (λ a z. Rests z)
+              → Leads 8 w t (λ a z. EndsOrSleeps z)
           again h = let told : outcome_of (next_act (Mutex l (Lock entry retries (Decide x))) (Value v))
               ≡ outcome.TheVariants.Step = rw no_more (decides l v) in
               let to : next_place (Mutex l (Lock entry retries (Decide x))) (Value v) ≡ Mutex l
@@ -222,45 +222,45 @@ module _ (t l : ℕ) (entry : Entry) where
               (subst (λ u. Facing (after w (go_of t)) t l
               (next_place (Mutex l (Lock entry retries (Decide x))) (Value v)) (apply y v) u s q) own
               h.1)) in
-              leads_more 5 8 w t (λ a z. Rests z) (omega arith) (leads_step w t (λ a z. Rests z) 4 (h.0
+              leads_more 5 8 w t (λ a z. EndsOrSleeps z) (omega arith) (leads_step w t (λ a z. EndsOrSleeps z) 4 (h.0
               ∙ told)
-              (leads_so 4 (after w (go_of t)) t (LockEnds t l entry o q) (λ a z. Rests z)
+              (leads_so 4 (after w (go_of t)) t (LockEnds t l entry o q) (λ a z. EndsOrSleeps z)
               (rests_so t l entry q o) (decide_leads t l entry q retries v o
               (coded t l entry q w _ v o s f) s (after w (go_of t)) g)))
 
-      either : (a b : Bool) → is_locked x ≡ a → (x == 1) ≡ b → (v == x) ≡ false → Leads 8 w t (λ c y. Rests y)
+      either : (a b : Bool) → is_locked x ≡ a → (x == 1) ≡ b → (v == x) ≡ false → Leads 8 w t (λ c y. EndsOrSleeps y)
       either false b ea eb no_more = exchanged (op.TheVariants.Exchange x (x + 1)) (rw ea refl)
           (rw no_more refl) no_more
       either true true ea eb no_more = let not_1 : (v == 1) ≡ false = subst (λ n. (v == n) ≡ false)
           (eqb-true x 1 eb) no_more in exchanged (op.TheVariants.Exchange 1 3) (rw (ea, eb) refl)
           (rw not_1 refl) no_more
       either true false ea eb no_more = faces_into w t l (Mutex l (Lock entry retries (Decide x))) v o s q f
-          (λ c y. Rests y) 7 (rw (ea, eb) refl) refl refl (λ h. check_rests retries v o (Some t) q _ h)
+          (λ c y. EndsOrSleeps y) 7 (rw (ea, eb) refl) refl refl (λ h. check_rests retries v o (Some t) q _ h)
 
   pub lock_rests : (retries : Bool) (a : LockAt) (v : ℕ) (o s : Option ℕ) (q : List Waiter) (w : State)
       → Facing w t l (Mutex l (Lock entry retries a)) v o s q
-      → act_of (Mutex l (Lock entry retries a)) ≢ act.TheVariants.Sleep → Leads 8 w t (λ c y. Rests y)
-  lock_rests retries First v o s q w f up = leads_more 6 8 w t (λ c y. Rests y) (omega arith)
-      (leads_so 6 w t (LockEnds t l entry o q) (λ c y. Rests y) (rests_so t l entry q o)
+      → act_of (Mutex l (Lock entry retries a)) ≢ act.TheVariants.Sleep → Leads 8 w t (λ c y. EndsOrSleeps y)
+  lock_rests retries First v o s q w f up = leads_more 6 8 w t (λ c y. EndsOrSleeps y) (omega arith)
+      (leads_so 6 w t (LockEnds t l entry o q) (λ c y. EndsOrSleeps y) (rests_so t l entry q o)
       (first_leads t l entry q retries v o (coded t l entry q w _ v o s f) s w f))
-  lock_rests retries Load v o s q w f up = leads_more 5 8 w t (λ c y. Rests y) (omega arith)
+  lock_rests retries Load v o s q w f up = leads_more 5 8 w t (λ c y. EndsOrSleeps y) (omega arith)
       (load_rests t l entry q retries v o s w f)
   lock_rests retries (Decide x) v o s q w f up = decide_rests retries x v o s q w f
-  lock_rests retries Check v o s q w f up = leads_more 7 8 w t (λ c y. Rests y) (omega arith)
+  lock_rests retries Check v o s q w f up = leads_more 7 8 w t (λ c y. EndsOrSleeps y) (omega arith)
       (check_rests retries v o s q w f)
-  lock_rests retries (Leave b) v o s q w f up = leads_more 6 8 w t (λ c y. Rests y) (omega arith)
+  lock_rests retries (Leave b) v o s q w f up = leads_more 6 8 w t (λ c y. EndsOrSleeps y) (omega arith)
       (leave_rests b retries v o s q w f)
   lock_rests retries Asleep v o s q w f up = absurd (up refl)
   lock_rests retries (Taken by) v o s q w f up = absurd (up refl)
   lock_rests retries (Handed by) v o s q w f up = absurd (up refl)
   lock_rests retries Accept v o s q w f up = let h = accept_faces w t l (Mutex l (Lock entry retries Accept))
-      v o s q f refl in leads_more 1 8 w t (λ c y. Rests y) (omega arith) (leads_rest w t (λ c y. Rests y)
+      v o s q f refl in leads_more 1 8 w t (λ c y. EndsOrSleeps y) (omega arith) (leads_rest w t (λ c y. EndsOrSleeps y)
       (outcome.TheVariants.End (entered entry)) h.0 tt tt)
-  lock_rests retries Remove v o s q w f up = leads_more 3 8 w t (λ c y. Rests y) (omega arith)
+  lock_rests retries Remove v o s q w f up = leads_more 3 8 w t (λ c y. EndsOrSleeps y) (omega arith)
       (remove_rests retries v o s q w f)
-  lock_rests retries Clear v o s q w f up = leads_more 2 8 w t (λ c y. Rests y) (omega arith)
+  lock_rests retries Clear v o s q w f up = leads_more 2 8 w t (λ c y. EndsOrSleeps y) (omega arith)
       (clear_rests retries v o s q w f)
-  lock_rests retries GiveUp v o s q w f up = leads_more 1 8 w t (λ c y. Rests y) (omega arith)
+  lock_rests retries GiveUp v o s q w f up = leads_more 1 8 w t (λ c y. EndsOrSleeps y) (omega arith)
       (gives_up_rests retries v o s q w f)
 
 -- ---------------------------------------------------------------- try_lock and unlock
@@ -351,22 +351,22 @@ module _ (t l : ℕ) where
             h.1.owner,
           ))
 
-  ends_so : (o : Option ℕ) (v : State) (x : Outcome) → UnlockEnds l o v x → Rests x
+  ends_so : (o : Option ℕ) (v : State) (x : Outcome) → UnlockEnds l o v x → EndsOrSleeps x
   ends_so o v x h = rw (h.0) tt
 
   pub unlock_rests : (a : UnlockAt) (v : ℕ) (o s : Option ℕ) (q : List Waiter) (w : State)
       → Facing w t l (Mutex l (Unlock a)) v o s q
-      → Leads 8 w t (λ c y. Rests y)
-  unlock_rests unlock.Subtract v o s q w f = leads_more 5 8 w t (λ c y. Rests y) (omega arith)
-      (leads_so 5 w t (UnlockEnds l None) (λ c y. Rests y) (ends_so None) (subtract_leads q v o s w f))
-  unlock_rests unlock.Enter v o s q w f = leads_more 4 8 w t (λ c y. Rests y) (omega arith)
-      (leads_so 4 w t (UnlockEnds l o) (λ c y. Rests y) (ends_so o) (enter_leads q v o s w f))
-  unlock_rests unlock.Take v o s q w f = leads_more 3 8 w t (λ c y. Rests y) (omega arith)
-      (leads_so 3 w t (UnlockEnds l o) (λ c y. Rests y) (ends_so o) (take_leads q v o s w f))
-  unlock_rests (unlock.Clear any) v o s q w f = leads_more 2 8 w t (λ c y. Rests y) (omega arith)
-      (leads_so 2 w t (UnlockEnds l o) (λ c y. Rests y) (ends_so o) (cleared_leads any q v o s w f))
-  unlock_rests (unlock.Leave any) v o s q w f = leads_more 1 8 w t (λ c y. Rests y) (omega arith)
-      (leads_so 1 w t (UnlockEnds l o) (λ c y. Rests y) (ends_so o) (woke_leads any q v o s w f))
+      → Leads 8 w t (λ c y. EndsOrSleeps y)
+  unlock_rests unlock.Subtract v o s q w f = leads_more 5 8 w t (λ c y. EndsOrSleeps y) (omega arith)
+      (leads_so 5 w t (UnlockEnds l None) (λ c y. EndsOrSleeps y) (ends_so None) (subtract_leads q v o s w f))
+  unlock_rests unlock.Enter v o s q w f = leads_more 4 8 w t (λ c y. EndsOrSleeps y) (omega arith)
+      (leads_so 4 w t (UnlockEnds l o) (λ c y. EndsOrSleeps y) (ends_so o) (enter_leads q v o s w f))
+  unlock_rests unlock.Take v o s q w f = leads_more 3 8 w t (λ c y. EndsOrSleeps y) (omega arith)
+      (leads_so 3 w t (UnlockEnds l o) (λ c y. EndsOrSleeps y) (ends_so o) (take_leads q v o s w f))
+  unlock_rests (unlock.Clear any) v o s q w f = leads_more 2 8 w t (λ c y. EndsOrSleeps y) (omega arith)
+      (leads_so 2 w t (UnlockEnds l o) (λ c y. EndsOrSleeps y) (ends_so o) (cleared_leads any q v o s w f))
+  unlock_rests (unlock.Leave any) v o s q w f = leads_more 1 8 w t (λ c y. EndsOrSleeps y) (omega arith)
+      (leads_so 1 w t (UnlockEnds l o) (λ c y. EndsOrSleeps y) (ends_so o) (woke_leads any q v o s w f))
 
 -- ---------------------------------------------------------------- fair releases
 
@@ -550,24 +550,24 @@ module _ (t l : ℕ) where
           answer.TheVariants.Ok) h.0 tt (rw empty (refl, h.1.owner ∙ owned)))
 
   fair_so : (bumps : Bool) (o : Option ℕ) (q : List Waiter) (v : State) (x : Outcome)
-      → FairEnds bumps t l o q v x → Rests x
+      → FairEnds bumps t l o q v x → EndsOrSleeps x
   fair_so true o q v x h = rests_so t l entries.Bump q o v x h
   fair_so false o q v x h = ends_so t l o v x h
 
   entered_rests : (bumps : Bool) (q : List Waiter) (v : ℕ) (o s : Option ℕ) (w : State)
-      → Facing w t l (Mutex l (HandOff bumps hand_off.Enter)) v o s q → Leads 10 w t (λ c y. Rests y)
+      → Facing w t l (Mutex l (HandOff bumps hand_off.Enter)) v o s q → Leads 10 w t (λ c y. EndsOrSleeps y)
   entered_rests bumps q v o s w f = leads_so 10 w t (FairEnds bumps t l (first_of q) (drop 1 q))
-      (λ c y. Rests y) (fair_so bumps (first_of q) (drop 1 q)) (fair_enter_leads bumps q v o s w f)
+      (λ c y. EndsOrSleeps y) (fair_so bumps (first_of q) (drop 1 q)) (fair_enter_leads bumps q v o s w f)
 
   pub fair_rests : (k : ℕ) (bumps : Bool) (o : Option ℕ) (q : List Waiter) (w : State) → k ≤ 12
-      → Leads k w t (FairEnds bumps t l o q) → Leads 12 w t (λ c y. Rests y)
-  fair_rests k bumps o q w le h = leads_more k 12 w t (λ c y. Rests y) le
-      (leads_so k w t (FairEnds bumps t l o q) (λ c y. Rests y) (fair_so bumps o q) h)
+      → Leads k w t (FairEnds bumps t l o q) → Leads 12 w t (λ c y. EndsOrSleeps y)
+  fair_rests k bumps o q w le h = leads_more k 12 w t (λ c y. EndsOrSleeps y) le
+      (leads_so k w t (FairEnds bumps t l o q) (λ c y. EndsOrSleeps y) (fair_so bumps o q) h)
 
   -- from its beginning, whatever thread is inside its section
   pub unlock_fair_rests : (q : List Waiter) (v : ℕ) (o s : Option ℕ) (w : State)
       → Facing w t l (Mutex l UnlockFair) v o s q
-      → Leads 12 w t (λ c y. Rests y)
+      → Leads 12 w t (λ c y. EndsOrSleeps y)
   unlock_fair_rests q v o s w f =
       either (v == 1) (word_faces w t l UnlockFair v o s q f (op.TheVariants.Exchange 1 0) refl)
     where
@@ -575,28 +575,28 @@ module _ (t l : ℕ) where
           → Faces w t l (mutex_goes l (looked false (not b)))
           (outcome_of (mutex_does l (looked false (not b))))
           (if v == 1 then 0 else v) (if b then None else o) s q
-          → Leads 12 w t (λ c y. Rests y)
-      either true h = leads_more 1 12 w t (λ c y. Rests y) (omega arith) (leads_rest w t (λ c y. Rests y)
+          → Leads 12 w t (λ c y. EndsOrSleeps y)
+      either true h = leads_more 1 12 w t (λ c y. EndsOrSleeps y) (omega arith) (leads_rest w t (λ c y. EndsOrSleeps y)
           (outcome.TheVariants.End answer.TheVariants.Ok) h.0 tt tt)
-      either false h = leads_more 11 12 w t (λ c y. Rests y) (omega arith)
-          (leads_step w t (λ c y. Rests y) 10 h.0 (entered_rests false q _ o s _ h.1))
+      either false h = leads_more 11 12 w t (λ c y. EndsOrSleeps y) (omega arith)
+          (leads_step w t (λ c y. EndsOrSleeps y) 10 h.0 (entered_rests false q _ o s _ h.1))
 
   pub bump_rests : (q : List Waiter) (v : ℕ) (o s : Option ℕ) (w : State) → Facing w t l (Mutex l Bump) v o s
       q
-      → Leads 12 w t (λ c y. Rests y)
+      → Leads 12 w t (λ c y. EndsOrSleeps y)
   bump_rests q v o s w f = either (is_parked v) (word_faces w t l Bump v o s q f op.TheVariants.Load refl)
     where
       either : (b : Bool) → Faces w t l (mutex_goes l (looked true b))
           (outcome_of (mutex_does l (looked true b))) v o s q
-          → Leads 12 w t (λ c y. Rests y)
-      either true h = leads_more 11 12 w t (λ c y. Rests y) (omega arith) (leads_step w t (λ c y. Rests y) 10
+          → Leads 12 w t (λ c y. EndsOrSleeps y)
+      either true h = leads_more 11 12 w t (λ c y. EndsOrSleeps y) (omega arith) (leads_step w t (λ c y. EndsOrSleeps y) 10
           h.0 (entered_rests true q v o s _ h.1))
-      either false h = leads_more 1 12 w t (λ c y. Rests y) (omega arith) (leads_rest w t (λ c y. Rests y)
+      either false h = leads_more 1 12 w t (λ c y. EndsOrSleeps y) (omega arith) (leads_rest w t (λ c y. EndsOrSleeps y)
           (outcome.TheVariants.End answer.TheVariants.Ok) h.0 tt tt)
 
   pub hand_off_rests : (bumps : Bool) (a : HandOffAt) (v : ℕ) (o s : Option ℕ) (q : List Waiter) (w : State)
       → Facing w t l (Mutex l (HandOff bumps a)) v o s q
-      → Leads 12 w t (λ c y. Rests y)
+      → Leads 12 w t (λ c y. EndsOrSleeps y)
   hand_off_rests bumps hand_off.Enter v o s q w f = fair_rests 10 bumps (first_of q) (drop 1 q) w
       (omega arith) (fair_enter_leads bumps q v o s w f)
   hand_off_rests bumps hand_off.Take v o s q w f = fair_rests 9 bumps (first_of q) (drop 1 q) w (omega arith)

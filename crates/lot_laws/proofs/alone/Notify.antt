@@ -1,12 +1,12 @@
 -- A notification whose thread steps alone: from each place it ends, and has moved the first, or all, or
 -- nobody where its mutex is not shown.
-use Rattle.lot_laws.proofs.Names
-use Names.{ℕ, Bool, true, false, if◌then◌else◌, ◌==◌, ◌&&◌, ◌≡◌, ◌+◌, ◌*◌, ◌≤◌, List, [], ◌∷◌, drop, length}
-use Names.{nat_lt, not, inl, inr, refl, sym, ◌∙◌, ap, subst, arith, Op, apply, first_of, Outcome, Reply}
-use Names.{Requeued, outcome_of, is_locked, NotifyAt, Notify, MayReply, after_condvar_deeds, condvar_deeds}
-use Names.{condvar_next, is_shown, marks, move_act, moved_one, notified, notify_act, Condvar, SeeAgain}
-use Names.{MissIt, Queued, State, after, can_do, go_of, is_there, place_at, queue_at, reply_to}
-use Names.{state_after_act, word_at, lock_state, condvar_of, Rests}
+use Rattle.lot_laws.proofs.Imports
+use Imports.{ℕ, Bool, true, false, if◌then◌else◌, ◌==◌, ◌&&◌, ◌≡◌, ◌+◌, ◌*◌, ◌≤◌, List, [], ◌∷◌, drop, length}
+use Imports.{nat_lt, not, inl, inr, refl, sym, ◌∙◌, ap, subst, arith, Op, apply, first_of, Outcome, Reply}
+use Imports.{Requeued, outcome_of, is_locked, NotifyAt, Notify, MayReply, after_condvar_deeds, condvar_deeds}
+use Imports.{condvar_next, is_shown, marks, move_act, moved_one, notified, notify_act, Condvar, SeeAgain}
+use Imports.{MissIt, Queued, State, after, can_do, go_of, is_there, place_at, queue_at, reply_to}
+use Imports.{state_after_act, word_at, lock_state, condvar_of, EndsOrSleeps}
 use Rattle.core_base.specs.declared.ops.Op.TheVariants as op
 use Rattle.spec_locks.specs.declared.outcomes.Outcome.TheVariants as outcome
 use Rattle.steps_base.specs.declared.acts.Act.TheVariants as act
@@ -279,25 +279,25 @@ module _ (t l m : ℕ) (keeps : Keeps t) where
 
   ends_rest : (k : ℕ) (w : State) (all : Bool) (number : ℕ) (q : List Queued) → k ≤ 8
       → Leads k w t (Ends all number q)
-      → Leads 8 w t (λ v o. Rests o)
-  ends_rest k w all number q le h = leads_more k 8 w t (λ v o. Rests o) le
-      (leads_so k w t (Ends all number q) (λ v o. Rests o) (λ v o e. subst Rests (sym e.0) tt) h)
+      → Leads 8 w t (λ v o. EndsOrSleeps o)
+  ends_rest k w all number q le h = leads_more k 8 w t (λ v o. EndsOrSleeps o) le
+      (leads_so k w t (Ends all number q) (λ v o. EndsOrSleeps o) (λ v o e. subst EndsOrSleeps (sym e.0) tt) h)
 
-  again_rests : (w : State) (all : Bool) → Alone w all notify.Again → Leads 7 w t (λ v o. Rests o)
+  again_rests : (w : State) (all : Bool) → Alone w all notify.Again → Leads 7 w t (λ v o. EndsOrSleeps o)
   again_rests w all g = either (is_shown (word_at w l) m) refl
     where
-      either : (b : Bool) → is_shown (word_at w l) m ≡ b → Leads 7 w t (λ v o. Rests o)
+      either : (b : Bool) → is_shown (word_at w l) m ≡ b → Leads 7 w t (λ v o. EndsOrSleeps o)
       either true e = leads_so 7 w t (Ends all (moved_number all (lock_state w l).queue)
-          (left_then all (lock_state w l).queue)) (λ v o. Rests o) (λ v o x. subst Rests (sym x.0) tt)
+          (left_then all (lock_state w l).queue)) (λ v o. EndsOrSleeps o) (λ v o x. subst EndsOrSleeps (sym x.0) tt)
           (sees all (lock_state w l).queue w e refl g)
-      either false e = leads_more 2 7 w t (λ v o. Rests o) (omega arith)
-          (leads_so 2 w t (Ends all 0 (lock_state w l).queue) (λ v o. Rests o)
-          (λ v o x. subst Rests (sym x.0) tt) (misses all (lock_state w l).queue w e refl g))
+      either false e = leads_more 2 7 w t (λ v o. EndsOrSleeps o) (omega arith)
+          (leads_so 2 w t (Ends all 0 (lock_state w l).queue) (λ v o. EndsOrSleeps o)
+          (λ v o x. subst EndsOrSleeps (sym x.0) tt) (misses all (lock_state w l).queue w e refl g))
 
-  pub notify_rests : (w : State) (all : Bool) (at : NotifyAt) → Alone w all at → Leads 8 w t (λ v o. Rests o)
-  notify_rests w all notify.Enter g = enters w all g (λ v o. Rests o) 7
+  pub notify_rests : (w : State) (all : Bool) (at : NotifyAt) → Alone w all at → Leads 8 w t (λ v o. EndsOrSleeps o)
+  notify_rests w all notify.Enter g = enters w all g (λ v o. EndsOrSleeps o) 7
       (λ can. again_rests (after w (go_of t)) all)
-  notify_rests w all notify.Again g = leads_more 7 8 w t (λ v o. Rests o) (omega arith) (again_rests w all g)
+  notify_rests w all notify.Again g = leads_more 7 8 w t (λ v o. EndsOrSleeps o) (omega arith) (again_rests w all g)
   notify_rests w all notify.Hide g = ends_rest 6 w all _ _ (omega arith) (hides all (lock_state w l).queue w
       refl g)
   notify_rests w all notify.Mark g = ends_rest 5 w all _ _ (omega arith) (begins_marking all

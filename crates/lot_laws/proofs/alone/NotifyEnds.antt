@@ -1,11 +1,11 @@
 -- A notification from its beginning, whose thread steps alone: it moves the first, or all, where a mutex is
 -- shown.
-use Rattle.lot_laws.proofs.Names
-use Names.{ℕ, Bool, true, false, Option, Some, None, if◌then◌else◌, ◌==◌, ◌≡◌, ◌*◌, ◌≢◌, ◌+◌, List, [], ◌∷◌}
-use Names.{is_none, inr, refl, sym, ◌∙◌, ap, subst, arith, get_or-set_same, nat_tests, Outcome, Look, Notify}
-use Names.{word_showing, is_shown, look_next, mutex_shown, notified, shown_as, IsAsInside, IsSettledAt}
-use Names.{Queued, State, after, go_of, section_at, unlocked, word_at, lock_state, condvar_of, NotifiesAlone}
-use Names.{Rests}
+use Rattle.lot_laws.proofs.Imports
+use Imports.{ℕ, Bool, true, false, Option, Some, None, if◌then◌else◌, ◌==◌, ◌≡◌, ◌*◌, ◌≢◌, ◌+◌, List, [], ◌∷◌}
+use Imports.{is_none, inr, refl, sym, ◌∙◌, ap, subst, arith, get_or-set_same, nat_tests, Outcome, Look, Notify}
+use Imports.{word_showing, is_shown, look_next, mutex_shown, notified, shown_as, IsAsInside, IsSettledAt}
+use Imports.{Queued, State, after, go_of, section_at, unlocked, word_at, lock_state, condvar_of, NotifiesAlone}
+use Imports.{EndsOrSleeps}
 use Rattle.spec_locks.specs.declared.kinds.Kind.TheVariants as kind
 use Rattle.spec_locks.specs.declared.outcomes.Outcome.TheVariants as outcome
 use Rattle.steps_base.specs.declared.acts.Next.TheVariants as next
@@ -110,10 +110,10 @@ module _ (t l m : ℕ) (keeps : Keeps t) (w : State) (all : Bool) (g : GoesAlone
       (finds_some (shows (Some k) e ∙ ap word_showing (of (λ f. cc))))
 
   pub look_rests : (o : Option ℕ) → (lock_state w l).shown ≡ o → (o ≢ None → o ≡ Some m)
-      → Leads 9 w t (λ v x. Rests x)
-  look_rests None e of = leads_more 1 9 w t (λ v x. Rests x) (omega arith)
-      (leads_so 1 w t (Ends t l m keeps all 0 (lock_state w l).queue) (λ v x. Rests x)
-      (λ v x h. subst Rests (sym h.0) tt) (finds_none (shows None e)))
+      → Leads 9 w t (λ v x. EndsOrSleeps x)
+  look_rests None e of = leads_more 1 9 w t (λ v x. EndsOrSleeps x) (omega arith)
+      (leads_so 1 w t (Ends t l m keeps all 0 (lock_state w l).queue) (λ v x. EndsOrSleeps x)
+      (λ v x h. subst EndsOrSleeps (sym h.0) tt) (finds_none (shows None e)))
   look_rests (Some k) e of = leads_so 9 w t (Ends t l m keeps all (moved_number all (lock_state w l).queue)
-      (left_then all (lock_state w l).queue)) (λ v x. Rests x) (λ v x h. subst Rests (sym h.0) tt)
+      (left_then all (lock_state w l).queue)) (λ v x. EndsOrSleeps x) (λ v x h. subst EndsOrSleeps (sym h.0) tt)
       (finds_some (shows (Some k) e ∙ ap word_showing (of (λ f. cc))))

@@ -1,12 +1,12 @@
 -- A call of a `Once` that steps alone from its beginning, and to what it comes.
-use Rattle.lot_laws.proofs.Names
-use Names.{ℕ, Bool, true, false, Some, if◌then◌else◌, ◌≡◌, ◌+◌, ◌*◌, ◌≤◌, ◌⊎◌, ◌++◌, ◌∷◌, [], List, map, refl}
-use Names.{sym, ◌∙◌, ap, subst, arith, One, Waiter, waiter, apply, OnceCall, WaitTimed, Answer, Outcome, Next}
-use Names.{Value, Nobody, holds, outcome_of, Phase, New, Poisoned, InProgress, queued_of, once_purpose, Line}
-use Names.{Main, Runs as Running, idle, OncePlace, Run, once_profile, check_of, in_look, is_forced, once_act}
-use Names.{once_first, once_next, state_before, when_done, Once, once_does, once_goes, State, after, go_of}
-use Names.{queue_at, solo, word_at, lock_state, FitsItsLock, key_of, rules_in, site_of, EndsAlone, IsBarred}
-use Names.{role_on}
+use Rattle.lot_laws.proofs.Imports
+use Imports.{ℕ, Bool, true, false, Some, if◌then◌else◌, ◌≡◌, ◌+◌, ◌*◌, ◌≤◌, ◌⊎◌, ◌++◌, ◌∷◌, [], List, map, refl}
+use Imports.{sym, ◌∙◌, ap, subst, arith, One, Waiter, waiter, apply, OnceCall, WaitTimed, Answer, Outcome, Next}
+use Imports.{Value, Nobody, holds, outcome_of, Phase, New, Poisoned, InProgress, queued_of, once_purpose, Line}
+use Imports.{Main, Runs as Running, idle, OncePlace, Run, once_profile, check_of, in_look, is_forced, once_act}
+use Imports.{once_first, once_next, state_before, when_done, Once, once_does, once_goes, State, after, go_of}
+use Imports.{queue_at, solo, word_at, lock_state, FitsItsLock, key_of, rules_in, site_of, EndsAlone, IsBarred}
+use Imports.{role_on}
 use Rattle.std.specs.Prelude.{◌&&◌, not}
 use Rattle.core_base.specs.declared.ops.Op.TheVariants as op
 use Rattle.spec_locks.specs.declared.calls.OnceCall.TheVariants.{CallOnce, Wait}

@@ -1,10 +1,10 @@
 -- A wait that locks its mutex again, whose thread steps alone: from each place it ends, or sleeps.
-use Rattle.lot_laws.proofs.Names
-use Names.{ℕ, Bool, true, false, if◌then◌else◌, ◌==◌, ◌&&◌, ◌≡◌, ◌≢◌, ◌+◌, ◌*◌, not, is_none, inl, inr, refl}
-use Names.{sym, ◌∙◌, ap, subst, arith, cases_eq, eqb-true, One, Op, apply, Reply, Value, Parked, outcome_of}
-use Names.{LockAt, is_locked, lock_act, CondvarPlace, Wait, IsLockOf, condvar_next, Condvar, State, after}
-use Names.{can_do, go_of, place_at, reply_to, state_after_act, word_at, IsMutexWord, owner_at, EntersSection}
-use Names.{Rests}
+use Rattle.lot_laws.proofs.Imports
+use Imports.{ℕ, Bool, true, false, if◌then◌else◌, ◌==◌, ◌&&◌, ◌≡◌, ◌≢◌, ◌+◌, ◌*◌, not, is_none, inl, inr, refl}
+use Imports.{sym, ◌∙◌, ap, subst, arith, cases_eq, eqb-true, One, Op, apply, Reply, Value, Parked, outcome_of}
+use Imports.{LockAt, is_locked, lock_act, CondvarPlace, Wait, IsLockOf, condvar_next, Condvar, State, after}
+use Imports.{can_do, go_of, place_at, reply_to, state_after_act, word_at, IsMutexWord, owner_at, EntersSection}
+use Imports.{EndsOrSleeps}
 use Rattle.core_base.specs.declared.ops.Op.TheVariants as op
 use Rattle.spec_locks.specs.declared.outcomes.Outcome.TheVariants as outcome
 use Rattle.steps_base.specs.declared.acts.Act.TheVariants as act
@@ -28,7 +28,7 @@ module _ (t l m : ℕ) (keeps : Keeps t) (timed late : Bool) where
   relocks again a = Wait m timed (wait.Lock late (mutex.Lock entry.Lock again a))
 
   abbrev RestsIn : ℕ → State → Type 0
-  RestsIn k w = Leads k w t (λ v o. Rests o)
+  RestsIn k w = Leads k w t (λ v o. EndsOrSleeps o)
 
   abbrev Alone : State → Bool → LockAt → Type 0
   Alone w again a = GoesAlone w t l m (relocks again a)
@@ -36,7 +36,7 @@ module _ (t l m : ℕ) (keeps : Keeps t) (timed late : Bool) where
   module _ (w : State) (again : Bool) (a : LockAt) (g : Alone w again a) where
     -- tells what is left to do after this reply
     abbrev Left : ℕ → Reply → Type 0
-    Left k r = Afterwards t l m keeps w (relocks again a) g (λ v o. Rests o) k
+    Left k r = Afterwards t l m keeps w (relocks again a) g (λ v o. EndsOrSleeps o) k
         (condvar_next (relocks again a) r)
 
     stays : place_at (state_after_act w t (Condvar l (relocks again a)) (lock_act m a)) t ≡ Condvar l
@@ -45,7 +45,7 @@ module _ (t l m : ℕ) (keeps : Keeps t) (timed late : Bool) where
         (reached t l m keeps w (relocks again a) g) g.thread refl
 
     goes : (k : ℕ) → can_do w (lock_act m a) ≡ true → Left k (reply_to w t (lock_act m a)) → RestsIn (k + 1) w
-    goes k can left = leads_afterwards t l m keeps w (relocks again a) g can (λ v o. Rests o) k
+    goes k can left = leads_afterwards t l m keeps w (relocks again a) g can (λ v o. EndsOrSleeps o) k
         (relocks again a)
         stays left
 
@@ -82,7 +82,7 @@ module _ (t l m : ℕ) (keeps : Keeps t) (timed late : Bool) where
             goes w again (lock.Decide seen) g k can
             (subst (λ a. Left w again (lock.Decide seen) g k (reply_to w t a)) (sym is)
             (λ h. inr (refl, on (same_word can) h)))
-        | inr barred ↦ leads_barred w t (λ v o. Rests o) (k + 1) barred
+        | inr barred ↦ leads_barred w t (λ v o. EndsOrSleeps o) (k + 1) barred
       ]
     where
       is : lock_act m (lock.Decide seen) ≡ act.Enter (One (2 * m))
@@ -112,7 +112,7 @@ module _ (t l m : ℕ) (keeps : Keeps t) (timed late : Bool) where
         decides_full (after w (go_of t)) again (word_is w again (lock.Decide 1) h
             (op.Exchange 1 3) refl refl ∙ ap (apply (op.Exchange 1 3)) e) k,
       ))))
-      (λ u e h. leads_more 3 4 w t (λ v o. Rests o) (omega arith) (decides_full w again e h))
+      (λ u e h. leads_more 3 4 w t (λ v o. EndsOrSleeps o) (omega arith) (decides_full w again e h))
       (word_at w m) (owner_at w m) (mutex_coded w again (lock.Decide (word_at w m)) g) refl g
 
   -- the thread has looked
@@ -141,7 +141,7 @@ module _ (t l m : ℕ) (keeps : Keeps t) (timed late : Bool) where
   ))
 
   leaves : (w : State) (again parked : Bool) → Alone w again (lock.Leave parked) → RestsIn 6 w
-  leaves w again true g = leads_more 1 6 w t (λ v o. Rests o) (omega arith) (sleeps w again g)
+  leaves w again true g = leads_more 1 6 w t (λ v o. EndsOrSleeps o) (omega arith) (sleeps w again g)
   leaves w again false g = goes w again (lock.Leave false) g 5 refl
       (λ h. inr (refl, loads (after w (go_of t)) again h))
 
@@ -167,16 +167,16 @@ module _ (t l m : ℕ) (keeps : Keeps t) (timed late : Bool) where
   -- the thread decides by a value that the word has no longer, or still
   decides_by : (w : State) (again : Bool) (seen : ℕ) → Alone w again (lock.Decide seen) → RestsIn 8 w
   decides_by w again seen g = elim (cases_eq (word_at w m) seen) [
-    | inl e ↦ leads_more 4 8 w t (λ v o. Rests o) (omega arith)
+    | inl e ↦ leads_more 4 8 w t (λ v o. EndsOrSleeps o) (omega arith)
         (decides_now w again (subst (λ x. Alone w again (lock.Decide x)) (sym e) g))
     | inr ne ↦ either (is_locked seen) (seen == 1) refl refl (differ (word_at w m) seen ne)
   ]
     where
       either : (a b : Bool) → is_locked seen ≡ a → (seen == 1) ≡ b → (word_at w m == seen) ≡ false
           → RestsIn 8 w
-      either false b ea eb other = leads_more 5 8 w t (λ v o. Rests o) (omega arith)
+      either false b ea eb other = leads_more 5 8 w t (λ v o. EndsOrSleeps o) (omega arith)
           (missed w again seen (op.Exchange seen (seen + 1)) g (rw ea refl) (rw other refl) other)
-      either true true ea eb other = leads_more 5 8 w t (λ v o. Rests o) (omega arith)
+      either true true ea eb other = leads_more 5 8 w t (λ v o. EndsOrSleeps o) (omega arith)
           (missed w again seen (op.Exchange 1 3) g (rw (ea, eb) refl)
           (rw (subst (λ n. (word_at w m == n) ≡ false) (eqb-true seen 1 eb) other) refl) other)
       either true false ea eb other = enters w again seen 7 g ea eb (λ e h. checks (after w (go_of t)) again
@@ -194,15 +194,15 @@ module _ (t l m : ℕ) (keeps : Keeps t) (timed late : Bool) where
   pub relock_rests : (w : State) (again : Bool) (a : LockAt) → IsLockOf a → lock_act m a ≢ act.Sleep
       → Alone w again a
       → RestsIn 8 w
-  relock_rests w again lock.First of up g = leads_more 6 8 w t (λ v o. Rests o) (omega arith)
+  relock_rests w again lock.First of up g = leads_more 6 8 w t (λ v o. EndsOrSleeps o) (omega arith)
       (tries w again g)
-  relock_rests w again lock.Load of up g = leads_more 5 8 w t (λ v o. Rests o) (omega arith) (loads w again g)
+  relock_rests w again lock.Load of up g = leads_more 5 8 w t (λ v o. EndsOrSleeps o) (omega arith) (loads w again g)
   relock_rests w again (lock.Decide seen) of up g = decides_by w again seen g
-  relock_rests w again lock.Check of up g = leads_more 7 8 w t (λ v o. Rests o) (omega arith)
+  relock_rests w again lock.Check of up g = leads_more 7 8 w t (λ v o. EndsOrSleeps o) (omega arith)
       (checks w again g)
-  relock_rests w again (lock.Leave parked) of up g = leads_more 6 8 w t (λ v o. Rests o) (omega arith)
+  relock_rests w again (lock.Leave parked) of up g = leads_more 6 8 w t (λ v o. EndsOrSleeps o) (omega arith)
       (leaves w again parked g)
-  relock_rests w again lock.Accept of up g = leads_more 1 8 w t (λ v o. Rests o) (omega arith)
+  relock_rests w again lock.Accept of up g = leads_more 1 8 w t (λ v o. EndsOrSleeps o) (omega arith)
       (goes w again lock.Accept g 0 refl tt)
   relock_rests w again lock.Asleep of up g = absurd (up refl)
   relock_rests w again (lock.Taken by) of up g = absurd (up refl)

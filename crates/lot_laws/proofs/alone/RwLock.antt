@@ -1,18 +1,18 @@
 -- A call of a reader-writer lock whose thread steps alone: from each place, where it ends or falls asleep.
-use Rattle.lot_laws.proofs.Names
-use Names.{ℕ, Bool, true, false, Option, Some, None, if◌then◌else◌, ◌==◌, ◌&&◌, not, ◌≡◌, ◌≢◌, ◌+◌, ◌-◌, ◌*◌}
-use Names.{◌%◌, ◌≤◌, ◌<◌, ◌^◌, length, drop, List, [], ◌∷◌, ◌++◌, refl, sym, ◌∙◌, ap, subst, arith, eqb-true}
-use Names.{One, Waiter, Want, apply, Access, Downgrade, Patience, Patient, Timed, Try, Answer, Outcome, Next}
-use Names.{At, Value, holds, outcome_of, waiter, first_of, Admission, RwLockPlace, RwLockPurpose, RwLockAt}
-use Names.{Decision, ParkAt, WakeAt, act_at, park_act, wanted, access_of, patience_of, want_at, start_of}
-use Names.{ends_with, entered, is_counted, decision, decided, decided_for, decided_act, exchanged_next}
-use Names.{decision_blocked, park_or_mark, exchange, plus, word_taken, rwlock_act, rwlock_next, park_check}
-use Names.{unparked, whom, after_count, looked_by, came_in, gave_way, parks_at, missed, clears, rollback_op}
-use Names.{give_op, bit, code, code_of, rw_code, writers, count_in, has_aside, has_parked, is_blocked, bars}
-use Names.{leaves_readers, Site, IsSite, has_readers, Line, Main, Second, Idle, RwLock, Plain, act_of, State}
-use Names.{word_at, queue_at, queues_without_first, state_after_taking, after, go_of, IsNoRefusal, MayStand}
-use Names.{StandsAt, IsDecided, decides_to_park, aside_set, IsInductive, key_of, rules_in, site_of, Rules}
-use Names.{Sort, Recursive, count, one_if_some, Rests}
+use Rattle.lot_laws.proofs.Imports
+use Imports.{ℕ, Bool, true, false, Option, Some, None, if◌then◌else◌, ◌==◌, ◌&&◌, not, ◌≡◌, ◌≢◌, ◌+◌, ◌-◌, ◌*◌}
+use Imports.{◌%◌, ◌≤◌, ◌<◌, ◌^◌, length, drop, List, [], ◌∷◌, ◌++◌, refl, sym, ◌∙◌, ap, subst, arith, eqb-true}
+use Imports.{One, Waiter, Want, apply, Access, Downgrade, Patience, Patient, Timed, Try, Answer, Outcome, Next}
+use Imports.{At, Value, holds, outcome_of, waiter, first_of, Admission, RwLockPlace, RwLockPurpose, RwLockAt}
+use Imports.{Decision, ParkAt, WakeAt, act_at, park_act, wanted, access_of, patience_of, want_at, start_of}
+use Imports.{ends_with, entered, is_counted, decision, decided, decided_for, decided_act, exchanged_next}
+use Imports.{decision_blocked, park_or_mark, exchange, plus, word_taken, rwlock_act, rwlock_next, park_check}
+use Imports.{unparked, whom, after_count, looked_by, came_in, gave_way, parks_at, missed, clears, rollback_op}
+use Imports.{give_op, bit, code, code_of, rw_code, writers, count_in, has_aside, has_parked, is_blocked, bars}
+use Imports.{leaves_readers, Site, IsSite, has_readers, Line, Main, Second, Idle, RwLock, Plain, act_of, State}
+use Imports.{word_at, queue_at, queues_without_first, state_after_taking, after, go_of, IsNoRefusal, MayStand}
+use Imports.{StandsAt, IsDecided, decides_to_park, aside_set, IsInductive, key_of, rules_in, site_of, Rules}
+use Imports.{Sort, Recursive, count, one_if_some, EndsOrSleeps}
 use Rattle.std.proofs.Common.{nat_le}
 use Rattle.core_base.specs.declared.ops.Op.TheVariants as op
 use Rattle.spec_locks.specs.declared.calls.Access.TheVariants as access
@@ -21,7 +21,7 @@ use Rattle.spec_locks.specs.declared.outcomes.Outcome.TheVariants as outcome
 use Rattle.steps_base.specs.declared.acts.Act.TheVariants as act
 use Rattle.steps_base.specs.declared.acts.Next.TheVariants.{End}
 use Rattle.steps_base.specs.declared.acts.Wakes.TheVariants as wakes
-use Rattle.steps_base.specs.declared.acts.Whom.TheVariants as whoms
+use Rattle.steps_base.specs.declared.acts.TakeWhich.TheVariants as whoms
 use Rattle.steps_rwlock.specs.declared.purposes.RwLockPurpose.TheVariants as purpose
 use Rattle.steps_rwlock.specs.declared.places.RwLockAt.TheVariants as at
 use Rattle.steps_rwlock.specs.declared.enter.Decision.TheVariants as decisions
@@ -40,7 +40,7 @@ use Rattle.lot_laws.proofs.alone.TwoLines.{parks_last, remove_comes, take_comes}
 -- ---------------------------------------------------------------- runs of a thread alone
 
 abbrev Resting : State → Outcome → Type 0
-Resting v x = Rests x
+Resting v x = EndsOrSleeps x
 
 module _ (t l : ℕ) (a : Admission) where
   abbrev Alone : State → RwLockPlace → ℕ → (Line → List Waiter) → Type 0
@@ -403,16 +403,16 @@ module _ (t l : ℕ) (a : Admission) where
   -- ---------------------------------------------------------------- from any place
 
   sleeps_so : (m : Line) (p : RwLockPlace) (q : Line → List Waiter) (s : State) (x : Outcome)
-      → Sleeps m p q s x → Rests x
+      → Sleeps m p q s x → EndsOrSleeps x
   sleeps_so m p q s x h = rw (h.0) tt
 
   settles_so : (b : Bool) (p : RwLockPlace) (q : Line → List Waiter) (s : State) (x : Outcome)
-      → Settles b p q s x → Rests x
+      → Settles b p q s x → EndsOrSleeps x
   settles_so true p q s x h = rw h tt
   settles_so false p q s x h = sleeps_so Second p q s x h
 
   takes_so : (r : RwLockPurpose) (retries : Bool) (v : ℕ) (q : Line → List Waiter) (s : State) (x : Outcome)
-      → Takes r retries v q s x → Rests x
+      → Takes r retries v q s x → EndsOrSleeps x
   takes_so (purpose.Enter access.Exclusive how) retries v q s x h = settles_so (count_in (plus v 8) == 0) _ q
       s x h
   takes_so (purpose.Enter access.Shared how) retries v q s x h = rw h tt
@@ -422,14 +422,14 @@ module _ (t l : ℕ) (a : Admission) where
   takes_so (purpose.Upgrade how) retries v q s x h = rw h tt
 
   decides_so : (d : Decision) (p : RwLockPlace) (v : ℕ) (q : Line → List Waiter) (s : State) (x : Outcome)
-      → Decides d p v q s x → Rests x
+      → Decides d p v q s x → EndsOrSleeps x
   decides_so (decisions.Refuse answer) p v q s x h = rw h tt
   decides_so decisions.Take p v q s x h = takes_so p.purpose p.retries v q s x h
   decides_so decisions.Mark p v q s x h = sleeps_so Main p q s x h
   decides_so decisions.Park p v q s x h = sleeps_so Main p q s x h
 
   tries_so : (b : Bool) (how : Patience) (p : RwLockPlace) (v : ℕ) (q : Line → List Waiter) (s : State)
-      (x : Outcome) → Tries b how p v q s x → Rests x
+      (x : Outcome) → Tries b how p v q s x → EndsOrSleeps x
   tries_so true how p v q s x h = rw h tt
   tries_so false Try p v q s x h = rw h tt
   tries_so false Patient p v q s x h = decides_so (decided a p v) p v q s x h
@@ -538,7 +538,7 @@ module _ (t l : ℕ) (a : Admission) where
       answers (purpose.Release x) h = absurd h
       answers (purpose.Downgrade d) h = absurd h
 
-  ends_so : (r : RwLockPurpose) (s : State) (x : Outcome) → Ends r s x → Rests x
+  ends_so : (r : RwLockPurpose) (s : State) (x : Outcome) → Ends r s x → EndsOrSleeps x
   ends_so r s x h = rw h tt
 
   pub release_ends : (x : Access) (retries : Bool) (v : ℕ) (w : State) (q : Line → List Waiter)
@@ -585,7 +585,7 @@ module _ (t l : ℕ) (a : Admission) where
           (look_leads (place_for (purpose.Upgrade how) false at.Look) (apply (op.Sub 12) v) _ q (below _) c.1)
 
   upgrades_so : (b : Bool) (how : Patience) (retries : Bool) (v : ℕ) (q : Line → List Waiter) (s : State)
-      (x : Outcome) → Upgrades b how retries v q s x → Rests x
+      (x : Outcome) → Upgrades b how retries v q s x → EndsOrSleeps x
   upgrades_so true how retries v q s x h = rw h tt
   upgrades_so false how retries v q s x h = settles_so (count_in (apply (op.Sub 12) v) == 0) _ q s x h
 
@@ -663,13 +663,13 @@ module _ (t l : ℕ) (a : Admission) where
       (λ g. leave_rests Second (again p at.Look _) (holds (park_check a (want_at p) Second) v) v _ _ small g)
 
   -- on its way into a line, or out of it, but asleep
-  abbrev IsUp : ParkAt → Type 0
-  IsUp parking.Asleep = ⊥
-  IsUp (parking.Taken by) = ⊥
-  IsUp x = Unit {0}
+  abbrev IsAwake : ParkAt → Type 0
+  IsAwake parking.Asleep = ⊥
+  IsAwake (parking.Taken by) = ⊥
+  IsAwake x = Unit {0}
 
   parks_rests : (m : Line) (p : RwLockPlace) (x : ParkAt) (v : ℕ) (w : State) (q : Line → List Waiter)
-      → IsWaiting p.purpose → IsUp x → v < 2 ^ 64 → Alone w (to p (parks_at m x)) v q → Leads 9 w t Resting
+      → IsWaiting p.purpose → IsAwake x → v < 2 ^ 64 → Alone w (to p (parks_at m x)) v q → Leads 9 w t Resting
   parks_rests m p parking.Check v w q waits up small f = check_rests m p v w q small f
   parks_rests m p (parking.Leave b) v w q waits up small f = leads_more 8 9 w t Resting (omega arith)
       (leave_rests m p b v w q small f)
@@ -772,8 +772,8 @@ module _ (t l : ℕ) (a : Admission) where
   -- awake, and with something to do
   abbrev IsReady : RwLockPlace → RwLockAt → Type 0
   IsReady p (at.Decide seen) = IsNoRefusal (decided a p seen)
-  IsReady p (at.Park x) = IsUp x × IsWaiting p.purpose
-  IsReady p (at.Aside x) = IsUp x × IsWaiting p.purpose
+  IsReady p (at.Park x) = IsAwake x × IsWaiting p.purpose
+  IsReady p (at.Aside x) = IsAwake x × IsWaiting p.purpose
   IsReady p at.RollBack = IsWaiting p.purpose
   IsReady p at.GiveWay = IsGiving p.purpose
   IsReady p x = Unit {0}
@@ -840,7 +840,7 @@ pub is_ready : (t l : ℕ) (a : Admission) (p : RwLockPlace) → MayStand a p �
 is_ready t l a p stands up = by_at p.purpose p.at stands.place stands.decided up
   where
     by_parking : (q : RwLockPurpose) (m : Line) (x : ParkAt) → park_act l a (wanted (access_of q)) m x
-        ≢ act.Sleep → IsUp t l a x
+        ≢ act.Sleep → IsAwake t l a x
     by_parking q m parking.Asleep up = absurd (up refl)
     by_parking q m (parking.Taken by) up = absurd (up refl)
     by_parking q m parking.Check up = tt

@@ -1,19 +1,19 @@
 -- Each call of a reader-writer lock that steps alone from its beginning, and to what it comes.
-use Rattle.lot_laws.proofs.Names
-use Names.{ℕ, Bool, true, false, Option, Some, None, if◌then◌else◌, ◌==◌, ◌&&◌, ◌||◌, ◌≡◌, ◌≢◌, ◌+◌, ◌*◌, ◌/◌}
-use Names.{◌%◌, ◌≤◌, ◌<◌, ◌⊎◌, ◌^◌, List, [], ◌∷◌, ◌++◌, map, length, replicate, refl, sym, ◌∙◌, ap, subst}
-use Names.{arith, eqb-true, nat_tests, Waiter, Want, Exclusive, Upgradable, Shared, waiter, first_of, Access}
-use Names.{Patience, Patient, Timed, Try, Answer, Outcome, Admission, RwLockPlace, RwLockPurpose, RwLockAt}
-use Names.{Decision, wanted, to_of, decision, decided, decision_blocked, entered, plus, is_counted, Downgrade}
-use Names.{before, purpose_by, apply, RwLockCallPlace, Plain, HandOver, call_profile, call_first, Admits}
-use Names.{role_at, rwlock_role, LockState, Pending, Rights, with_right, one_if_thread, Sort, Recursive}
-use Names.{Rules, NoWriter, IsFreeAt, IsSomePending, one_if_some, IsFree, IsBlocked, MayEnter, Owns}
-use Names.{is_recursive, count, readers, rights_of, code, count_in, has_parked, is_blocked, TellsTrue}
-use Names.{queued_of, Enters, Releases, Converts, IsFull, AnswerHolds, CallState, one_more_at, Has, idle}
-use Names.{Line, Second, has_readers, words_tell_true, RwLock, State, go_of, place_at, word_at, queue_at}
-use Names.{solo, lock_state, locks_of, call_at, call_state, IsInductive, key_of, rules_in, site_of, role_on}
-use Names.{EntersAlone, ReleasesAlone, ConvertsAlone, MayEnterAtOnce, WaitsAlone, WaitsForReaders}
-use Names.{entered_answer, IsBarred}
+use Rattle.lot_laws.proofs.Imports
+use Imports.{ℕ, Bool, true, false, Option, Some, None, if◌then◌else◌, ◌==◌, ◌&&◌, ◌||◌, ◌≡◌, ◌≢◌, ◌+◌, ◌*◌, ◌/◌}
+use Imports.{◌%◌, ◌≤◌, ◌<◌, ◌⊎◌, ◌^◌, List, [], ◌∷◌, ◌++◌, map, length, replicate, refl, sym, ◌∙◌, ap, subst}
+use Imports.{arith, eqb-true, nat_tests, Waiter, Want, Exclusive, Upgradable, Shared, waiter, first_of, Access}
+use Imports.{Patience, Patient, Timed, Try, Answer, Outcome, Admission, RwLockPlace, RwLockPurpose, RwLockAt}
+use Imports.{Decision, wanted, to_of, decision, decided, decision_blocked, entered, plus, is_counted, Downgrade}
+use Imports.{before, purpose_by, apply, RwLockCallPlace, Plain, HandOver, call_profile, call_first, Admits}
+use Imports.{role_at, rwlock_role, LockState, Pending, Rights, with_right, one_if_thread, Sort, Recursive}
+use Imports.{Rules, NoWriter, IsFreeAt, IsSomePending, one_if_some, IsFree, IsBlocked, MayEnter, Owns}
+use Imports.{is_recursive, count, readers, rights_of, code, count_in, has_parked, is_blocked, TellsTrue}
+use Imports.{queued_of, Enters, Releases, Converts, IsFull, AnswerHolds, CallState, one_more_at, Has, idle}
+use Imports.{Line, Second, has_readers, words_tell_true, RwLock, State, go_of, place_at, word_at, queue_at}
+use Imports.{solo, lock_state, locks_of, call_at, call_state, IsInductive, key_of, rules_in, site_of, role_on}
+use Imports.{EntersAlone, ReleasesAlone, ConvertsAlone, MayEnterAtOnce, WaitsAlone, WaitsForReaders}
+use Imports.{entered_answer, IsBarred}
 use Rattle.std.proofs.Common.{nat_le}
 use Rattle.spec_locks.specs.declared.calls.Access.TheVariants as access
 use Rattle.spec_locks.specs.declared.outcomes.Answer.TheVariants as answer

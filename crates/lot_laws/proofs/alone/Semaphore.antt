@@ -1,10 +1,10 @@
 -- A call of a semaphore whose thread steps alone ends or sleeps.
-use Rattle.lot_laws.proofs.Names
-use Names.{eqb-true, ℕ, Bool, true, false, if◌then◌else◌, ◌==◌, ◌≡◌, ◌≢◌, ◌+◌, ◌-◌, ◌*◌, ◌≤◌, List, refl, sym}
-use Names.{◌∙◌, ap, subst, arith, Op, Waiter, Shared, apply, Outcome, Answer, WordIs, Value, Nobody}
-use Names.{outcome_of, Line, Main, AcquireAt, TryAt, ReleaseAt, SemaphorePlace, Acquire, Release, acquired}
-use Names.{in_acquire, in_try, is_free, semaphore_next, Semaphore, act_of, semaphore_does, semaphore_goes}
-use Names.{State, after, go_of, step_outcome, Rests}
+use Rattle.lot_laws.proofs.Imports
+use Imports.{eqb-true, ℕ, Bool, true, false, if◌then◌else◌, ◌==◌, ◌≡◌, ◌≢◌, ◌+◌, ◌-◌, ◌*◌, ◌≤◌, List, refl, sym}
+use Imports.{◌∙◌, ap, subst, arith, Op, Waiter, Shared, apply, Outcome, Answer, WordIs, Value, Nobody}
+use Imports.{outcome_of, Line, Main, AcquireAt, TryAt, ReleaseAt, SemaphorePlace, Acquire, Release, acquired}
+use Imports.{in_acquire, in_try, is_free, semaphore_next, Semaphore, act_of, semaphore_does, semaphore_goes}
+use Imports.{State, after, go_of, step_outcome, EndsOrSleeps}
 use Rattle.std.specs.Prelude.{◌&&◌, not}
 use Rattle.core_base.specs.declared.ops.Op.TheVariants as op
 use Rattle.spec_locks.specs.declared.outcomes.Outcome.TheVariants as outcome
@@ -33,38 +33,38 @@ module _ (t l : ℕ) where
   Alone w p v q = StepsAlone w t l (Semaphore l p) v q
 
   abbrev RestsIn : ℕ → State → Type 0
-  RestsIn k w = Leads k w t (λ v o. Rests o)
+  RestsIn k w = Leads k w t (λ v o. EndsOrSleeps o)
 
   -- the thread goes on, and rests after
   goes : (k v : ℕ) (w : State) (q : Queues) (p : SemaphorePlace) (told : Outcome) → told ≡ outcome.Step
       → Comes w t l (Semaphore l p) told v q
       → (Alone (after w (go_of t)) p v q → RestsIn k (after w (go_of t))) → RestsIn (k + 1) w
-  goes k v w q p told steps comes on = leads_step w t (λ v o. Rests o) k (comes.0 ∙ steps) (on comes.1)
+  goes k v w q p told steps comes on = leads_step w t (λ v o. EndsOrSleeps o) k (comes.0 ∙ steps) (on comes.1)
 
-  rests : (w : State) (o : Outcome) → step_outcome w (go_of t) ≡ o → Rests o → RestsIn 1 w
-  rests w o told h = leads_rest w t (λ v o. Rests o) o told h h
+  rests : (w : State) (o : Outcome) → step_outcome w (go_of t) ≡ o → EndsOrSleeps o → RestsIn 1 w
+  rests w o told h = leads_rest w t (λ v o. EndsOrSleeps o) o told h h
 
   more : (k m : ℕ) (w : State) → k ≤ m → RestsIn k w → RestsIn m w
-  more k m w le h = leads_more k m w t (λ v o. Rests o) le h
+  more k m w le h = leads_more k m w t (λ v o. EndsOrSleeps o) le h
 
   answer_rests : (k : ℕ) (w : State) (a : Answer) → Leads k w t (Answers t l a) → RestsIn k w
-  answer_rests k w a h = leads_so k w t (Answers t l a) (λ v o. Rests o) (λ v o e. rw e tt) h
+  answer_rests k w a h = leads_so k w t (Answers t l a) (λ v o. EndsOrSleeps o) (λ v o e. rw e tt) h
 
   -- ---------------------------------------------------------------- waiters for a permit
 
   module _ (timed : Bool) where
-    ended_rests : (q : Queues) (free : Bool) (v : State) (o : Outcome) → Ended t l timed q free v o → Rests o
+    ended_rests : (q : Queues) (free : Bool) (v : State) (o : Outcome) → Ended t l timed q free v o → EndsOrSleeps o
     ended_rests q true v o h = rw h tt
     ended_rests q false v o h = rw (h.0) tt
 
     decides_rests_now : (again : Bool) (v : ℕ) (w : State) (q : Queues)
         → Alone w (Acquire timed again (acquire.Decide v)) v q → RestsIn 4 w
-    decides_rests_now again v w q f = leads_so 4 w t (Ended t l timed q (is_free v)) (λ v o. Rests o)
+    decides_rests_now again v w q f = leads_so 4 w t (Ended t l timed q (is_free v)) (λ v o. EndsOrSleeps o)
         (ended_rests q (is_free v)) (decides t l timed again w q v (is_free v) refl f)
 
     loads_rest : (again : Bool) (v : ℕ) (w : State) (q : Queues) → Alone w (Acquire timed again acquire.Load)
         v q → RestsIn 5 w
-    loads_rest again v w q f = leads_so 5 w t (Ended t l timed q (is_free v)) (λ v o. Rests o)
+    loads_rest again v w q f = leads_so 5 w t (Ended t l timed q (is_free v)) (λ v o. EndsOrSleeps o)
         (ended_rests q (is_free v)) (loads t l timed again w q v (is_free v) refl f)
 
     leaves : (again parked : Bool) (v : ℕ) (w : State) (q : Queues)
@@ -111,7 +111,7 @@ module _ (t l : ℕ) where
           (ap (λ b. if b then seen - 2 else v) other)
       by_seen false true e g = fails (op.Exchange 0 1) (sets_bit l seen e g)
           (ap (λ b. if b then 1 else v) (ap (λ n. v == n) (sym (eqb-true seen 0 g)) ∙ other))
-      by_seen false false e g = leads_into w t l _ v q f (λ v o. Rests o) 7 Main (goes_inside l seen e g) refl
+      by_seen false false e g = leads_into w t l _ v q f (λ v o. EndsOrSleeps o) 7 Main (goes_inside l seen e g) refl
           refl (λ h. checks again v _ q h)
 
     decides_rests : (again : Bool) (seen v : ℕ) (w : State) (q : Queues)

@@ -1,16 +1,16 @@
 -- A call of a semaphore that steps alone from its beginning, and to what it comes.
-use Rattle.lot_laws.proofs.Names
-use Names.{nat_tests, ℕ, zero, suc, Bool, true, false, Option, Some, None, if◌then◌else◌, ◌==◌, ◌≡◌, ◌+◌, ◌-◌}
-use Names.{◌*◌, ◌<◌, ◌≤◌, ◌⊎◌, ◌++◌, ◌∷◌, [], List, length, map, replicate, refl, sym, ◌∙◌, ap, subst, arith}
-use Names.{One, Normal, Waiter, Shared, Upgradable, first_of, waiter, apply, Patience, Patient, Timed}
-use Names.{Try as OnlyTry, SemaphoreCall, Answer, Outcome, WordIs, Next, Value, Nobody, outcome_of}
-use Names.{wakes_taken, has_parked, IsBlocked, IsFree, IsFreeAt, Knows, LockState, Owns, one_if_some, readers}
-use Names.{rights_of, with_right, queued_of, Enters, semaphore_purpose, IsFull, Line, Main, has_readers}
-use Names.{SemaphorePlace, Acquire, Release, acquired, in_acquire, in_release, in_try, is_free, semaphore_act}
-use Names.{semaphore_first, semaphore_next, semaphore_profile, Semaphore, semaphore_does, semaphore_goes}
-use Names.{State, after, go_of, place_at, queue_at, queues_without_first, solo, state_after_taking, word_at}
-use Names.{call_at, call_state, lock_state, locks_of, IsInductive, key_of, rules_in, site_of, EndsAlone}
-use Names.{EntersAlone, IsBarred, ReleasesAlone, SleepsLast, WaitsAlone, entered_answer}
+use Rattle.lot_laws.proofs.Imports
+use Imports.{nat_tests, ℕ, zero, suc, Bool, true, false, Option, Some, None, if◌then◌else◌, ◌==◌, ◌≡◌, ◌+◌, ◌-◌}
+use Imports.{◌*◌, ◌<◌, ◌≤◌, ◌⊎◌, ◌++◌, ◌∷◌, [], List, length, map, replicate, refl, sym, ◌∙◌, ap, subst, arith}
+use Imports.{One, Normal, Waiter, Shared, Upgradable, first_of, waiter, apply, Patience, Patient, Timed}
+use Imports.{Try as OnlyTry, SemaphoreCall, Answer, Outcome, WordIs, Next, Value, Nobody, outcome_of}
+use Imports.{wakes_taken, has_parked, IsBlocked, IsFree, IsFreeAt, Knows, LockState, Owns, one_if_some, readers}
+use Imports.{rights_of, with_right, queued_of, Enters, semaphore_purpose, IsFull, Line, Main, has_readers}
+use Imports.{SemaphorePlace, Acquire, Release, acquired, in_acquire, in_release, in_try, is_free, semaphore_act}
+use Imports.{semaphore_first, semaphore_next, semaphore_profile, Semaphore, semaphore_does, semaphore_goes}
+use Imports.{State, after, go_of, place_at, queue_at, queues_without_first, solo, state_after_taking, word_at}
+use Imports.{call_at, call_state, lock_state, locks_of, IsInductive, key_of, rules_in, site_of, EndsAlone}
+use Imports.{EntersAlone, IsBarred, ReleasesAlone, SleepsLast, WaitsAlone, entered_answer}
 use Rattle.std.specs.Prelude.{◌&&◌, not}
 use Rattle.core_base.specs.declared.ops.Op.TheVariants as op
 use Rattle.spec_locks.specs.declared.calls.SemaphoreCall.TheVariants as call
@@ -18,7 +18,7 @@ use Rattle.spec_locks.specs.declared.outcomes.Answer.TheVariants as answer
 use Rattle.spec_locks.specs.declared.outcomes.Outcome.TheVariants as outcome
 use Rattle.steps_base.specs.declared.acts.Act.TheVariants as act
 use Rattle.steps_base.specs.declared.acts.Next.TheVariants as next
-use Rattle.steps_base.specs.declared.acts.Whom.TheVariants as whom
+use Rattle.steps_base.specs.declared.acts.TakeWhich.TheVariants as whom
 use Rattle.spec_locks.specs.Locks.{Semaphore as OfSemaphores}
 use Rattle.steps_semaphore.specs.declared.places.TheConstants.{NOT_PARKED}
 use Rattle.steps_semaphore.specs.declared.acquire.AcquireAt.TheVariants as acquire

@@ -1,12 +1,12 @@
 -- A call that only tries enters no section, so a thread that is inside one doesn't bar it.
-use Rattle.lot_laws.proofs.Names
-use Names.{ℕ, zero, suc, Bool, true, false, Some, None, ◌≢◌, ◌⊎◌, inl, inr, if◌then◌else◌, ◌≡◌, refl, sym}
-use Names.{◌∙◌, ap, subst, Call, CondvarCall, MutexCall, OnceCall, Try, RwLockCall, SemaphoreCall, Kind}
-use Names.{Outcome, lock_in, Act, Place, Idle, Mutex, RwLock, Once, Condvar, Semaphore, act_of, first_place}
-use Names.{mutex_purpose, purpose_of, rwlock_purpose, Rights, CallState, Event, GoesOn, IsStep, LocksState}
-use Names.{going_on, purpose_at, rights_in, unless_ended, woken, State, after, alone_after, go_of, kind_at}
-use Names.{place_at, solo, step_outcome, IsTry, call_state, keys_entered, locks_of, IsWorld, key_of}
-use Names.{EntersSection, HasWhatItReads, IsBarred, OnlyTries}
+use Rattle.lot_laws.proofs.Imports
+use Imports.{ℕ, zero, suc, Bool, true, false, Some, None, ◌≢◌, ◌⊎◌, inl, inr, if◌then◌else◌, ◌≡◌, refl, sym}
+use Imports.{◌∙◌, ap, subst, Call, CondvarCall, MutexCall, OnceCall, Try, RwLockCall, SemaphoreCall, Kind}
+use Imports.{Outcome, lock_in, Act, Place, Idle, Mutex, RwLock, Once, Condvar, Semaphore, act_of, first_place}
+use Imports.{mutex_purpose, purpose_of, rwlock_purpose, Rights, CallState, Event, GoesOn, IsStep, LocksState}
+use Imports.{going_on, purpose_at, rights_in, unless_ended, woken, State, after, alone_after, go_of, kind_at}
+use Imports.{place_at, solo, step_outcome, IsTry, call_state, keys_entered, locks_of, IsWorld, key_of}
+use Imports.{EntersSection, HasWhatItReads, IsBarred, OnlyTries}
 use Rattle.spec_locks.specs.declared.calls.Access.TheVariants as access
 use Rattle.spec_locks.specs.declared.calls.Call.TheVariants as call
 use Rattle.spec_locks.specs.declared.calls.CondvarCall.TheVariants as condvar_call

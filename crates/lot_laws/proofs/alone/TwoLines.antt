@@ -1,15 +1,15 @@
 -- A thread that steps alone at a lock of two lines: what each of its acts leads to.
-use Rattle.lot_laws.proofs.Names
-use Names.{ℕ, true, false, Bool, Option, Some, None, if◌then◌else◌, ◌≡◌, ◌+◌, ◌*◌, ◌<◌, ◌⊎◌, inl, inr, List}
-use Names.{[], ◌∷◌, ◌++◌, length, get_or, map, refl, sym, ◌∙◌, ap, arith, get_or-set_same, subst, lt-ltb}
-use Names.{length-map, get_or-map, One, Op, Waiter, Want, apply, waiter, without, times, Outcome, Check}
-use Names.{Reply, Done, Value, Parked, Wakes, Whom, holds, outcome_of, takes_effect, Place, Idle, act_of}
-use Names.{next_place, next_act, Line, Main, Second, State, unlocked, place_at, word_at, section_at, queue_at}
-use Names.{put, state_after_hand_over_by, state_after_operation, state_with_sections, queues_with_last}
-use Names.{state_after_act, state_after_take, state_after_wake, state_after_go, go_outcome, reply_to, can_do}
-use Names.{is_possible, after, step_outcome, go_of, going_outcome, state_after_going, IsWellFormed, SameSize}
-use Names.{after_well_formed, after_size, main_key_there, performed_counts, AreCondvars, AreCounted}
-use Names.{IsInductive, IsSettled, key_of, stood_in, EntersSection, IsBarred, location, location_at}
+use Rattle.lot_laws.proofs.Imports
+use Imports.{ℕ, true, false, Bool, Option, Some, None, if◌then◌else◌, ◌≡◌, ◌+◌, ◌*◌, ◌<◌, ◌⊎◌, inl, inr, List}
+use Imports.{[], ◌∷◌, ◌++◌, length, get_or, map, refl, sym, ◌∙◌, ap, arith, get_or-set_same, subst, lt-ltb}
+use Imports.{length-map, get_or-map, One, Op, Waiter, Want, apply, waiter, without, times, Outcome, Check}
+use Imports.{Reply, Done, Value, Parked, Wakes, TakeWhich, holds, outcome_of, takes_effect, Place, Idle, act_of}
+use Imports.{next_place, next_act, Line, Main, Second, State, unlocked, place_at, word_at, section_at, queue_at}
+use Imports.{put, state_after_hand_over_by, state_after_operation, state_with_sections, queues_with_last}
+use Imports.{state_after_act, state_after_take, state_after_wake, state_after_go, go_outcome, reply_to, can_do}
+use Imports.{is_possible, after, step_outcome, go_of, going_outcome, state_after_going, IsWellFormed, SameSize}
+use Imports.{after_well_formed, after_size, main_key_there, performed_counts, AreCondvars, AreCounted}
+use Imports.{IsInductive, IsSettled, key_of, stood_in, EntersSection, IsBarred, location, location_at}
 use Rattle.spec_locks.specs.declared.kinds.Kind.TheVariants as kind
 use Rattle.spec_locks.specs.declared.outcomes.Outcome.TheVariants as outcome
 use Rattle.steps_base.specs.declared.acts.Act.TheVariants as act
@@ -170,7 +170,7 @@ module _ (w : State) (t l : ℕ) (p : Place) (v : ℕ) (q : Line → List Waiter
   remove_comes key is = comes (state_after_act w t p (act.Remove key)) (reply_to w t (act.Remove key)) v _
       (rw is refl) (ap (state_after_act w t p) is) (ap (reply_to w t) is) f.word (λ m. refl)
 
-  pub take_comes : (key : ℕ) (whom : Whom) → act_of p ≡ act.Take key whom
+  pub take_comes : (key : ℕ) (whom : TakeWhich) → act_of p ≡ act.Take key whom
       → word_at (state_after_take w t key whom) l ≡ word_at w l
       → Comes w t l (next_place p (reply_to w t (act.Take key whom)))
       (outcome_of (next_act p (reply_to w t (act.Take key whom)))) v

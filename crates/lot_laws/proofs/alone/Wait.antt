@@ -1,11 +1,11 @@
 -- A wait whose thread steps alone: from each place where it is awake it ends, or sleeps.
-use Rattle.lot_laws.proofs.Names
-use Names.{ℕ, Bool, true, false, if◌then◌else◌, ◌==◌, ◌||◌, ◌≡◌, ◌≢◌, ◌⊎◌, ◌+◌, ◌*◌, length, drop, is_none}
-use Names.{inl, inr, refl, sym, ap, subst, arith, without, Outcome, Reply, Value, Took, Removed, TakenBy}
-use Names.{MovedTo, HandedBy, Woken, outcome_of, UnlockAt, in_unlock, is_parked, unlock_act, Wait, WaiterFate}
-use Names.{WaitAt, IsReached, stands_after, past_release, condvar_next, first_lock, in_wait, is_shown}
-use Names.{released, wait_act, Place, Condvar, next_place, State, after, can_do, go_of, place_at, queue_at}
-use Names.{reply_to, state_after_act, word_at, Befalls, acted_keeps, Rests}
+use Rattle.lot_laws.proofs.Imports
+use Imports.{ℕ, Bool, true, false, if◌then◌else◌, ◌==◌, ◌||◌, ◌≡◌, ◌≢◌, ◌⊎◌, ◌+◌, ◌*◌, length, drop, is_none}
+use Imports.{inl, inr, refl, sym, ap, subst, arith, without, Outcome, Reply, Value, Took, Removed, TakenBy}
+use Imports.{MovedTo, HandedBy, Woken, outcome_of, UnlockAt, in_unlock, is_parked, unlock_act, Wait, WaiterFate}
+use Imports.{WaitAt, IsReached, stands_after, past_release, condvar_next, first_lock, in_wait, is_shown}
+use Imports.{released, wait_act, Place, Condvar, next_place, State, after, can_do, go_of, place_at, queue_at}
+use Imports.{reply_to, state_after_act, word_at, Befalls, acted_keeps, EndsOrSleeps}
 use Rattle.core_base.specs.declared.notes.Note.TheVariants as note
 use Rattle.spec_locks.specs.declared.outcomes.Answer.TheVariants as answer
 use Rattle.spec_locks.specs.declared.outcomes.Outcome.TheVariants as outcome
@@ -154,13 +154,13 @@ module _ (t l m : ℕ) (keeps : Keeps t) (timed : Bool) where
   -- ---------------------------------------------------------------- from any place
 
   abbrev RestsIn : ℕ → State → Type 0
-  RestsIn k w = Leads k w t (λ v o. Rests o)
+  RestsIn k w = Leads k w t (λ v o. EndsOrSleeps o)
 
   relocks_first : (w : State) (late again : Bool) → Alone w (wait.Lock late (first_lock again)) → RestsIn 8 w
   relocks_first w late again g = relock_rests t l m keeps timed late w again lock.First tt (λ e. cc) g
 
   released_rests : (w : State) (s : WaiterFate) → Unit {0} → Alone w (past_release s)
-      → ((outcome_of (wait_act l m (past_release s)) ≡ outcome.Sleep) × Rests outcome.Sleep)
+      → ((outcome_of (wait_act l m (past_release s)) ≡ outcome.Sleep) × EndsOrSleeps outcome.Sleep)
       ⊎ ((outcome_of (wait_act l m (past_release s)) ≡ outcome.Step) × RestsIn 8 w)
   released_rests w (stands.Noted note.Normal) j g = inr (refl, relocks_first w false true g)
   released_rests w (stands.Noted note.HandOff) j g =
@@ -173,12 +173,12 @@ module _ (t l m : ℕ) (keeps : Keeps t) (timed : Bool) where
   after_subtract : (w : State) (s : WaiterFate) (at : UnlockAt) → at ≢ unlock.Subtract
       → Alone w (releasing s at)
       → RestsIn 13 w
-  after_subtract w s at other g = leads_more 12 13 w t (λ v o. Rests o) (omega arith)
-      (releases (λ v o. Rests o) (λ v. Unit {0}) (λ v s at h other can j. tt) released_rests w s at other tt
+  after_subtract w s at other g = leads_more 12 13 w t (λ v o. EndsOrSleeps o) (omega arith)
+      (releases (λ v o. EndsOrSleeps o) (λ v. Unit {0}) (λ v s at h other can j. tt) released_rests w s at other tt
       g)
 
   release_rests : (w : State) (s : WaiterFate) (at : UnlockAt) → Alone w (releasing s at) → RestsIn 13 w
-  release_rests w s unlock.Subtract g = subtracts (λ v o. Rests o) (λ v. Unit {0})
+  release_rests w s unlock.Subtract g = subtracts (λ v o. EndsOrSleeps o) (λ v. Unit {0})
       (λ v s at h other can j. tt) released_rests w s g tt
   release_rests w s unlock.Enter g = after_subtract w s unlock.Enter (λ e. cc) g
   release_rests w s unlock.Take g = after_subtract w s unlock.Take (λ e. cc) g
@@ -186,53 +186,53 @@ module _ (t l m : ℕ) (keeps : Keeps t) (timed : Bool) where
   release_rests w s (unlock.Leave any) g = after_subtract w s (unlock.Leave any) (λ e. cc) g
 
   leaves_mutex : (w : State) (none_left : Bool) → Alone w (wait.GiveUpMoved none_left) → RestsIn 9 w
-  leaves_mutex w none_left g = goes w (wait.GiveUpMoved none_left) g (λ v o. Rests o) 8 refl refl
+  leaves_mutex w none_left g = goes w (wait.GiveUpMoved none_left) g (λ v o. EndsOrSleeps o) 8 refl refl
       (λ h. inr (refl, relocks_first (after w (go_of t)) false false h))
 
   gives_up : (w : State) → Alone w wait.GiveUp → RestsIn 9 w
-  gives_up w g = goes w wait.GiveUp g (λ v o. Rests o) 8 refl refl
+  gives_up w g = goes w wait.GiveUp g (λ v o. EndsOrSleeps o) 8 refl refl
       (λ h. inr (refl, relocks_first (after w (go_of t)) true false h))
 
   hides : (w : State) → Alone w wait.Hide → RestsIn 10 w
-  hides w g = goes w wait.Hide g (λ v o. Rests o) 9 refl refl
+  hides w g = goes w wait.Hide g (λ v o. EndsOrSleeps o) 9 refl refl
       (λ h. inr (refl, gives_up (after w (go_of t)) h))
 
   removes : (w : State) → Alone w wait.Remove → RestsIn 11 w
-  removes w g = goes w wait.Remove g (λ v o. Rests o) 10 refl refl
+  removes w g = goes w wait.Remove g (λ v o. EndsOrSleeps o) 10 refl refl
       (left (length (without t (queue_at w (2 * l))) == 0))
     where
-      left : (none_left : Bool) → Left w wait.Remove g (λ v o. Rests o) 10 (Removed none_left)
+      left : (none_left : Bool) → Left w wait.Remove g (λ v o. EndsOrSleeps o) 10 (Removed none_left)
       left true = λ h. inr (refl, hides (after w (go_of t)) h)
       left false = λ h. inr (
         refl,
-        leads_more 9 10 (after w (go_of t)) t (λ v o. Rests o) (omega arith)
+        leads_more 9 10 (after w (go_of t)) t (λ v o. EndsOrSleeps o) (omega arith)
             (gives_up (after w (go_of t)) h),
       )
 
   goes_out : (w : State) → Alone w wait.Leave → RestsIn 14 w
-  goes_out w g = goes w wait.Leave g (λ v o. Rests o) 13 refl refl
+  goes_out w g = goes w wait.Leave g (λ v o. EndsOrSleeps o) 13 refl refl
       (λ h. inr (refl, release_rests (after w (go_of t)) stands.Listed unlock.Subtract h))
 
   stands_last : (w : State) → Alone w wait.Stand → RestsIn 15 w
-  stands_last w g = goes w wait.Stand g (λ v o. Rests o) 14 refl refl
+  stands_last w g = goes w wait.Stand g (λ v o. EndsOrSleeps o) 14 refl refl
       (λ h. inr (refl, goes_out (after w (go_of t)) h))
 
   refuses : (w : State) → Alone w wait.Refuse → RestsIn 1 w
-  refuses w g = goes w wait.Refuse g (λ v o. Rests o) 0 refl refl tt
+  refuses w g = goes w wait.Refuse g (λ v o. EndsOrSleeps o) 0 refl refl tt
 
   shows : (w : State) → Alone w wait.Show → RestsIn 16 w
-  shows w g = goes w wait.Show g (λ v o. Rests o) 15 refl refl (seen (word_at w l))
+  shows w g = goes w wait.Show g (λ v o. EndsOrSleeps o) 15 refl refl (seen (word_at w l))
     where
-      seen : (v : ℕ) → Left w wait.Show g (λ v o. Rests o) 15 (Value v)
+      seen : (v : ℕ) → Left w wait.Show g (λ v o. EndsOrSleeps o) 15 (Value v)
       seen v = either ((v == 0) || is_shown v m)
         where
           either : (b : Bool)
-              → Afterwards t l m keeps w (Wait m timed wait.Show) g (λ v o. Rests o) 15
+              → Afterwards t l m keeps w (Wait m timed wait.Show) g (λ v o. EndsOrSleeps o) 15
               (in_wait m timed (if b then next.At wait.Stand else next.At wait.Refuse))
           either true = λ h. inr (refl, stands_last (after w (go_of t)) h)
           either false = λ h. inr (
             refl,
-            leads_more 1 15 (after w (go_of t)) t (λ v o. Rests o) (omega arith)
+            leads_more 1 15 (after w (go_of t)) t (λ v o. EndsOrSleeps o) (omega arith)
                 (refuses (after w (go_of t)) h),
           )
 
@@ -248,25 +248,25 @@ module _ (t l m : ℕ) (keeps : Keeps t) (timed : Bool) where
   pub wait_rests : (w : State) (at : WaitAt) → IsReached (Wait m timed at) → wait_act l m at ≢ act.Sleep
       → Alone w at
       → RestsIn 17 w
-  wait_rests w wait.Enter reached up g = into_section w g (λ v o. Rests o)
-      (λ can. goes w wait.Enter g (λ v o. Rests o) 16 refl can (λ h. inr (refl, shows (after w (go_of t)) h)))
-  wait_rests w wait.Show reached up g = leads_more 16 17 w t (λ v o. Rests o) (omega arith) (shows w g)
-  wait_rests w wait.Stand reached up g = leads_more 15 17 w t (λ v o. Rests o) (omega arith) (stands_last w g)
-  wait_rests w wait.Leave reached up g = leads_more 14 17 w t (λ v o. Rests o) (omega arith) (goes_out w g)
-  wait_rests w wait.Refuse reached up g = leads_more 1 17 w t (λ v o. Rests o) (omega arith) (refuses w g)
-  wait_rests w (wait.Release s (mutex.Unlock at)) reached up g = leads_more 13 17 w t (λ v o. Rests o)
+  wait_rests w wait.Enter reached up g = into_section w g (λ v o. EndsOrSleeps o)
+      (λ can. goes w wait.Enter g (λ v o. EndsOrSleeps o) 16 refl can (λ h. inr (refl, shows (after w (go_of t)) h)))
+  wait_rests w wait.Show reached up g = leads_more 16 17 w t (λ v o. EndsOrSleeps o) (omega arith) (shows w g)
+  wait_rests w wait.Stand reached up g = leads_more 15 17 w t (λ v o. EndsOrSleeps o) (omega arith) (stands_last w g)
+  wait_rests w wait.Leave reached up g = leads_more 14 17 w t (λ v o. EndsOrSleeps o) (omega arith) (goes_out w g)
+  wait_rests w wait.Refuse reached up g = leads_more 1 17 w t (λ v o. EndsOrSleeps o) (omega arith) (refuses w g)
+  wait_rests w (wait.Release s (mutex.Unlock at)) reached up g = leads_more 13 17 w t (λ v o. EndsOrSleeps o)
       (omega arith) (release_rests w s at g)
   wait_rests w (wait.Release s a) reached up g = absurd reached.0
   wait_rests w (wait.Asleep s) reached up g = absurd (up refl)
-  wait_rests w wait.Remove reached up g = leads_more 11 17 w t (λ v o. Rests o) (omega arith) (removes w g)
-  wait_rests w wait.Hide reached up g = leads_more 10 17 w t (λ v o. Rests o) (omega arith) (hides w g)
-  wait_rests w wait.GiveUp reached up g = leads_more 9 17 w t (λ v o. Rests o) (omega arith) (gives_up w g)
-  wait_rests w wait.RemoveMoved reached up g = leads_more 10 17 w t (λ v o. Rests o) (omega arith)
-      (goes w wait.RemoveMoved g (λ v o. Rests o) 9 refl refl
+  wait_rests w wait.Remove reached up g = leads_more 11 17 w t (λ v o. EndsOrSleeps o) (omega arith) (removes w g)
+  wait_rests w wait.Hide reached up g = leads_more 10 17 w t (λ v o. EndsOrSleeps o) (omega arith) (hides w g)
+  wait_rests w wait.GiveUp reached up g = leads_more 9 17 w t (λ v o. EndsOrSleeps o) (omega arith) (gives_up w g)
+  wait_rests w wait.RemoveMoved reached up g = leads_more 10 17 w t (λ v o. EndsOrSleeps o) (omega arith)
+      (goes w wait.RemoveMoved g (λ v o. EndsOrSleeps o) 9 refl refl
       (λ h. inr (refl, leaves_mutex (after w (go_of t)) (length (without t (queue_at w (2 * m))) == 0) h)))
-  wait_rests w (wait.GiveUpMoved none_left) reached up g = leads_more 9 17 w t (λ v o. Rests o) (omega arith)
+  wait_rests w (wait.GiveUpMoved none_left) reached up g = leads_more 9 17 w t (λ v o. EndsOrSleeps o) (omega arith)
       (leaves_mutex w none_left g)
   wait_rests w (wait.Lock late (mutex.Lock entry.Lock again a)) reached up g =
-      leads_more 8 17 w t (λ v o. Rests o) (omega arith) (relock_rests t l m keeps timed late w again a
+      leads_more 8 17 w t (λ v o. EndsOrSleeps o) (omega arith) (relock_rests t l m keeps timed late w again a
       reached.1 up g)
   wait_rests w (wait.Lock late a) reached up g = absurd reached.1

@@ -1,13 +1,13 @@
 -- A wait from its beginning, whose thread steps alone: it ends where another mutex is shown, and else sleeps
 -- as the last, its mutex let go.
-use Rattle.lot_laws.proofs.Names
-use Names.{ℕ, Bool, true, false, Option, Some, None, if◌then◌else◌, ◌==◌, ◌||◌, ◌≡◌, ◌≢◌, ◌⊎◌, ◌*◌, ◌≤◌, ◌<◌}
-use Names.{List, [], ◌∷◌, ◌++◌, length, inl, inr, refl, sym, ◌∙◌, ap, subst, arith, get_or-set_same}
-use Names.{nat_tests, first_of, Outcome, outcome_of, UnlockAt, unlock_act, Wait, WaiterFate, WaitAt, IsListed}
-use Names.{after_condvar_deeds, condvar_deeds, word_showing, wait_row, past_release, in_wait, is_shown}
-use Names.{shown_as, wait_act, Condvar, SeeOther, Show, Queued, State, after, can_do, go_of, queue_at}
-use Names.{queues_without_first, reply_to, state_after_act, state_after_taking, unlocked, word_at, lock_state}
-use Names.{locks_of, owner_at, condvar_of, CondvarWaitsAlone}
+use Rattle.lot_laws.proofs.Imports
+use Imports.{ℕ, Bool, true, false, Option, Some, None, if◌then◌else◌, ◌==◌, ◌||◌, ◌≡◌, ◌≢◌, ◌⊎◌, ◌*◌, ◌≤◌, ◌<◌}
+use Imports.{List, [], ◌∷◌, ◌++◌, length, inl, inr, refl, sym, ◌∙◌, ap, subst, arith, get_or-set_same}
+use Imports.{nat_tests, first_of, Outcome, outcome_of, UnlockAt, unlock_act, Wait, WaiterFate, WaitAt, IsListed}
+use Imports.{after_condvar_deeds, condvar_deeds, word_showing, wait_row, past_release, in_wait, is_shown}
+use Imports.{shown_as, wait_act, Condvar, SeeOther, Show, Queued, State, after, can_do, go_of, queue_at}
+use Imports.{queues_without_first, reply_to, state_after_act, state_after_taking, unlocked, word_at, lock_state}
+use Imports.{locks_of, owner_at, condvar_of, CondvarWaitsAlone}
 use Rattle.core_base.specs.declared.notes.Note.TheVariants as note
 use Rattle.core_base.specs.declared.wants.Want.TheVariants.{Wait as WaitHere}
 use Rattle.spec_locks.specs.declared.kinds.Kind.TheVariants as kind

@@ -1,21 +1,21 @@
 -- A thread that steps alone and has its way keeps it, and is never barred.
-use Rattle.lot_laws.proofs.Names
-use Names.{ℕ, zero, suc, Bool, true, false, Option, Some, None, if◌then◌else◌, ◌==◌, ◌≡◌, ◌⊎◌, ◌<◌, List, []}
-use Names.{◌∷◌, length, nat_lt, get_or, set, get_or-set_same, inl, inr, refl, sym, ◌∙◌, ap, subst, ltb-true}
-use Names.{Keys, One, Two, first_of, Outcome, Act, Next, Reply, holds, takes_effect, MutexPlace, OncePlace}
-use Names.{SemaphorePlace, RwLockCallPlace, Wait, Look, Notify, NotifyAt, WaitAt, word_showing, in_notify}
-use Names.{in_wait, look_next, mutex_shown, notified, shown_as, Place, Idle, Mutex, RwLock, Once, Condvar}
-use Names.{Semaphore, act_of, beside_of, condvar_goes, called_lock, mutex_goes, next_place, once_goes}
-use Names.{rwlock_goes, semaphore_goes, rules_of, State, after, alone_after, can_go, go_of, is_possible}
-use Names.{place_at, put, queue_at, queues_with_last, queues_without_first, reply_to, section_at, solo}
-use Names.{state_after_act, state_after_go, state_after_hand_over_by, state_after_taking, state_with_sections}
-use Names.{step_outcome, word_at, acted_keeps, both, performed_counts, lock_state, IsWorld, key_of}
-use Names.{IsUnobstructed, HasLine, IsBarred, IsOnly, MayEnterOf, mutex_to_come}
+use Rattle.lot_laws.proofs.Imports
+use Imports.{ℕ, zero, suc, Bool, true, false, Option, Some, None, if◌then◌else◌, ◌==◌, ◌≡◌, ◌⊎◌, ◌<◌, List, []}
+use Imports.{◌∷◌, length, nat_lt, get_or, set, get_or-set_same, inl, inr, refl, sym, ◌∙◌, ap, subst, ltb-true}
+use Imports.{Keys, One, Two, first_of, Outcome, Act, Next, Reply, holds, takes_effect, MutexPlace, OncePlace}
+use Imports.{SemaphorePlace, RwLockCallPlace, Wait, Look, Notify, NotifyAt, WaitAt, word_showing, in_notify}
+use Imports.{in_wait, look_next, mutex_shown, notified, shown_as, Place, Idle, Mutex, RwLock, Once, Condvar}
+use Imports.{Semaphore, act_of, beside_of, condvar_goes, called_lock, mutex_goes, next_place, once_goes}
+use Imports.{rwlock_goes, semaphore_goes, rules_of, State, after, alone_after, can_go, go_of, is_possible}
+use Imports.{place_at, put, queue_at, queues_with_last, queues_without_first, reply_to, section_at, solo}
+use Imports.{state_after_act, state_after_go, state_after_hand_over_by, state_after_taking, state_with_sections}
+use Imports.{step_outcome, word_at, acted_keeps, both, performed_counts, lock_state, IsWorld, key_of}
+use Imports.{IsUnobstructed, HasLine, IsBarred, IsOnly, MayEnterOf, mutex_to_come}
 use Rattle.spec_locks.specs.declared.outcomes.Outcome.TheVariants as outcome
 use Rattle.steps_base.specs.declared.acts.Act.TheVariants as act
 use Rattle.steps_base.specs.declared.acts.Next.TheVariants as next
 use Rattle.steps_base.specs.declared.acts.Wakes.TheVariants as wakes
-use Rattle.steps_base.specs.declared.acts.Whom.TheVariants as whoms
+use Rattle.steps_base.specs.declared.acts.TakeWhich.TheVariants as whoms
 use Rattle.steps_condvar.specs.declared.notify.NotifyAt.TheVariants as notifies
 use Rattle.lot_laws.proofs.condvar.Replies.{word_is}
 use Rattle.lot_laws.proofs.machine.EntersOwn.{enters_own}

@@ -1,9 +1,9 @@
 -- Steps one after another, and steps of a thread alone, are a run of the world.
-use Rattle.lot_laws.proofs.Names
-use Names.{ℕ, zero, suc, ◌≡◌, ◌≤◌, List, [], ◌∷◌, ◌++◌, length, replicate, refl, sym, ap, ◌∙◌, subst, arith}
-use Names.{Step, Outcome, IsRun, IsStep, LocksState, OfEachStep, State, after, step_outcome, after_steps}
-use Names.{step_outcomes, alone_after, go_of, solo, IsKept, locks_of, IsWorldStep, IsWorldRun, Tells}
-use Names.{IsSoloRun, GoesOnUntil, last_told, IsWorld, after_well_formed}
+use Rattle.lot_laws.proofs.Imports
+use Imports.{ℕ, zero, suc, ◌≡◌, ◌≤◌, List, [], ◌∷◌, ◌++◌, length, replicate, refl, sym, ap, ◌∙◌, subst, arith}
+use Imports.{Step, Outcome, IsRun, IsStep, LocksState, OfEachStep, State, after, step_outcome, after_steps}
+use Imports.{step_outcomes, alone_after, go_of, solo, IsKept, locks_of, IsWorldStep, IsWorldRun, Tells}
+use Imports.{IsSoloRun, GoesOnUntil, last_told, IsWorld, after_well_formed}
 use Rattle.spec_locks.specs.declared.outcomes.Outcome as outcome
 use Rattle.lot_laws.proofs.condvar.StepsKeep.{after_condvars}
 use Rattle.lot_laws.proofs.hands.CountsKept.{counted_after}

@@ -1,14 +1,14 @@
 -- A thread does an act at one lock, wherever it stands about others meanwhile: the acts of `sites/MovesKept`,
 -- at a lock. So a call of two locks has a page at each. No sort of lock is named.
-use Rattle.lot_laws.proofs.Names
-use Names.{ℕ, Bool, true, false, Option, Some, None, ◌≡◌, ◌<◌, List, []}
-use Names.{◌∷◌, length, refl, sym, ◌∙◌, ap, subst, One, Want, first_of, times, without, Reply}
-use Names.{Location, AreLeaving, StepView}
-use Names.{location_of, location_then, inside_of, Hand, hand, taken_from, Park, Rules, keep_from}
-use Names.{putting, Case, Deed, End, In, Line, Main, Out, Second, Site, Place, State}
-use Names.{place_at, put, queue_at, queues_with_last, queues_without, section_at}
-use Names.{state_with_sections, acts, taken_at, location_at, role_on, ActsNeeded, FitsItsLock, Goes}
-use Names.{IsInductive, after_acts, carried_at, hand_at, key_of, rules_in, stood_in}
+use Rattle.lot_laws.proofs.Imports
+use Imports.{ℕ, Bool, true, false, Option, Some, None, ◌≡◌, ◌<◌, List, []}
+use Imports.{◌∷◌, length, refl, sym, ◌∙◌, ap, subst, One, Want, first_of, times, without, Reply}
+use Imports.{Location, AreLeaving, StepView}
+use Imports.{location_of, location_then, inside_of, Hand, hand, taken_from, Park, Rules, keep_from}
+use Imports.{putting, Case, Deed, End, In, Line, Main, Out, Second, Site, Place, State}
+use Imports.{place_at, put, queue_at, queues_with_last, queues_without, section_at}
+use Imports.{state_with_sections, acts, taken_at, location_at, role_on, ActsNeeded, FitsItsLock, Goes}
+use Imports.{IsInductive, after_acts, carried_at, hand_at, key_of, rules_in, stood_in}
 use Rattle.spec_locks.specs.Deeds as laws
 use Rattle.spec_locks.specs.Locks as locks
 use Rattle.lot_laws.proofs.hands.Counts.{aside_kept, first_out}

@@ -1,22 +1,22 @@
 -- A thread in a call of any one lock goes on: every lock is a site again. No sort of lock is named: the page
 -- of its place says what it does.
-use Rattle.lot_laws.proofs.Names
-use Names.{ℕ, Bool, true, false, Option, Some, None, if◌then◌else◌, ◌≡◌, ◌≢◌, ◌*◌, ◌+◌, ◌<◌, List, [], ◌∷◌}
-use Names.{length, inl, inr, refl, sym, ◌∙◌, ap, subst, Normal, Op, Want, first_of, apply, Act, Check, Next}
-use Names.{Reply, Parked, Picked, TakenBy, Took, Value, Late, Woken, CallFollows, holds, outcome_of, StepView}
-use Names.{Picks, StaysPut, TakesAside, TellsHanded, WasGiven, location_then, row_of, takes_aside, Wakes}
-use Names.{Location, location_by, Hand, Of, hand, in_hand, taken_from, shares_then, Profile, RestsAfter}
-use Names.{TakesAll, aside_in, code, parked_in, case_of, event_by, OfOnce, Rules, is_recursive, keep_from}
-use Names.{Rest, TakeAll, Begins, Begin, Case, Claim, Deed, HasClaim, Line, Main, Second, Site, has_readers}
-use Names.{idle, wakened, Place, Idle, act_of, beside_of, called_lock, calls, is_lock, next_act, next_place}
-use Names.{owners_after, profile, profile_beside, shares_after, State, can_do, section_is_free, owners_at}
-use Names.{place_at, put, queue_at, reply_to, section_at, share_at, shares_at, state_after_act}
-use Names.{state_after_late_under, word_at, IsWellFormed, locks_of, taken_at, acts, location, nowhere}
-use Names.{role_on, FitsItsLock, Goes, IsInductive, TakesOne, carried_at, hand_at, key_of, rules_in}
+use Rattle.lot_laws.proofs.Imports
+use Imports.{ℕ, Bool, true, false, Option, Some, None, if◌then◌else◌, ◌≡◌, ◌≢◌, ◌*◌, ◌+◌, ◌<◌, List, [], ◌∷◌}
+use Imports.{length, inl, inr, refl, sym, ◌∙◌, ap, subst, Normal, Op, Want, first_of, apply, Act, Check, Next}
+use Imports.{Reply, Parked, Picked, TakenBy, Took, Value, Late, Woken, CallFollows, holds, outcome_of, StepView}
+use Imports.{Picks, StaysPut, TakesAside, TellsHanded, WasGiven, location_then, row_of, takes_aside, Wakes}
+use Imports.{Location, location_by, Hand, Of, hand, in_hand, taken_from, shares_then, Profile, RestsAfter}
+use Imports.{TakesAll, aside_in, code, parked_in, case_of, event_by, OfOnce, Rules, is_recursive, keep_from}
+use Imports.{Rest, TakeAll, Begins, Begin, Case, Claim, Deed, HasClaim, Line, Main, Second, Site, has_readers}
+use Imports.{idle, wakened, Place, Idle, act_of, beside_of, called_lock, calls, is_lock, next_act, next_place}
+use Imports.{owners_after, profile, profile_at_mutex, shares_after, State, can_do, section_is_free, owners_at}
+use Imports.{place_at, put, queue_at, reply_to, section_at, share_at, shares_at, state_after_act}
+use Imports.{state_after_late_under, word_at, IsWellFormed, locks_of, taken_at, acts, location, nowhere}
+use Imports.{role_on, FitsItsLock, Goes, IsInductive, TakesOne, carried_at, hand_at, key_of, rules_in}
 use Rattle.core_base.specs.declared.notes.Note.TheVariants.{HandOff}
 use Rattle.steps_base.specs.declared.acts.Act.TheVariants as act
 use Rattle.steps_base.specs.declared.acts.Next.TheVariants as next
-use Rattle.steps_base.specs.declared.acts.Whom.TheVariants as whom
+use Rattle.steps_base.specs.declared.acts.TakeWhich.TheVariants as whom
 use Rattle.steps_base.specs.Calls as Calls
 use Rattle.steps_base.specs.Owners.{lock_seen}
 use Rattle.steps_semaphore.specs.SemaphoreDeeds.{take_deeds}
@@ -350,7 +350,7 @@ module _ (w : State) (t l : ℕ) (p : Place) (inductive : IsInductive w) (shape 
   calls_there : (q : Place) → is_lock l (beside_of q) ≡ false → (h : Hand) → hand_at q l ≡ Some h
       → (calls q l ≡ true) × ((location q).hand ≡ Some h)
   calls_there q apart h e = either (calls q l)
-      (ap (λ c. (if calls q l then location q else if c then location_by (profile_beside q)
+      (ap (λ c. (if calls q l then location q else if c then location_by (profile_at_mutex q)
       else nowhere).hand) (sym apart) ∙ e)
     where
       either : (b : Bool) → (if b then location q else nowhere).hand ≡ Some h → (b ≡ true)

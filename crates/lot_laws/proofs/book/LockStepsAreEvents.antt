@@ -1,14 +1,14 @@
 -- A thread in a call of any one lock goes on by its act: that is one event of the lock, and its call goes on
 -- with it.
 -- No sort of lock is named.
-use Rattle.lot_laws.proofs.Names
-use Names.{ℕ, true, false, Option, Some, None, ◌≡◌, ◌≢◌, ◌<◌, [], length, get_or-set_same, inl, inr}
-use Names.{refl, sym, ◌∙◌, ap, subst, append-nil, Act, Next, Reply, outcome_of, Op, Location}
-use Names.{row_of, Hand, Profile, hand, IsWaiting, is_acting, ComesTo, MayCome, after_event, case_of}
-use Names.{event_by, LockCase, GoesOn, Role, Runs, Place, Idle, act_of, called_lock, calls, is_lock, next_act}
-use Names.{next_place, profile, State, can_do, place_at, reply_to, state_after_act, IsWellFormed}
-use Names.{performed_counts, lock_state, locks_of, acts, location, role_on, FitsItsLock, Goes, IsInductive}
-use Names.{carried_at, rules_in}
+use Rattle.lot_laws.proofs.Imports
+use Imports.{ℕ, true, false, Option, Some, None, ◌≡◌, ◌≢◌, ◌<◌, [], length, get_or-set_same, inl, inr}
+use Imports.{refl, sym, ◌∙◌, ap, subst, append-nil, Act, Next, Reply, outcome_of, Op, Location}
+use Imports.{row_of, Hand, Profile, hand, IsWaiting, is_acting, ComesTo, MayCome, after_event, case_of}
+use Imports.{event_by, LockCase, GoesOn, Role, Runs, Place, Idle, act_of, called_lock, calls, is_lock, next_act}
+use Imports.{next_place, profile, State, can_do, place_at, reply_to, state_after_act, IsWellFormed}
+use Imports.{performed_counts, lock_state, locks_of, acts, location, role_on, FitsItsLock, Goes, IsInductive}
+use Imports.{carried_at, rules_in}
 use Rattle.spec_locks.specs.declared.outcomes.Outcome.TheVariants as outcome
 use Rattle.steps_base.specs.declared.acts.Act.TheVariants as act
 use Rattle.steps_base.specs.declared.acts.Next.TheVariants as next

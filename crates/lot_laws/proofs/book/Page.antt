@@ -1,17 +1,17 @@
 -- What a sort of lock says of one of its places, at its lock and in no machine: a page. No sort is named
 -- here.
-use Rattle.lot_laws.proofs.Names
-use Names.{slice_index, Op, Waiter, apply, Act, Next, Reply, Value, Late, Owners, CallFollows, Accepts}
-use Names.{GoesIn, Hears, StepView, MovesByAct, RowWaits, TakesAside, TellsHanded, WasGiven, row_of}
-use Names.{CallWaits}
-use Names.{One, shares_then, Profile, hand, RowPromises, OnceState, HasLimit, aside_in, code, parked_in}
-use Names.{AllNeeded, after_all, Rules, Taken, is_recursive, standing, Deed, IsSite, Line, Main, Runs, Second}
-use Names.{Site, has_readers, ClosureAnswers, RestsAfter, TakesAll}
+use Rattle.lot_laws.proofs.Imports
+use Imports.{slice_index, Op, Waiter, apply, Act, Next, Reply, Value, Late, Owners, CallFollows, Accepts}
+use Imports.{GoesIn, Hears, StepView, MovesByAct, RowWaits, TakesAside, TellsHanded, WasGiven, row_of}
+use Imports.{CallWaits}
+use Imports.{One, shares_then, Profile, hand, RowPromises, OnceState, HasLimit, aside_in, code, parked_in}
+use Imports.{AllNeeded, after_all, Rules, Taken, is_recursive, standing, Deed, IsSite, Line, Main, Runs, Second}
+use Imports.{Site, has_readers, ClosureAnswers, RestsAfter, TakesAll}
 use Rattle.std.specs.Prelude.{ℕ, Option, Some, None, true, false, ◌⊎◌, ◌≡◌, ◌≢◌, ◌<◌, ◌≤◌, ◌-◌, ◌^◌}
 use Rattle.std.specs.Prelude.{List, length}
 use Rattle.core_base.specs.Keys.{key_of}
 use Rattle.steps_base.specs.declared.acts.Act.TheVariants as act
-use Rattle.steps_base.specs.declared.acts.Whom.TheVariants as whom
+use Rattle.steps_base.specs.declared.acts.TakeWhich.TheVariants as whom
 use Rattle.steps_base.specs.Owners.{lock_seen}
 use Rattle.spec_locks.specs.Locks.{Condvar, Mutex, Semaphore}
 use Rattle.steps_semaphore.specs.SemaphoreDeeds.{take_deeds}

@@ -1,9 +1,9 @@
 -- The page of each place, by its sort of lock: the one file that goes through the sorts.
-use Rattle.lot_laws.proofs.Names
-use Names.{ℕ, true, ◌≡◌, [], sym, ◌∙◌, ap, subst, eqb-true, No, blank_row}
-use Names.{SemaphorePlace, Rules, Sort, has_readers, Place, Idle, Mutex, RwLock, Once, Condvar, Semaphore}
-use Names.{calls, State, kind_at, place_at, FitsItsLock, IsInductive, LateIsTimed, rules_in, Admission}
-use Names.{RwLockCallPlace}
+use Rattle.lot_laws.proofs.Imports
+use Imports.{ℕ, true, ◌≡◌, [], sym, ◌∙◌, ap, subst, eqb-true, No, blank_row}
+use Imports.{SemaphorePlace, Rules, Sort, has_readers, Place, Idle, Mutex, RwLock, Once, Condvar, Semaphore}
+use Imports.{calls, State, kind_at, place_at, FitsItsLock, IsInductive, LateIsTimed, rules_in, Admission}
+use Imports.{RwLockCallPlace}
 use Rattle.steps_base.specs.declared.acts.Next.TheVariants.{End}
 use Rattle.spec_locks.specs.Locks as locks
 use Rattle.lot_laws.proofs.book.Page.{Says}

@@ -1,14 +1,14 @@
 -- How calls begin: a thread that may begin one can, and its call is then the one that it has begun.
-use Rattle.lot_laws.proofs.Names
-use Names.{ℕ, Bool, true, false, Some, None, ◌&&◌, ◌==◌, not, ◌≡◌, ◌<◌, ◌≤◌, length, refl, sym, ◌∙◌, subst}
-use Names.{nat_lt, arith, rules_of, OnceCall, once_first, SemaphoreCall, Patient, Timed, Try, semaphore_first}
-use Names.{semaphore_right, nat_tests, has_readers, ltb-true, lt-ltb, Kind, Call, MutexCall, has_call}
-use Names.{is_fair, Lock, TryLock, Unlock, UnlockFair, Place, Idle, Mutex, RwLock, Once, Condvar, Semaphore}
-use Names.{mutex_first, mutex_right, is_idle, has_right, State, place_at, owners_at, kind_at}
-use Names.{state_after_begin, can_begin, is_open_to, share_at, IsWellFormed, both, IsInductive, is_mutex}
-use Names.{rules_in, Rights, LocksState, Stays, MayBegin, HasRight, purpose_at, new_call, purpose_of}
-use Names.{mutex_purpose, rwlock_purpose, once_purpose, semaphore_purpose, owner_at, taken_at, call_state}
-use Names.{locks_of, admission_of_kind, call_first, call_right}
+use Rattle.lot_laws.proofs.Imports
+use Imports.{ℕ, Bool, true, false, Some, None, ◌&&◌, ◌==◌, not, ◌≡◌, ◌<◌, ◌≤◌, length, refl, sym, ◌∙◌, subst}
+use Imports.{nat_lt, arith, rules_of, OnceCall, once_first, SemaphoreCall, Patient, Timed, Try, semaphore_first}
+use Imports.{semaphore_right, nat_tests, has_readers, ltb-true, lt-ltb, Kind, Call, MutexCall, has_call}
+use Imports.{is_fair, Lock, TryLock, Unlock, UnlockFair, Place, Idle, Mutex, RwLock, Once, Condvar, Semaphore}
+use Imports.{mutex_first, mutex_right, is_idle, has_right, State, place_at, owners_at, kind_at}
+use Imports.{state_after_begin, can_begin, is_open_to, share_at, IsWellFormed, both, IsInductive, is_mutex}
+use Imports.{rules_in, Rights, LocksState, Stays, MayBegin, HasRight, purpose_at, new_call, purpose_of}
+use Imports.{mutex_purpose, rwlock_purpose, once_purpose, semaphore_purpose, owner_at, taken_at, call_state}
+use Imports.{locks_of, admission_of_kind, call_first, call_right}
 use Rattle.spec_locks.specs.Locks as locks
 use Rattle.spec_locks.specs.declared.calls.OnceCall.TheVariants as once_call
 use Rattle.spec_locks.specs.declared.calls.SemaphoreCall.TheVariants as semaphore_call

@@ -1,20 +1,20 @@
 -- A step of a thread is one event of the abstract locks, whatever lock it calls and wherever it stands: the
 -- one case of its deeds. Its call comes to what its rows say.
-use Rattle.lot_laws.proofs.Names
-use Names.{ℕ, Bool, true, false, Option, Some, None, if◌then◌else◌, ◌==◌, ◌≡◌, ◌≢◌, ◌⊎◌, ◌≤◌, List, [], ◌∷◌}
-use Names.{◌++◌, inl, inr, refl, sym, ◌∙◌, ap, subst, arith, line_of, moved_of, taken_of, Nothing, Moves}
-use Names.{gives_up, joined_by, KnowsRights, OfOnce, Sort, CondvarCase, Hide, Enters, Releases, Converts}
-use Names.{Bumps, CallsOnce, Awaits, lock_for, CondvarMemory, Blank, Saw, SawOwner, HasMoved, WasMoved}
-use Names.{WasNotified}
-use Names.{Waits, Notifies, is_closure, Begins, cases_eq, eqb-true, nat_tests, Want, Answer, Outcome, Next}
-use Names.{Profile, call_by, MayCome, ComesTo, rights_where, called_lock, profile, Place, Idle, Purpose}
-use Names.{IsMadeOf, rules_of, InProgress, OnceCase, Start, Finish, Fail, Rest, TakeAll, OnceState, LockState}
-use Names.{Rules, Rights, LockCase, HandOff, HasTakenNobody, Queued, Needs, left_after, putting, rights_of}
-use Names.{standing, LocksState, IsTimely, rules_at as locks_rules, CallState, Event, AtLock, MayHappen}
-use Names.{Agrees, AnswerHolds, GoesOn, locks_after, going_on, woken, unless_ended, Site, Deed, Begin, Bring}
-use Names.{Send, after_deed, AreOneCase, case_of, event_by, event_of, EventNeeds, after_event, deeds_lead}
-use Names.{deeds_need, others_keep, State, place_at, kind_at, lock_state, call_at, call_state, locks_of, acts}
-use Names.{FollowAll, IsInductive, Goes, ActsNeeded, rules_in, after_acts, site_of}
+use Rattle.lot_laws.proofs.Imports
+use Imports.{ℕ, Bool, true, false, Option, Some, None, if◌then◌else◌, ◌==◌, ◌≡◌, ◌≢◌, ◌⊎◌, ◌≤◌, List, [], ◌∷◌}
+use Imports.{◌++◌, inl, inr, refl, sym, ◌∙◌, ap, subst, arith, line_of, moved_of, taken_of, Nothing, Moves}
+use Imports.{gives_up, joined_by, KnowsRights, OfOnce, Sort, CondvarCase, Hide, Enters, Releases, Converts}
+use Imports.{Bumps, CallsOnce, Awaits, lock_for, CondvarMemory, Blank, Saw, SawOwner, HasMoved, WasMoved}
+use Imports.{WasNotified}
+use Imports.{Waits, Notifies, is_closure, Begins, cases_eq, eqb-true, nat_tests, Want, Answer, Outcome, Next}
+use Imports.{Profile, call_by, MayCome, ComesTo, rights_where, called_lock, profile, Place, Idle, Purpose}
+use Imports.{IsMadeOf, rules_of, InProgress, OnceCase, Start, Finish, Fail, Rest, TakeAll, OnceState, LockState}
+use Imports.{Rules, Rights, LockCase, HandOff, HasTakenNobody, Queued, Needs, left_after, putting, rights_of}
+use Imports.{standing, LocksState, IsTimely, rules_at as locks_rules, CallState, Event, AtLock, MayHappen}
+use Imports.{Agrees, AnswerHolds, GoesOn, locks_after, going_on, woken, unless_ended, Site, Deed, Begin, Bring}
+use Imports.{Send, after_deed, AreOneCase, case_of, event_by, event_of, EventNeeds, after_event, deeds_lead}
+use Imports.{deeds_need, others_keep, State, place_at, kind_at, lock_state, call_at, call_state, locks_of, acts}
+use Imports.{FollowAll, IsInductive, Goes, ActsNeeded, rules_in, after_acts, site_of}
 use Rattle.spec_locks.specs.Locks.{Once, Look, Show}
 use Rattle.spec_locks.specs.declared.outcomes.Outcome as outcome
 use Rattle.steps_base.specs.declared.acts.Next.TheVariants as next

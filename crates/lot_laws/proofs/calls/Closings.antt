@@ -1,9 +1,9 @@
 -- A closure has answered: its thread goes on from after it, as from any other place of its call.
-use Rattle.lot_laws.proofs.Names
-use Names.{ℕ, Bool, true, ◌≡◌, ◌<◌, length, length-set, refl, ◌∙◌, ap, held_by, Closed, hand_owner, Run}
-use Names.{Place, Once, next_place, or_else, State, can_go, close_outcome, closed_place, going_outcome}
-use Names.{place_at, put, state_after_close, state_after_going, IsWellFormed, closed_fits, put_well_formed}
-use Names.{AreCounted}
+use Rattle.lot_laws.proofs.Imports
+use Imports.{ℕ, Bool, true, ◌≡◌, ◌<◌, length, length-set, refl, ◌∙◌, ap, held_by, Closed, hand_owner, Run}
+use Imports.{Place, Once, next_place, or_else, State, can_go, close_outcome, closed_place, going_outcome}
+use Imports.{place_at, put, state_after_close, state_after_going, IsWellFormed, closed_fits, put_well_formed}
+use Imports.{AreCounted}
 use Rattle.steps_once.specs.declared.run.RunAt.TheVariants as run
 use Rattle.lot_laws.proofs.calls.Closures.{RunsOne}
 use Rattle.lot_laws.proofs.hands.CountsPut.{put_counted}
@@ -31,8 +31,8 @@ module _ (w : State) (t : ℕ) (there : t < length w.places) (succeeded : Bool) 
     pub closing_counted : AreCounted w → AreCounted closing
     closing_counted = put_counted w t (closed_place w t succeeded) there
         (let it = like w t there succeeded one
-        in λ i. held_by (hand_owner (or_else (it.row_beside i).hand (it.row i).hand))
-        (or_else (it.row_beside i).wants (it.row i).wants))
+        in λ i. held_by (hand_owner (or_else (it.row_at_mutex i).hand (it.row i).hand))
+        (or_else (it.row_at_mutex i).wants (it.row i).wants))
         (λ l. ap (λ p. counted_on p l) is_after)
 
     -- the word is swapped next, whatever thread is inside

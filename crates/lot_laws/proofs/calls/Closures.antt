@@ -1,7 +1,7 @@
 -- A thread that may end its closure runs one, and is told so.
-use Rattle.lot_laws.proofs.Names
-use Names.{ℕ, Bool, true, ◌≡◌, refl, is_closure, outcome_of, Act, act_of, State, place_at, runs_closure}
-use Names.{can_close, can_do, closed_place, both}
+use Rattle.lot_laws.proofs.Imports
+use Imports.{ℕ, Bool, true, ◌≡◌, refl, is_closure, outcome_of, Act, act_of, State, place_at, runs_closure}
+use Imports.{can_close, can_do, closed_place, both}
 use Rattle.steps_base.specs.declared.acts.Act as act
 pub use Rattle.lot_machine.proofs.Closures.{RunsOne, runs_one, call_runs_none, course_runs_none}
 pub use Rattle.lot_machine.proofs.Closures.{mutex_runs_none, condvar_runs_none, semaphore_runs_none}

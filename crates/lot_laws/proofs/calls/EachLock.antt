@@ -1,10 +1,10 @@
 -- A property of each lock holds after a step of the abstract locks, where it holds after each case, and
 -- after each move of a notification.
-use Rattle.lot_laws.proofs.Names
-use Names.{ℕ, Bool, true, false, Option, Some, if◌then◌else◌, ◌==◌, ◌≡◌, ◌⊎◌, List, [], ◌∷◌, inl, inr, refl}
-use Names.{sym, ◌∙◌, ap, subst, Turn, Outcome, moved_of, taken_of, LockCase, LockState, Needs, Queued, Taken}
-use Names.{left_after, taking, AtLock, CallState, Does, Event, GoesOn, LocksState, MayHappen, MayMove, Moves}
-use Names.{Nothing, Stays, Turned, joined_by, locks_after, rules_at, has_readers, needs_of}
+use Rattle.lot_laws.proofs.Imports
+use Imports.{ℕ, Bool, true, false, Option, Some, if◌then◌else◌, ◌==◌, ◌≡◌, ◌⊎◌, List, [], ◌∷◌, inl, inr, refl}
+use Imports.{sym, ◌∙◌, ap, subst, Turn, Outcome, moved_of, taken_of, LockCase, LockState, Needs, Queued, Taken}
+use Imports.{left_after, taking, AtLock, CallState, Does, Event, GoesOn, LocksState, MayHappen, MayMove, Moves}
+use Imports.{Nothing, Stays, Turned, joined_by, locks_after, rules_at, has_readers, needs_of}
 use Rattle.std.proofs.Common.{eqb-true}
 use Rattle.spec_locks.specs.declared.calls.Turn as turn
 use Rattle.spec_locks.specs.Locks as locks

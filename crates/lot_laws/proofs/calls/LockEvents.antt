@@ -1,14 +1,14 @@
 -- The calls of the threads in a hand, as they are let go: they try again, or were handed the lock.
-use Rattle.lot_laws.proofs.Names
-use Names.{ℕ, Bool, true, false, Option, Some, None, if◌then◌else◌, ◌==◌, ◌≡◌, ◌≢◌, ◌+◌, ◌-◌, ◌⊎◌, inl, inr}
-use Names.{refl, sym, ◌∙◌, ap, arith, Hand, Of, hand, taken_from, Want, cases_eq, eqb-true, Normal, Exclusive}
-use Names.{Shared, Reply, TakenBy, HandedBy, Woken, Lock, First, next_place, profile, calls, Place, Idle}
-use Names.{Mutex, RwLock, Once, Condvar, Semaphore, LockState, Queued, Taken as LockTaken, Rights, Wake}
-use Names.{HandOff as HandsOff, IsTaken, IsLockState, Knows, rights_of, with_right, without_right}
-use Names.{one_if_thread, putting, Blank, CallState, after_wake, is_taken_by, AtLock, one_more_at}
-use Names.{one_less_at, State, place_at, owner_at, lock_state, taken_at, is_bump, before_entry}
-use Names.{mutex_call_state, call_state, queued, rules_in, FitsItsLock, subst, Role, Has, role_on}
-use Names.{CondvarPlace, mutex_side, heir, got, neither}
+use Rattle.lot_laws.proofs.Imports
+use Imports.{ℕ, Bool, true, false, Option, Some, None, if◌then◌else◌, ◌==◌, ◌≡◌, ◌≢◌, ◌+◌, ◌-◌, ◌⊎◌, inl, inr}
+use Imports.{refl, sym, ◌∙◌, ap, arith, Hand, Of, hand, taken_from, Want, cases_eq, eqb-true, Normal, Exclusive}
+use Imports.{Shared, Reply, TakenBy, HandedBy, Woken, Lock, First, next_place, profile, calls, Place, Idle}
+use Imports.{Mutex, RwLock, Once, Condvar, Semaphore, LockState, Queued, Taken as LockTaken, Rights, Wake}
+use Imports.{HandOff as HandsOff, IsTaken, IsLockState, Knows, rights_of, with_right, without_right}
+use Imports.{one_if_thread, putting, Blank, CallState, after_wake, is_taken_by, AtLock, one_more_at}
+use Imports.{one_less_at, State, place_at, owner_at, lock_state, taken_at, is_bump, before_entry}
+use Imports.{mutex_call_state, call_state, queued, rules_in, FitsItsLock, subst, Role, Has, role_on}
+use Imports.{CondvarPlace, mutex_side, heir, got, neither}
 use Rattle.steps_mutex.specs.declared.lock.LockAt.TheVariants.{Taken}
 use Rattle.spec_locks.specs.Locks as locks
 use Rattle.lot_laws.proofs.condvar.WaiterCalls.{waiter_claims, waiter_does, waiter_handed, waiter_woken}

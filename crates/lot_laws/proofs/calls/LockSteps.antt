@@ -1,23 +1,23 @@
 -- Each turn of a thread is a step of the abstract locks.
-use Rattle.lot_laws.proofs.Names
-use Names.{ℕ, Bool, true, false, Option, Some, None, if◌then◌else◌, ◌&&◌, ◌≡◌, ◌≢◌, ◌*◌, ◌<◌, ◌↔◌, inl, inr}
-use Names.{length, refl, sym, ◌∙◌, ap, subst, get_or-set_same, length-set, nat_lt, is_some, AtLock, is_marked}
-use Names.{OfOnce, can_close, close_outcome, closed_place, runs_closure, state_after_close, state_after_going}
-use Names.{can_go, run_ending, Closes, once_promises, Purpose, lock_for, semaphore_promises}
-use Names.{is_closure, Run, OncePlace, once_profile, SemaphorePlace, Acquire, semaphore_profile, taken_from}
-use Names.{has_readers, ltb-true, lt-ltb, One, Turn, Step, lock_in, Outcome}
-use Names.{Lock, TryLock, Unlock, UnlockFair, First, Load, Asleep, Place, Idle, Mutex, RwLock, Once, Condvar}
-use Names.{Semaphore, outcome_of, act_of, next_place, next_act, respins_from, late_key, first_place}
-use Names.{rwlock_goes}
-use Names.{key_in, calls, State, place_at, word_at, kind_at, section_at, put, state_after_act, go_reply}
-use Names.{state_with_sections, reply_to, can_do, state_after_look, look_outcome, state_after_go, go_outcome}
-use Names.{going_outcome, state_after_late_on, is_free_under, can_turn, state_after_turn, turn_outcome}
-use Names.{is_possible, after, step_outcome, IsWellFormed, SameSize, PlaceFits, looking_well_formed}
-use Names.{after_size, both, performed_counts, mutex_looks, AreCondvars, AreCounted, FitsCondvar, IsInductive}
-use Names.{FitsItsLock, rules_in, Main, Rights}
-use Names.{GoesOn, KeepsOrder, LocksState, Stays, Looks, IsOfMutex, Does, SectionChanges}
-use Names.{MayTurn, Turned, taken_at, call_state, locks_of, sleeps, RwLockCallPlace, CallStands, call_profile}
-use Names.{fair_sleepers_hear, MutexPlace, CondvarPlace}
+use Rattle.lot_laws.proofs.Imports
+use Imports.{ℕ, Bool, true, false, Option, Some, None, if◌then◌else◌, ◌&&◌, ◌≡◌, ◌≢◌, ◌*◌, ◌<◌, ◌↔◌, inl, inr}
+use Imports.{length, refl, sym, ◌∙◌, ap, subst, get_or-set_same, length-set, nat_lt, is_some, AtLock, is_marked}
+use Imports.{OfOnce, can_close, close_outcome, closed_place, runs_closure, state_after_close, state_after_going}
+use Imports.{can_go, run_ending, Closes, once_promises, Purpose, lock_for, semaphore_promises}
+use Imports.{is_closure, Run, OncePlace, once_profile, SemaphorePlace, Acquire, semaphore_profile, taken_from}
+use Imports.{has_readers, ltb-true, lt-ltb, One, Turn, Step, lock_in, Outcome}
+use Imports.{Lock, TryLock, Unlock, UnlockFair, First, Load, Asleep, Place, Idle, Mutex, RwLock, Once, Condvar}
+use Imports.{Semaphore, outcome_of, act_of, next_place, next_act, respins_from, late_key, first_place}
+use Imports.{rwlock_goes}
+use Imports.{key_in, calls, State, place_at, word_at, kind_at, section_at, put, state_after_act, go_reply}
+use Imports.{state_with_sections, reply_to, can_do, state_after_look, look_outcome, state_after_go, go_outcome}
+use Imports.{going_outcome, state_after_late_on, is_free_under, can_turn, state_after_turn, turn_outcome}
+use Imports.{is_possible, after, step_outcome, IsWellFormed, SameSize, PlaceFits, looking_well_formed}
+use Imports.{after_size, both, performed_counts, mutex_looks, AreCondvars, AreCounted, FitsCondvar, IsInductive}
+use Imports.{FitsItsLock, rules_in, Main, Rights}
+use Imports.{GoesOn, KeepsOrder, LocksState, Stays, Looks, IsOfMutex, Does, SectionChanges}
+use Imports.{MayTurn, Turned, taken_at, call_state, locks_of, sleeps, RwLockCallPlace, CallStands, call_profile}
+use Imports.{fair_sleepers_hear, MutexPlace, CondvarPlace}
 use Rattle.lot_laws.proofs.calls.Begins.{begin_goes, begin_possible}
 use Rattle.lot_laws.proofs.rwlock.Late.{call_late, late_row}
 use Rattle.lot_laws.proofs.machine.Possible.{begins_outside, closure_gone, late_outside}

@@ -1,18 +1,18 @@
 -- A thread that looks at the word once more goes on from another place of its call. Standing there changes
 -- nothing that locks and calls see.
-use Rattle.lot_laws.proofs.Names
-use Names.{false, ◌==◌, ◌&&◌, not, ℕ, zero, suc, List, set, true, Option, Some, None, if◌then◌else◌, ◌≡◌, ◌<◌}
-use Names.{inl, inr, [], ◌∷◌, length, replicate, refl, sym, ◌∙◌, ap, subst, get_or-set_other, get_or-set_same}
-use Names.{length-set, get_or, Event, Status, MayHappen, Nothing, AtLock, Moves, Bool, CondvarPlace, Wait}
-use Names.{IsReached, IsRelock, condvar_looking, in_lock, mutex_beside, Entry, in_condvar, closed_place}
-use Names.{next_place, beside_of, profile_beside, is_lock, Closed, in_once, once_looking, OncePlace}
-use Names.{SemaphorePlace, semaphore_looking, RwLockCallPlace, fair_looks_stand, call_looking, in_rwlock}
-use Names.{cases_eq, Act, Word, Outcome, taken_from, MutexPlace, Place, Idle, Mutex, RwLock, Once, Condvar}
-use Names.{Semaphore, act_of, respins_from, called_lock, profile, in_mutex, in_semaphore, mutex_looking}
-use Names.{State}
-use Names.{unlocked, place_at, put, can_go, state_after_act, state_after_go, IsLook, look, Profile, Rights}
-use Names.{rights_of, LocksState, GoesOn, Stays, idle, lock_state, locks_of, call_on_both, stance_of, nowhere}
-use Names.{KeepsWordsAndQueues, FitsCondvar, FitsItsLock, Goes, IsInductive, rules_in}
+use Rattle.lot_laws.proofs.Imports
+use Imports.{false, ◌==◌, ◌&&◌, not, ℕ, zero, suc, List, set, true, Option, Some, None, if◌then◌else◌, ◌≡◌, ◌<◌}
+use Imports.{inl, inr, [], ◌∷◌, length, replicate, refl, sym, ◌∙◌, ap, subst, get_or-set_other, get_or-set_same}
+use Imports.{length-set, get_or, Event, Status, MayHappen, Nothing, AtLock, Moves, Bool, CondvarPlace, Wait}
+use Imports.{IsReached, IsRelock, condvar_respin, in_lock, mutex_beside, Entry, in_condvar, closed_place}
+use Imports.{next_place, beside_of, profile_at_mutex, is_lock, Closed, in_once, once_respin, OncePlace}
+use Imports.{SemaphorePlace, semaphore_respin, RwLockCallPlace, fair_looks_stand, call_respin, in_rwlock}
+use Imports.{cases_eq, Act, Word, Outcome, taken_from, MutexPlace, Place, Idle, Mutex, RwLock, Once, Condvar}
+use Imports.{Semaphore, act_of, respins_from, called_lock, profile, in_mutex, in_semaphore, mutex_respin}
+use Imports.{State}
+use Imports.{unlocked, place_at, put, can_go, state_after_act, state_after_go, IsLook, look, Profile, Rights}
+use Imports.{rights_of, LocksState, GoesOn, Stays, idle, lock_state, locks_of, call_on_both, stance_of, nowhere}
+use Imports.{KeepsWordsAndQueues, FitsCondvar, FitsItsLock, Goes, IsInductive, rules_in}
 use Rattle.steps_condvar.specs.declared.wait.WaitAt.TheVariants as wait
 use Rattle.steps_mutex.specs.declared.lock.Entry.TheVariants as entry
 use Rattle.steps_mutex.specs.declared.lock.LockAt.TheVariants as lock
@@ -53,7 +53,7 @@ fits_on w l at at2 f reached beside = record {
 }
 
 -- as a wait does that looks at its mutex once more
-looks_on : (at at2 : CondvarPlace) → condvar_looking at ≡ Some at2 → IsReached at
+looks_on : (at at2 : CondvarPlace) → condvar_respin at ≡ Some at2 → IsReached at
     → IsReached at2 × (mutex_beside at2 ≡ mutex_beside at)
 looks_on (Wait m timed (wait.Lock late (mutex.Lock e again (lock.Decide seen)))) at2 is reached =
     by_mark e (seen == 1) reached.1 is
@@ -73,19 +73,19 @@ looks_on at at2 is reached = absurd cc
 -- the thread is in the same call, of a lock of its sort
 calls_on : (w : State) (p q : Place) → respins_from p ≡ Some q → FitsItsLock w p → FitsItsLock w q
 calls_on w Idle q is calls = absurd cc
-calls_on w (Condvar l at) q is calls = by_place (condvar_looking at) refl is
+calls_on w (Condvar l at) q is calls = by_place (condvar_respin at) refl is
   where
-    by_place : (o : Option CondvarPlace) → condvar_looking at ≡ o → in_condvar l o ≡ Some q → FitsItsLock w q
+    by_place : (o : Option CondvarPlace) → condvar_respin at ≡ o → in_condvar l o ≡ Some q → FitsItsLock w q
     by_place None e is = absurd cc
     by_place (Some at2) e is = let there : Condvar l at2 ≡ q = cc in let on = looks_on at at2 e calls.reached
         in
         subst (FitsItsLock w) there (fits_on w l at at2 calls on.0 on.1)
-calls_on w (Once l at) q is calls = by_place (once_looking at) is
+calls_on w (Once l at) q is calls = by_place (once_respin at) is
   where
     by_place : (o : Option OncePlace) → in_once l o ≡ Some q → FitsItsLock w q
     by_place None is = absurd cc
     by_place (Some at2) is = let there : Once l at2 ≡ q = cc in subst (FitsItsLock w) there calls
-calls_on w (Semaphore l at) q is calls = by_place (semaphore_looking at) is
+calls_on w (Semaphore l at) q is calls = by_place (semaphore_respin at) is
   where
     by_place : (o : Option SemaphorePlace) → in_semaphore l o ≡ Some q → FitsItsLock w q
     by_place None is = absurd cc
@@ -95,16 +95,16 @@ calls_on w (Semaphore l at) q is calls = by_place (semaphore_looking at) is
           subst (λ (row : Profile). row.late ≡ true → row.timed ≡ true)
               (sym (ap profile there ∙ (look (Semaphore l at) q is).row)) calls.1,
         )
-calls_on w (RwLock l a c) q is calls = by_place (call_looking a c) refl is
+calls_on w (RwLock l a c) q is calls = by_place (call_respin a c) refl is
   where
-    by_place : (o : Option RwLockCallPlace) → call_looking a c ≡ o → in_rwlock l a o ≡ Some q
+    by_place : (o : Option RwLockCallPlace) → call_respin a c ≡ o → in_rwlock l a o ≡ Some q
         → FitsItsLock w q
     by_place None e is = absurd cc
     by_place (Some d) e is = let there : RwLock l a d ≡ q = cc in subst (FitsItsLock w) there (
       calls.0,
       (fair_looks_stand a c d e).1 calls.1,
     )
-calls_on w (Mutex l at) q is calls = by_place (mutex_looking at) is
+calls_on w (Mutex l at) q is calls = by_place (mutex_respin at) is
   where
     by_place : (o : Option MutexPlace) → in_mutex l o ≡ Some q → FitsItsLock w q
     by_place None e = absurd cc
@@ -117,7 +117,7 @@ pub record IsAlike (p q : Place) : Type 0 where
   pub now : called_lock q ≡ Some lock
   pub row : profile q ≡ profile p
   pub beside : beside_of q ≡ beside_of p
-  pub row_beside : profile_beside q ≡ profile_beside p
+  pub row_at_mutex : profile_at_mutex q ≡ profile_at_mutex p
 
 -- a thread that stands at another such place
 module _ (w : State) (t : ℕ) (there : t < length w.places) (q : Place) (it : IsAlike (place_at w t) q) where
@@ -136,12 +136,12 @@ module _ (w : State) (t : ℕ) (there : t < length w.places) (q : Place) (it : I
 
   beside_same : (u : ℕ)
       → (beside_of (place_at moved u) ≡ beside_of (place_at w u))
-      × (profile_beside (place_at moved u) ≡ profile_beside (place_at w u))
+      × (profile_at_mutex (place_at moved u) ≡ profile_at_mutex (place_at w u))
   beside_same u = elim (cases_eq u t) [
-    | inl e ↦ rw (e, stands_here) (it.beside, it.row_beside)
+    | inl e ↦ rw (e, stands_here) (it.beside, it.row_at_mutex)
     | inr ne ↦ let same_place = get_or-set_other w.places t u q Idle ne in (
       ap beside_of same_place,
-      ap profile_beside same_place,
+      ap profile_at_mutex same_place,
     )
   ]
 
@@ -239,11 +239,11 @@ module _ (w : State) (t : ℕ) (there : t < length w.places) (q : Place) (it : I
   alike_at : (k : ℕ) → Alike k (place_at w t) q
   alike_at k = record {
     location = λ i. if is_lock k (lock_stays i) then location_by (it.row i) else if is_lock k (it.beside i)
-        then location_by (it.row_beside i) else nowhere;
+        then location_by (it.row_at_mutex i) else nowhere;
     role = λ i. if is_lock k (lock_stays i) then (it.row i).role else if is_lock k (it.beside i)
-        then (it.row_beside i).role else idle;
+        then (it.row_at_mutex i).role else idle;
     taken = λ i. if is_lock k (it.beside i) && not (is_lock k (lock_stays i)) then taken_from
-        (it.row_beside i).hand (it.row_beside i).wants true
+        (it.row_at_mutex i).hand (it.row_at_mutex i).wants true
         else taken_from (it.row i).hand (it.row i).wants (is_lock k (lock_stays i));
   }
 
@@ -275,7 +275,7 @@ module _ (w : State) (t : ℕ) (there : t < length w.places) (q : Place)
       now = looks.now;
       row = looks.row;
       beside = b.0;
-      row_beside = b.1;
+      row_at_mutex = b.1;
     }
 
     pub here : place_at looked t ≡ q
@@ -323,7 +323,7 @@ closes_alike p succeeded one = rw one.is (record {
   now = refl;
   row = refl;
   beside = refl;
-  row_beside = refl;
+  row_at_mutex = refl;
 })
 
 pub closes_fit : (w : State) (p : Place) (succeeded : Bool) → RunsOne p → FitsItsLock w p

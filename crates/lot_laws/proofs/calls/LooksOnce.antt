@@ -1,12 +1,12 @@
 -- A thread may look at a word once more only in place of an act that leads to sleep.
-use Rattle.lot_laws.proofs.Names
-use Names.{ℕ, Bool, true, false, Option, Some, None, if◌then◌else◌, ◌==◌, ◌&&◌, not, ◌≡◌, ◌+◌, ◌*◌, ◌⊎◌}
-use Names.{is_some, inl, inr, refl, sym, ap, subst, eqb-true, has_aside, is_running, Rules, Sort, has_readers}
-use Names.{semaphore_act, One, Act, MutexPlace, mutex_act, mutex_looking, OncePlace, Course, course_act}
-use Names.{course_of, Admission, RwLockPlace, RwLockAt, Decision, act_at, count_act, decided as decides}
-use Names.{decided_act, exchange, plus, gone_to, is_mark, looking_at, in_call, in_lock, Place, Idle, Mutex}
-use Names.{RwLock, Once, Condvar, Semaphore, act_of, in_condvar, in_mutex, in_once, in_rwlock, respins_from}
-use Names.{in_semaphore, State, place_at, kind_at, FitsItsLock, IsInductive, sort_at, LeadsToSleep, SetsBit}
+use Rattle.lot_laws.proofs.Imports
+use Imports.{ℕ, Bool, true, false, Option, Some, None, if◌then◌else◌, ◌==◌, ◌&&◌, not, ◌≡◌, ◌+◌, ◌*◌, ◌⊎◌}
+use Imports.{is_some, inl, inr, refl, sym, ap, subst, eqb-true, has_aside, is_running, Rules, Sort, has_readers}
+use Imports.{semaphore_act, One, Act, MutexPlace, mutex_act, mutex_respin, OncePlace, Course, course_act}
+use Imports.{course_of, Admission, RwLockPlace, RwLockAt, Decision, act_at, count_act, decided as decides}
+use Imports.{decided_act, exchange, plus, gone_to, is_mark, looking_at, in_call, in_lock, Place, Idle, Mutex}
+use Imports.{RwLock, Once, Condvar, Semaphore, act_of, in_condvar, in_mutex, in_once, in_rwlock, respins_from}
+use Imports.{in_semaphore, State, place_at, kind_at, FitsItsLock, IsInductive, sort_at, LeadsToSleep, SetsBit}
 use Rattle.spec_locks.specs.Locks as locks
 use Rattle.steps_semaphore.specs.declared.places.SemaphorePlace.TheVariants as semaphore
 use Rattle.steps_semaphore.specs.declared.acquire.AcquireAt.TheVariants as acquire
@@ -32,7 +32,7 @@ decides_owned : (l seen : ℕ) → (seen == 1) ≡ true → LeadsToSleep locks.M
 decides_owned l seen one = subst (λ v. LeadsToSleep locks.Mutex l (decided l v)) (sym (eqb-true seen 1 one))
     (inl (1, 3, refl, (refl, refl)))
 
-mutex_looks : (l : ℕ) (to : MutexPlace) → is_some (mutex_looking to) ≡ true
+mutex_looks : (l : ℕ) (to : MutexPlace) → is_some (mutex_respin to) ≡ true
     → LeadsToSleep locks.Mutex l (mutex_act l to)
 mutex_looks l (mutex.Lock e retries (lock.Decide seen)) h = by_value (seen == 1) refl h
   where
@@ -122,7 +122,7 @@ place_looks w (Mutex l to) fits h = (
   l,
   subst (λ s. LeadsToSleep s l (mutex_act l to))
       (sym (ap (λ (r : Rules). r.sort) (mutex_rules (kind_at w l) fits)))
-      (mutex_looks l to (mutex_there l (mutex_looking to) h)),
+      (mutex_looks l to (mutex_there l (mutex_respin to) h)),
 )
 place_looks w (RwLock l a (fair.Plain p)) fits h =
     (l, rwlock_looks l a p p.at (rwlock_there l a p (looking_at a p p.at) false h) (sort_at w l) fits.0.0)
@@ -161,7 +161,7 @@ place_looks w (Condvar l (condvar.Wait m timed (wait.Lock timed_out to))) fits h
   m,
   subst (λ s. LeadsToSleep s m (mutex_act m to))
       (sym (ap (λ (r : Rules). r.sort) (plain_rules (kind_at w m) (fits.mutex m refl))))
-      (mutex_looks m to (condvar_there l m timed timed_out (mutex_looking to) h)),
+      (mutex_looks m to (condvar_there l m timed timed_out (mutex_respin to) h)),
 )
 place_looks w (Condvar l (condvar.Wait m timed to)) fits h = absurd cc
 place_looks w (Condvar l to) fits h = absurd cc

@@ -1,20 +1,20 @@
 -- After its own exchange that set a bit a waiting thread looks at the word no more before it goes into the
 -- section.
-use Rattle.lot_laws.proofs.Names
-use Names.{ℕ, Bool, true, false, Option, Some, None, if◌then◌else◌, ◌==◌, ◌&&◌, not, ◌≡◌, ◌≢◌, ◌<◌, ◌≤◌, ◌+◌}
-use Names.{◌*◌, ◌/◌, ◌%◌, ◌^◌, ◌⊎◌, get_or-set_same, is_some, inl, inr, length, refl, sym, ◌∙◌, ap, subst}
-use Names.{arith, cases_lt, eqb-true, lt-ltb, One, Op, OnceCall, Patience, Patient, Timed, Try, count_in}
-use Names.{has_aside, has_parked, is_done, is_marked, is_poisoned, is_running, Act, Next, Value, MutexPlace}
-use Names.{mutex_looking, mutex_next, Course, course_of, Decision, Admission, RwLockPurpose, decided_for}
-use Names.{decision_blocked, park_or_mark, plus, is_mark, Step, mutex_act, OncePlace, course_act, once_act}
-use Names.{once_looking, once_next, RwLockAt, RwLockPlace, act_at, after_count, count_next, decided}
-use Names.{decided_act, exchange, exchanged_next, next_at, gone_to, looking_at, RwLockCallPlace, call_looking}
-use Names.{in_call, bump_next, call_act, call_next, plain_next, condvar_next, in_lock, SemaphorePlace}
-use Names.{semaphore_act, semaphore_looking, semaphore_next, Place, Idle, Mutex, RwLock, Once, Condvar}
-use Names.{Semaphore, act_of, condvar_goes, in_condvar, in_mutex, in_once, in_rwlock, in_semaphore}
-use Names.{respins_from}
-use Names.{mutex_goes, next_place, once_goes, rwlock_goes, semaphore_goes, State, after, can_do, is_possible}
-use Names.{place_at, put, reply_to, state_after_act, state_after_go, state_after_turn, word_at, LooksNoMore}
+use Rattle.lot_laws.proofs.Imports
+use Imports.{ℕ, Bool, true, false, Option, Some, None, if◌then◌else◌, ◌==◌, ◌&&◌, not, ◌≡◌, ◌≢◌, ◌<◌, ◌≤◌, ◌+◌}
+use Imports.{◌*◌, ◌/◌, ◌%◌, ◌^◌, ◌⊎◌, get_or-set_same, is_some, inl, inr, length, refl, sym, ◌∙◌, ap, subst}
+use Imports.{arith, cases_lt, eqb-true, lt-ltb, One, Op, OnceCall, Patience, Patient, Timed, Try, count_in}
+use Imports.{has_aside, has_parked, is_done, is_marked, is_poisoned, is_running, Act, Next, Value, MutexPlace}
+use Imports.{mutex_respin, mutex_next, Course, course_of, Decision, Admission, RwLockPurpose, decided_for}
+use Imports.{decision_blocked, park_or_mark, plus, is_mark, Step, mutex_act, OncePlace, course_act, once_act}
+use Imports.{once_respin, once_next, RwLockAt, RwLockPlace, act_at, after_count, count_next, decided}
+use Imports.{decided_act, exchange, exchanged_next, next_at, gone_to, looking_at, RwLockCallPlace, call_respin}
+use Imports.{in_call, bump_next, call_act, call_next, plain_next, condvar_next, in_lock, SemaphorePlace}
+use Imports.{semaphore_act, semaphore_respin, semaphore_next, Place, Idle, Mutex, RwLock, Once, Condvar}
+use Imports.{Semaphore, act_of, condvar_goes, in_condvar, in_mutex, in_once, in_rwlock, in_semaphore}
+use Imports.{respins_from}
+use Imports.{mutex_goes, next_place, once_goes, rwlock_goes, semaphore_goes, State, after, can_do, is_possible}
+use Imports.{place_at, put, reply_to, state_after_act, state_after_go, state_after_turn, word_at, LooksNoMore}
 use Rattle.core_base.specs.declared.ops.Op.TheVariants as op
 use Rattle.spec_locks.specs.declared.outcomes.Answer.TheVariants as answer
 use Rattle.steps_base.specs.declared.acts.Act.TheVariants as act
@@ -122,7 +122,7 @@ module _ (k l seen now : ℕ) where
   abbrev Found : Act → Type 0
   Found a = a ≡ act.Word l (op.Exchange seen now)
 
-  mutex_quiet : (p : MutexPlace) → is_some (mutex_looking p) ≡ true → Found (mutex_act k p)
+  mutex_quiet : (p : MutexPlace) → is_some (mutex_respin p) ≡ true → Found (mutex_act k p)
       → respins_from (mutex_goes k (mutex_next p (Value seen))) ≡ None
   mutex_quiet (mutex.Lock e again (lock.Decide s)) h is = by_one (s == 1) refl h
     where
@@ -142,7 +142,7 @@ module _ (k l seen now : ℕ) where
   mutex_quiet p h is = absurd cc
 
   -- A wait that locks its mutex again doesn't look once more either.
-  relock_quiet : (m : ℕ) (timed late : Bool) (p : MutexPlace) → is_some (mutex_looking p) ≡ true
+  relock_quiet : (m : ℕ) (timed late : Bool) (p : MutexPlace) → is_some (mutex_respin p) ≡ true
       → Found (mutex_act m p)
       → respins_from (condvar_goes k (condvar_next (condvar.Wait m timed (wait.Lock late p)) (Value seen)))
       ≡ None
@@ -166,7 +166,7 @@ module _ (k l seen now : ℕ) where
   relock_quiet m timed late (mutex.Lock e again to) h is = absurd cc
   relock_quiet m timed late p h is = absurd cc
 
-  semaphore_quiet : (p : SemaphorePlace) → is_some (semaphore_looking p) ≡ true → Found (semaphore_act k p)
+  semaphore_quiet : (p : SemaphorePlace) → is_some (semaphore_respin p) ≡ true → Found (semaphore_act k p)
       → respins_from (semaphore_goes k (semaphore_next p (Value seen))) ≡ None
   semaphore_quiet (semaphore.Acquire timed again (acquire.Decide s)) h is = by_none (s == 0) refl h
     where
@@ -196,7 +196,7 @@ module _ (k l seen now : ℕ) where
   in_none true false q e = refl
   in_none false b q e = refl
 
-  once_quiet : (p : OncePlace) → is_some (once_looking p) ≡ true → Found (once_act k p)
+  once_quiet : (p : OncePlace) → is_some (once_respin p) ≡ true → Found (once_act k p)
       → respins_from (once_goes k (once_next p (Value seen))) ≡ None
   once_quiet (once.Look c again (look.Decide s)) h is = by_course (course_of c s) refl (is_running s) h is
     where
@@ -299,7 +299,7 @@ module _ (k l seen now : ℕ) where
     there b p (Some x) h = refl
     there b p None h = absurd cc
 
-    call_quiet : (c : RwLockCallPlace) → is_some (in_rwlock k a (call_looking a c)) ≡ true
+    call_quiet : (c : RwLockCallPlace) → is_some (in_rwlock k a (call_respin a c)) ≡ true
         → Found (call_act k a c) → respins_from (rwlock_goes k a (call_next a c (Value seen))) ≡ None
     call_quiet (fair.Plain p) h f = on_plain (next_at a p p.at (Value seen))
         (rwlock_quiet p p.at (there false p (looking_at a p p.at) h) f)
@@ -328,14 +328,14 @@ place_quiet : (p : Place) (l seen now : ℕ) → is_some (respins_from p) ≡ tr
     (op.Exchange seen now) → respins_from (next_place p (Value seen)) ≡ None
 place_quiet Idle l seen now h is = absurd cc
 place_quiet (Mutex k at) l seen now h is =
-    mutex_quiet k l seen now at (mutex_there k l seen now (mutex_looking at) h) is
+    mutex_quiet k l seen now at (mutex_there k l seen now (mutex_respin at) h) is
 place_quiet (RwLock k a c) l seen now h is = call_quiet k l seen now a c h is
 place_quiet (Once k at) l seen now h is =
-    once_quiet k l seen now at (once_there k l seen now (once_looking at) h) is
+    once_quiet k l seen now at (once_there k l seen now (once_respin at) h) is
 place_quiet (Semaphore k at) l seen now h is = semaphore_quiet k l seen now at
-    (semaphore_there k l seen now (semaphore_looking at) h) is
+    (semaphore_there k l seen now (semaphore_respin at) h) is
 place_quiet (Condvar k (condvar.Wait m timed (wait.Lock late at))) l seen now h is =
-    relock_quiet k l seen now m timed late at (relock_there k l seen now m timed late (mutex_looking at) h) is
+    relock_quiet k l seen now m timed late at (relock_there k l seen now m timed late (mutex_respin at) h) is
 place_quiet (Condvar k (condvar.Wait m timed at)) l seen now h is = absurd cc
 place_quiet (Condvar k at) l seen now h is = absurd cc
 

@@ -1,21 +1,21 @@
 -- An act of one thread makes nothing of the calls of the others, but where it wakes those in its hand or
 -- hands them the lock.
-use Rattle.lot_laws.proofs.Names
-use Names.{ℕ, Bool, true, false, Option, Some, None, if◌then◌else◌, ◌≡◌, ◌≢◌, ◌⊎◌, inl, inr, List, [], ◌∷◌}
-use Names.{get_or, refl, sym, ◌∙◌, ap, subst, get_or-set_other, ◌==◌, once_sleepers_move, once_profile}
-use Names.{semaphore_profile, taken_from, get_or-map, Keys, One, Two, Waiter, threads_of, lock_picked, Act}
-use Names.{Whom, Reply, TakenBy, Woken, is_thread, hand, next_place, taker, Place, Idle, RwLock, Mutex, Once}
-use Names.{Condvar, Semaphore, RwLockCallPlace, Plain, PeekQueue, HandOver, Bump, Handed, CallStands}
-use Names.{call_profile, handed_woken, fair_sleepers_move, fair_sleepers_hear, never_given, Rights, LockCase}
-use Names.{Wake, HandOff, AtLock, is_taken_by, event_by, State, queue_at, place_at, put, state_after_act}
-use Names.{state_after_telling, state_after_taking, state_with_sections, places_told, place_after_telling}
-use Names.{call_state, taken_at, location, nowhere, IsInductive, carried_at, hand_at, FitsItsLock, ◌+◌, ◌≤◌}
-use Names.{arith, lock_picker, without_lock_picked, Line, Main, Second, queues_without_first}
-use Names.{state_after_take, location_at, key_of, rules_in, locations_of, stood_in}
+use Rattle.lot_laws.proofs.Imports
+use Imports.{ℕ, Bool, true, false, Option, Some, None, if◌then◌else◌, ◌≡◌, ◌≢◌, ◌⊎◌, inl, inr, List, [], ◌∷◌}
+use Imports.{get_or, refl, sym, ◌∙◌, ap, subst, get_or-set_other, ◌==◌, once_sleepers_move, once_profile}
+use Imports.{semaphore_profile, taken_from, get_or-map, Keys, One, Two, Waiter, threads_of, lock_picked, Act}
+use Imports.{TakeWhich, Reply, TakenBy, Woken, is_thread, hand, next_place, taker, Place, Idle, RwLock, Mutex, Once}
+use Imports.{Condvar, Semaphore, RwLockCallPlace, Plain, PeekQueue, HandOver, Bump, Handed, CallStands}
+use Imports.{call_profile, handed_woken, fair_sleepers_move, fair_sleepers_hear, never_given, Rights, LockCase}
+use Imports.{Wake, HandOff, AtLock, is_taken_by, event_by, State, queue_at, place_at, put, state_after_act}
+use Imports.{state_after_telling, state_after_taking, state_with_sections, places_told, place_after_telling}
+use Imports.{call_state, taken_at, location, nowhere, IsInductive, carried_at, hand_at, FitsItsLock, ◌+◌, ◌≤◌}
+use Imports.{arith, lock_picker, without_lock_picked, Line, Main, Second, queues_without_first}
+use Imports.{state_after_take, location_at, key_of, rules_in, locations_of, stood_in}
 use Rattle.lot_laws.proofs.semaphore.SemaphoreMoves.{semaphore_sleepers_move}
 use Rattle.core_base.specs.declared.notes.Note.TheVariants as note
 use Rattle.steps_base.specs.declared.acts.Act.TheVariants as act
-use Rattle.steps_base.specs.declared.acts.Whom.TheVariants as whom
+use Rattle.steps_base.specs.declared.acts.TakeWhich.TheVariants as whom
 use Rattle.steps_base.specs.declared.acts.Wakes.TheVariants as wakes
 use Rattle.steps_rwlock_fair.specs.declared.handed.HandedAt.TheVariants as handed
 use Rattle.lot_laws.specs.Locations.{hand}
@@ -167,7 +167,7 @@ module _ (w : State) (t : ℕ) (p2 : Place) where
   -- each thread that is taken goes on in its call
   pub takes : (inductive : IsInductive w) (l : ℕ) (m : Line) (plain : (rules_in w l).sort ≢ locks.Condvar)
       (p : Place) (key : ℕ)
-      → key ≡ key_of l m → (x : Whom) → Stay (put (state_after_act w t p (act.Take key x)) t p2)
+      → key ≡ key_of l m → (x : TakeWhich) → Stay (put (state_after_act w t p (act.Take key x)) t p2)
   takes inductive l m plain p key is x = subst (λ k. Stay (put (state_after_act w t p (act.Take k x)) t p2))
       (sym is) (by_whom x)
     where
@@ -188,7 +188,7 @@ module _ (w : State) (t : ℕ) (p2 : Place) where
                 ap (Lines.times u) e in omega arith;
           })
 
-      by_whom : (x : Whom) → Stay (put (state_after_act w t p (act.Take (key_of l m) x)) t p2)
+      by_whom : (x : TakeWhich) → Stay (put (state_after_act w t p (act.Take (key_of l m) x)) t p2)
       by_whom whom.First = first (queue_at w (key_of l m)) refl
       by_whom (whom.Picked start recursive) =
           took (state_after_take w t (key_of l m) (whom.Picked start recursive))

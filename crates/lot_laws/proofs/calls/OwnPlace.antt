@@ -1,10 +1,10 @@
 -- In a call of one lock a thread that tells others something hears nothing of it: its act leaves it where it
 -- stands.
-use Rattle.lot_laws.proofs.Names
-use Names.{ℕ, true, ◌≡◌, ◌<◌, length, get_or-set_same, refl, ap, ◌∙◌, outcome_of, Reply, Place, Idle, Mutex}
-use Names.{RwLock, Once, Condvar, Semaphore, act_of, next_act, next_place, State, go_outcome, go_reply}
-use Names.{going_outcome, place_at, put, reply_to, state_after_act, state_after_go, state_after_going}
-use Names.{Befalls, acted_keeps, tells, performed_counts}
+use Rattle.lot_laws.proofs.Imports
+use Imports.{ℕ, true, ◌≡◌, ◌<◌, length, get_or-set_same, refl, ap, ◌∙◌, outcome_of, Reply, Place, Idle, Mutex}
+use Imports.{RwLock, Once, Condvar, Semaphore, act_of, next_act, next_place, State, go_outcome, go_reply}
+use Imports.{going_outcome, place_at, put, reply_to, state_after_act, state_after_go, state_after_going}
+use Imports.{Befalls, acted_keeps, tells, performed_counts}
 use Rattle.lot_laws.proofs.machine.Hearing.{call_hears, mutex_hears, once_hears, semaphore_hears}
 use Rattle.lot_laws.proofs.machine.Parts.{IsSingle}
 

@@ -1,11 +1,11 @@
 -- A thread in a call of a reader-writer lock that hands nothing over, and is handed nothing, goes where its
 -- call does.
-use Rattle.lot_laws.proofs.Names
-use Names.{ℕ, Bool, false, Option, None, ◌≡◌, refl, ap, Act, Next, Reply, Admission, RwLockPlace, rwlock_next}
-use Names.{RwLockCallPlace, Plain, given, plain_next, unless_given, Place, RwLock, State, reply_to, next_act}
-use Names.{next_place, rwlock_does, rwlock_goes}
+use Rattle.lot_laws.proofs.Imports
+use Imports.{ℕ, Bool, false, Option, None, ◌≡◌, refl, ap, Act, Next, Reply, Admission, RwLockPlace, rwlock_next}
+use Imports.{RwLockCallPlace, Plain, given, plain_next, unless_given, Place, RwLock, State, reply_to, next_act}
+use Imports.{next_place, rwlock_does, rwlock_goes}
 use Rattle.steps_base.specs.declared.acts.Act.TheVariants as act
-use Rattle.steps_base.specs.declared.acts.Whom.TheVariants as whom
+use Rattle.steps_base.specs.declared.acts.TakeWhich.TheVariants as whom
 
 abbrev pub plain_goes : ℕ → Admission → Next RwLockPlace → Place
 plain_goes l a n = rwlock_goes l a (plain_next n)

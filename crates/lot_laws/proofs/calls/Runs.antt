@@ -1,7 +1,7 @@
 -- A run by one step more.
-use Rattle.lot_laws.proofs.Names
-use Names.{◌≡◌, List, [], ◌∷◌, ◌++◌, refl, ap, sym, ◌∙◌, append_assoc, Step, Outcome, State, after}
-use Names.{step_outcome, after_steps, step_outcomes}
+use Rattle.lot_laws.proofs.Imports
+use Imports.{◌≡◌, List, [], ◌∷◌, ◌++◌, refl, ap, sym, ◌∙◌, append_assoc, Step, Outcome, State, after}
+use Imports.{step_outcome, after_steps, step_outcomes}
 
 after_more : (w : State) (ss : List Step) (s : Step) → after_steps w (ss ++ s ∷ []) ≡ after (after_steps w ss)
     s

@@ -1,13 +1,13 @@
 -- The call of a place of one lock, by that lock and the row there alone.
-use Rattle.lot_laws.proofs.Names
-use Names.{ℕ, Some, None, ◌≡◌, ◌∙◌, ap, Rights, no_call, Place, called_lock, profile, profile_beside, call_on}
-use Names.{call_on_both, call_state}
+use Rattle.lot_laws.proofs.Imports
+use Imports.{ℕ, Some, None, ◌≡◌, ◌∙◌, ap, Rights, no_call, Place, called_lock, profile, profile_at_mutex, call_on}
+use Imports.{call_on_both, call_state}
 use Rattle.lot_laws.specs.Refinement.{call_by}
 use Rattle.lot_laws.proofs.machine.Parts.{IsSingle, calls_none, none_beside}
 
 pub single_call : (p : Place) → IsSingle p → (r : ℕ → Rights) → call_state p r ≡ call_on (called_lock p)
     (profile p) r
-single_call p single r = ap (λ m. call_on_both m (called_lock p) (profile p) (profile_beside p) r)
+single_call p single r = ap (λ m. call_on_both m (called_lock p) (profile p) (profile_at_mutex p) r)
     (none_beside p single)
 
 pub call_none : (p : Place) → called_lock p ≡ None → (r : ℕ → Rights) → call_state p r ≡ no_call

@@ -1,18 +1,18 @@
 -- In place of each exchange by which a waiting call sets a bit its thread may look at the word once more.
-use Rattle.lot_laws.proofs.Names
-use Names.{ℕ, Bool, true, false, Option, Some, None, if◌then◌else◌, ◌==◌, ◌&&◌, not, ◌≡◌, ◌≢◌, ◌+◌, ◌-◌, ◌*◌}
-use Names.{◌%◌, ◌^◌, ◌⊎◌, is_some, inl, inr, refl, sym, ◌∙◌, ap, subst, arith, One, Access, has_aside}
-use Names.{is_done, is_marked, is_poisoned, is_running, is_plain_mutex, OnceCall, Rights, Rules, Sort}
-use Names.{rights_of, Line, Main, Second, has_readers, Act, SemaphorePlace, is_free, semaphore_act}
-use Names.{semaphore_looking, MutexPlace, Entry, is_locked, mutex_act, mutex_looking, OncePlace, Course}
-use Names.{course_act, course_of, once_act, once_looking, Admission, RwLockPlace, RwLockAt, ParkAt, WakeAt}
-use Names.{RwLockPurpose, Decision, act_at, decided as decides, decided_act, give_op, park_act, plus}
-use Names.{rollback_op, wake_act, want_at, word_taken, gone_to, is_mark, looking_at, RwLockCallPlace}
-use Names.{HandOverAt, call_looking, in_call, accept_act, call_act, hand_over_act, WaitAt, IsReached}
-use Names.{condvar_act, in_lock, Place, Idle, Mutex, RwLock, Once, Condvar, Semaphore, act_of, in_condvar}
-use Names.{in_mutex, in_once, in_rwlock, in_semaphore, respins_from, State, kind_at, place_at, sort_at}
-use Names.{IsWaitingCall, SetsBit, IsOwn, call_own, course_own, semaphore_own, call_at, call_state}
-use Names.{lock_state, FitsItsLock, IsInductive}
+use Rattle.lot_laws.proofs.Imports
+use Imports.{ℕ, Bool, true, false, Option, Some, None, if◌then◌else◌, ◌==◌, ◌&&◌, not, ◌≡◌, ◌≢◌, ◌+◌, ◌-◌, ◌*◌}
+use Imports.{◌%◌, ◌^◌, ◌⊎◌, is_some, inl, inr, refl, sym, ◌∙◌, ap, subst, arith, One, Access, has_aside}
+use Imports.{is_done, is_marked, is_poisoned, is_running, is_plain_mutex, OnceCall, Rights, Rules, Sort}
+use Imports.{rights_of, Line, Main, Second, has_readers, Act, SemaphorePlace, is_free, semaphore_act}
+use Imports.{semaphore_respin, MutexPlace, Entry, is_locked, mutex_act, mutex_respin, OncePlace, Course}
+use Imports.{course_act, course_of, once_act, once_respin, Admission, RwLockPlace, RwLockAt, ParkAt, WakeAt}
+use Imports.{RwLockPurpose, Decision, act_at, decided as decides, decided_act, give_op, park_act, plus}
+use Imports.{rollback_op, wake_act, want_at, word_taken, gone_to, is_mark, looking_at, RwLockCallPlace}
+use Imports.{HandOverAt, call_respin, in_call, accept_act, call_act, hand_over_act, WaitAt, IsReached}
+use Imports.{condvar_act, in_lock, Place, Idle, Mutex, RwLock, Once, Condvar, Semaphore, act_of, in_condvar}
+use Imports.{in_mutex, in_once, in_rwlock, in_semaphore, respins_from, State, kind_at, place_at, sort_at}
+use Imports.{IsWaitingCall, SetsBit, IsOwn, call_own, course_own, semaphore_own, call_at, call_state}
+use Imports.{lock_state, FitsItsLock, IsInductive}
 use Rattle.core_base.specs.declared.ops.Op.TheVariants as op
 use Rattle.spec_locks.specs.declared.calls.Access.TheVariants as access
 use Rattle.spec_locks.specs.declared.calls.Downgrade.TheVariants as downgrade
@@ -61,7 +61,7 @@ decided_looks k s l seen now e again true false f g is bit = absurd cc
 
 mutex_spins : (k : ℕ) (p : MutexPlace) (l seen now : ℕ) → mutex_act k p ≡ act.Word l (op.Exchange seen now)
     → (seen ≡ 1) × (now ≡ 3)
-    → is_some (mutex_looking p) ≡ true
+    → is_some (mutex_respin p) ≡ true
 mutex_spins k (mutex.Lock e again (lock.Decide s)) l seen now is bit = decided_looks k s l seen now e again
     (is_locked s) (s == 1) refl refl is bit
 mutex_spins k (mutex.Lock e again lock.First) l seen now is bit = absurd (let a : 1 ≡ now = cc in let b =
@@ -271,7 +271,7 @@ once_there k c again false h = absurd cc
 
 once_spins : (k : ℕ) (p : OncePlace) (l seen now : ℕ) → once_act k p ≡ act.Word l (op.Exchange seen now)
     → (is_running seen ≡ true) × (now ≡ steps.marked seen)
-    → is_some (in_once k (once_looking p)) ≡ true
+    → is_some (in_once k (once_respin p)) ≡ true
 once_spins k (once.Look c again (look.Decide s)) l seen now is bit =
     once_there k c again (is_running s && steps.is_mark (course_of c s)) (course_spins k l s seen now
     (course_of c s) (is_running s) refl (runs_alone c s) is bit)
@@ -308,7 +308,7 @@ tries_permit k s l seen now false is bit = cc
 
 semaphore_spins : (k : ℕ) (p : SemaphorePlace) (l seen now : ℕ) → semaphore_act k p ≡ act.Word l
     (op.Exchange seen now) → (seen ≡ 0) × (now ≡ 1)
-    → is_some (in_semaphore k (semaphore_looking p)) ≡ true
+    → is_some (in_semaphore k (semaphore_respin p)) ≡ true
 semaphore_spins k (semaphore.Acquire timed again (acquire.Decide s)) l seen now is bit =
     takes_permit k s l seen now timed again (is_free s) (s == 0) refl refl is bit
 semaphore_spins k (semaphore.Acquire timed again acquire.Load) l seen now is bit = absurd cc
@@ -406,7 +406,7 @@ module _ (w : State) (r : ℕ → Rights) (l seen now : ℕ) (bit : SetsBit (sor
 
   of_rwlock : (k : ℕ) (a : Admission) (c : RwLockCallPlace) → k ≡ l → has_readers (sort_at w k) ≡ true
       → IsWaitingCall (call_state (RwLock k a c) r) l
-      → call_act k a c ≡ act.Word l (op.Exchange seen now) → is_some (in_rwlock k a (call_looking a c)) ≡ true
+      → call_act k a c ≡ act.Word l (op.Exchange seen now) → is_some (in_rwlock k a (call_respin a c)) ≡ true
   of_rwlock k a (fair.Plain p) own readers waits is = rwlock_there k a p (looking_at a p p.at) false
       (rwlock_spins k a p l seen now (shared_bit (sort_at w k) seen now readers
       (bit_at k (sort_at w k) own refl)) p.at is)
@@ -423,7 +423,7 @@ module _ (w : State) (r : ℕ → Rights) (l seen now : ℕ) (bit : SetsBit (sor
       → condvar_act k (condvar.Wait m timed at) ≡ act.Word l (op.Exchange seen now)
       → is_some (respins_from (Condvar k (condvar.Wait m timed at))) ≡ true
   of_wait k m timed (wait.Lock late at) reached plain sort is = condvar_there k m timed late
-      (mutex_looking at) (mutex_spins m at l seen now is (bit_at m locks.Mutex (mutex_word m at l seen now is)
+      (mutex_respin at) (mutex_spins m at l seen now is (bit_at m locks.Mutex (mutex_word m at l seen now is)
       (ap (λ (x : Rules). x.sort) (plain_rules (kind_at w m) plain))))
   of_wait k m timed wait.Show reached plain sort is = absurd (let own : k ≡ l = cc
       in bit_at k locks.Condvar own sort)
@@ -447,7 +447,7 @@ module _ (w : State) (r : ℕ → Rights) (l seen now : ℕ) (bit : SetsBit (sor
   place_spins : (p : Place) → FitsItsLock w p → IsWaitingCall (call_state p r) l
       → act_of p ≡ act.Word l (op.Exchange seen now) → is_some (respins_from p) ≡ true
   place_spins Idle fits waits is = absurd cc
-  place_spins (Mutex k at) fits waits is = mutex_there k (mutex_looking at)
+  place_spins (Mutex k at) fits waits is = mutex_there k (mutex_respin at)
       (mutex_spins k at l seen now is (bit_at k locks.Mutex (mutex_word k at l seen now is)
       (ap (λ (x : Rules). x.sort) (mutex_rules (kind_at w k) fits))))
   place_spins (RwLock k a c) fits waits is =

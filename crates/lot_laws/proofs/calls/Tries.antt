@@ -1,10 +1,10 @@
 -- A try to lock a mutex, or to write, is one step, and answers by the word that it finds.
-use Rattle.lot_laws.proofs.Names
-use Names.{ℕ, zero, suc, Bool, true, false, Option, Some, None, List, [], ◌∷◌, if◌then◌else◌, ◌==◌, ◌≡◌, ◌≢◌}
-use Names.{◌<◌, length, get_or, is_none, refl, sym, ◌∙◌, ap, subst, arith, lt-ltb, Call, Kind, Try, Step}
-use Names.{outcome_of, is_locked, Place, Idle, Mutex, act_of, first_place, next_act, State, place_at, kind_at}
-use Names.{word_at, can_do, reply_to, go_of, go_outcome, going_outcome, is_possible, step_outcome, lock_state}
-use Names.{owner_at, IsMutexWord, IsInductive, TriesAtOnce, tried}
+use Rattle.lot_laws.proofs.Imports
+use Imports.{ℕ, zero, suc, Bool, true, false, Option, Some, None, List, [], ◌∷◌, if◌then◌else◌, ◌==◌, ◌≡◌, ◌≢◌}
+use Imports.{◌<◌, length, get_or, is_none, refl, sym, ◌∙◌, ap, subst, arith, lt-ltb, Call, Kind, Try, Step}
+use Imports.{outcome_of, is_locked, Place, Idle, Mutex, act_of, first_place, next_act, State, place_at, kind_at}
+use Imports.{word_at, can_do, reply_to, go_of, go_outcome, going_outcome, is_possible, step_outcome, lock_state}
+use Imports.{owner_at, IsMutexWord, IsInductive, TriesAtOnce, tried}
 use Rattle.spec_locks.specs.declared.calls.Access.TheVariants.{Exclusive}
 use Rattle.spec_locks.specs.declared.calls.Call.TheVariants as call
 use Rattle.spec_locks.specs.declared.calls.MutexCall.TheVariants.{TryLock}

@@ -1,10 +1,10 @@
 -- A try neither sleeps nor enters a section.
-use Rattle.lot_laws.proofs.Names
-use Names.{ℕ, Bool, true, false, if◌then◌else◌, ◌&&◌, ◌==◌, ◌≡◌, refl, Access, Patience, Patient, Timed, Try}
-use Names.{Admission, RwLockAt, Decision, RwLockPurpose, decided_act, decided_for, is_counted, wanted}
-use Names.{IsDecided, IsNoRefusal, StandsAt, count_in, is_blocked, Rights, RwLockCallPlace, CallStands}
-use Names.{WaitsWithPatience, HandedAt, Place, Idle, Mutex, RwLock, Once, Condvar, Semaphore, act_of, State}
-use Names.{place_at, call_at, call_state, FitsItsLock, IsInductive, IsTry}
+use Rattle.lot_laws.proofs.Imports
+use Imports.{ℕ, Bool, true, false, if◌then◌else◌, ◌&&◌, ◌==◌, ◌≡◌, refl, Access, Patience, Patient, Timed, Try}
+use Imports.{Admission, RwLockAt, Decision, RwLockPurpose, decided_act, decided_for, is_counted, wanted}
+use Imports.{IsDecided, IsNoRefusal, StandsAt, count_in, is_blocked, Rights, RwLockCallPlace, CallStands}
+use Imports.{WaitsWithPatience, HandedAt, Place, Idle, Mutex, RwLock, Once, Condvar, Semaphore, act_of, State}
+use Imports.{place_at, call_at, call_state, FitsItsLock, IsInductive, IsTry}
 use Rattle.std.proofs.Common.{nat_le}
 use Rattle.spec_locks.specs.declared.calls.Access.TheVariants as access
 use Rattle.spec_locks.specs.declared.outcomes.Answer.TheVariants as answer

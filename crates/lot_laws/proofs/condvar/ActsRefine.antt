@@ -1,24 +1,24 @@
 -- A thread goes on in a call of a condition variable, and does so in the abstract locks: each act of a wait
 -- and of a notification.
-use Rattle.lot_laws.proofs.Names
-use Names.{ℕ, Bool, true, false, Some, None, if◌then◌else◌, ◌==◌, ◌&&◌, ◌≡◌, ◌≢◌, ◌<◌, List, [], length, not}
-use Names.{inl, inr, get_or-set_same, refl, sym, ◌∙◌, ap, subst, arith, is_plain_mutex, outcome_of, is_thread}
-use Names.{taken_from, Act, Next, At, Reply, Done, Late, Took, Value, UnlockAt, unlock_act, Place, Condvar}
-use Names.{Idle, condvar_does, condvar_goes, is_lock, next_act, next_place, NotifyAt, CondvarPlace, Look}
-use Names.{Notify, Wait, WaiterFate, WaitAt, IsReachedNext, condvar_call_by, look_event, notify_event}
-use Names.{notify_deeds, wait_deeds, beside_deeds, condvar_profile, hand_of, taker_of, wants_beside}
-use Names.{condvar_act, condvar_next, first_lock, in_notify, in_wait, mutex_beside, mutex_shown, next_notify}
-use Names.{next_wait, notified, notify_act, wait_act, waiter_deeds, condvar_places_reached, WaitsAside}
-use Names.{OfCondvar, Rights, Rules, AtLock, CallState, GoesOn, Nothing, after_wake, going_on, is_taken_by}
-use Names.{woken, Main, IsOfItsKind, IsWellFormed, IsThere, PlaceFits, ShowsPlainMutex, State, can_do}
-use Names.{going_outcome, kind_at, place_at, put, reply_to, state_after_act, state_after_going, word_at}
-use Names.{performed_counts, acts, locks_of, taken_at, AreCondvars, FitsCondvar, FitsItsLock, Goes as GoesAt}
-use Names.{GoesAll, IsInductive, condvar_of, key_of, rules_in, site_of}
+use Rattle.lot_laws.proofs.Imports
+use Imports.{ℕ, Bool, true, false, Some, None, if◌then◌else◌, ◌==◌, ◌&&◌, ◌≡◌, ◌≢◌, ◌<◌, List, [], length, not}
+use Imports.{inl, inr, get_or-set_same, refl, sym, ◌∙◌, ap, subst, arith, is_plain_mutex, outcome_of, is_thread}
+use Imports.{taken_from, Act, Next, At, Reply, Done, Late, Took, Value, UnlockAt, unlock_act, Place, Condvar}
+use Imports.{Idle, condvar_does, condvar_goes, is_lock, next_act, next_place, NotifyAt, CondvarPlace, Look}
+use Imports.{Notify, Wait, WaiterFate, WaitAt, IsReachedNext, condvar_call_by, look_event, notify_event}
+use Imports.{notify_deeds, wait_deeds, beside_deeds, condvar_profile, hand_of, taker_of, wants_at_mutex}
+use Imports.{condvar_act, condvar_next, first_lock, in_notify, in_wait, mutex_beside, mutex_shown, next_notify}
+use Imports.{next_wait, notified, notify_act, wait_act, waiter_deeds, condvar_places_reached, WaitsAside}
+use Imports.{OfCondvar, Rights, Rules, AtLock, CallState, GoesOn, Nothing, after_wake, going_on, is_taken_by}
+use Imports.{woken, Main, IsOfItsKind, IsWellFormed, IsThere, PlaceFits, ShowsPlainMutex, State, can_do}
+use Imports.{going_outcome, kind_at, place_at, put, reply_to, state_after_act, state_after_going, word_at}
+use Imports.{performed_counts, acts, locks_of, taken_at, AreCondvars, FitsCondvar, FitsItsLock, Goes as GoesAt}
+use Imports.{GoesAll, IsInductive, condvar_of, key_of, rules_in, site_of}
 use Rattle.core_base.specs.declared.notes.Note.TheVariants as note
 use Rattle.core_base.specs.declared.ops.Op.TheVariants as op
 use Rattle.steps_base.specs.declared.acts.Act.TheVariants as act
 use Rattle.steps_base.specs.declared.acts.Next.TheVariants.{End as Over}
-use Rattle.steps_base.specs.declared.acts.Whom.TheVariants as whom
+use Rattle.steps_base.specs.declared.acts.TakeWhich.TheVariants as whom
 use Rattle.steps_mutex.specs.declared.places.MutexPlace.TheVariants as mutex
 use Rattle.steps_mutex.specs.declared.unlock.UnlockAt.TheVariants as unlock
 use Rattle.steps_condvar.specs.declared.notify.NotifyAt.TheVariants as notify
@@ -373,7 +373,7 @@ module _ (w : State) (t l : ℕ) (shape : IsWellFormed w) (inductive : IsInducti
     unheld free k = ap (λ q. is_taken_by t (taken_at q k)) is ∙ either (is_lock k (Some m) && not (l == k))
       where
         by_stand : (s : WaiterFate) → is_thread t (taker_of s) ≡ false
-            → is_taken_by t (taken_from (hand_of s) (wants_beside (Some (want_of s))) true) ≡ false
+            → is_taken_by t (taken_from (hand_of s) (wants_at_mutex (Some (want_of s))) true) ≡ false
         by_stand stands.Listed free = refl
         by_stand stands.Moved free = refl
         by_stand (stands.InHand u) free = free
@@ -382,7 +382,7 @@ module _ (w : State) (t l : ℕ) (shape : IsWellFormed w) (inductive : IsInducti
 
         either : (b : Bool)
             → is_taken_by t
-            (if b then taken_from (hand_of s) (wants_beside (Some (want_of s))) true else taken_from None
+            (if b then taken_from (hand_of s) (wants_at_mutex (Some (want_of s))) true else taken_from None
             (condvar_profile (Wait m timed (releasing s a))).wants (l == k))
             ≡ false
         either true = by_stand s free

@@ -1,11 +1,11 @@
 -- A sleeper in a call of a condition variable stands in the queue of one of its locks, is in a hand, or was
 -- handed its mutex. Such a call hands over no lock itself.
-use Rattle.lot_laws.proofs.Names
-use Names.{ℕ, Bool, true, false, Option, Some, None, if◌then◌else◌, ◌==◌, ◌≡◌, ◌≢◌, ◌⊎◌, inl, inr, refl, sym}
-use Names.{◌∙◌, Exclusive, Sleep, hand, in_hand, Condvar, is_lock, NotifyAt, CondvarPlace, Wait, Look, Notify}
-use Names.{WaitAt, is_locked, condvar_act, move_act, mutex_beside, notify_act, IsReached, carries_beside}
-use Names.{condvar_place_purpose, mutex_side, Taken, MayWait, Has, Line, Main, want_of, taken_at, nowhere}
-use Names.{location, location_at}
+use Rattle.lot_laws.proofs.Imports
+use Imports.{ℕ, Bool, true, false, Option, Some, None, if◌then◌else◌, ◌==◌, ◌≡◌, ◌≢◌, ◌⊎◌, inl, inr, refl, sym}
+use Imports.{◌∙◌, Exclusive, Sleep, hand, in_hand, Condvar, is_lock, NotifyAt, CondvarPlace, Wait, Look, Notify}
+use Imports.{WaitAt, is_locked, condvar_act, move_act, mutex_beside, notify_act, IsReached, carries_at_mutex}
+use Imports.{condvar_place_purpose, mutex_side, Taken, MayWait, Has, Line, Main, want_of, taken_at, nowhere}
+use Imports.{location, location_at}
 use Rattle.steps_condvar.specs.declared.notify.NotifyAt.TheVariants as notify
 use Rattle.steps_condvar.specs.declared.wait.WaiterFate.TheVariants as stands
 use Rattle.steps_condvar.specs.declared.wait.WaitAt.TheVariants as wait
@@ -121,7 +121,7 @@ to_wake : (any : Bool) → in_hand any false ≡ Some true → ⊥
 to_wake true h = cc
 to_wake false h = cc
 
-hands_none : (at : CondvarPlace) → IsReached at → carries_beside at ≡ Some true → ⊥
+hands_none : (at : CondvarPlace) → IsReached at → carries_at_mutex at ≡ Some true → ⊥
 hands_none (Wait m timed (wait.Release s (mutex.Unlock (unlock.Clear any)))) reached h = to_wake any h
 hands_none (Wait m timed (wait.Release s (mutex.Unlock (unlock.Leave any)))) reached h = to_wake any h
 hands_none (Wait m timed (wait.Release s (mutex.Unlock unlock.Subtract))) reached h = cc

@@ -1,13 +1,13 @@
 -- A call of a condition variable begins where it may, and is late where it sleeps with a deadline: its place
 -- alone changes, and its call.
-use Rattle.lot_laws.proofs.Names
-use Names.{ℕ, Bool, true, false, Option, Some, None, if◌then◌else◌, ◌&&◌, ◌≡◌, ◌<◌, length, nat_lt, inl, inr}
-use Names.{refl, sym, ◌∙◌, ap, subst, cases_lt, get_or_past, One, Kind, Call, CondvarCall, mutex_named}
-use Names.{has_call, is_plain_mutex, Late, CondvarPlace, Look, Notify, Wait, condvar_first, Condvar, Idle}
-use Names.{is_idle, late_key, next_place, Rights, Taken, condvar_purpose, purpose_of, rules_of, HasRight}
-use Names.{MayBegin, Stays, new_call, purpose_at, Main, State, can_begin, names_mutex_there, holds_right}
-use Names.{is_free_under, is_open_to, kind_at, owners_at, place_at, state_after_begin, state_after_late_on}
-use Names.{state_with_sections, unlocked, both, call_state, locks_of, taken_at, key_of}
+use Rattle.lot_laws.proofs.Imports
+use Imports.{ℕ, Bool, true, false, Option, Some, None, if◌then◌else◌, ◌&&◌, ◌≡◌, ◌<◌, length, nat_lt, inl, inr}
+use Imports.{refl, sym, ◌∙◌, ap, subst, cases_lt, get_or_past, One, Kind, Call, CondvarCall, mutex_named}
+use Imports.{has_call, is_plain_mutex, Late, CondvarPlace, Look, Notify, Wait, condvar_first, Condvar, Idle}
+use Imports.{is_idle, late_key, next_place, Rights, Taken, condvar_purpose, purpose_of, rules_of, HasRight}
+use Imports.{MayBegin, Stays, new_call, purpose_at, Main, State, can_begin, names_mutex_there, holds_right}
+use Imports.{is_free_under, is_open_to, kind_at, owners_at, place_at, state_after_begin, state_after_late_on}
+use Imports.{state_with_sections, unlocked, both, call_state, locks_of, taken_at, key_of}
 use Rattle.std.proofs.Common.{ltb-true, lt-ltb}
 use Rattle.spec_locks.specs.declared.kinds.Kind.TheVariants as kind
 use Rattle.spec_locks.specs.declared.calls.Call.TheVariants as call

@@ -1,13 +1,13 @@
 -- Where a call of a condition variable begins, and where its time is up: every lock is a site again.
-use Rattle.lot_laws.proofs.Names
-use Names.{ℕ, Bool, true, false, Some, None, ◌&&◌, nat_lt, ◌≡◌, ◌≢◌, ◌<◌, inl, inr, List, [], ◌∷◌, length}
-use Names.{refl, sym, ◌∙◌, ap, subst, cases_eq, One, Exclusive, has_call, is_condvar, is_plain_mutex}
-use Names.{CondvarCall, Kind, At, Late, Location, Place, Condvar, Idle, late_key, next_place, CondvarPlace}
-use Names.{Wait, Look, Notify, mutex_beside, rules_of, Begin, Deed, Role, Has, In, Main, idle, State}
-use Names.{names_mutex_there, holds_right, is_free_under, is_open_to, kind_at, owners_at, place_at, put}
-use Names.{section_at, state_after_begin, state_after_late_on, state_with_sections, Suits, call_suits}
-use Names.{IsWellFormed, PlaceFits, taken_at, acts, role_on, location_at, FitsCondvar, FitsItsLock, Goes}
-use Names.{IsInductive, key_of, rules_in}
+use Rattle.lot_laws.proofs.Imports
+use Imports.{ℕ, Bool, true, false, Some, None, ◌&&◌, nat_lt, ◌≡◌, ◌≢◌, ◌<◌, inl, inr, List, [], ◌∷◌, length}
+use Imports.{refl, sym, ◌∙◌, ap, subst, cases_eq, One, Exclusive, has_call, is_condvar, is_plain_mutex}
+use Imports.{CondvarCall, Kind, At, Late, Location, Place, Condvar, Idle, late_key, next_place, CondvarPlace}
+use Imports.{Wait, Look, Notify, mutex_beside, rules_of, Begin, Deed, Role, Has, In, Main, idle, State}
+use Imports.{names_mutex_there, holds_right, is_free_under, is_open_to, kind_at, owners_at, place_at, put}
+use Imports.{section_at, state_after_begin, state_after_late_on, state_with_sections, Suits, call_suits}
+use Imports.{IsWellFormed, PlaceFits, taken_at, acts, role_on, location_at, FitsCondvar, FitsItsLock, Goes}
+use Imports.{IsInductive, key_of, rules_in}
 use Rattle.spec_locks.specs.declared.calls.Call.TheVariants as call
 use Rattle.spec_locks.specs.declared.calls.CondvarCall.TheVariants as condvar_call
 use Rattle.spec_locks.specs.declared.kinds.Kind.TheVariants as kind

@@ -1,16 +1,16 @@
 -- A thread that has gone on in a call of a condition variable owes by the section that it is inside, and on
 -- its mutex where its release has just seen the parked bit.
-use Rattle.lot_laws.proofs.Names
-use Names.{ℕ, Bool, true, false, Option, Some, None, if◌then◌else◌, ◌==◌, ◌≡◌, ◌<◌, ◌⊎◌, ◌↔◌, ◌||◌, inl, inr}
-use Names.{length, refl, sym, ◌∙◌, ap, subst, One, CondvarCall, Outcome, outcome_of, Enter, Next, Late, At}
-use Names.{MutexPlace, in_unlock, is_parked, mutex_act, mutex_next, NotifyAt, CondvarPlace, Wait, Look}
-use Names.{Notify, WaiterFate, WaitAt, IsReached, has_released, past_release, condvar_act, condvar_first}
-use Names.{condvar_next, in_notify, in_wait, is_shown, mutex_beside, mutex_shown, next_notify, notified}
-use Names.{notify_act, released, relocked, Condvar, act_of, condvar_does, condvar_goes, late_key, line_owed}
-use Names.{next_act, Rights, Sort, Waits, CallState, Line, Main, has_readers, State, going_outcome, place_at}
-use Names.{reply_to, state_after_act, state_after_going, word_at, call_at, call_state, FitsCondvar}
-use Names.{IsInductive, key_of, IsInside, IsWait, LetsOthersIn, LooksFirst, OnlyLooks, Owes, SeesWaiters}
-use Names.{line_let_in, sort_at, tells_by, tells_of}
+use Rattle.lot_laws.proofs.Imports
+use Imports.{ℕ, Bool, true, false, Option, Some, None, if◌then◌else◌, ◌==◌, ◌≡◌, ◌<◌, ◌⊎◌, ◌↔◌, ◌||◌, inl, inr}
+use Imports.{length, refl, sym, ◌∙◌, ap, subst, One, CondvarCall, Outcome, outcome_of, Enter, Next, Late, At}
+use Imports.{MutexPlace, in_unlock, is_parked, mutex_act, mutex_next, NotifyAt, CondvarPlace, Wait, Look}
+use Imports.{Notify, WaiterFate, WaitAt, IsReached, has_released, past_release, condvar_act, condvar_first}
+use Imports.{condvar_next, in_notify, in_wait, is_shown, mutex_beside, mutex_shown, next_notify, notified}
+use Imports.{notify_act, released, relocked, Condvar, act_of, condvar_does, condvar_goes, late_key, line_owed}
+use Imports.{next_act, Rights, Sort, Waits, CallState, Line, Main, has_readers, State, going_outcome, place_at}
+use Imports.{reply_to, state_after_act, state_after_going, word_at, call_at, call_state, FitsCondvar}
+use Imports.{IsInductive, key_of, IsInside, IsWait, LetsOthersIn, LooksFirst, OnlyLooks, Owes, SeesWaiters}
+use Imports.{line_let_in, sort_at, tells_by, tells_of}
 use Rattle.core_base.specs.declared.notes.Note.TheVariants as note
 use Rattle.spec_locks.specs.declared.calls.CondvarCall.TheVariants as call
 use Rattle.spec_locks.specs.declared.outcomes.Answer.TheVariants as answer

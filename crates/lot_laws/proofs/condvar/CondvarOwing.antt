@@ -1,9 +1,9 @@
 -- A thread in a call of a condition variable owes what it owed, whichever event befalls it.
-use Rattle.lot_laws.proofs.Names
-use Names.{ℕ, Bool, true, false, Option, None, if◌then◌else◌, ◌==◌, ◌≡◌, refl, sym, ◌∙◌, ap, in_line, Next}
-use Names.{Reply, TakenBy, MovedTo, HandedBy, Woken, Mutex, Condvar, condvar_goes, line_owed, mutex_goes}
-use Names.{next_place, or_else, profile, mutex_next, MutexPlace, NotifyAt, CondvarPlace, Wait, Look, Notify}
-use Names.{WaiterFate, WaitAt, in_wait, relocked, is_main_line, Main}
+use Rattle.lot_laws.proofs.Imports
+use Imports.{ℕ, Bool, true, false, Option, None, if◌then◌else◌, ◌==◌, ◌≡◌, refl, sym, ◌∙◌, ap, in_line, Next}
+use Imports.{Reply, TakenBy, MovedTo, HandedBy, Woken, Mutex, Condvar, condvar_goes, line_owed, mutex_goes}
+use Imports.{next_place, or_else, profile, mutex_next, MutexPlace, NotifyAt, CondvarPlace, Wait, Look, Notify}
+use Imports.{WaiterFate, WaitAt, in_wait, relocked, is_main_line, Main}
 use Rattle.core_base.specs.declared.keys.Line.{Line}
 use Rattle.core_base.specs.declared.notes.Note.TheVariants as note
 use Rattle.steps_base.specs.declared.acts.Next.TheVariants as next

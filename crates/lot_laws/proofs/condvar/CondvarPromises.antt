@@ -1,11 +1,11 @@
 -- The promises of a thread in a call of a condition variable, by its rows at both its locks.
-use Rattle.lot_laws.proofs.Names
-use Names.{ℕ, Bool, true, false, Some, None, if◌then◌else◌, ◌==◌, ◌&&◌, ◌||◌, not, ◌≡◌, ◌≢◌, ◌⊎◌, ◌↔◌, inl}
-use Names.{inr, refl, sym, ◌∙◌, ap, subst, eqb-true, in_line, taken_from, Place, Condvar, is_lock, line_owed}
-use Names.{or_else, retries_on, NotifyAt, CondvarPlace, Wait, Look, Notify, WaitAt, mutex_beside, IsReached}
-use Names.{condvar_row, condvar_place_purpose, mutex_side, notify_row, wait_row, Rights, Rules, MayWait, Main}
-use Names.{Second, State, kind_at, call_state, taken_at, nowhere, location, location_at, FitsItsLock, sort_at}
-use Names.{KnowsRights}
+use Rattle.lot_laws.proofs.Imports
+use Imports.{ℕ, Bool, true, false, Some, None, if◌then◌else◌, ◌==◌, ◌&&◌, ◌||◌, not, ◌≡◌, ◌≢◌, ◌⊎◌, ◌↔◌, inl}
+use Imports.{inr, refl, sym, ◌∙◌, ap, subst, eqb-true, in_line, taken_from, Place, Condvar, is_lock, line_owed}
+use Imports.{or_else, retries_on, NotifyAt, CondvarPlace, Wait, Look, Notify, WaitAt, mutex_beside, IsReached}
+use Imports.{condvar_row, condvar_place_purpose, mutex_side, notify_row, wait_row, Rights, Rules, MayWait, Main}
+use Imports.{Second, State, kind_at, call_state, taken_at, nowhere, location, location_at, FitsItsLock, sort_at}
+use Imports.{KnowsRights}
 use Rattle.steps_condvar.specs.declared.notify.NotifyAt.TheVariants as notify
 use Rattle.steps_condvar.specs.declared.wait.WaiterFate.TheVariants as stands
 use Rattle.steps_condvar.specs.declared.wait.WaitAt.TheVariants as wait

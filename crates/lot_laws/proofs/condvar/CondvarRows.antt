@@ -1,14 +1,14 @@
 -- A place says of its thread at a condition variable: its next act inside, and the mutex that its wait
 -- names. Nothing that befalls the thread changes either.
-use Rattle.lot_laws.proofs.Names
-use Names.{ℕ, Bool, true, false, Option, None, if◌then◌else◌, ◌==◌, ◌≡◌, refl, ◌∙◌, ap, SemaphorePlace}
-use Names.{semaphore_next, Note, Next, Reply, TakenBy, MovedTo, HandedBy, Woken, Profile, blank_row}
-use Names.{MutexPlace, LockAt, UnlockAt, HandOffAt, in_hand_off, in_unlock, mutex_next, next_hand_off}
-use Names.{next_lock, next_unlock, still_retries, RwLockCallPlace, call_next, OncePlace, once_next, NotifyAt}
-use Names.{CondvarPlace, Wait, Look, Notify, WaitAt, condvar_profile, condvar_row, mutex_side, condvar_next}
-use Names.{in_wait, mutex_beside, relocked, Place, Idle, Mutex, RwLock, Once, Condvar, Semaphore}
-use Names.{condvar_goes, is_lock, mutex_goes, profile, next_place, once_goes, profile_at, rwlock_goes}
-use Names.{semaphore_goes, CondvarPhase}
+use Rattle.lot_laws.proofs.Imports
+use Imports.{ℕ, Bool, true, false, Option, None, if◌then◌else◌, ◌==◌, ◌≡◌, refl, ◌∙◌, ap, SemaphorePlace}
+use Imports.{semaphore_next, Note, Next, Reply, TakenBy, MovedTo, HandedBy, Woken, Profile, blank_row}
+use Imports.{MutexPlace, LockAt, UnlockAt, HandOffAt, in_hand_off, in_unlock, mutex_next, next_hand_off}
+use Imports.{next_lock, next_unlock, still_retries, RwLockCallPlace, call_next, OncePlace, once_next, NotifyAt}
+use Imports.{CondvarPlace, Wait, Look, Notify, WaitAt, condvar_profile, condvar_row, mutex_side, condvar_next}
+use Imports.{in_wait, mutex_beside, relocked, Place, Idle, Mutex, RwLock, Once, Condvar, Semaphore}
+use Imports.{condvar_goes, is_lock, mutex_goes, profile, next_place, once_goes, profile_at, rwlock_goes}
+use Imports.{semaphore_goes, CondvarPhase}
 use Rattle.core_base.specs.declared.notes.Note.TheVariants as note
 use Rattle.steps_base.specs.declared.acts.Next.TheVariants as next
 use Rattle.steps_mutex.specs.declared.places.MutexPlace.TheVariants as mutex

@@ -1,17 +1,17 @@
 -- Each step keeps what holds of condition variables: those that its call is not of are as they were.
-use Rattle.lot_laws.proofs.Names
-use Names.{ℕ, Bool, true, false, Option, Some, None, if◌then◌else◌, ◌==◌, ◌≡◌, ◌≢◌, ◌⊎◌, inl, inr, refl, sym}
-use Names.{◌∙◌, ap, subst, cases_eq, eqb-true, Step, Turn, Outcome, Location, location_by, CondvarPlace, Wait}
-use Names.{Look, Notify, condvar_profile, condvar_row, mutex_side, mutex_beside, Place, Idle, Mutex, RwLock}
-use Names.{Once, Condvar, Semaphore, is_lock, called_lock, profile, moved_of, LockCase, LockState, Rules}
-use Names.{SeeOwner, Wake, after_case, left_after, Purpose, Enters, Releases, Converts, Bumps, CallsOnce}
-use Names.{Awaits, Waits, Notifies, IsMadeOf, NotifiesBeside, CondvarMemory, lock_for, rules_of, AtLock}
-use Names.{CallState}
-use Names.{Event, GoesOn, LocksState, MayDo, MayHappen, MayTurn, Does, Moves, Nothing, SectionChanges}
-use Names.{going_on, joined_by, locks_after, rules_at, unless_ended, woken, Main, IsWellFormed, State, after}
-use Names.{kind_at, place_at, section_at, step_outcome, KnowsRights, call_at, call_state, lock_state}
-use Names.{locks_of, location_at, AreCondvars, AreCounted, FitsCondvar, FitsItsLock, IsInductive, condvar_of}
-use Names.{key_of, rules_in}
+use Rattle.lot_laws.proofs.Imports
+use Imports.{ℕ, Bool, true, false, Option, Some, None, if◌then◌else◌, ◌==◌, ◌≡◌, ◌≢◌, ◌⊎◌, inl, inr, refl, sym}
+use Imports.{◌∙◌, ap, subst, cases_eq, eqb-true, Step, Turn, Outcome, Location, location_by, CondvarPlace, Wait}
+use Imports.{Look, Notify, condvar_profile, condvar_row, mutex_side, mutex_beside, Place, Idle, Mutex, RwLock}
+use Imports.{Once, Condvar, Semaphore, is_lock, called_lock, profile, moved_of, LockCase, LockState, Rules}
+use Imports.{SeeOwner, Wake, after_case, left_after, Purpose, Enters, Releases, Converts, Bumps, CallsOnce}
+use Imports.{Awaits, Waits, Notifies, IsMadeOf, NotifiesAtMutex, CondvarMemory, lock_for, rules_of, AtLock}
+use Imports.{CallState}
+use Imports.{Event, GoesOn, LocksState, MayDo, MayHappen, MayTurn, Does, Moves, Nothing, SectionChanges}
+use Imports.{going_on, joined_by, locks_after, rules_at, unless_ended, woken, Main, IsWellFormed, State, after}
+use Imports.{kind_at, place_at, section_at, step_outcome, KnowsRights, call_at, call_state, lock_state}
+use Imports.{locks_of, location_at, AreCondvars, AreCounted, FitsCondvar, FitsItsLock, IsInductive, condvar_of}
+use Imports.{key_of, rules_in}
 use Rattle.spec_locks.specs.declared.calls.Turn as turn
 use Rattle.spec_locks.specs.declared.outcomes.Outcome as outcome
 use Rattle.steps_base.specs.Locations.{nowhere}
@@ -183,7 +183,7 @@ module _ (w : LocksState) (t k : ℕ) (sort : (rules_at w k).sort ≡ locks.Cond
     | inr beside ↦ inr (sees case beside)
   ]
     where
-      sees : (case : LockCase) → NotifiesBeside rc j case → KeepsIt case
+      sees : (case : LockCase) → NotifiesAtMutex rc j case → KeepsIt case
       sees (SeeOwner owned) h = λ r s t. (refl, refl)
       sees Wake h = λ r s t. (refl, refl)
       sees case h = absurd h

@@ -1,13 +1,13 @@
 -- A thread that goes on in a call of a condition variable leads it where its deeds do.
-use Rattle.lot_laws.proofs.Names
-use Names.{ℕ, Option, Some, None, ◌≡◌, ◌≢◌, ◌↔◌, List, [], ◌∷◌, inl, inr, refl, sym, ◌∙◌, ap, subst, cases_eq}
-use Names.{Next, Reply, CondvarPlace, condvar_row, condvar_next, AllCondvarNeeded, Follows, IsAtNext}
-use Names.{IsAtStage, MayReply, after_condvar_deeds, condvar_deeds, condvar_steps_follow, Idle, Condvar}
-use Names.{condvar_goes, profile_at, CondvarDeed, BeginsWait, EndsWait, GoIn, GoOut, Show, SeeOther}
-use Names.{StandLast, SeeAgain, MissIt, HideAndTakeAll, MoveFirst, MoveAll, LeaveList, ShowNone}
-use Names.{CondvarNeeded, CondvarSite, Inside, IsCondvar, IsInsideNot, MayGoOut, CondvarPhase, condvar_leads}
-use Names.{SectionChanges, Line, Main, condvar_deed_keeps, State, place_at, section_at, lock_state}
-use Names.{location_at, condvar_of, inside_as, key_of, stage_or}
+use Rattle.lot_laws.proofs.Imports
+use Imports.{ℕ, Option, Some, None, ◌≡◌, ◌≢◌, ◌↔◌, List, [], ◌∷◌, inl, inr, refl, sym, ◌∙◌, ap, subst, cases_eq}
+use Imports.{Next, Reply, CondvarPlace, condvar_row, condvar_next, AllCondvarNeeded, Follows, IsAtNext}
+use Imports.{IsAtStage, MayReply, after_condvar_deeds, condvar_deeds, condvar_steps_follow, Idle, Condvar}
+use Imports.{condvar_goes, profile_at, CondvarDeed, BeginsWait, EndsWait, GoIn, GoOut, Show, SeeOther}
+use Imports.{StandLast, SeeAgain, MissIt, HideAndTakeAll, MoveFirst, MoveAll, LeaveList, ShowNone}
+use Imports.{CondvarNeeded, CondvarSite, Inside, IsCondvar, IsInsideNot, MayGoOut, CondvarPhase, condvar_leads}
+use Imports.{SectionChanges, Line, Main, condvar_deed_keeps, State, place_at, section_at, lock_state}
+use Imports.{location_at, condvar_of, inside_as, key_of, stage_or}
 use Rattle.steps_base.specs.declared.acts.Next.TheVariants as next
 use Rattle.lot_laws.specs.SitesOf.{Stands}
 use Rattle.lot_laws.proofs.condvar.CondvarRows.{names_of, row_says, stage_of}

@@ -1,11 +1,11 @@
 -- When a call of a condition variable has something to do, and when its time may be up: where it sleeps in a
 -- queue, of the condition variable or, moved, of its mutex.
-use Rattle.lot_laws.proofs.Names
-use Names.{ℕ, Bool, true, false, Some, None, if◌then◌else◌, ◌==◌, ◌*◌, ◌<◌, ◌≡◌, ◌≢◌, inl, inr, refl, sym}
-use Names.{◌∙◌, ap, Sleep, Late, in_line, Condvar, act_of, late_key, next_place, NotifyAt, CondvarPlace, Wait}
-use Names.{Look, Notify, WaiterFate, WaitAt, condvar_act, move_act, mutex_beside, notify_act, wait_act}
-use Names.{IsReached}
-use Names.{wait_row, Rights, IsTimed, Line, Main, Second, PlaceFits, call_state, key_of, location_at}
+use Rattle.lot_laws.proofs.Imports
+use Imports.{ℕ, Bool, true, false, Some, None, if◌then◌else◌, ◌==◌, ◌*◌, ◌<◌, ◌≡◌, ◌≢◌, inl, inr, refl, sym}
+use Imports.{◌∙◌, ap, Sleep, Late, in_line, Condvar, act_of, late_key, next_place, NotifyAt, CondvarPlace, Wait}
+use Imports.{Look, Notify, WaiterFate, WaitAt, condvar_act, move_act, mutex_beside, notify_act, wait_act}
+use Imports.{IsReached}
+use Imports.{wait_row, Rights, IsTimed, Line, Main, Second, PlaceFits, call_state, key_of, location_at}
 use Rattle.steps_condvar.specs.declared.notify.NotifyAt.TheVariants as notify
 use Rattle.steps_condvar.specs.declared.wait.WaiterFate.TheVariants as stands
 use Rattle.steps_condvar.specs.declared.wait.WaitAt.TheVariants as wait

@@ -1,9 +1,9 @@
 -- A wait that sleeps has released its mutex.
-use Rattle.lot_laws.proofs.Names
-use Names.{ℕ, Bool, true, Some, ◌≡◌, inl, inr, refl, sym, ◌∙◌, ap, subst, Notifies, Waits, LetsGo, Act, Sleep}
-use Names.{MutexPlace, mutex_act, CondvarPlace, Wait, Look, Notify, WaitAt, condvar_act, wait_act, IsReached}
-use Names.{IsUnlockPlace, condvar_place_purpose, condvar_released, has_released, act_of, State, place_at}
-use Names.{call_at, call_state, locks_of, sleeps, IsInductive}
+use Rattle.lot_laws.proofs.Imports
+use Imports.{ℕ, Bool, true, Some, ◌≡◌, inl, inr, refl, sym, ◌∙◌, ap, subst, Notifies, Waits, LetsGo, Act, Sleep}
+use Imports.{MutexPlace, mutex_act, CondvarPlace, Wait, Look, Notify, WaitAt, condvar_act, wait_act, IsReached}
+use Imports.{IsUnlockPlace, condvar_place_purpose, condvar_released, has_released, act_of, State, place_at}
+use Imports.{call_at, call_state, locks_of, sleeps, IsInductive}
 use Rattle.steps_mutex.specs.declared.places.MutexPlace.TheVariants as mutex
 use Rattle.steps_condvar.specs.declared.wait.WaitAt.TheVariants as wait
 use Rattle.lot_laws.proofs.calls.CallEvents.{rights}

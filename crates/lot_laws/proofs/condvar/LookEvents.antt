@@ -1,12 +1,12 @@
 -- The first step of a notification, which looks at the mutex that is shown, changes no lock, and its call
 -- goes on by what it sees.
-use Rattle.lot_laws.proofs.Names
-use Names.{ℕ, Bool, true, false, Option, Some, None, if◌then◌else◌, ◌==◌, ◌≡◌, ◌+◌, ◌-◌, List, [], inl, refl}
-use Names.{sym, ◌∙◌, ap, subst, arith, outcome_of, rights_where, Value, CallOfTwoFollows, look_event}
-use Names.{word_showing, condvar_next, mutex_shown, notified, looks_tell, Condvar, condvar_does, condvar_goes}
-use Names.{LockState, OfCondvar, rights_of, AtLock, Event, GoesOn, Moves, Nothing, is_taken_by, Site, State}
-use Names.{place_at, call_at, call_state, lock_state, locks_of, taken_at, FollowAll, IsInductive, after_acts}
-use Names.{condvar_of, rules_in, site_of}
+use Rattle.lot_laws.proofs.Imports
+use Imports.{ℕ, Bool, true, false, Option, Some, None, if◌then◌else◌, ◌==◌, ◌≡◌, ◌+◌, ◌-◌, List, [], inl, refl}
+use Imports.{sym, ◌∙◌, ap, subst, arith, outcome_of, rights_where, Value, CallOfTwoFollows, look_event}
+use Imports.{word_showing, condvar_next, mutex_shown, notified, looks_tell, Condvar, condvar_does, condvar_goes}
+use Imports.{LockState, OfCondvar, rights_of, AtLock, Event, GoesOn, Moves, Nothing, is_taken_by, Site, State}
+use Imports.{place_at, call_at, call_state, lock_state, locks_of, taken_at, FollowAll, IsInductive, after_acts}
+use Imports.{condvar_of, rules_in, site_of}
 use Rattle.steps_base.specs.declared.acts.Next.TheVariants as next
 use Rattle.steps_condvar.specs.declared.notify.NotifyAt.TheVariants as notify
 use Rattle.steps_condvar.specs.declared.places.CondvarPlace.TheVariants as places

@@ -1,10 +1,10 @@
 -- A notification's first look at its condition variable: it stands nowhere, and no lock sees anything of it.
-use Rattle.lot_laws.proofs.Names
-use Names.{ℕ, Bool, true, false, None, ◌==◌, ◌||◌, ◌≡◌, ◌<◌, [], length, refl, sym, ◌∙◌, ap, subst, inl, inr}
-use Names.{cases_eq, or-false, nat_le, Value, Place, Condvar, condvar_goes, Look, Notify, condvar_next}
-use Names.{look_next, mutex_shown, count_in, code, has_readers, idle, State, filled_at, place_at, put}
-use Names.{state_after_act, word_at, acts, taken_at, role_on, location_at, FitsItsLock, Goes, IsInductive}
-use Names.{rules_in, putting}
+use Rattle.lot_laws.proofs.Imports
+use Imports.{ℕ, Bool, true, false, None, ◌==◌, ◌||◌, ◌≡◌, ◌<◌, [], length, refl, sym, ◌∙◌, ap, subst, inl, inr}
+use Imports.{cases_eq, or-false, nat_le, Value, Place, Condvar, condvar_goes, Look, Notify, condvar_next}
+use Imports.{look_next, mutex_shown, count_in, code, has_readers, idle, State, filled_at, place_at, put}
+use Imports.{state_after_act, word_at, acts, taken_at, role_on, location_at, FitsItsLock, Goes, IsInductive}
+use Imports.{rules_in, putting}
 use Rattle.std.specs.Prelude.{◌&&◌}
 use Rattle.core_base.specs.declared.ops.Op.TheVariants as op
 use Rattle.steps_base.specs.declared.acts.Act.TheVariants as act

@@ -1,19 +1,19 @@
 -- An act makes of the machine's condition variable the same as its deeds make of the abstract one: the
 -- mutex that is shown, and the waiters.
-use Rattle.lot_laws.proofs.Names
-use Names.{ℕ, Bool, true, false, Option, Some, None, if◌then◌else◌, ◌==◌, ◌≡◌, ◌≢◌, ◌+◌, ◌*◌, ◌<◌, ◌||◌, List}
-use Names.{[], ◌∷◌, ◌++◌, drop, get_or, length, map, not, set, refl, sym, ◌∙◌, ap, subst, arith}
-use Names.{get_or-set_other, get_or-set_same, get_or-map, length-map, Keys, One, Two, Op, Requeue, Waiter}
-use Names.{Want, Exclusive, first_of, times, waiter, without, Act, Check, Wakes, Next, Value, holds}
-use Names.{wakes_taken, Owners, MutexPlace, NOT_PARKED, LockAt, is_locked, lock_act, mutex_next, NotifyAt}
-use Names.{CondvarPlace, Wait, Look, Notify, WaitAt, IsLockOf, IsReached, IsListed, after_condvar_deeds}
-use Names.{condvar_deeds, relocked_deeds, condvar_row, condvar_act, condvar_owners, is_shown, move_act}
-use Names.{mutex_beside, notify_act, wait_act, condvar_owners_follow, Place, Condvar, CondvarSite, SeeAgain}
-use Names.{SeeOther, MissIt, Show, queued_of, main_line_there, IsWellFormed, State, can_do, kind_at}
-use Names.{left_in_line, owners_at, place_at, queue_at, queues_with_last, queues_without}
-use Names.{queues_without_first, reply_to, state_after_act, state_after_operation, state_after_park}
-use Names.{state_after_requeue, state_after_take_first, state_after_taking, state_after_wake}
-use Names.{state_with_sections, unlocked, word_at, FitsCondvar, IsInductive, condvar_of, rules_in}
+use Rattle.lot_laws.proofs.Imports
+use Imports.{ℕ, Bool, true, false, Option, Some, None, if◌then◌else◌, ◌==◌, ◌≡◌, ◌≢◌, ◌+◌, ◌*◌, ◌<◌, ◌||◌, List}
+use Imports.{[], ◌∷◌, ◌++◌, drop, get_or, length, map, not, set, refl, sym, ◌∙◌, ap, subst, arith}
+use Imports.{get_or-set_other, get_or-set_same, get_or-map, length-map, Keys, One, Two, Op, Requeue, Waiter}
+use Imports.{Want, Exclusive, first_of, times, waiter, without, Act, Check, Wakes, Next, Value, holds}
+use Imports.{wakes_taken, Owners, MutexPlace, NOT_PARKED, LockAt, is_locked, lock_act, mutex_next, NotifyAt}
+use Imports.{CondvarPlace, Wait, Look, Notify, WaitAt, IsLockOf, IsReached, IsListed, after_condvar_deeds}
+use Imports.{condvar_deeds, relocked_deeds, condvar_row, condvar_act, condvar_owners, is_shown, move_act}
+use Imports.{mutex_beside, notify_act, wait_act, condvar_owners_follow, Place, Condvar, CondvarSite, SeeAgain}
+use Imports.{SeeOther, MissIt, Show, queued_of, main_line_there, IsWellFormed, State, can_do, kind_at}
+use Imports.{left_in_line, owners_at, place_at, queue_at, queues_with_last, queues_without}
+use Imports.{queues_without_first, reply_to, state_after_act, state_after_operation, state_after_park}
+use Imports.{state_after_requeue, state_after_take_first, state_after_taking, state_after_wake}
+use Imports.{state_with_sections, unlocked, word_at, FitsCondvar, IsInductive, condvar_of, rules_in}
 use Rattle.core_base.specs.declared.ops.Op as op
 use Rattle.core_base.specs.declared.requeues.Requeue.TheVariants as requeue
 use Rattle.core_base.specs.declared.wants.Want.TheVariants.{Wait as WaitHere}

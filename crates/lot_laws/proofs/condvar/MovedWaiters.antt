@@ -1,13 +1,13 @@
 -- A waiter of a condition variable is taken by a notification, or moved to its mutex: where it goes, at
 -- both locks.
-use Rattle.lot_laws.proofs.Names
-use Names.{ℕ, Bool, true, false, Option, Some, None, ◌≡◌, ◌≢◌, ◌*◌, ◌≤◌, refl, sym, ◌∙◌, ap, subst, arith}
-use Names.{Exclusive, times, At, Profile, hand, taken_from, Location, location_by, Condvar, profile_at}
-use Names.{next_place, UnlockAt, CondvarPlace, Look, Notify, Wait, WaitAt, IsReached, row_beside, row_there}
-use Names.{condvar_profile, condvar_row, wait_row, AllOf, IsCondvar, moving, Taken, Rights, Main, State}
-use Names.{place_at, queue_at, section_at, lock_state, call_state, location_at, FitsCondvar, FitsItsLock}
-use Names.{IsInductive, condvar_of, key_of, rules_in, Reply, WasMoved, waiters_are_told, Place, MovedTo}
-use Names.{TakenBy}
+use Rattle.lot_laws.proofs.Imports
+use Imports.{ℕ, Bool, true, false, Option, Some, None, ◌≡◌, ◌≢◌, ◌*◌, ◌≤◌, refl, sym, ◌∙◌, ap, subst, arith}
+use Imports.{Exclusive, times, At, Profile, hand, taken_from, Location, location_by, Condvar, profile_at}
+use Imports.{next_place, UnlockAt, CondvarPlace, Look, Notify, Wait, WaitAt, IsReached, row_at_mutex, row_at_condvar}
+use Imports.{condvar_profile, condvar_row, wait_row, AllOf, IsCondvar, moving, Taken, Rights, Main, State}
+use Imports.{place_at, queue_at, section_at, lock_state, call_state, location_at, FitsCondvar, FitsItsLock}
+use Imports.{IsInductive, condvar_of, key_of, rules_in, Reply, WasMoved, waiters_are_told, Place, MovedTo}
+use Imports.{TakenBy}
 use Rattle.steps_mutex.specs.declared.places.MutexPlace.TheVariants as mutex
 use Rattle.steps_condvar.specs.declared.notify.NotifyAt.TheVariants as notify
 use Rattle.steps_condvar.specs.declared.wait.WaiterFate.TheVariants as stands
@@ -28,22 +28,22 @@ module _ (w : State) (l m : ℕ) (apart : m ≢ l) (timed : Bool) where
   waits at = Wait m timed at
 
   abbrev there_of : WaitAt → Location
-  there_of at = location_by (row_there (At (waits at)))
+  there_of at = location_by (row_at_condvar (At (waits at)))
 
   abbrev beside_of : WaitAt → Location
-  beside_of at = location_by (row_beside (At (waits at)))
+  beside_of at = location_by (row_at_mutex (At (waits at)))
 
   abbrev taken_of : WaitAt → Option Taken
-  taken_of at = taken_from (row_beside (At (waits at))).hand (row_beside (At (waits at))).wants true
+  taken_of at = taken_from (row_at_mutex (At (waits at))).hand (row_at_mutex (At (waits at))).wants true
 
   -- by its rows
   goes_across : (p p2 : WaitAt) (at_m : Location → Location) (held : Option Taken) → there_of p2
       ≡ record (there_of p) {
         stands = None;
         waits = None;
-      } → beside_of p2 ≡ at_m (beside_of p) → (row_there (At (waits p2))).role
-      ≡ (row_there (At (waits p))).role
-      → (row_beside (At (waits p2))).role ≡ (row_beside (At (waits p))).role
+      } → beside_of p2 ≡ at_m (beside_of p) → (row_at_condvar (At (waits p2))).role
+      ≡ (row_at_condvar (At (waits p))).role
+      → (row_at_mutex (At (waits p2))).role ≡ (row_at_mutex (At (waits p))).role
       → taken_of p2 ≡ held → FitsItsLock w (Condvar l (waits p2))
       → GoesAcross w l m (Condvar l (waits p)) (Condvar l (waits p2)) at_m held
   goes_across p p2 at_m held left came did_c did_m held_m fits = record {
@@ -139,7 +139,7 @@ module _ (w : State) (t l m : ℕ) (inductive : IsInductive w) (apart : m ≢ l)
 
     -- nobody else is inside the section
     not_inside : (timed : Bool) (p : WaitAt) → place_at w u ≡ Condvar l (Wait m timed p)
-        → (location_by (row_there (At (Wait m timed p)))).inside ≡ Some Main → ⊥
+        → (location_by (row_at_condvar (At (Wait m timed p)))).inside ≡ Some Main → ⊥
     not_inside timed p at within = let a : section_at w (key_of l Main) ≡ Some u =
         (inductive.stands.sections u l Main).0 (ap (λ q. (location_at q l).inside) at
         ∙ ap (λ (y : Location). y.inside) (location_there l m apart (At (Wait m timed p)) refl) ∙ within) in

@@ -1,12 +1,12 @@
 -- A notification moves waiters of a condition variable to its mutex: some it takes, and the others stand
 -- there after the last. Where the threads stand then, in sections, lines and hands.
-use Rattle.lot_laws.proofs.Names
-use Names.{ℕ, Bool, true, false, Option, Some, None, if◌then◌else◌, ◌==◌, ◌&&◌, ◌||◌, ◌≡◌, ◌≢◌, ◌+◌, ◌≤◌, ◌⊎◌}
-use Names.{List, [], ◌∷◌, ◌++◌, inl, inr, refl, sym, ◌∙◌, ap, subst, arith, cases_eq, and-true, and-false}
-use Names.{Waiter, Exclusive, times, MovedTo, TakenBy, Place, next_place, Taken, putting, Line, Main, Second}
-use Names.{State, moved_under, place_at, queue_at, section_at, taken_at, role_on, location_at, AreWaiting}
-use Names.{FitsItsLock, Hands, IsInductive, Lines, Sections, TakesOne, AllAreWaiting, carried_at, hand_at}
-use Names.{key_of, locations_of, stood_in}
+use Rattle.lot_laws.proofs.Imports
+use Imports.{ℕ, Bool, true, false, Option, Some, None, if◌then◌else◌, ◌==◌, ◌&&◌, ◌||◌, ◌≡◌, ◌≢◌, ◌+◌, ◌≤◌, ◌⊎◌}
+use Imports.{List, [], ◌∷◌, ◌++◌, inl, inr, refl, sym, ◌∙◌, ap, subst, arith, cases_eq, and-true, and-false}
+use Imports.{Waiter, Exclusive, times, MovedTo, TakenBy, Place, next_place, Taken, putting, Line, Main, Second}
+use Imports.{State, moved_under, place_at, queue_at, section_at, taken_at, role_on, location_at, AreWaiting}
+use Imports.{FitsItsLock, Hands, IsInductive, Lines, Sections, TakesOne, AllAreWaiting, carried_at, hand_at}
+use Imports.{key_of, locations_of, stood_in}
 use Rattle.lot_laws.specs.Locations.{Hand, Location, hand}
 use Rattle.lot_laws.proofs.machine.Parts.{differ, put_here, put_other, same}
 use Rattle.lot_laws.proofs.sites.StandsKept.{Alike, hands_taken, other_key, other_line, sections_same}

@@ -1,12 +1,12 @@
 -- A notification moves waiters of a condition variable to its mutex: both are sites again, and every other
 -- lock is as it was.
-use Rattle.lot_laws.proofs.Names
-use Names.{◌||◌, ℕ, Bool, true, false, Option, Some, None, if◌then◌else◌, ◌==◌, ◌≡◌, ◌≢◌, ◌+◌, ◌<◌, ◌≤◌, ◌⊎◌}
-use Names.{List, [], ◌∷◌, ◌++◌, length, map, replicate, get_or, drop, inl, inr, refl, sym, ◌∙◌, ap, subst}
-use Names.{arith, Waiter, Exclusive, times, Place, line_of, moved_of, taken_of, queued_of, Bring, Deed, Main}
-use Names.{Second, Send, Site, has_readers, bringing, code, State, kind_at, moved_under, place_at, queue_at}
-use Names.{unlocked, taken_at, acts, role_on, location_at, TakesOne, stood_in, ActsNeeded, AreWaiting}
-use Names.{FitsItsLock, GoesAll, IsInductive, after_acts, key_of, rules_in, locations_of}
+use Rattle.lot_laws.proofs.Imports
+use Imports.{◌||◌, ℕ, Bool, true, false, Option, Some, None, if◌then◌else◌, ◌==◌, ◌≡◌, ◌≢◌, ◌+◌, ◌<◌, ◌≤◌, ◌⊎◌}
+use Imports.{List, [], ◌∷◌, ◌++◌, length, map, replicate, get_or, drop, inl, inr, refl, sym, ◌∙◌, ap, subst}
+use Imports.{arith, Waiter, Exclusive, times, Place, line_of, moved_of, taken_of, queued_of, Bring, Deed, Main}
+use Imports.{Second, Send, Site, has_readers, bringing, code, State, kind_at, moved_under, place_at, queue_at}
+use Imports.{unlocked, taken_at, acts, role_on, location_at, TakesOne, stood_in, ActsNeeded, AreWaiting}
+use Imports.{FitsItsLock, GoesAll, IsInductive, after_acts, key_of, rules_in, locations_of}
 use Rattle.spec_locks.specs.declared.kinds.Kind as kind
 use Rattle.spec_locks.specs.Locks as locks
 use Rattle.lot_laws.proofs.machine.Parts.{parts_at, put_here, put_other, seen_in}

@@ -1,15 +1,15 @@
 -- The thread that is to look after the waiters of a mutex, in a call of a condition variable beside it,
 -- does so: a wait that has released it, or was woken to lock it again, and a notification that has taken
 -- one that it wakes.
-use Rattle.lot_laws.proofs.Names
-use Names.{ℕ, Bool, true, false, Option, Some, None, if◌then◌else◌, ◌==◌, ◌≡◌, ◌≢◌, ◌⊎◌, inl, inr, refl, sym}
-use Names.{◌∙◌, ap, subst, eqb-true, Exclusive, Sleep, in_line, LockAt, inside, mutex_profile, is_locked}
-use Names.{NotifyAt, CondvarPlace, Wait, Look, Notify, WaiterFate, WaitAt, IsLockOf, IsReached}
-use Names.{condvar_profile}
-use Names.{condvar_place_purpose, condvar_recalls, condvar_released, condvar_row, has_moved, has_mutex}
-use Names.{is_main_line, condvar_act, mutex_beside, Condvar, is_lock, line_owed, or_else, Rights, Sort}
-use Names.{HasMoved, Saw, Role, Has, Line, Main, Second, counts_some, idle, WaitHasReleased, WakesWaiters}
-use Names.{mutex_seen, want_of, call_state, role_on}
+use Rattle.lot_laws.proofs.Imports
+use Imports.{ℕ, Bool, true, false, Option, Some, None, if◌then◌else◌, ◌==◌, ◌≡◌, ◌≢◌, ◌⊎◌, inl, inr, refl, sym}
+use Imports.{◌∙◌, ap, subst, eqb-true, Exclusive, Sleep, in_line, LockAt, inside, mutex_profile, is_locked}
+use Imports.{NotifyAt, CondvarPlace, Wait, Look, Notify, WaiterFate, WaitAt, IsLockOf, IsReached}
+use Imports.{condvar_profile}
+use Imports.{condvar_place_purpose, condvar_recalls, condvar_released, condvar_row, has_moved, has_mutex}
+use Imports.{is_main_line, condvar_act, mutex_beside, Condvar, is_lock, line_owed, or_else, Rights, Sort}
+use Imports.{HasMoved, Saw, Role, Has, Line, Main, Second, counts_some, idle, WaitHasReleased, WakesWaiters}
+use Imports.{mutex_seen, want_of, call_state, role_on}
 use Rattle.steps_mutex.specs.declared.places.MutexPlace.TheVariants as mutex
 use Rattle.steps_mutex.specs.declared.lock.Entry.TheVariants as entry
 use Rattle.steps_mutex.specs.declared.lock.LockAt.TheVariants as lock

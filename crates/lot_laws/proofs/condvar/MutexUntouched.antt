@@ -1,18 +1,18 @@
 -- A thread acts at its condition variable, where at the mutex beside it all is as it was: every lock is a
 -- site again.
-use Rattle.lot_laws.proofs.Names
-use Names.{ℕ, Bool, true, false, Option, Some, None, if◌then◌else◌, ◌||◌, ◌≡◌, ◌≢◌, ◌+◌, ◌*◌, ◌≤◌, ◌<◌, List}
-use Names.{[], ◌∷◌, length, map, refl, sym, ◌∙◌, ap, subst, arith, inl, inr, cases_eq, or-false, One, Op}
-use Names.{first_of, times, without, apply, Reply, Value, Owners, Location, inside_of, Place, Condvar}
-use Names.{condvar_goes, CondvarPlace, condvar_act, condvar_next, condvar_owners, mutex_beside, Follows}
-use Names.{condvar_deeds, word_showing, there, there_then, shown_code, word_by, parked_in, aside_in, count_in}
-use Names.{CondvarDeed, CondvarSite, OfCondvar, Rules, Park, putting, standing, keep_from, IsBlocked}
-use Names.{IsFreeAt, one_if_some, Knows, Case, Deed, Role, In, LeaveLine, Line, Main, Out, Second, Send, Site}
-use Names.{IsSite, has_readers, idle, wakened, leaves, StandsIn, State, owners_at, place_at, put, queue_at}
-use Names.{section_at, shares_at, state_after_operation, state_with_sections, queues_with_last}
-use Names.{queues_without, word_at, filled_at, taken_at, lock_seen, acts, role_on, location_at, ActsNeeded}
-use Names.{FitsItsLock, Goes, IsInductive, after_acts, condvar_of, key_of, rules_in, hand_at, carried_at}
-use Names.{stood_in, queued_of, condvar_owners_follow, condvar_steps_code, nat_le}
+use Rattle.lot_laws.proofs.Imports
+use Imports.{ℕ, Bool, true, false, Option, Some, None, if◌then◌else◌, ◌||◌, ◌≡◌, ◌≢◌, ◌+◌, ◌*◌, ◌≤◌, ◌<◌, List}
+use Imports.{[], ◌∷◌, length, map, refl, sym, ◌∙◌, ap, subst, arith, inl, inr, cases_eq, or-false, One, Op}
+use Imports.{first_of, times, without, apply, Reply, Value, Owners, Location, inside_of, Place, Condvar}
+use Imports.{condvar_goes, CondvarPlace, condvar_act, condvar_next, condvar_owners, mutex_beside, Follows}
+use Imports.{condvar_deeds, word_showing, there, there_then, shown_code, word_by, parked_in, aside_in, count_in}
+use Imports.{CondvarDeed, CondvarSite, OfCondvar, Rules, Park, putting, standing, keep_from, IsBlocked}
+use Imports.{IsFreeAt, one_if_some, Knows, Case, Deed, Role, In, LeaveLine, Line, Main, Out, Second, Send, Site}
+use Imports.{IsSite, has_readers, idle, wakened, leaves, StandsIn, State, owners_at, place_at, put, queue_at}
+use Imports.{section_at, shares_at, state_after_operation, state_with_sections, queues_with_last}
+use Imports.{queues_without, word_at, filled_at, taken_at, lock_seen, acts, role_on, location_at, ActsNeeded}
+use Imports.{FitsItsLock, Goes, IsInductive, after_acts, condvar_of, key_of, rules_in, hand_at, carried_at}
+use Imports.{stood_in, queued_of, condvar_owners_follow, condvar_steps_code, nat_le}
 use Rattle.core_base.specs.declared.wants.Want.TheVariants.{Wait as WaitHere}
 use Rattle.steps_base.specs.declared.acts.Act.TheVariants as act
 use Rattle.steps_base.specs.declared.acts.Next.TheVariants as next

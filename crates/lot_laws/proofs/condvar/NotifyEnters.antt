@@ -1,14 +1,14 @@
 -- A notification goes into both its sections, or out of them where it has nobody in hand: both locks are
 -- sites again.
-use Rattle.lot_laws.proofs.Names
-use Names.{ℕ, Bool, true, false, Option, Some, None, if◌then◌else◌, ◌==◌, ◌≡◌, ◌≢◌, ◌*◌, ◌<◌, [], ◌∷◌, length}
-use Names.{set, refl, sym, ◌∙◌, ap, subst, is_none, inl, inr, length-set, get_or-set_same, get_or-set_other}
-use Names.{cases_eq, Two, Next, At, Done, Location, location_by, Place, Condvar, Idle, condvar_goes, NotifyAt}
-use Names.{CondvarPlace, Notify, row_beside, FollowsBeside, notified, notify_act, notifiers_follow, IsCondvar}
-use Names.{WaitsAside, keep_from, putting, End, In, Main, Out, Site, has_readers, State, can_do, place_at}
-use Names.{put, queue_at, section_at, state_with_sections, acts, taken_at, role_on, location_at, FitsItsLock}
-use Names.{GoesAll, IsInductive, condvar_of, key_of, rules_in, site_of, locations_of, carried_at, hand_at}
-use Names.{has_moved, notify_row, inside, hand}
+use Rattle.lot_laws.proofs.Imports
+use Imports.{ℕ, Bool, true, false, Option, Some, None, if◌then◌else◌, ◌==◌, ◌≡◌, ◌≢◌, ◌*◌, ◌<◌, [], ◌∷◌, length}
+use Imports.{set, refl, sym, ◌∙◌, ap, subst, is_none, inl, inr, length-set, get_or-set_same, get_or-set_other}
+use Imports.{cases_eq, Two, Next, At, Done, Location, location_by, Place, Condvar, Idle, condvar_goes, NotifyAt}
+use Imports.{CondvarPlace, Notify, row_at_mutex, FollowsAtMutex, notified, notify_act, notifiers_follow, IsCondvar}
+use Imports.{WaitsAside, keep_from, putting, End, In, Main, Out, Site, has_readers, State, can_do, place_at}
+use Imports.{put, queue_at, section_at, state_with_sections, acts, taken_at, role_on, location_at, FitsItsLock}
+use Imports.{GoesAll, IsInductive, condvar_of, key_of, rules_in, site_of, locations_of, carried_at, hand_at}
+use Imports.{has_moved, notify_row, inside, hand}
 use Rattle.steps_base.specs.declared.acts.Next.TheVariants.{End as Over}
 use Rattle.steps_condvar.specs.declared.notify.NotifyAt.TheVariants as notify
 use Rattle.spec_locks.specs.Locks as locks
@@ -75,13 +75,13 @@ module _ (w : State) (t l m : ℕ) (all : Bool) (inductive : IsInductive w) (is_
       | inr nu ↦ ap (λ q. location_at q k) (put_other (place_at w) t p2 u nu)
     ]
 
-    location_m : location_at (place_at w t) m ≡ location_by (row_beside (At (notifies at)))
+    location_m : location_at (place_at w t) m ≡ location_by (row_at_mutex (At (notifies at)))
     location_m = ap (λ q. location_at q m) is ∙ location_beside l m apart (At (notifies at)) refl
 
     taken_m : taken_at (place_at w t) m ≡ taken_at (Condvar l (notifies at)) m
     taken_m = ap (λ q. taken_at q m) is
 
-    then_m : location_at p2 m ≡ location_by (row_beside n)
+    then_m : location_at p2 m ≡ location_by (row_at_mutex n)
     then_m = location_beside l m apart n beside
 
   -- ---------------------------------------------------------------- into both
@@ -99,7 +99,7 @@ module _ (w : State) (t l m : ℕ) (all : Bool) (inductive : IsInductive w) (is_
     free_m = none_so (section_at w (2 * m)) (both (is_none (section_at w (2 * l)))
         (is_none (section_at w (2 * m))) can).1
 
-    in_follows : FollowsBeside (rules_in w m) (site_of w m) (condvar_of w l) t m all notify.Enter Done
+    in_follows : FollowsAtMutex (rules_in w m) (site_of w m) (condvar_of w l) t m all notify.Enter Done
     in_follows = notifiers_follow (rules_in w m) (site_of w m) (condvar_of w l) t m all notify.Enter Done
         sort_m (hears.role_beside w t l (notifies notify.Enter) inductive is m refl)
         (notifier_hears w t l m all notify.Enter inductive kept aside is can)
@@ -169,7 +169,7 @@ module _ (w : State) (t l m : ℕ) (all : Bool) (inductive : IsInductive w) (is_
     abbrev over : Next CondvarPlace
     over = Over (notified all number)
 
-    out_follows : FollowsBeside (rules_in w m) (site_of w m) (condvar_of w l) t m all leaves_at Done
+    out_follows : FollowsAtMutex (rules_in w m) (site_of w m) (condvar_of w l) t m all leaves_at Done
     out_follows = notifiers_follow (rules_in w m) (site_of w m) (condvar_of w l) t m all leaves_at Done sort_m
         (hears.role_beside w t l (notifies leaves_at) inductive is m refl)
         (notifier_hears w t l m all leaves_at

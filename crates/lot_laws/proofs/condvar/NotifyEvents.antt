@@ -1,19 +1,19 @@
 -- A step of a notification is one event of its condition variable or of the mutex that it saw, or a move of
 -- waiters from the one to the other; and its call goes on by it.
-use Rattle.lot_laws.proofs.Names
-use Names.{ℕ, Bool, true, false, Option, Some, None, if◌then◌else◌, ◌==◌, ◌≡◌, ◌≢◌, ◌⊎◌, ◌*◌, ◌≤◌, List, []}
-use Names.{◌∷◌, length, inl, inr, refl, sym, ◌∙◌, ap, subst, arith, cases_eq, eqb-true, nat_tests, outcome_of}
-use Names.{rights_where, Location, blank_row, in_hand, Next, Reply, is_locked, NotifyAt, CondvarPlace, Wait}
-use Names.{Look, Notify, CallOfTwoFollows, IsReached, MayComeOfTwo, marked_event, notify_event, IsListed}
-use Names.{condvar_deeds, notify_deeds, beside_deeds, condvar_profile, condvar_row, mutex_side}
-use Names.{notify_carries, notify_recalls, condvar_next, in_notify, is_shown, move_act, next_notify}
-use Names.{notify_act, notifies_tell, Place, Condvar, condvar_does, condvar_goes, is_lock, profile_at}
-use Names.{IsCondvar, MissIt, MoveFits, SeeAgain, WaitsAside, moved_of, Waits, moved_fewer, KeepLock}
-use Names.{after_all, event_by, HasTakenNobody, LockCase, LockState, OfCondvar, SeeOwner, Wake, rights_of}
-use Names.{MayHappen, is_among, AtLock, Event, GoesOn, MayMove, Moves, Nothing, is_taken_by, Case, Deed, End}
-use Names.{In, Main, MarkBrought, MarkOwned, Out, kept, State, can_do, kind_at, place_at, queue_at, reply_to}
-use Names.{word_at, IsMutexWord, acts, call_at, call_state, lock_state, locks_of, taken_at, FollowAll}
-use Names.{IsInductive, condvar_of, rules_in, site_of}
+use Rattle.lot_laws.proofs.Imports
+use Imports.{ℕ, Bool, true, false, Option, Some, None, if◌then◌else◌, ◌==◌, ◌≡◌, ◌≢◌, ◌⊎◌, ◌*◌, ◌≤◌, List, []}
+use Imports.{◌∷◌, length, inl, inr, refl, sym, ◌∙◌, ap, subst, arith, cases_eq, eqb-true, nat_tests, outcome_of}
+use Imports.{rights_where, Location, blank_row, in_hand, Next, Reply, is_locked, NotifyAt, CondvarPlace, Wait}
+use Imports.{Look, Notify, CallOfTwoFollows, IsReached, MayComeOfTwo, marked_event, notify_event, IsListed}
+use Imports.{condvar_deeds, notify_deeds, beside_deeds, condvar_profile, condvar_row, mutex_side}
+use Imports.{notify_carries, notify_recalls, condvar_next, in_notify, is_shown, move_act, next_notify}
+use Imports.{notify_act, notifies_tell, Place, Condvar, condvar_does, condvar_goes, is_lock, profile_at}
+use Imports.{IsCondvar, MissIt, MoveFits, SeeAgain, WaitsAside, moved_of, Waits, moved_fewer, KeepLock}
+use Imports.{after_all, event_by, HasTakenNobody, LockCase, LockState, OfCondvar, SeeOwner, Wake, rights_of}
+use Imports.{MayHappen, is_among, AtLock, Event, GoesOn, MayMove, Moves, Nothing, is_taken_by, Case, Deed, End}
+use Imports.{In, Main, MarkBrought, MarkOwned, Out, kept, State, can_do, kind_at, place_at, queue_at, reply_to}
+use Imports.{word_at, IsMutexWord, acts, call_at, call_state, lock_state, locks_of, taken_at, FollowAll}
+use Imports.{IsInductive, condvar_of, rules_in, site_of}
 use Rattle.std.specs.Prelude.{is_some}
 use Rattle.spec_locks.specs.declared.outcomes.Outcome as outcome
 use Rattle.steps_base.specs.declared.acts.Next.TheVariants as next
@@ -32,7 +32,7 @@ use Rattle.lot_laws.proofs.condvar.Replies.{may_hear, notifier_hears, rules_besi
 use Rattle.lot_laws.proofs.condvar.MutexUntouched.{there_deeds}
 use Rattle.lot_laws.proofs.machine.Parts.{plain_rules, same}
 use Rattle.lot_laws.proofs.condvar.CondvarPromises.{unlisted}
-use Rattle.lot_laws.proofs.condvar.WaitersAside.{WaitsThere, waits_there}
+use Rattle.lot_laws.proofs.condvar.WaitersAside.{WaitsAtCondvar, waits_there}
 use Rattle.lot_laws.proofs.condvar.WaitEvents.{there_rights, unheard}
 
 names_notify : (all : Bool) (m : ℕ) (n : Next NotifyAt) → NamesStill m (in_notify all m n)
@@ -268,7 +268,7 @@ module _ (w : State) (t l m : ℕ) (all : Bool) (p : NotifyAt) (inductive : IsIn
             → (condvar_of w l).waits_with u ≡ Some m
         names u among = fit.of u (among_times u among)
 
-        by_waiter : (u : ℕ) → WaitsThere w u l → (condvar_of w l).waits_with u ≡ Some m
+        by_waiter : (u : ℕ) → WaitsAtCondvar w u l → (condvar_of w l).waits_with u ≡ Some m
             → locks.standing u (lock_state w m) ≡ 0
             → ((timed : Bool) × ((call_at w u).purpose ≡ Some (Waits l m timed)))
             × (locks.standing u (lock_state w m) ≡ 0)

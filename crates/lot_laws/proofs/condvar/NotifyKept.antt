@@ -1,10 +1,10 @@
 -- A notification goes on: by each of its acts both its locks are sites again, as the deeds of its place say.
-use Rattle.lot_laws.proofs.Names
-use Names.{ℕ, Bool, true, false, ◌≡◌, ◌≢◌, ◌<◌, List, [], ◌∷◌, length, refl, sym, subst, Reply, Place}
-use Names.{Condvar, condvar_goes, next_place, NotifyAt, CondvarPlace, Notify, IsReached, notify_deeds}
-use Names.{beside_deeds, brings, condvar_next, move_act, notify_act, IsCondvar, WaitsAside, Deed, Main, Send}
-use Names.{State, can_do, place_at, put, reply_to, state_after_act, acts, FitsItsLock, Goes, GoesAll}
-use Names.{IsInductive, condvar_of, key_of, rules_in, site_of}
+use Rattle.lot_laws.proofs.Imports
+use Imports.{ℕ, Bool, true, false, ◌≡◌, ◌≢◌, ◌<◌, List, [], ◌∷◌, length, refl, sym, subst, Reply, Place}
+use Imports.{Condvar, condvar_goes, next_place, NotifyAt, CondvarPlace, Notify, IsReached, notify_deeds}
+use Imports.{beside_deeds, brings, condvar_next, move_act, notify_act, IsCondvar, WaitsAside, Deed, Main, Send}
+use Imports.{State, can_do, place_at, put, reply_to, state_after_act, acts, FitsItsLock, Goes, GoesAll}
+use Imports.{IsInductive, condvar_of, key_of, rules_in, site_of}
 use Rattle.steps_condvar.specs.declared.notify.NotifyAt.TheVariants as notify
 use Rattle.spec_locks.specs.Locks as locks
 use Rattle.lot_laws.specs.ThreadDeeds as deeds
@@ -51,25 +51,25 @@ module _ (w : State) (t l m : ℕ) (all : Bool) (inductive : IsInductive w) (is_
   abbrev next : NotifyAt → Place
   next at = condvar_goes l (condvar_next (notifies at) (told at))
 
-  abbrev deeds_there : NotifyAt → List deeds.Act
-  deeds_there at = acts t (there_deeds (notify_deeds all m at (told at)))
+  abbrev deeds_at_condvar : NotifyAt → List deeds.Act
+  deeds_at_condvar at = acts t (there_deeds (notify_deeds all m at (told at)))
 
-  abbrev deeds_beside : NotifyAt → List deeds.Act
-  deeds_beside at = acts t (beside_deeds all (condvar_of w l).waiters at (told at))
+  abbrev deeds_at_mutex : NotifyAt → List deeds.Act
+  deeds_at_mutex at = acts t (beside_deeds all (condvar_of w l).waiters at (told at))
 
   abbrev GoesOn : NotifyAt → Type 0
   GoesOn at = FitsItsLock w (next at) → GoesAll w (put (after at) t (next at))
-      (two_at l m (deeds_there at) (deeds_beside at))
+      (two_at l m (deeds_at_condvar at) (deeds_at_mutex at))
 
-  there : (at : NotifyAt) → deeds_beside at ≡ []
-      → (FitsItsLock w (next at) → Goes w (put (after at) t (next at)) l (deeds_there at)) → GoesOn at
-  there at none g fits = of_one w (put (after at) t (next at)) l m apart inductive (deeds_there at)
-      (deeds_beside at) none (g fits)
+  there : (at : NotifyAt) → deeds_at_mutex at ≡ []
+      → (FitsItsLock w (next at) → Goes w (put (after at) t (next at)) l (deeds_at_condvar at)) → GoesOn at
+  there at none g fits = of_one w (put (after at) t (next at)) l m apart inductive (deeds_at_condvar at)
+      (deeds_at_mutex at) none (g fits)
 
-  beside : (at : NotifyAt) → deeds_there at ≡ []
-      → (FitsItsLock w (next at) → Goes w (put (after at) t (next at)) m (deeds_beside at)) → GoesOn at
-  beside at none g fits = of_other w (put (after at) t (next at)) l m apart inductive (deeds_there at)
-      (deeds_beside at) none (g fits)
+  beside : (at : NotifyAt) → deeds_at_condvar at ≡ []
+      → (FitsItsLock w (next at) → Goes w (put (after at) t (next at)) m (deeds_at_mutex at)) → GoesOn at
+  beside at none g fits = of_other w (put (after at) t (next at)) l m apart inductive (deeds_at_condvar at)
+      (deeds_at_mutex at) none (g fits)
 
   goes_on : (at : NotifyAt) → place_at w t ≡ Condvar l (notifies at) → can_do w (notify_act all l m at) ≡ true
       → GoesOn at
@@ -103,7 +103,7 @@ module _ (w : State) (t l m : ℕ) (all : Bool) (inductive : IsInductive w) (is_
   pub notifies_go : (at : NotifyAt) → IsReached (notifies at) → place_at w t ≡ Condvar l (notifies at)
       → can_do w (notify_act all l m at) ≡ true → FitsItsLock w (next_place (place_at (after at) t) (told at))
       → GoesAll w (put (after at) t (next_place (place_at (after at) t) (told at)))
-      (two_at l m (deeds_there at) (deeds_beside at))
+      (two_at l m (deeds_at_condvar at) (deeds_at_mutex at))
   notifies_go at reached is can = subst (λ p. FitsItsLock w (next_place p (told at))
-      → GoesAll w (put (after at) t (next_place p (told at))) (two_at l m (deeds_there at) (deeds_beside at)))
+      → GoesAll w (put (after at) t (next_place p (told at))) (two_at l m (deeds_at_condvar at) (deeds_at_mutex at)))
       (sym (notifier_still w t l m all at is reached is_there)) (goes_on at is can)

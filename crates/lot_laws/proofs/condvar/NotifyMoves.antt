@@ -1,19 +1,19 @@
 -- A notification moves waiters of its condition variable to the mutex, or takes the first of them: both locks
 -- are sites again.
-use Rattle.lot_laws.proofs.Names
-use Names.{ℕ, Bool, true, false, Some, None, if◌then◌else◌, ◌==◌, ◌≡◌, ◌≢◌, ◌+◌, ◌*◌, ◌≤◌, ◌<◌, List, [], ◌∷◌}
-use Names.{◌++◌, length, map, drop, take, get_or, set, not, refl, sym, ◌∙◌, ap, subst, arith, inl, inr}
-use Names.{length-set, get_or-set_same, get_or-set_other, nat_tests, Requeue, Waiter, Exclusive, first_of}
-use Names.{threads_of, times, moved_by, taken_by, Next, At, Reply, MovedTo, TakenBy, Took, inside_of, in_hand}
-use Names.{taken_from, Location, Place, Condvar, Idle, condvar_goes, next_place, NotifyAt, CondvarPlace}
-use Names.{Notify, MovesWaiters, row_beside, there, FollowsBeside, MayHearBeside, beside_deeds, role_next}
-use Names.{condvar_next, in_notify, move_act, next_notify, notifiers_follow, IsCondvar, WaitsAside}
-use Names.{wanting_mutex, line_of, moved_of, taken_of, putting, Rights, queued_of, Bring, Deed, Role}
-use Names.{bringing, Main, Send, has_readers, idle, State, left_in_line, listed, moved_threads, moved_under}
-use Names.{place_at, places_told, put, queue_at, state_after_requeue, queues_without_first}
-use Names.{state_after_taking, reply_to, state_after_act, acts, taken_at, call_state, role_on, location_at}
-use Names.{ActsNeeded, AreWaiting, FitsItsLock, GoesAll, IsInductive, condvar_of, key_of, rules_in, site_of}
-use Names.{locations_of, stood_in, told_count, notifies_move, nat_le, WasMoved, if_moved}
+use Rattle.lot_laws.proofs.Imports
+use Imports.{ℕ, Bool, true, false, Some, None, if◌then◌else◌, ◌==◌, ◌≡◌, ◌≢◌, ◌+◌, ◌*◌, ◌≤◌, ◌<◌, List, [], ◌∷◌}
+use Imports.{◌++◌, length, map, drop, take, get_or, set, not, refl, sym, ◌∙◌, ap, subst, arith, inl, inr}
+use Imports.{length-set, get_or-set_same, get_or-set_other, nat_tests, Requeue, Waiter, Exclusive, first_of}
+use Imports.{threads_of, times, moved_by, taken_by, Next, At, Reply, MovedTo, TakenBy, Took, inside_of, in_hand}
+use Imports.{taken_from, Location, Place, Condvar, Idle, condvar_goes, next_place, NotifyAt, CondvarPlace}
+use Imports.{Notify, MovesWaiters, row_at_mutex, there, FollowsAtMutex, MayGetReplyAtMutex, beside_deeds, role_next}
+use Imports.{condvar_next, in_notify, move_act, next_notify, notifiers_follow, IsCondvar, WaitsAside}
+use Imports.{wanting_mutex, line_of, moved_of, taken_of, putting, Rights, queued_of, Bring, Deed, Role}
+use Imports.{bringing, Main, Send, has_readers, idle, State, left_in_line, listed, moved_threads, moved_under}
+use Imports.{place_at, places_told, put, queue_at, state_after_requeue, queues_without_first}
+use Imports.{state_after_taking, reply_to, state_after_act, acts, taken_at, call_state, role_on, location_at}
+use Imports.{ActsNeeded, AreWaiting, FitsItsLock, GoesAll, IsInductive, condvar_of, key_of, rules_in, site_of}
+use Imports.{locations_of, stood_in, told_count, notifies_move, nat_le, WasMoved, if_moved}
 use Rattle.core_base.specs.declared.requeues.Requeue.TheVariants as requeue
 use Rattle.steps_base.specs.declared.acts.Next.TheVariants.{End as Over}
 use Rattle.steps_condvar.specs.declared.notify.NotifyAt.TheVariants as notify
@@ -138,7 +138,7 @@ module _ (w : State) (t l m : ℕ) (all locked : Bool) (inductive : IsInductive 
 
   module _ (told : Reply) (x : MovesWaiters (map queued_of line) this all locked told)
       (beside : Beside m (condvar_next this told))
-      (hears_it : MayHearBeside (rules_in w m) (site_of w m) (condvar_of w l) t m all (notify.Move locked)
+      (hears_it : MayGetReplyAtMutex (rules_in w m) (site_of w m) (condvar_of w l) t m all (notify.Move locked)
       told)
       (fits : FitsItsLock w (condvar_goes l (condvar_next this told))) where
     abbrev p2 : Place
@@ -174,7 +174,7 @@ module _ (w : State) (t l m : ℕ) (all locked : Bool) (inductive : IsInductive 
     -- A waiter that is moved is in nobody's hand.
     same_m : taken_at p2 m ≡ taken_at (place_at w t) m
     same_m = taken_beside l m apart (condvar_next this told) beside
-        ∙ ap (λ h. taken_from h (row_beside (condvar_next this told)).wants true)
+        ∙ ap (λ h. taken_from h (row_at_mutex (condvar_next this told)).wants true)
         (ap (λ (y : Location). y.hand) x.carries) ∙ sym (ap (λ q. taken_at q m) is
         ∙ taken_beside l m apart (At this) refl)
 
@@ -189,7 +189,7 @@ module _ (w : State) (t l m : ℕ) (all locked : Bool) (inductive : IsInductive 
       tt,
     )
 
-    follows : FollowsBeside (rules_in w m) (site_of w m) (condvar_of w l) t m all (notify.Move locked) told
+    follows : FollowsAtMutex (rules_in w m) (site_of w m) (condvar_of w l) t m all (notify.Move locked) told
     follows = notifiers_follow (rules_in w m) (site_of w m) (condvar_of w l) t m all (notify.Move locked) told
         sort_m (hears.role_beside w t l this inductive is m refl) hears_it
 
@@ -197,7 +197,7 @@ module _ (w : State) (t l m : ℕ) (all locked : Bool) (inductive : IsInductive 
         (acts t (Bring (taken_of locked (moved_of all (map queued_of line)))
         (line_of locked (moved_of all (map queued_of line))) ∷ []))
         (site_of w m)
-    needed_m = subst (λ ds. ActsNeeded (rules_in w m) (acts t ds) (site_of w m)) x.deeds_beside
+    needed_m = subst (λ ds. ActsNeeded (rules_in w m) (acts t ds) (site_of w m)) x.deeds_at_mutex
         (needed_same (rules_in w m) (beside_deeds all (map queued_of line) (notify.Move locked) told)
         (site_of w m) t follows.needed)
 
@@ -208,10 +208,10 @@ module _ (w : State) (t l m : ℕ) (all locked : Bool) (inductive : IsInductive 
         (role_on (place_at w t) m)
     does_m = role_beside l m apart (condvar_next this told) beside
         ∙ by_next (next_notify all m (notify.Move locked) told) ∙ sym follows.role
-        ∙ ap (λ ds. (laws.after_all (rules_in w m) ds (site_of w m) t).role t) x.deeds_beside
+        ∙ ap (λ ds. (laws.after_all (rules_in w m) ds (site_of w m) t).role t) x.deeds_at_mutex
         ∙ put_here (λ u. role_on (place_at w u) m) t _
       where
-        by_next : (n : Next NotifyAt) → (row_beside (in_notify all m n)).role ≡ role_next all m n
+        by_next : (n : Next NotifyAt) → (row_at_mutex (in_notify all m n)).role ≡ role_next all m n
         by_next (At at) = refl
         by_next (Over answer) = refl
 
@@ -545,7 +545,7 @@ module _ (w : State) (t l m : ℕ) (inductive : IsInductive w) (is_there : t < l
       (line_of locked (moved_of all (map queued_of waiting))) ∷ []
 
   heard_so : place_at w t ≡ Condvar l (moves_at false false)
-      → MayHearBeside (rules_in w m) (site_of w m) (condvar_of w l) t m false (notify.Move false)
+      → MayGetReplyAtMutex (rules_in w m) (site_of w m) (condvar_of w l) t m false (notify.Move false)
       (told_of false false)
   heard_so is = notifier_hears w t l m false (notify.Move false) inductive kept aside is refl
 
@@ -582,7 +582,7 @@ module _ (w : State) (t l m : ℕ) (inductive : IsInductive w) (is_there : t < l
       heard fits requeue.TakeOneMoveRest line_l line_m (λ e. absurd cc) (λ e. some_first waiting heard.1.some)
       refl (taken_lined (key_of m Main) waiting) (rest_lined (key_of m Main) waiting)
     where
-      heard : MayHearBeside (rules_in w m) (site_of w m) (condvar_of w l) t m true (notify.Move false)
+      heard : MayGetReplyAtMutex (rules_in w m) (site_of w m) (condvar_of w l) t m true (notify.Move false)
           (told_of true false)
       heard = notifier_hears w t l m true (notify.Move false) inductive kept aside is refl
   moves false true is fits = requeues w t l m false true inductive is_there apart sort_l sort_m kept is
@@ -628,7 +628,7 @@ module _ (w : State) (t l m : ℕ) (inductive : IsInductive w) (is_there : t < l
       (λ u. let a = queued_times u waiting in let b = all_counted requeue.TakeOneMoveRest waiting u
       in omega arith)
     where
-      heard : MayHearBeside (rules_in w m) (site_of w m) (condvar_of w l) t m true (notify.Move false)
+      heard : MayGetReplyAtMutex (rules_in w m) (site_of w m) (condvar_of w l) t m true (notify.Move false)
           (told_of true false)
       heard = notifier_hears w t l m true (notify.Move false) inductive kept aside is refl
   moves_calls false true is fits = requeued_calls w t l m false true inductive is_there apart sort_l sort_m

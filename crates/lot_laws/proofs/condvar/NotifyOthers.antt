@@ -1,12 +1,12 @@
 -- By each act of a notification the calls of the other threads become what its event makes of them: each
 -- thread that is moved or taken knows it, and each thread that is woken tries the mutex again.
-use Rattle.lot_laws.proofs.Names
-use Names.{ℕ, Bool, true, false, None, if◌then◌else◌, ◌==◌, ◌≡◌, ◌≢◌, ◌*◌, ◌<◌, length, refl, sym, ◌∙◌, ap}
-use Names.{subst, inl, inr, cases_eq, Two, At, Location, Place, Condvar, condvar_goes, is_locked, NotifyAt}
-use Names.{CondvarPlace, Notify, notify_event, condvar_next, move_act, notify_act, IsCondvar, WaitsAside}
-use Names.{moved_of, Rights, rights_of, LockState, putting, AtLock, Event, Moves, Nothing, if_moved, Main}
-use Names.{State, place_at, put, reply_to, state_after_act, state_with_sections, word_at, call_state}
-use Names.{lock_state, FitsItsLock, IsInductive, carried_at, condvar_of, key_of, rules_in, site_of}
+use Rattle.lot_laws.proofs.Imports
+use Imports.{ℕ, Bool, true, false, None, if◌then◌else◌, ◌==◌, ◌≡◌, ◌≢◌, ◌*◌, ◌<◌, length, refl, sym, ◌∙◌, ap}
+use Imports.{subst, inl, inr, cases_eq, Two, At, Location, Place, Condvar, condvar_goes, is_locked, NotifyAt}
+use Imports.{CondvarPlace, Notify, notify_event, condvar_next, move_act, notify_act, IsCondvar, WaitsAside}
+use Imports.{moved_of, Rights, rights_of, LockState, putting, AtLock, Event, Moves, Nothing, if_moved, Main}
+use Imports.{State, place_at, put, reply_to, state_after_act, state_with_sections, word_at, call_state}
+use Imports.{lock_state, FitsItsLock, IsInductive, carried_at, condvar_of, key_of, rules_in, site_of}
 use Rattle.steps_condvar.specs.declared.notify.NotifyAt.TheVariants as notify
 use Rattle.spec_locks.specs.Locks as locks
 use Rattle.lot_laws.proofs.calls.CallEvents.{IsEvent, OthersFollow, rights}

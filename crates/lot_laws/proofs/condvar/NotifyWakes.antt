@@ -1,14 +1,14 @@
 -- A notification goes out of both its sections and wakes the threads that it took: both locks are sites
 -- again.
-use Rattle.lot_laws.proofs.Names
-use Names.{ℕ, Bool, true, false, Option, Some, None, if◌then◌else◌, ◌==◌, ◌≡◌, ◌≢◌, ◌<◌, [], ◌∷◌, length, map}
-use Names.{get_or, replicate, refl, sym, ◌∙◌, ap, subst, inl, inr, length-set, cases_eq, length-map, Normal}
-use Names.{At, Done, Woken, is_thread, hand, Hand, Location, location_by, Place, Condvar, Idle, taker}
-use Names.{NotifyAt, CondvarPlace, Notify, FollowsBeside, condvar_profile, mutex_side, notifiers_follow, code}
-use Names.{IsCondvar, WaitsAside, keep_from, End, Main, Out, Site, has_readers, State, place_after_telling}
-use Names.{place_at, put, queue_at, section_at, state_after_telling, acts, taken_at, role_on, location_at}
-use Names.{GoesAll, IsInductive, Sections, carried_at, condvar_of, hand_at, key_of, rules_in, site_of}
-use Names.{locations_of, notified}
+use Rattle.lot_laws.proofs.Imports
+use Imports.{ℕ, Bool, true, false, Option, Some, None, if◌then◌else◌, ◌==◌, ◌≡◌, ◌≢◌, ◌<◌, [], ◌∷◌, length, map}
+use Imports.{get_or, replicate, refl, sym, ◌∙◌, ap, subst, inl, inr, length-set, cases_eq, length-map, Normal}
+use Imports.{At, Done, Woken, is_thread, hand, Hand, Location, location_by, Place, Condvar, Idle, taker}
+use Imports.{NotifyAt, CondvarPlace, Notify, FollowsAtMutex, condvar_profile, mutex_side, notifiers_follow, code}
+use Imports.{IsCondvar, WaitsAside, keep_from, End, Main, Out, Site, has_readers, State, place_after_telling}
+use Imports.{place_at, put, queue_at, section_at, state_after_telling, acts, taken_at, role_on, location_at}
+use Imports.{GoesAll, IsInductive, Sections, carried_at, condvar_of, hand_at, key_of, rules_in, site_of}
+use Imports.{locations_of, notified}
 use Rattle.steps_base.specs.declared.acts.Next.TheVariants.{End as Over}
 use Rattle.steps_base.specs.Locations.{nowhere}
 use Rattle.steps_condvar.specs.declared.notify.NotifyAt.TheVariants as notify
@@ -148,7 +148,7 @@ module _ (w : State) (t l m : ℕ) (all : Bool) (inductive : IsInductive w) (is_
       })
       (λ h. stays t l (place_at w u) (untaken (place_at w u) t l (nobody_there u))))
 
-  follows_m : FollowsBeside (rules_in w m) (site_of w m) (condvar_of w l) t m all leaving Done
+  follows_m : FollowsAtMutex (rules_in w m) (site_of w m) (condvar_of w l) t m all leaving Done
   follows_m = notifiers_follow (rules_in w m) (site_of w m) (condvar_of w l) t m all leaving Done sort_m
       (hears.role_beside w t l this inductive is m refl) (notifier_hears w t l m all leaving inductive kept
       aside is

@@ -1,15 +1,15 @@
 -- Each step of a notification on a word, of its condition variable or of the mutex beside it: every lock is a
 -- site again.
-use Rattle.lot_laws.proofs.Names
-use Names.{ℕ, Bool, true, false, None, if◌then◌else◌, ◌==◌, ◌≡◌, ◌≢◌, ◌<◌, List, [], ◌∷◌, length, not, refl}
-use Names.{sym, ◌∙◌, ap, subst, inl, inr, cases_eq, Op, apply, Act, Next, At, Value, with_exclusive}
-use Names.{inside_of, taken_from, location_by, Place, Condvar, condvar_goes, is_locked, NotifyAt}
-use Names.{CondvarPlace, Notify, MayReply, condvar_deeds, row_beside, row_there, there, FollowsBeside}
-use Names.{MayHearBeside, beside_deeds, role_next, condvar_next, condvar_owners, in_notify, is_shown, marks}
-use Names.{next_notify, notify_act, condvar_steps_follow, notifiers_code, notifiers_follow, code, IsCondvar}
-use Names.{WaitsAside, Rules, Deed, Main, MarkOwned, Site, State, can_do, owners_at, place_at, put, reply_to}
-use Names.{state_after_act, word_at, acts, taken_at, location_at, FitsItsLock, Goes, IsInductive, condvar_of}
-use Names.{rules_in, site_of}
+use Rattle.lot_laws.proofs.Imports
+use Imports.{ℕ, Bool, true, false, None, if◌then◌else◌, ◌==◌, ◌≡◌, ◌≢◌, ◌<◌, List, [], ◌∷◌, length, not, refl}
+use Imports.{sym, ◌∙◌, ap, subst, inl, inr, cases_eq, Op, apply, Act, Next, At, Value, with_exclusive}
+use Imports.{inside_of, taken_from, location_by, Place, Condvar, condvar_goes, is_locked, NotifyAt}
+use Imports.{CondvarPlace, Notify, MayReply, condvar_deeds, row_at_mutex, row_at_condvar, there, FollowsAtMutex}
+use Imports.{MayGetReplyAtMutex, beside_deeds, role_next, condvar_next, condvar_owners, in_notify, is_shown, marks}
+use Imports.{next_notify, notify_act, condvar_steps_follow, notifiers_code, notifiers_follow, code, IsCondvar}
+use Imports.{WaitsAside, Rules, Deed, Main, MarkOwned, Site, State, can_do, owners_at, place_at, put, reply_to}
+use Imports.{state_after_act, word_at, acts, taken_at, location_at, FitsItsLock, Goes, IsInductive, condvar_of}
+use Imports.{rules_in, site_of}
 use Rattle.core_base.specs.declared.ops.Op.TheVariants as op
 use Rattle.steps_base.specs.declared.acts.Act.TheVariants as act
 use Rattle.steps_condvar.specs.declared.notify.NotifyAt.TheVariants as notify
@@ -52,7 +52,7 @@ module _ (w : State) (t l m : ℕ) (all : Bool) (inductive : IsInductive w) (is_
       can : can_do w (notify_act all l m at) ≡ true
       can = subst (λ a. can_do w a ≡ true) (sym acts_so) refl
 
-      works : Beside m next → SameBeside (At (notifies at)) next → location_by (row_there next)
+      works : Beside m next → SameBeside (At (notifies at)) next → location_by (row_at_condvar next)
           ≡ there (notifies at)
           → condvar.IsOfWord (condvar_deeds (notifies at) (Value (word_at w l)))
           → FitsItsLock w (condvar_goes l next)
@@ -85,12 +85,12 @@ module _ (w : State) (t l m : ℕ) (all : Bool) (inductive : IsInductive w) (is_
         by_all true = (refl, refl, refl)
         by_all false = (refl, refl, refl)
 
-    again_there : (shown : Bool) → location_by (row_there (seen_again shown)) ≡ there (notifies notify.Again)
+    again_there : (shown : Bool) → location_by (row_at_condvar (seen_again shown)) ≡ there (notifies notify.Again)
     again_there false = refl
     again_there true = by_all all
       where
         by_all : (b : Bool)
-            → location_by (row_there (At (notifies (if b then notify.Hide else notify.Mark))))
+            → location_by (row_at_condvar (At (notifies (if b then notify.Hide else notify.Mark))))
             ≡ there (notifies notify.Again)
         by_all true = refl
         by_all false = refl
@@ -143,12 +143,12 @@ module _ (w : State) (t l m : ℕ) (all : Bool) (inductive : IsInductive w) (is_
       abbrev then_there : Next CondvarPlace
       then_there = condvar_next (notifies at) (Value seen)
 
-      hears_it : MayHearBeside r here (condvar_of w l) t m all at (Value seen)
-      hears_it = subst (λ a. MayHearBeside r here (condvar_of w l) t m all at (reply_to w t a)) acts_so
+      hears_it : MayGetReplyAtMutex r here (condvar_of w l) t m all at (Value seen)
+      hears_it = subst (λ a. MayGetReplyAtMutex r here (condvar_of w l) t m all at (reply_to w t a)) acts_so
           (notifier_hears w t l m all at inductive kept aside is (subst (λ a. can_do w a ≡ true) (sym acts_so)
           refl))
 
-      follows : FollowsBeside r here (condvar_of w l) t m all at (Value seen)
+      follows : FollowsAtMutex r here (condvar_of w l) t m all at (Value seen)
       follows = notifiers_follow r here (condvar_of w l) t m all at (Value seen) sort_m
           (hears.role_beside w t l (notifies at) inductive is m refl) hears_it
 
@@ -157,14 +157,14 @@ module _ (w : State) (t l m : ℕ) (all : Bool) (inductive : IsInductive w) (is_
           (laws.after_all r (beside_deeds all (condvar_of w l).waiters at (Value v)) here t))
           (sym (inductive.sites.word m))
           (notifiers_code r here (condvar_of w l) t l m all at f sort_m (λ e. apart (sym e))
-          (subst (λ v. MayHearBeside r here (condvar_of w l) t m all at (Value v)) (inductive.sites.word m)
+          (subst (λ v. MayGetReplyAtMutex r here (condvar_of w l) t m all at (Value v)) (inductive.sites.word m)
           hears_it) acts_so)
 
-      works_beside : Beside m then_there → location_by (row_there then_there) ≡ there (notifies at)
-          → location_by (row_beside then_there) ≡ location_by (row_beside (At (notifies at)))
-          → taken_from (row_beside then_there).hand (row_beside then_there).wants true
-          ≡ taken_from (row_beside (At (notifies at))).hand (row_beside (At (notifies at))).wants true
-          → (row_beside then_there).role ≡ role_next all m next_at
+      works_beside : Beside m then_there → location_by (row_at_condvar then_there) ≡ there (notifies at)
+          → location_by (row_at_mutex then_there) ≡ location_by (row_at_mutex (At (notifies at)))
+          → taken_from (row_at_mutex then_there).hand (row_at_mutex then_there).wants true
+          ≡ taken_from (row_at_mutex (At (notifies at))).hand (row_at_mutex (At (notifies at))).wants true
+          → (row_at_mutex then_there).role ≡ role_next all m next_at
           → condvar_owners (notifies at) t seen (owners_at w m) ≡ owners_at w m → IsOfWord (does at)
           → (laws.after_all r (does at) here t).lock.exclusive ≡ here.lock.exclusive
           → FitsItsLock w (condvar_goes l then_there)
@@ -190,16 +190,16 @@ module _ (w : State) (t l m : ℕ) (all : Bool) (inductive : IsInductive w) (is_
     abbrev marked : Bool → ℕ → Next CondvarPlace
     marked b v = At (notifies (if b then notify.Set v else notify.Move false))
 
-    marked_there : (b : Bool) (v : ℕ) → location_by (row_there (marked b v)) ≡ inside_of Main
+    marked_there : (b : Bool) (v : ℕ) → location_by (row_at_condvar (marked b v)) ≡ inside_of Main
     marked_there true v = refl
     marked_there false v = refl
 
-    marked_beside : (b : Bool) (v : ℕ) → location_by (row_beside (marked b v)) ≡ inside_of Main
+    marked_beside : (b : Bool) (v : ℕ) → location_by (row_at_mutex (marked b v)) ≡ inside_of Main
     marked_beside true v = refl
     marked_beside false v = refl
 
-    marked_taken : (b : Bool) (v : ℕ) → taken_from (row_beside (marked b v)).hand
-        (row_beside (marked b v)).wants true ≡ None
+    marked_taken : (b : Bool) (v : ℕ) → taken_from (row_at_mutex (marked b v)).hand
+        (row_at_mutex (marked b v)).wants true ≡ None
     marked_taken true v = refl
     marked_taken false v = refl
 
@@ -217,22 +217,22 @@ module _ (w : State) (t l m : ℕ) (all : Bool) (inductive : IsInductive w) (is_
     set_beside true = refl
     set_beside false = refl
 
-    set_stays : (b : Bool) → location_by (row_there (in_notify all m (set_next b))) ≡ inside_of Main
+    set_stays : (b : Bool) → location_by (row_at_condvar (in_notify all m (set_next b))) ≡ inside_of Main
     set_stays true = refl
     set_stays false = marked_there (is_locked seen) seen
 
-    set_side : (b : Bool) → location_by (row_beside (in_notify all m (set_next b))) ≡ inside_of Main
+    set_side : (b : Bool) → location_by (row_at_mutex (in_notify all m (set_next b))) ≡ inside_of Main
     set_side true = refl
     set_side false = marked_beside (is_locked seen) seen
 
     set_taken : (b : Bool)
-        → taken_from (row_beside (in_notify all m (set_next b))).hand
-        (row_beside (in_notify all m (set_next b))).wants true
+        → taken_from (row_at_mutex (in_notify all m (set_next b))).hand
+        (row_at_mutex (in_notify all m (set_next b))).wants true
         ≡ None
     set_taken true = refl
     set_taken false = marked_taken (is_locked seen) seen
 
-    set_does : (b : Bool) → (row_beside (in_notify all m (set_next b))).role ≡ role_next all m (set_next b)
+    set_does : (b : Bool) → (row_at_mutex (in_notify all m (set_next b))).role ≡ role_next all m (set_next b)
     set_does true = refl
     set_does false = refl
 

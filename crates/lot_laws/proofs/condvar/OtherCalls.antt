@@ -1,19 +1,19 @@
 -- By each act of a call of a condition variable the calls of the other threads become what its event makes of
 -- them.
-use Rattle.lot_laws.proofs.Names
-use Names.{ℕ, Bool, true, false, Option, Some, None, if◌then◌else◌, ◌==◌, ◌||◌, ◌≡◌, ◌≢◌, ◌*◌, ◌<◌, List, []}
-use Names.{◌∷◌, length, not, refl, sym, ◌∙◌, ap, subst, get_or, get_or-set_other, inl, inr, One, Exclusive}
-use Names.{Next, At, Parked, Woken, Place, Condvar, Idle, LockAt, MutexPlace, enter_deeds}
-use Names.{take_deeds as takes_deeds, lock_deeds, is_locked, is_parked, lock_act, mutex_next, CondvarPlace}
-use Names.{Wait, WaitAt, IsLockOf, IsReached, case_there, wait_event, relocked_deeds, is_shown, wait_act}
-use Names.{mutex_beside, unended, SeeOther, Show, case_of, event_by, Leave, LockCase, Rights, AtLock}
-use Names.{CallState, Event, LocksState, Moves, Nothing, is_taken_by, woken, Case, End, Main, Mark, State}
-use Names.{can_do, place_at, put, reply_to, state_after_act, word_at, place_after_telling}
-use Names.{state_after_telling, state_with_sections, call_state, taken_at, IsInductive, rules_in, carried_at}
-use Names.{hand_at, WordIs, holds, get_or-map, cases_eq, Normal, is_thread, hand, Location, next_place, taker}
-use Names.{WaiterFate}
+use Rattle.lot_laws.proofs.Imports
+use Imports.{ℕ, Bool, true, false, Option, Some, None, if◌then◌else◌, ◌==◌, ◌||◌, ◌≡◌, ◌≢◌, ◌*◌, ◌<◌, List, []}
+use Imports.{◌∷◌, length, not, refl, sym, ◌∙◌, ap, subst, get_or, get_or-set_other, inl, inr, One, Exclusive}
+use Imports.{Next, At, Parked, Woken, Place, Condvar, Idle, LockAt, MutexPlace, enter_deeds}
+use Imports.{take_deeds as takes_deeds, lock_deeds, is_locked, is_parked, lock_act, mutex_next, CondvarPlace}
+use Imports.{Wait, WaitAt, IsLockOf, IsReached, case_at_condvar, wait_event, relocked_deeds, is_shown, wait_act}
+use Imports.{mutex_beside, unended, SeeOther, Show, case_of, event_by, Leave, LockCase, Rights, AtLock}
+use Imports.{CallState, Event, LocksState, Moves, Nothing, is_taken_by, woken, Case, End, Main, Mark, State}
+use Imports.{can_do, place_at, put, reply_to, state_after_act, word_at, place_after_telling}
+use Imports.{state_after_telling, state_with_sections, call_state, taken_at, IsInductive, rules_in, carried_at}
+use Imports.{hand_at, WordIs, holds, get_or-map, cases_eq, Normal, is_thread, hand, Location, next_place, taker}
+use Imports.{WaiterFate}
 use Rattle.steps_base.specs.declared.acts.Next.TheVariants.{End as Over}
-use Rattle.steps_base.specs.declared.acts.Whom.TheVariants.{First}
+use Rattle.steps_base.specs.declared.acts.TakeWhich.TheVariants.{First}
 use Rattle.steps_mutex.specs.declared.lock.Entry.TheVariants as entry
 use Rattle.steps_mutex.specs.declared.lock.LockAt.TheVariants as lock
 use Rattle.steps_mutex.specs.declared.places.MutexPlace.TheVariants as mutex
@@ -139,7 +139,7 @@ module _ (w : State) (t l m : ℕ) (timed : Bool) (inductive : IsInductive w) (p
     stays = λ p2. lonely w t p2 (Condvar l (waits p)) (wait_act l m p) h;
   }
 
-  shows : (b : Bool) → IsCalm (case_there (if b then Show m ∷ [] else SeeOther m ∷ []))
+  shows : (b : Bool) → IsCalm (case_at_condvar (if b then Show m ∷ [] else SeeOther m ∷ []))
   shows true = tt
   shows false = tt
 
@@ -162,7 +162,7 @@ module _ (w : State) (t l m : ℕ) (timed : Bool) (inductive : IsInductive w) (p
   word_seen true true = tt
   word_seen true false = tt
 
-  relocked : (n : Next MutexPlace) → IsCalm (case_there (relocked_deeds n))
+  relocked : (n : Next MutexPlace) → IsCalm (case_at_condvar (relocked_deeds n))
   relocked (At q) = tt
   relocked (Over answer) = tt
 

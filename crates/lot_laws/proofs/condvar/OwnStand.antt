@@ -1,12 +1,12 @@
 -- Where a thread in a call of a condition variable stands once it has acted: where it stood, or where its own
 -- release of its mutex has left it.
-use Rattle.lot_laws.proofs.Names
-use Names.{ℕ, Bool, true, false, None, if◌then◌else◌, ◌==◌, ◌≡◌, ◌*◌, ◌+◌, ◌<◌, length, not, refl, sym, ◌∙◌}
-use Names.{ap, subst, get_or-set_same, One, Next, Reply, TakenBy, MovedTo, HandedBy, Woken, MutexPlace}
-use Names.{LockAt, is_locked, lock_act, mutex_next, NotifyAt, CondvarPlace, Wait, Look, Notify, WaiterFate}
-use Names.{WaitAt, IsLockOf, IsReached, wait_row, stands_after, comes_from_another, past_release, condvar_act}
-use Names.{condvar_next, release_next, released, Place, Idle, Condvar, condvar_goes, next_place, State}
-use Names.{place_at, reply_to, state_after_act, state_after_going, acted_keeps, tells, performed_counts}
+use Rattle.lot_laws.proofs.Imports
+use Imports.{ℕ, Bool, true, false, None, if◌then◌else◌, ◌==◌, ◌≡◌, ◌*◌, ◌+◌, ◌<◌, length, not, refl, sym, ◌∙◌}
+use Imports.{ap, subst, get_or-set_same, One, Next, Reply, TakenBy, MovedTo, HandedBy, Woken, MutexPlace}
+use Imports.{LockAt, is_locked, lock_act, mutex_next, NotifyAt, CondvarPlace, Wait, Look, Notify, WaiterFate}
+use Imports.{WaitAt, IsLockOf, IsReached, wait_row, stands_after, comes_from_another, past_release, condvar_act}
+use Imports.{condvar_next, release_next, released, Place, Idle, Condvar, condvar_goes, next_place, State}
+use Imports.{place_at, reply_to, state_after_act, state_after_going, acted_keeps, tells, performed_counts}
 use Rattle.core_base.specs.declared.notes.Note.TheVariants as note
 use Rattle.core_base.specs.declared.ops.Op as op
 use Rattle.steps_base.specs.declared.acts.Act.TheVariants as act

@@ -1,13 +1,13 @@
 -- Where a wait's own release of its mutex leaves its thread: where it stood, unless it has taken itself from
 -- the queue of the mutex, or wakes itself.
-use Rattle.lot_laws.proofs.Names
-use Names.{ℕ, Bool, true, false, if◌then◌else◌, ◌==◌, ◌≡◌, ◌≢◌, ◌⊎◌, ◌*◌, ◌<◌, List, [], ◌∷◌, length, drop}
-use Names.{get_or, set, get_or-set_other, get_or-set_same, inl, inr, refl, sym, ◌∙◌, ap, subst, get_or-map}
-use Names.{cases_eq, Waiter, first_of, TakenBy, Took, Woken, is_thread, UnlockAt, unlock_act, Wait}
-use Names.{WaiterFate}
-use Names.{WaitAt, hand, hand_of, taker_of, Place, Condvar, Idle, next_place, Main, State, is_there}
-use Names.{place_after_telling, place_at, queue_at, queues_without_first, reply_to, state_after_act}
-use Names.{state_after_taking, IsInductive, key_of, rules_in}
+use Rattle.lot_laws.proofs.Imports
+use Imports.{ℕ, Bool, true, false, if◌then◌else◌, ◌==◌, ◌≡◌, ◌≢◌, ◌⊎◌, ◌*◌, ◌<◌, List, [], ◌∷◌, length, drop}
+use Imports.{get_or, set, get_or-set_other, get_or-set_same, inl, inr, refl, sym, ◌∙◌, ap, subst, get_or-map}
+use Imports.{cases_eq, Waiter, first_of, TakenBy, Took, Woken, is_thread, UnlockAt, unlock_act, Wait}
+use Imports.{WaiterFate}
+use Imports.{WaitAt, hand, hand_of, taker_of, Place, Condvar, Idle, next_place, Main, State, is_there}
+use Imports.{place_after_telling, place_at, queue_at, queues_without_first, reply_to, state_after_act}
+use Imports.{state_after_taking, IsInductive, key_of, rules_in}
 use Rattle.core_base.specs.declared.notes.Note.TheVariants as note
 use Rattle.steps_mutex.specs.declared.places.MutexPlace.TheVariants as mutex
 use Rattle.steps_mutex.specs.declared.unlock.UnlockAt.TheVariants as unlock

@@ -1,20 +1,20 @@
 -- A thread that goes on in a call of a condition variable is told its reply as the laws of its places take
 -- it: at the condition variable, and at the mutex beside it.
-use Rattle.lot_laws.proofs.Names
-use Names.{ℕ, suc, Bool, true, false, Option, Some, None, if◌then◌else◌, ◌==◌, ◌≡◌, ◌≢◌, ◌+◌, ◌*◌, ◌≤◌, List}
-use Names.{[], ◌∷◌, map, drop, length, not, refl, sym, ◌∙◌, ap, subst, arith, One, Waiter, first_of, times}
-use Names.{without, moved_by, taken_by, Act, taken_from, Location, location_by, LockAt, UnlockAt}
-use Names.{mutex_profile, is_locked, lock_act, unlock_act, Condvar, profile_at, NotifyAt, CondvarPlace, Wait}
-use Names.{Look, Notify, WaiterFate, WaitAt, comes_from_another, condvar_act, move_act, mutex_beside}
-use Names.{notify_act}
-use Names.{wait_act, condvar_row, has_mutex, mutex_side, notify_row, IsLockOf, IsReached, IsAt, MayReply}
-use Names.{MayHearNotifying, MayHearWaiting, word_showing, MayHearBeside, MayHearLocking, MayHearReleasing}
-use Names.{MayHearWaiter, TakesFirst, condvar_moves_fit, code, shown_code, word_by, CondvarSite, IsCondvar}
-use Names.{MoveFits, WaitsAside, moved_of, HasTakenNobody, one_if_some, Taken, keep_from, Rules, first_thread}
-use Names.{standing, queued_of, Line, Main, Second, Site, is_empty, IsSectionFree, State, is_there, kind_at}
-use Names.{listed, can_do, section_is_free, place_at, queue_at, reply_to, section_at, word_at, lock_state}
-use Names.{taken_at, location_at, carried_at, FitsCondvar, FitsItsLock, IsInductive, condvar_of, inside_as}
-use Names.{key_of, rules_in, site_of, stood_in}
+use Rattle.lot_laws.proofs.Imports
+use Imports.{ℕ, suc, Bool, true, false, Option, Some, None, if◌then◌else◌, ◌==◌, ◌≡◌, ◌≢◌, ◌+◌, ◌*◌, ◌≤◌, List}
+use Imports.{[], ◌∷◌, map, drop, length, not, refl, sym, ◌∙◌, ap, subst, arith, One, Waiter, first_of, times}
+use Imports.{without, moved_by, taken_by, Act, taken_from, Location, location_by, LockAt, UnlockAt}
+use Imports.{mutex_profile, is_locked, lock_act, unlock_act, Condvar, profile_at, NotifyAt, CondvarPlace, Wait}
+use Imports.{Look, Notify, WaiterFate, WaitAt, comes_from_another, condvar_act, move_act, mutex_beside}
+use Imports.{notify_act}
+use Imports.{wait_act, condvar_row, has_mutex, mutex_side, notify_row, IsLockOf, IsReached, IsAt, MayReply}
+use Imports.{MayHearNotifying, MayHearWaiting, word_showing, MayGetReplyAtMutex, MayHearLocking, MayHearReleasing}
+use Imports.{MayHearWaiter, TakesFirst, condvar_moves_fit, code, shown_code, word_by, CondvarSite, IsCondvar}
+use Imports.{MoveFits, WaitsAside, moved_of, HasTakenNobody, one_if_some, Taken, keep_from, Rules, first_thread}
+use Imports.{standing, queued_of, Line, Main, Second, Site, is_empty, IsSectionFree, State, is_there, kind_at}
+use Imports.{listed, can_do, section_is_free, place_at, queue_at, reply_to, section_at, word_at, lock_state}
+use Imports.{taken_at, location_at, carried_at, FitsCondvar, FitsItsLock, IsInductive, condvar_of, inside_as}
+use Imports.{key_of, rules_in, site_of, stood_in}
 use Rattle.std.specs.Prelude.{is_none}
 use Rattle.core_base.specs.declared.requeues.Requeue.TheVariants as requeue
 use Rattle.steps_base.specs.declared.acts.Act.TheVariants as act
@@ -381,12 +381,12 @@ module _ (w : State) (t l m : ℕ) (all : Bool) (at : NotifyAt) (inductive : IsI
     any_waits (x ∷ q) some = refl
 
     pub notifier_hears : can_do w (notify_act all l m at) ≡ true
-        → MayHearBeside (rules_in w m) beside_site (condvar_of w l) t m all at
+        → MayGetReplyAtMutex (rules_in w m) beside_site (condvar_of w l) t m all at
         (reply_to w t (notify_act all l m at))
     notifier_hears can = by_place at refl
       where
         by_move : (b locked : Bool) → all ≡ b → at ≡ notify.Move locked
-            → MayHearBeside (rules_in w m) beside_site (condvar_of w l) t m b (notify.Move locked)
+            → MayGetReplyAtMutex (rules_in w m) beside_site (condvar_of w l) t m b (notify.Move locked)
             (reply_to w t (move_act b locked l m))
         by_move true true f e = (
           number_of true (queue_at w (2 * l)),
@@ -405,7 +405,7 @@ module _ (w : State) (t l m : ℕ) (all : Bool) (at : NotifyAt) (inductive : IsI
             in (any_waits (queue_at w (2 * l)) k.some, k)
 
         by_place : (p : NotifyAt) → at ≡ p
-            → MayHearBeside (rules_in w m) beside_site (condvar_of w l) t m all p
+            → MayGetReplyAtMutex (rules_in w m) beside_site (condvar_of w l) t m all p
             (reply_to w t (notify_act all l m p))
         by_place notify.Enter e = free_beside w t l this inductive is m refl (both (section_is_free w (2 * l))
             (section_is_free w (2 * m)) (subst (λ q. can_do w (notify_act all l m q) ≡ true) e can)).1

@@ -1,12 +1,12 @@
 -- A condition variable is as it was where these are: what it shows, its waiters, the thread inside, and what
 -- places say of it.
-use Rattle.lot_laws.proofs.Names
-use Names.{ℕ, Bool, true, false, Option, Some, None, if◌then◌else◌, ◌==◌, ◌≡◌, ◌<◌, length, get_or-set_other}
-use Names.{get_or-set_same, inl, inr, refl, sym, ◌∙◌, ap, subst, cases_eq, SemaphorePlace, semaphore_looking}
-use Names.{MutexPlace, mutex_looking, OncePlace, once_looking, RwLockCallPlace, call_looking, Look, Notify}
-use Names.{Wait, in_lock, Place, Condvar, Idle, Mutex, Once, RwLock, Semaphore, in_condvar, in_mutex, in_once}
-use Names.{in_rwlock, respins_from, profile_at, in_semaphore, IsCondvar, LockState, Main, State, closed_place}
-use Names.{place_at, put, section_at, lock_state, AreCondvars, condvar_of, inside_as, key_of}
+use Rattle.lot_laws.proofs.Imports
+use Imports.{ℕ, Bool, true, false, Option, Some, None, if◌then◌else◌, ◌==◌, ◌≡◌, ◌<◌, length, get_or-set_other}
+use Imports.{get_or-set_same, inl, inr, refl, sym, ◌∙◌, ap, subst, cases_eq, SemaphorePlace, semaphore_respin}
+use Imports.{MutexPlace, mutex_respin, OncePlace, once_respin, RwLockCallPlace, call_respin, Look, Notify}
+use Imports.{Wait, in_lock, Place, Condvar, Idle, Mutex, Once, RwLock, Semaphore, in_condvar, in_mutex, in_once}
+use Imports.{in_rwlock, respins_from, profile_at, in_semaphore, IsCondvar, LockState, Main, State, closed_place}
+use Imports.{place_at, put, section_at, lock_state, AreCondvars, condvar_of, inside_as, key_of}
 use Rattle.steps_mutex.specs.declared.lock.LockAt.TheVariants as lock
 use Rattle.steps_mutex.specs.declared.places.MutexPlace.TheVariants as mutex
 use Rattle.steps_condvar.specs.declared.wait.WaitAt.TheVariants as wait
@@ -63,25 +63,25 @@ Says p q = (k : ℕ) → (stage_of q k ≡ stage_of p k) × (names_of q k ≡ na
 -- from where it looks at the word once more
 looks_alike : (p q : Place) → respins_from p ≡ Some q → Says p q
 looks_alike Idle q is = absurd cc
-looks_alike (Mutex l at) q is = by_place (mutex_looking at) is
+looks_alike (Mutex l at) q is = by_place (mutex_respin at) is
   where
     by_place : (o : Option MutexPlace) → in_mutex l o ≡ Some q → Says (Mutex l at) q
     by_place None e = absurd cc
     by_place (Some to) e = let there : Mutex l to ≡ q = cc in subst (Says (Mutex l at)) there
         (λ k. (refl, refl))
-looks_alike (RwLock l a c) q is = by_place (call_looking a c) is
+looks_alike (RwLock l a c) q is = by_place (call_respin a c) is
   where
     by_place : (o : Option RwLockCallPlace) → in_rwlock l a o ≡ Some q → Says (RwLock l a c) q
     by_place None e = absurd cc
     by_place (Some to) e = let there : RwLock l a to ≡ q = cc in subst (Says (RwLock l a c)) there
         (λ k. (refl, refl))
-looks_alike (Once l at) q is = by_place (once_looking at) is
+looks_alike (Once l at) q is = by_place (once_respin at) is
   where
     by_place : (o : Option OncePlace) → in_once l o ≡ Some q → Says (Once l at) q
     by_place None e = absurd cc
     by_place (Some to) e = let there : Once l to ≡ q = cc
         in subst (Says (Once l at)) there (λ k. (refl, refl))
-looks_alike (Semaphore l at) q is = by_place (semaphore_looking at) is
+looks_alike (Semaphore l at) q is = by_place (semaphore_respin at) is
   where
     by_place : (o : Option SemaphorePlace) → in_semaphore l o ≡ Some q → Says (Semaphore l at) q
     by_place None e = absurd cc

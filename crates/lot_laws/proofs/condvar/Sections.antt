@@ -1,12 +1,12 @@
 -- An act in a call of a condition variable enters sections of its two locks, and one that leaves sections or
 -- touches queues is of those that its thread is inside, as its row says.
-use Rattle.lot_laws.proofs.Names
-use Names.{ℕ, Bool, true, false, Option, Some, None, if◌then◌else◌, ◌==◌, not, ◌+◌, ◌*◌, ◌≡◌, ◌≢◌, ◌⊎◌, inl}
-use Names.{inr, [], map, get_or, refl, sym, ◌∙◌, ap, cases_eq, eqb-true, get_or-map, One, Two, without, times}
-use Names.{Act, in_line, Location, LockAt, is_locked, lock_act, NotifyAt, CondvarPlace, Wait, Look, Notify}
-use Names.{WaitAt, IsLockOf, IsReached, condvar_row, has_moved, section_in, inside, condvar_act, move_act}
-use Names.{mutex_beside, Condvar, is_lock, Line, Main, Second, State, place_at, queue_at, section_at}
-use Names.{location_at, FitsItsLock, IsInductive, key_of, stood_in}
+use Rattle.lot_laws.proofs.Imports
+use Imports.{ℕ, Bool, true, false, Option, Some, None, if◌then◌else◌, ◌==◌, not, ◌+◌, ◌*◌, ◌≡◌, ◌≢◌, ◌⊎◌, inl}
+use Imports.{inr, [], map, get_or, refl, sym, ◌∙◌, ap, cases_eq, eqb-true, get_or-map, One, Two, without, times}
+use Imports.{Act, in_line, Location, LockAt, is_locked, lock_act, NotifyAt, CondvarPlace, Wait, Look, Notify}
+use Imports.{WaitAt, IsLockOf, IsReached, condvar_row, has_moved, section_in, inside, condvar_act, move_act}
+use Imports.{mutex_beside, Condvar, is_lock, Line, Main, Second, State, place_at, queue_at, section_at}
+use Imports.{location_at, FitsItsLock, IsInductive, key_of, stood_in}
 use Rattle.core_base.specs.declared.ops.Op as op
 use Rattle.steps_base.specs.declared.acts.Act.TheVariants as act
 use Rattle.steps_mutex.specs.declared.places.MutexPlace.TheVariants as mutex

@@ -1,12 +1,12 @@
 -- While nobody is inside its section, a condition variable shows a mutex exactly while somebody waits, and
 -- all wait with that one.
-use Rattle.lot_laws.proofs.Names
-use Names.{ℕ, Bool, true, false, Option, Some, None, if◌then◌else◌, ◌==◌, ◌≡◌, ◌≤◌, inl, inr, [], refl, sym}
-use Names.{◌∙◌, ap, subst, arith, Look, Notify, Wait, NotifyAt, WaitAt, notify_row, wait_row, Place, Condvar}
-use Names.{Idle, Mutex, Once, RwLock, Semaphore, profile_at, AllOf, Clears, CondvarPhase, Inside, IsAsInside}
-use Names.{IsCondvar, IsSettledAt, Misses, NothingToDo, Sees, SeesOther, StageHolds, Takes, ToStandLast}
-use Names.{moving, Rights, ShowsWaiters, Notifies, Waits, Main, State, place_at, section_at, ShowsItsWaiters}
-use Names.{call_state, lock_state, locks_of, condvar_of, inside_as, key_of, stage_or}
+use Rattle.lot_laws.proofs.Imports
+use Imports.{ℕ, Bool, true, false, Option, Some, None, if◌then◌else◌, ◌==◌, ◌≡◌, ◌≤◌, inl, inr, [], refl, sym}
+use Imports.{◌∙◌, ap, subst, arith, Look, Notify, Wait, NotifyAt, WaitAt, notify_row, wait_row, Place, Condvar}
+use Imports.{Idle, Mutex, Once, RwLock, Semaphore, profile_at, AllOf, Clears, CondvarPhase, Inside, IsAsInside}
+use Imports.{IsCondvar, IsSettledAt, Misses, NothingToDo, Sees, SeesOther, StageHolds, Takes, ToStandLast}
+use Imports.{moving, Rights, ShowsWaiters, Notifies, Waits, Main, State, place_at, section_at, ShowsItsWaiters}
+use Imports.{call_state, lock_state, locks_of, condvar_of, inside_as, key_of, stage_or}
 use Rattle.std.proofs.Common.{eqb-true}
 use Rattle.steps_condvar.specs.declared.notify.NotifyAt.TheVariants as notify
 use Rattle.steps_condvar.specs.declared.wait.WaitAt.TheVariants as wait

@@ -1,18 +1,18 @@
 -- Condition variables of a world: each thread in a call of one is where the row of its place says, and a
 -- thread that waits stands nowhere at its mutex.
-use Rattle.lot_laws.proofs.Names
-use Names.{ℕ, Bool, true, false, Option, Some, None, if◌then◌else◌, ◌≡◌, ◌*◌, refl, sym, ◌∙◌, ap, Profile}
-use Names.{Location, location_by, Condvar, profile_at, CondvarPlace, condvar_profile, condvar_row, section_in}
-use Names.{IsAt, IsAtStage, IsListed, IsInsideNot, CondvarPhase, Line, Main, State, place_at, queue_at}
-use Names.{section_at, location_at, condvar_of, inside_as, key_of, stage_or, stood_in}
+use Rattle.lot_laws.proofs.Imports
+use Imports.{ℕ, Bool, true, false, Option, Some, None, if◌then◌else◌, ◌≡◌, ◌*◌, refl, sym, ◌∙◌, ap, Profile}
+use Imports.{Location, location_by, Condvar, profile_at, CondvarPlace, condvar_profile, condvar_row, section_in}
+use Imports.{IsAt, IsAtStage, IsListed, IsInsideNot, CondvarPhase, Line, Main, State, place_at, queue_at}
+use Imports.{section_at, location_at, condvar_of, inside_as, key_of, stage_or, stood_in}
 use Rattle.lot_laws.specs.SitesOf.{Stands}
 use Rattle.lot_laws.proofs.machine.Parts.{same}
 use Rattle.lot_laws.proofs.sites.OneStep.{queued_times}
 
 module _ (w : State) (stands : Stands w) (t l : ℕ) (at : CondvarPlace) (is : place_at w t ≡ Condvar l at)
   where
-    row_there : profile_at (place_at w t) l ≡ condvar_profile at
-    row_there = rw (is, same l) refl
+    row_at_condvar : profile_at (place_at w t) l ≡ condvar_profile at
+    row_at_condvar = rw (is, same l) refl
 
     pub location_there : location_at (place_at w t) l ≡ location_by (condvar_profile at)
     location_there = rw (is, same l) refl
@@ -25,7 +25,7 @@ module _ (w : State) (stands : Stands w) (t l : ℕ) (at : CondvarPlace) (is : p
         ∙ ap (λ o. Some (record {
           thread = t;
           stage = stage_or o;
-        })) (ap (λ (y : Profile). y.stage) row_there ∙ e)
+        })) (ap (λ (y : Profile). y.stage) row_at_condvar ∙ e)
       where
         held : section_at w (key_of l Main) ≡ Some t
         held = (stands.sections t l Main).0 (ap (λ (y : Location). y.inside) location_there ∙ ap section_in e)
@@ -58,5 +58,5 @@ module _ (w : State) (stands : Stands w) (t l : ℕ) (at : CondvarPlace) (is : p
     at_place = record {
       stage = stage_is (condvar_row at).stage refl;
       listed = listed_is (condvar_row at).listed refl;
-      names = ap (λ (y : Profile). y.names) row_there;
+      names = ap (λ (y : Profile). y.names) row_at_condvar;
     }

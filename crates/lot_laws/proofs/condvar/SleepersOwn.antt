@@ -1,10 +1,10 @@
 -- A sleeper that waits to be notified owns what it owned as its call began, but for its mutex.
-use Rattle.lot_laws.proofs.Names
-use Names.{ℕ, Bool, true, false, Option, Some, None, ◌≡◌, inl, inr, refl, sym, ◌∙◌, ap, subst, Exclusive}
-use Names.{Trades, Rights, Notifies, Waits, IsNotified, one_more_at, loses, Act, Sleep, MutexPlace, mutex_act}
-use Names.{CondvarPlace, Wait, Look, Notify, WaitAt, condvar_act, wait_act, IsReached, IsUnlockPlace}
-use Names.{condvar_place_purpose, Place, Condvar, act_of, State, place_at, call_at, call_state, locks_of}
-use Names.{sleeps, IsInductive}
+use Rattle.lot_laws.proofs.Imports
+use Imports.{ℕ, Bool, true, false, Option, Some, None, ◌≡◌, inl, inr, refl, sym, ◌∙◌, ap, subst, Exclusive}
+use Imports.{Trades, Rights, Notifies, Waits, IsNotified, one_more_at, loses, Act, Sleep, MutexPlace, mutex_act}
+use Imports.{CondvarPlace, Wait, Look, Notify, WaitAt, condvar_act, wait_act, IsReached, IsUnlockPlace}
+use Imports.{condvar_place_purpose, Place, Condvar, act_of, State, place_at, call_at, call_state, locks_of}
+use Imports.{sleeps, IsInductive}
 use Rattle.steps_mutex.specs.declared.places.MutexPlace.TheVariants as mutex
 use Rattle.steps_condvar.specs.declared.wait.WaiterFate.TheVariants as stands
 use Rattle.steps_condvar.specs.declared.wait.WaitAt.TheVariants as wait

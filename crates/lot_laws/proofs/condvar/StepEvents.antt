@@ -1,16 +1,16 @@
 -- A step in a call of a condition variable is one event of one of its two locks, or a move of waiters
 -- between them. Its call is made of that event, and comes to what the next place says.
-use Rattle.lot_laws.proofs.Names
-use Names.{ℕ, Bool, false, Option, Some, None, if◌then◌else◌, ◌≡◌, ◌≢◌, ◌⊎◌, List, [], ◌∷◌, append-nil, inl}
-use Names.{inr, refl, sym, ◌∙◌, ap, subst, cases_eq, Outcome, Next, Reply, CondvarPlace, Wait, Look, Notify}
-use Names.{WaitAt, MayComeOfTwo, case_there, heard, wait_event, wait_deeds, condvar_profile, mutex_side}
-use Names.{wait_carries, condvar_act, mutex_beside, waiter_deeds, Condvar, condvar_does, condvar_goes}
-use Names.{rights_where, outcome_of, CondvarDeed, moved_of, AreOneCase, EventNeeds, after_event, case_of}
-use Names.{event_by, Start, WasMoved, HandOff, OfOnce, Wake, HasTakenNobody, LockCase, LockState, AnswerHolds}
-use Names.{AtLock, Begins, LocksState, is_among, is_closure, is_taken_by, CallState, Event, GoesOn, MayHappen}
-use Names.{MayMove, Moves, Nothing, going_on, woken, Deed, Site, deeds_lead, deeds_need, State, kind_at}
-use Names.{place_at, acts, call_at, call_on_both, call_state, lock_state, locks_of, taken_at, ActsNeeded}
-use Names.{FollowAll, IsInductive, after_acts, rules_in, site_of}
+use Rattle.lot_laws.proofs.Imports
+use Imports.{ℕ, Bool, false, Option, Some, None, if◌then◌else◌, ◌≡◌, ◌≢◌, ◌⊎◌, List, [], ◌∷◌, append-nil, inl}
+use Imports.{inr, refl, sym, ◌∙◌, ap, subst, cases_eq, Outcome, Next, Reply, CondvarPlace, Wait, Look, Notify}
+use Imports.{WaitAt, MayComeOfTwo, case_at_condvar, heard, wait_event, wait_deeds, condvar_profile, mutex_side}
+use Imports.{wait_carries, condvar_act, mutex_beside, waiter_deeds, Condvar, condvar_does, condvar_goes}
+use Imports.{rights_where, outcome_of, CondvarDeed, moved_of, AreOneCase, EventNeeds, after_event, case_of}
+use Imports.{event_by, Start, WasMoved, HandOff, OfOnce, Wake, HasTakenNobody, LockCase, LockState, AnswerHolds}
+use Imports.{AtLock, Begins, LocksState, is_among, is_closure, is_taken_by, CallState, Event, GoesOn, MayHappen}
+use Imports.{MayMove, Moves, Nothing, going_on, woken, Deed, Site, deeds_lead, deeds_need, State, kind_at}
+use Imports.{place_at, acts, call_at, call_on_both, call_state, lock_state, locks_of, taken_at, ActsNeeded}
+use Imports.{FollowAll, IsInductive, after_acts, rules_in, site_of}
 use Rattle.spec_locks.specs.declared.outcomes.Outcome as outcome
 use Rattle.steps_base.specs.declared.acts.Next.TheVariants as next
 use Rattle.steps_condvar.specs.CondvarCalls as calls
@@ -48,7 +48,7 @@ module _ (w v : State) (t c m : ℕ) (apart : m ≢ c) (before : IsInductive w) 
       ]) at_c.1
 
 -- the deeds of a condition variable are that case of it
-there_case : (ds : List CondvarDeed) → case_of None (there_deeds ds) ≡ case_there ds
+there_case : (ds : List CondvarDeed) → case_of None (there_deeds ds) ≡ case_at_condvar ds
 there_case [] = refl
 there_case (condvars.Show m ∷ ds) = refl
 there_case (condvars.HideAndTakeAll ∷ ds) = refl
@@ -93,11 +93,11 @@ module _ (w v : State) (t c m : ℕ) (apart : m ≢ c) (before : IsInductive w) 
       → HasTakenNobody (lock_state w c) t
       → (wait_carries p ≢ Some false → HasTakenNobody (lock_state w m) t)
       → (case_of (wait_carries p) (waiter_deeds p whom told) ≡ None)
-      ⊎ (case_there (wait_deeds m p told) ≡ None)
+      ⊎ (case_at_condvar (wait_deeds m p told) ≡ None)
       → IsEvent w v t (wait_event c m p whom told)
   wait_happens p whom told at_c at_m one_c one_m free_c free_m alone = happens_two w v t c m apart before
       after f.kinds others (case_of (wait_carries p) (waiter_deeds p whom told))
-      (case_there (wait_deeds m p told))
+      (case_at_condvar (wait_deeds m p told))
       (led_by m (wait_carries p) (waiter_deeds p whom told) at_m one_m free_m)
       (subst (Led w v t c m apart before after f.kinds others c) (there_case (wait_deeds m p told))
       (led_by c None (there_deeds (wait_deeds m p told)) at_c one_c (λ h. free_c)))

@@ -1,14 +1,14 @@
 -- A thread that goes on in a call of a condition variable does so in the abstract locks, where its step has
 -- led both locks as its deeds say, and the others' calls follow.
-use Rattle.lot_laws.proofs.Names
-use Names.{ℕ, Bool, true, false, Option, Some, None, if◌then◌else◌, ◌==◌, ◌&&◌, ◌≡◌, ◌≢◌, ◌<◌, List, []}
-use Names.{length, not, refl, sym, ◌∙◌, ap, subst, outcome_of, Hand, taken_from, Value, NotifyAt, Wait, Look}
-use Names.{Notify, WaitAt, condvar_call_by, look_event, notify_event, wait_event, notify_deeds, wait_deeds}
-use Names.{word_showing, beside_deeds, condvar_profile, mutex_side, notify_row, condvar_act, condvar_next}
-use Names.{next_wait, notify_act, wait_act, waiter_deeds, Condvar, condvar_does, condvar_goes, is_lock}
-use Names.{IsCondvar, Rights, CallState, Event, GoesOn, going_on, is_taken_by, woken, IsWellFormed, State}
-use Names.{can_do, place_at, reply_to, state_after_going, word_at, acts, lock_state, locks_of, taken_at}
-use Names.{GoesAll, IsInductive, condvar_of}
+use Rattle.lot_laws.proofs.Imports
+use Imports.{ℕ, Bool, true, false, Option, Some, None, if◌then◌else◌, ◌==◌, ◌&&◌, ◌≡◌, ◌≢◌, ◌<◌, List, []}
+use Imports.{length, not, refl, sym, ◌∙◌, ap, subst, outcome_of, Hand, taken_from, Value, NotifyAt, Wait, Look}
+use Imports.{Notify, WaitAt, condvar_call_by, look_event, notify_event, wait_event, notify_deeds, wait_deeds}
+use Imports.{word_showing, beside_deeds, condvar_profile, mutex_side, notify_row, condvar_act, condvar_next}
+use Imports.{next_wait, notify_act, wait_act, waiter_deeds, Condvar, condvar_does, condvar_goes, is_lock}
+use Imports.{IsCondvar, Rights, CallState, Event, GoesOn, going_on, is_taken_by, woken, IsWellFormed, State}
+use Imports.{can_do, place_at, reply_to, state_after_going, word_at, acts, lock_state, locks_of, taken_at}
+use Imports.{GoesAll, IsInductive, condvar_of}
 use Rattle.steps_base.specs.declared.acts.Next.TheVariants as next
 use Rattle.steps_condvar.specs.declared.notify.NotifyAt.TheVariants as notify
 use Rattle.lot_laws.specs.ThreadDeeds as deeds

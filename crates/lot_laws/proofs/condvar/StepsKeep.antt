@@ -1,18 +1,18 @@
 -- Each step of a thread in a call of a condition variable keeps what holds of it.
-use Rattle.lot_laws.proofs.Names
-use Names.{ℕ, Bool, true, false, Option, Some, None, if◌then◌else◌, ◌==◌, ◌≡◌, ◌≢◌, ◌⊎◌, ◌*◌, ◌<◌, length}
-use Names.{nat_lt, is_some, inl, inr, refl, sym, ◌∙◌, ap, subst, length-set, get_or-set_other}
-use Names.{get_or-set_same, cases_eq, ltb-true, CondvarCall, lock_in, Call, Step, Turn, Late, CondvarPlace}
-use Names.{Wait, Look, Notify, WaitAt, MayReply, after_condvar_deeds, condvar_deeds, condvar_act}
-use Names.{condvar_first, condvar_next, in_lock, Place, Idle, Mutex, RwLock, Once, Condvar, Semaphore, act_of}
-use Names.{first_place, in_condvar, is_idle, late_key, called_lock, respins_from, next_place, profile_at}
-use Names.{BeginsWait, IsCondvar, IsInsideNot, condvar_leads, Rules, putting, rules_of, condvar_deed_keeps}
-use Names.{SectionChanges, Line, Main, has_readers, IsWellFormed, PlaceFits, State, after, can_do, can_turn}
-use Names.{is_free_under, is_open_to, is_possible, kind_at, place_at, put, queue_at, reply_to, runs_closure}
-use Names.{section_at, state_after_going, state_after_late_on, state_after_look, state_after_turn}
-use Names.{step_outcome, both, looking_well_formed, lock_state, locks_of, location_at, AreCondvars}
-use Names.{AreCounted, FitsCondvar, FitsItsLock, IsInductive, condvar_of, inside_as, key_of, rules_in}
-use Names.{stood_in}
+use Rattle.lot_laws.proofs.Imports
+use Imports.{ℕ, Bool, true, false, Option, Some, None, if◌then◌else◌, ◌==◌, ◌≡◌, ◌≢◌, ◌⊎◌, ◌*◌, ◌<◌, length}
+use Imports.{nat_lt, is_some, inl, inr, refl, sym, ◌∙◌, ap, subst, length-set, get_or-set_other}
+use Imports.{get_or-set_same, cases_eq, ltb-true, CondvarCall, lock_in, Call, Step, Turn, Late, CondvarPlace}
+use Imports.{Wait, Look, Notify, WaitAt, MayReply, after_condvar_deeds, condvar_deeds, condvar_act}
+use Imports.{condvar_first, condvar_next, in_lock, Place, Idle, Mutex, RwLock, Once, Condvar, Semaphore, act_of}
+use Imports.{first_place, in_condvar, is_idle, late_key, called_lock, respins_from, next_place, profile_at}
+use Imports.{BeginsWait, IsCondvar, IsInsideNot, condvar_leads, Rules, putting, rules_of, condvar_deed_keeps}
+use Imports.{SectionChanges, Line, Main, has_readers, IsWellFormed, PlaceFits, State, after, can_do, can_turn}
+use Imports.{is_free_under, is_open_to, is_possible, kind_at, place_at, put, queue_at, reply_to, runs_closure}
+use Imports.{section_at, state_after_going, state_after_late_on, state_after_look, state_after_turn}
+use Imports.{step_outcome, both, looking_well_formed, lock_state, locks_of, location_at, AreCondvars}
+use Imports.{AreCounted, FitsCondvar, FitsItsLock, IsInductive, condvar_of, inside_as, key_of, rules_in}
+use Imports.{stood_in}
 use Rattle.spec_locks.specs.declared.calls.CondvarCall.TheVariants as calls
 use Rattle.spec_locks.specs.declared.calls.Call.TheVariants as call
 use Rattle.spec_locks.specs.declared.calls.Turn as turn

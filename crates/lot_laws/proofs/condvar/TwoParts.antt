@@ -1,9 +1,9 @@
 -- Each lock sees of a place in a call of a condition variable, and of the next one, its own part: the row
 -- there, the row beside, or nothing.
-use Rattle.lot_laws.proofs.Names
-use Names.{ℕ, true, false, Some, None, ◌==◌, ◌≡◌, ◌≢◌, refl, sym, ◌∙◌, ap, Next, At, taken_from, Location}
-use Names.{location_by, Place, condvar_goes, CondvarPlace, mutex_beside, row_beside, row_there, idle}
-use Names.{taken_at, role_on, location_at}
+use Rattle.lot_laws.proofs.Imports
+use Imports.{ℕ, true, false, Some, None, ◌==◌, ◌≡◌, ◌≢◌, refl, sym, ◌∙◌, ap, Next, At, taken_from, Location}
+use Imports.{location_by, Place, condvar_goes, CondvarPlace, mutex_beside, row_at_mutex, row_at_condvar, idle}
+use Imports.{taken_at, role_on, location_at}
 use Rattle.steps_base.specs.declared.acts.Next.TheVariants.{End as Over}
 use Rattle.steps_base.specs.Locations.{nowhere}
 use Rattle.lot_laws.proofs.machine.Parts.{differ, same}
@@ -22,17 +22,17 @@ module _ (l m : ℕ) (apart : m ≢ l) where
     abbrev pub place : Place
     place = condvar_goes l n
 
-    pub location_there : location_at place l ≡ location_by (row_there n)
+    pub location_there : location_at place l ≡ location_by (row_at_condvar n)
     location_there = by_next n
       where
-        by_next : (n : Next CondvarPlace) → location_at (condvar_goes l n) l ≡ location_by (row_there n)
+        by_next : (n : Next CondvarPlace) → location_at (condvar_goes l n) l ≡ location_by (row_at_condvar n)
         by_next (At p) = rw (same l) refl
         by_next (Over answer) = refl
 
-    pub role_there : role_on place l ≡ (row_there n).role
+    pub role_there : role_on place l ≡ (row_at_condvar n).role
     role_there = by_next n
       where
-        by_next : (n : Next CondvarPlace) → role_on (condvar_goes l n) l ≡ (row_there n).role
+        by_next : (n : Next CondvarPlace) → role_on (condvar_goes l n) l ≡ (row_at_condvar n).role
         by_next (At p) = rw (same l) refl
         by_next (Over answer) = refl
 
@@ -43,26 +43,26 @@ module _ (l m : ℕ) (apart : m ≢ l) where
         by_next (At p) e = rw (same l, e, differ m l apart) refl
         by_next (Over answer) e = refl
 
-    pub location_beside : location_at place m ≡ location_by (row_beside n)
+    pub location_beside : location_at place m ≡ location_by (row_at_mutex n)
     location_beside = by_next n beside
       where
         by_next : (n : Next CondvarPlace) → Beside m n → location_at (condvar_goes l n) m ≡ location_by
-            (row_beside n)
+            (row_at_mutex n)
         by_next (At p) e = rw (there_differ, e, same m) refl
         by_next (Over answer) e = refl
 
-    pub role_beside : role_on place m ≡ (row_beside n).role
+    pub role_beside : role_on place m ≡ (row_at_mutex n).role
     role_beside = by_next n beside
       where
-        by_next : (n : Next CondvarPlace) → Beside m n → role_on (condvar_goes l n) m ≡ (row_beside n).role
+        by_next : (n : Next CondvarPlace) → Beside m n → role_on (condvar_goes l n) m ≡ (row_at_mutex n).role
         by_next (At p) e = rw (there_differ, e, same m) refl
         by_next (Over answer) e = refl
 
-    pub taken_beside : taken_at place m ≡ taken_from (row_beside n).hand (row_beside n).wants true
+    pub taken_beside : taken_at place m ≡ taken_from (row_at_mutex n).hand (row_at_mutex n).wants true
     taken_beside = by_next n beside
       where
         by_next : (n : Next CondvarPlace) → Beside m n
-            → taken_at (condvar_goes l n) m ≡ taken_from (row_beside n).hand (row_beside n).wants true
+            → taken_at (condvar_goes l n) m ≡ taken_from (row_at_mutex n).hand (row_at_mutex n).wants true
         by_next (At p) e = rw (there_differ, e, same m) refl
         by_next (Over answer) e = refl
 
@@ -92,9 +92,9 @@ module _ (l m : ℕ) (apart : m ≢ l) where
       nothing (Over answer) e = (refl, refl, refl)
 
 -- the row there says of the thread's doing where it is inside
-pub role_of_row : (n : Next CondvarPlace) → (row_there n).role ≡ record idle {
+pub role_of_row : (n : Next CondvarPlace) → (row_at_condvar n).role ≡ record idle {
   inside =
-      (location_by (row_there n)).inside;
+      (location_by (row_at_condvar n)).inside;
 }
 role_of_row (At p) = refl
 role_of_row (Over answer) = refl
@@ -104,9 +104,9 @@ role_of_row (Over answer) = refl
 -- one row and the next say the same of the thread at the mutex
 abbrev pub SameBeside : Next CondvarPlace → Next CondvarPlace → Type 0
 SameBeside n n2 =
-    (location_by (row_beside n2) ≡ location_by (row_beside n)) × ((row_beside n2).role ≡ (row_beside n).role)
-    × (taken_from (row_beside n2).hand (row_beside n2).wants true ≡ taken_from (row_beside n).hand
-    (row_beside n).wants true)
+    (location_by (row_at_mutex n2) ≡ location_by (row_at_mutex n)) × ((row_at_mutex n2).role ≡ (row_at_mutex n).role)
+    × (taken_from (row_at_mutex n2).hand (row_at_mutex n2).wants true ≡ taken_from (row_at_mutex n).hand
+    (row_at_mutex n).wants true)
 
 module _ (l m : ℕ) (apart : m ≢ l) (n n2 : Next CondvarPlace) (beside : Beside m n) (beside2 : Beside m n2)
   where
@@ -117,7 +117,7 @@ module _ (l m : ℕ) (apart : m ≢ l) (n n2 : Next CondvarPlace) (beside : Besi
       taken = taken_beside l m apart n2 beside2 ∙ e.2 ∙ sym (taken_beside l m apart n beside);
     }
 
-    pub alike_there : location_by (row_there n2) ≡ location_by (row_there n)
+    pub alike_there : location_by (row_at_condvar n2) ≡ location_by (row_at_condvar n)
         → Alike l (condvar_goes l n) (condvar_goes l n2)
     alike_there e = record {
       location = location_there l m apart n2 beside2 ∙ e ∙ sym (location_there l m apart n beside);

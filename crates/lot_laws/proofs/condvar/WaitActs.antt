@@ -1,12 +1,12 @@
 -- Each act in a wait at its condition variable, where it leaves its mutex as it is: every lock is a site
 -- again.
-use Rattle.lot_laws.proofs.Names
-use Names.{ℕ, Bool, true, false, None, if◌then◌else◌, ◌==◌, ◌||◌, ◌≡◌, ◌≢◌, ◌*◌, ◌<◌, [], ◌∷◌, length, refl}
-use Names.{sym, ◌∙◌, ap, subst, Next, At, inside_of, row_beside, row_there, there, Done, Value, Removed}
-use Names.{without, Condvar, condvar_goes, CondvarPlace, Wait, WaitAt, condvar_next, in_wait, is_shown}
-use Names.{shown_as, wait_act, condvar_deeds, condvar_steps_follow, IsCondvar, Main, State, can_do, place_at}
-use Names.{put, queue_at, reply_to, section_at, state_after_act, word_at, acts, location_at, FitsItsLock}
-use Names.{Goes, IsInductive, condvar_of, key_of, rules_in, Location, location_by}
+use Rattle.lot_laws.proofs.Imports
+use Imports.{ℕ, Bool, true, false, None, if◌then◌else◌, ◌==◌, ◌||◌, ◌≡◌, ◌≢◌, ◌*◌, ◌<◌, [], ◌∷◌, length, refl}
+use Imports.{sym, ◌∙◌, ap, subst, Next, At, inside_of, row_at_mutex, row_at_condvar, there, Done, Value, Removed}
+use Imports.{without, Condvar, condvar_goes, CondvarPlace, Wait, WaitAt, condvar_next, in_wait, is_shown}
+use Imports.{shown_as, wait_act, condvar_deeds, condvar_steps_follow, IsCondvar, Main, State, can_do, place_at}
+use Imports.{put, queue_at, reply_to, section_at, state_after_act, word_at, acts, location_at, FitsItsLock}
+use Imports.{Goes, IsInductive, condvar_of, key_of, rules_in, Location, location_by}
 use Rattle.core_base.specs.declared.ops.Op.TheVariants as op
 use Rattle.steps_condvar.specs.declared.wait.WaitAt.TheVariants as wait
 use Rattle.spec_locks.specs.Condvars as condvars
@@ -52,7 +52,7 @@ module _ (w : State) (t l m : ℕ) (timed : Bool) (inductive : IsInductive w) (i
 
   -- the thread stands in no line there
   outside : (at : WaitAt) → place_at w t ≡ Condvar l (waits at)
-      → (location_by (row_beside (At (waits at)))).stands ≡ None
+      → (location_by (row_at_mutex (At (waits at)))).stands ≡ None
       → (location_at (place_at w t) m).stands ≡ None
   outside at is e = ap (λ q. (location_at q m).stands) is
       ∙ ap (λ (y : Location). y.stands) (location_beside l m apart (At (waits at)) refl) ∙ e
@@ -92,7 +92,7 @@ module _ (w : State) (t l m : ℕ) (timed : Bool) (inductive : IsInductive w) (i
   removed_same false = (refl, refl, refl)
 
   removed_there : (b : Bool)
-      → location_by (row_there (in_wait m timed (if b then At wait.Hide else At wait.GiveUp)))
+      → location_by (row_at_condvar (in_wait m timed (if b then At wait.Hide else At wait.GiveUp)))
       ≡ inside_of Main
   removed_there true = refl
   removed_there false = refl
@@ -118,7 +118,7 @@ module _ (w : State) (t l m : ℕ) (timed : Bool) (inductive : IsInductive w) (i
   shows_same false = (refl, refl, refl)
 
   shows_there : (b : Bool)
-      → location_by (row_there (in_wait m timed (if b then At wait.Stand else At wait.Refuse)))
+      → location_by (row_at_condvar (in_wait m timed (if b then At wait.Stand else At wait.Refuse)))
       ≡ there (waits wait.Show)
   shows_there true = refl
   shows_there false = refl

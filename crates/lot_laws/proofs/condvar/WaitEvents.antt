@@ -1,20 +1,20 @@
 -- A step of a wait is one event of its condition variable or of its mutex, and its call goes on by it.
-use Rattle.lot_laws.proofs.Names
-use Names.{ℕ, Bool, true, false, Option, Some, None, if◌then◌else◌, ◌==◌, ◌||◌, ◌≡◌, ◌≢◌, ◌⊎◌, ◌*◌, ◌+◌, List}
-use Names.{[], ◌∷◌, not, inl, inr, refl, sym, ◌∙◌, ap, subst, cases_eq, One, outcome_of, Act, Next, Reply}
-use Names.{Done, Value, Parked, MutexPlace, LockAt, enter_deeds, take_deeds, is_locked, is_parked, lock_act}
-use Names.{mutex_next, Wait, WaitAt, BecomesOfTwo, CallOfTwoFollows, IsLockOf, IsReached, case_there, heard}
-use Names.{wait_event, condvar_deeds, relocked_deeds, wait_deeds, waits_tell, wait_carries, condvar_next}
-use Names.{in_wait, is_shown, next_wait, wait_act, unended, waiter_deeds, CondvarDeed, IsCondvar, SeeOther}
-use Names.{Show, AreOneCase, KeepLock, after_all, case_of, event_by, HasTakenNobody, LockCase, LockState}
-use Names.{Rights, Rules, rights_of, CallState, Event, GoesOn, MayHappen, Moves, going_on, woken, End, Main}
-use Names.{Mark, Site, State, can_do, place_at, reply_to, word_at, rights_where, Location, Condvar}
-use Names.{condvar_does, condvar_goes, acts, call_at, call_state, lock_state, locks_of, FollowAll}
-use Names.{IsInductive, condvar_of, rules_in, site_of}
+use Rattle.lot_laws.proofs.Imports
+use Imports.{ℕ, Bool, true, false, Option, Some, None, if◌then◌else◌, ◌==◌, ◌||◌, ◌≡◌, ◌≢◌, ◌⊎◌, ◌*◌, ◌+◌, List}
+use Imports.{[], ◌∷◌, not, inl, inr, refl, sym, ◌∙◌, ap, subst, cases_eq, One, outcome_of, Act, Next, Reply}
+use Imports.{Done, Value, Parked, MutexPlace, LockAt, enter_deeds, take_deeds, is_locked, is_parked, lock_act}
+use Imports.{mutex_next, Wait, WaitAt, BecomesOfTwo, CallOfTwoFollows, IsLockOf, IsReached, case_at_condvar, heard}
+use Imports.{wait_event, condvar_deeds, relocked_deeds, wait_deeds, waits_tell, wait_carries, condvar_next}
+use Imports.{in_wait, is_shown, next_wait, wait_act, unended, waiter_deeds, CondvarDeed, IsCondvar, SeeOther}
+use Imports.{Show, AreOneCase, KeepLock, after_all, case_of, event_by, HasTakenNobody, LockCase, LockState}
+use Imports.{Rights, Rules, rights_of, CallState, Event, GoesOn, MayHappen, Moves, going_on, woken, End, Main}
+use Imports.{Mark, Site, State, can_do, place_at, reply_to, word_at, rights_where, Location, Condvar}
+use Imports.{condvar_does, condvar_goes, acts, call_at, call_state, lock_state, locks_of, FollowAll}
+use Imports.{IsInductive, condvar_of, rules_in, site_of}
 use Rattle.core_base.specs.declared.ops.Op as op
 use Rattle.steps_base.specs.declared.acts.Act.TheVariants as act
 use Rattle.steps_base.specs.declared.acts.Next.TheVariants as next
-use Rattle.steps_base.specs.declared.acts.Whom.TheVariants as whoms
+use Rattle.steps_base.specs.declared.acts.TakeWhich.TheVariants as whoms
 use Rattle.steps_mutex.specs.declared.places.MutexPlace.TheVariants as mutex
 use Rattle.steps_mutex.specs.declared.lock.Entry.TheVariants as entry
 use Rattle.steps_mutex.specs.declared.lock.LockAt.TheVariants as lock
@@ -53,11 +53,11 @@ pub record OneAtATime (m : ℕ) (p : WaitAt) (whom : Option ℕ) (told : Reply) 
   pub there : AreOneCase (there_deeds (wait_deeds m p told))
   pub beside : AreOneCase (waiter_deeds p whom told)
   pub alone : (case_of (wait_carries p) (waiter_deeds p whom told) ≡ None)
-      ⊎ (case_there (wait_deeds m p told) ≡ None)
+      ⊎ (case_at_condvar (wait_deeds m p told) ≡ None)
 
 module _ (w : State) (t l m : ℕ) where
   relocked_one : (n : Next MutexPlace) → AreOneCase (there_deeds (relocked_deeds n))
-      × (case_there (relocked_deeds n) ≡ None)
+      × (case_at_condvar (relocked_deeds n) ≡ None)
   relocked_one (next.At q) = (tt, refl)
   relocked_one (next.End answer) = (tt, refl)
 

@@ -1,13 +1,13 @@
 -- A wait goes on: by each of its acts both its locks are sites again, as the deeds of its place say.
-use Rattle.lot_laws.proofs.Names
-use Names.{ℕ, Bool, true, false, None, if◌then◌else◌, ◌==◌, ◌≡◌, ◌≢◌, ◌+◌, ◌*◌, ◌<◌, List, [], length, refl}
-use Names.{sym, ◌∙◌, ap, subst, eqb-true, One, Act, Next, At, Reply, Place, Condvar, condvar_goes, next_place}
-use Names.{LockAt, UnlockAt, is_locked, lock_act, unlock_act, mutex_next, CondvarPlace, Wait, WaiterFate}
-use Names.{WaitAt}
-use Names.{IsReached, IsLockOf, wait_deeds, relocked_deeds, wait_act, condvar_next, waiter_deeds, IsCondvar}
-use Names.{Main, State, can_do, place_at, put, reply_to, state_after_act, queues_with_last, word_at, acts}
-use Names.{FitsItsLock, Goes, GoesAll, IsInductive, condvar_of, key_of, rules_in, MutexPlace, WordIs, holds}
-use Names.{Exclusive}
+use Rattle.lot_laws.proofs.Imports
+use Imports.{ℕ, Bool, true, false, None, if◌then◌else◌, ◌==◌, ◌≡◌, ◌≢◌, ◌+◌, ◌*◌, ◌<◌, List, [], length, refl}
+use Imports.{sym, ◌∙◌, ap, subst, eqb-true, One, Act, Next, At, Reply, Place, Condvar, condvar_goes, next_place}
+use Imports.{LockAt, UnlockAt, is_locked, lock_act, unlock_act, mutex_next, CondvarPlace, Wait, WaiterFate}
+use Imports.{WaitAt}
+use Imports.{IsReached, IsLockOf, wait_deeds, relocked_deeds, wait_act, condvar_next, waiter_deeds, IsCondvar}
+use Imports.{Main, State, can_do, place_at, put, reply_to, state_after_act, queues_with_last, word_at, acts}
+use Imports.{FitsItsLock, Goes, GoesAll, IsInductive, condvar_of, key_of, rules_in, MutexPlace, WordIs, holds}
+use Imports.{Exclusive}
 use Rattle.core_base.specs.declared.ops.Op.TheVariants as op
 use Rattle.steps_base.specs.declared.acts.Act.TheVariants as act
 use Rattle.steps_base.specs.declared.acts.Next.TheVariants.{End as Over}

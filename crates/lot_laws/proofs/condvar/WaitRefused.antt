@@ -1,11 +1,11 @@
 -- A wait with another mutex than the one that is shown goes out of the section of its condition variable, and
 -- is over: both locks are sites again.
-use Rattle.lot_laws.proofs.Names
-use Names.{ℕ, Bool, false, None, ◌≡◌, ◌≢◌, ◌<◌, [], ◌∷◌, length, refl, sym, ◌∙◌, ap, subst, inl, inr}
-use Names.{get_or-set_same, get_or-set_other, cases_eq, One, At, Done, Location, Condvar, Idle, CondvarPlace}
-use Names.{Wait, WaiterFollows, putting, End, Main, Out, has_readers, State, place_at, put, queue_at}
-use Names.{section_at, state_with_sections, acts, taken_at, location_at, GoesAll, IsInductive, key_of}
-use Names.{rules_in, site_of, locations_of}
+use Rattle.lot_laws.proofs.Imports
+use Imports.{ℕ, Bool, false, None, ◌≡◌, ◌≢◌, ◌<◌, [], ◌∷◌, length, refl, sym, ◌∙◌, ap, subst, inl, inr}
+use Imports.{get_or-set_same, get_or-set_other, cases_eq, One, At, Done, Location, Condvar, Idle, CondvarPlace}
+use Imports.{Wait, WaiterFollows, putting, End, Main, Out, has_readers, State, place_at, put, queue_at}
+use Imports.{section_at, state_with_sections, acts, taken_at, location_at, GoesAll, IsInductive, key_of}
+use Imports.{rules_in, site_of, locations_of}
 use Rattle.steps_base.specs.declared.acts.Next.TheVariants.{End as Over}
 use Rattle.steps_base.specs.Locations.{nowhere}
 use Rattle.spec_locks.specs.declared.outcomes.Answer.TheVariants as answer

@@ -1,14 +1,14 @@
 -- Each step of a wait in the section and the line of its mutex, as it releases it and locks it again: every
 -- lock is a site again.
-use Rattle.lot_laws.proofs.Names
-use Names.{ℕ, Bool, true, false, None, if◌then◌else◌, ◌≡◌, ◌≢◌, ◌*◌, ◌<◌, length, refl}
-use Names.{sym, ◌∙◌, ap, subst, inl, inr, cases_eq, One, Exclusive, Act, Next, At, Reply, Done, Parked}
-use Names.{Nobody, StepView, Location, Condvar, condvar_goes, LockAt, UnlockAt}
-use Names.{still_retries, CondvarPlace, Wait, WaiterFate, WaitAt, condvar_next, in_wait, next_wait, relocked}
-use Names.{wait_act, row_beside, there, MayHearWaiter, WaiterFollows, itself_woken, waiter_deeds, waiter_next}
-use Names.{Park, Rules, Role, Main, Site, wakened, State, can_do}
-use Names.{place_at, put, reply_to, section_at, state_after_act, word_at, queues_with_last, acts, taken_at}
-use Names.{role_on, location_at, FitsItsLock, Goes, IsInductive, key_of, rules_in, site_of, WordIs, holds}
+use Rattle.lot_laws.proofs.Imports
+use Imports.{ℕ, Bool, true, false, None, if◌then◌else◌, ◌≡◌, ◌≢◌, ◌*◌, ◌<◌, length, refl}
+use Imports.{sym, ◌∙◌, ap, subst, inl, inr, cases_eq, One, Exclusive, Act, Next, At, Reply, Done, Parked}
+use Imports.{Nobody, StepView, Location, Condvar, condvar_goes, LockAt, UnlockAt}
+use Imports.{still_retries, CondvarPlace, Wait, WaiterFate, WaitAt, condvar_next, in_wait, next_wait, relocked}
+use Imports.{wait_act, row_at_mutex, there, MayHearWaiter, WaiterFollows, itself_woken, waiter_deeds, waiter_next}
+use Imports.{Park, Rules, Role, Main, Site, wakened, State, can_do}
+use Imports.{place_at, put, reply_to, section_at, state_after_act, word_at, queues_with_last, acts, taken_at}
+use Imports.{role_on, location_at, FitsItsLock, Goes, IsInductive, key_of, rules_in, site_of, WordIs, holds}
 use Rattle.steps_base.specs.declared.acts.Act.TheVariants as act
 use Rattle.steps_mutex.specs.declared.lock.Entry.TheVariants as entry
 use Rattle.steps_mutex.specs.declared.lock.LockAt.TheVariants as lock
@@ -21,7 +21,7 @@ use Rattle.spec_locks.specs.Locks as locks
 use Rattle.lot_laws.proofs.condvar.Replies as hears
 use Rattle.lot_laws.proofs.condvar.Replies.{taken_by_wait, waiter_hears, none_so}
 use Rattle.lot_laws.proofs.condvar.WaitWords as beside
-use Rattle.lot_laws.proofs.condvar.WaitWords.{StaysThere}
+use Rattle.lot_laws.proofs.condvar.WaitWords.{StaysAtCondvar}
 use Rattle.lot_laws.proofs.book.At.{Enters, LeadsTo, StandsAs, goes_in, goes_out_alone, leaves_main}
 use Rattle.lot_laws.proofs.book.At.{stands_last}
 use Rattle.lot_laws.proofs.book.At as at_lock
@@ -52,8 +52,8 @@ module _ (w : State) (t l m : ℕ) (timed : Bool) (inductive : IsInductive w) (i
   -- what a place of a wait says of its thread at the mutex
   abbrev move : WaitAt → StepView
   move at = record {
-    row = row_beside (At (waits at));
-    next = λ told. row_beside (in_wait m timed (next_wait m timed at told));
+    row = row_at_mutex (At (waits at));
+    next = λ told. row_at_mutex (in_wait m timed (next_wait m timed at told));
     deeds = λ who told. waiter_deeds at who told;
   }
 
@@ -68,7 +68,7 @@ module _ (w : State) (t l m : ℕ) (timed : Bool) (inductive : IsInductive w) (i
     -- the thread takes nobody, and isn't woken by its own step
     module _ (a : Act) (acts_so : wait_act l m at ≡ a) (can : can_do w a ≡ true)
         (nobody : taken_by_wait w m at ≡ None)
-        (stays : StaysThere w t l m timed inductive is_there apart sort at
+        (stays : StaysAtCondvar w t l m timed inductive is_there apart sort at
         (in_wait m timed (next_wait m timed at (reply_to w t a))))
         (unwoken : (d : Role) → itself_woken t here (waiter_deeds at None (reply_to w t a)) d ≡ d)
         (fits : FitsNext at a) where
@@ -82,7 +82,7 @@ module _ (w : State) (t l m : ℕ) (timed : Bool) (inductive : IsInductive w) (i
           (waiter_hears w t l m timed at inductive is (subst (λ b. can_do w b ≡ true) (sym acts_so) can))))
 
       role_then : role_on (condvar_goes l (in_wait m timed (next_wait m timed at told))) m
-          ≡ (row_beside (in_wait m timed (next_wait m timed at told))).role
+          ≡ (row_at_mutex (in_wait m timed (next_wait m timed at told))).role
       role_then = role_beside l m apart (in_wait m timed (next_wait m timed at told)) stays.0
 
       leads : LeadsTo w t m inductive is_there r refl (move at) None told
@@ -101,9 +101,9 @@ module _ (w : State) (t l m : ℕ) (timed : Bool) (inductive : IsInductive w) (i
       }
 
     -- in its own hand it is nowhere
-    untaken : (row_beside (At (waits at))).hand ≡ None → taken_at (place_at w t) m ≡ None
-    untaken e = stands_as.taken ∙ at_lock.free_is (row_beside (At (waits at))).hand
-        (row_beside (At (waits at))).wants e
+    untaken : (row_at_mutex (At (waits at))).hand ≡ None → taken_at (place_at w t) m ≡ None
+    untaken e = stands_as.taken ∙ at_lock.free_is (row_at_mutex (At (waits at))).hand
+        (row_at_mutex (At (waits at))).wants e
 
     -- the thread stands in no other line
     stands_out : (there (waits at)).stands ≡ None → (k : ℕ) → k ≢ m → (location_at (place_at w t) k).stands
@@ -130,7 +130,7 @@ module _ (w : State) (t l m : ℕ) (timed : Bool) (inductive : IsInductive w) (i
 
   enters : (at : WaitAt) (is : place_at w t ≡ Condvar l (waits at)) → wait_act l m at ≡ enter
       → can_do w enter ≡ true → taken_by_wait w m at ≡ None
-      → StaysThere w t l m timed inductive is_there apart sort at
+      → StaysAtCondvar w t l m timed inductive is_there apart sort at
       (in_wait m timed (next_wait m timed at Done))
       → Enters (move at) Main Done → FitsNext at enter → Kept at enter
   enters at is e can nobody stays g fits = goes_in w t m inductive is_there r refl (move at) (stands_as at is)
@@ -226,11 +226,11 @@ module _ (w : State) (t l m : ℕ) (timed : Bool) (inductive : IsInductive w) (i
       checks b = in_wait m timed (relocked timed late (in_lock entry.Lock (still_retries retries (Parked b))
           (At (lock.Leave b))))
 
-      by_test : (b : Bool) → holds (WordIs 3) (word_at w m) ≡ b → StaysThere w t l m timed inductive is_there
+      by_test : (b : Bool) → holds (WordIs 3) (word_at w m) ≡ b → StaysAtCondvar w t l m timed inductive is_there
           apart sort at (checks b) → FitsItsLock w (condvar_goes l (checks b))
           → ((d : Role) → itself_woken t here (waiter_deeds at None (Parked b)) d ≡ d)
           → LeadsTo w t m inductive is_there r refl (move at) None (Parked b) (condvar_goes l (checks b))
-      by_test b e = subst (λ b. StaysThere w t l m timed inductive is_there apart sort at (checks b)
+      by_test b e = subst (λ b. StaysAtCondvar w t l m timed inductive is_there apart sort at (checks b)
           → FitsItsLock w (condvar_goes l (checks b))
           → ((d : Role) → itself_woken t here (waiter_deeds at None (Parked b)) d ≡ d)
           → LeadsTo w t m inductive is_there r refl (move at) None (Parked b) (condvar_goes l (checks b))) e

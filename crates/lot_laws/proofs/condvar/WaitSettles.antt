@@ -1,13 +1,13 @@
 -- A wait's own step never leads it to sleep where it was handed its mutex: each thread that hands it over is
 -- inside the section of the mutex till it has told so.
-use Rattle.lot_laws.proofs.Names
-use Names.{ℕ, Bool, true, false, Some, if◌then◌else◌, ◌==◌, ◌≡◌, ◌≢◌, ◌+◌, ◌*◌, not, refl, sym, ◌∙◌, ap}
-use Names.{eqb-true, One, hand, Location, location_by, Next, MutexPlace, LockAt, mutex_profile, in_unlock}
-use Names.{is_locked, is_parked, lock_act, mutex_next, CondvarPlace, Wait, Look, Notify, WaiterFate, WaitAt}
-use Names.{IsLockOf, IsReached, has_mutex, carries_beside, condvar_profile, mutex_side, past_release}
-use Names.{mutex_beside, next_wait, released, relocked, wait_act, Place, Idle, Mutex, RwLock, Once, Condvar}
-use Names.{Semaphore, is_lock, Main, has_readers, State, can_do, place_at, reply_to, section_at, word_at}
-use Names.{location, location_at, FitsItsLock, IsInductive, carried_at, key_of, rules_in}
+use Rattle.lot_laws.proofs.Imports
+use Imports.{ℕ, Bool, true, false, Some, if◌then◌else◌, ◌==◌, ◌≡◌, ◌≢◌, ◌+◌, ◌*◌, not, refl, sym, ◌∙◌, ap}
+use Imports.{eqb-true, One, hand, Location, location_by, Next, MutexPlace, LockAt, mutex_profile, in_unlock}
+use Imports.{is_locked, is_parked, lock_act, mutex_next, CondvarPlace, Wait, Look, Notify, WaiterFate, WaitAt}
+use Imports.{IsLockOf, IsReached, has_mutex, carries_at_mutex, condvar_profile, mutex_side, past_release}
+use Imports.{mutex_beside, next_wait, released, relocked, wait_act, Place, Idle, Mutex, RwLock, Once, Condvar}
+use Imports.{Semaphore, is_lock, Main, has_readers, State, can_do, place_at, reply_to, section_at, word_at}
+use Imports.{location, location_at, FitsItsLock, IsInductive, carried_at, key_of, rules_in}
 use Rattle.core_base.specs.declared.notes.Note.TheVariants as note
 use Rattle.core_base.specs.declared.ops.Op as op
 use Rattle.steps_base.specs.Locations.{nowhere}
@@ -49,7 +49,7 @@ handed_mutex (mutex.HandOff b (hand_off.Store false none_left)) h = absurd cc
 handed_mutex (mutex.HandOff b a) h = absurd cc
 
 -- no call of a condition variable hands one over
-hands_none : (at : CondvarPlace) → IsReached at → carries_beside at ≢ Some true
+hands_none : (at : CondvarPlace) → IsReached at → carries_at_mutex at ≢ Some true
 hands_none (Look all) reached h = cc
 hands_none (Wait m timed (wait.Release s (mutex.Unlock (unlock.Clear true)))) reached h = cc
 hands_none (Wait m timed (wait.Release s (mutex.Unlock (unlock.Clear false)))) reached h = cc

@@ -1,9 +1,9 @@
 -- A wait that is told to sleep stands in a queue, or is in a hand.
-use Rattle.lot_laws.proofs.Names
-use Names.{ℕ, Bool, true, false, Some, None, if◌then◌else◌, ◌==◌, ◌≡◌, ◌+◌, ◌*◌, ◌≤◌, not, inl, inr, refl}
-use Names.{◌∙◌, ap, arith, One, outcome_of, Location, Next, is_locked, Wait, WaitAt, IsReached, wait_row}
-use Names.{in_wait, wait_act, Condvar, condvar_does, condvar_goes, one_if_some, standing, Main, State}
-use Names.{place_at, lock_state, taken_at, location_at, IsInductive, stood_in}
+use Rattle.lot_laws.proofs.Imports
+use Imports.{ℕ, Bool, true, false, Some, None, if◌then◌else◌, ◌==◌, ◌≡◌, ◌+◌, ◌*◌, ◌≤◌, not, inl, inr, refl}
+use Imports.{◌∙◌, ap, arith, One, outcome_of, Location, Next, is_locked, Wait, WaitAt, IsReached, wait_row}
+use Imports.{in_wait, wait_act, Condvar, condvar_does, condvar_goes, one_if_some, standing, Main, State}
+use Imports.{place_at, lock_state, taken_at, location_at, IsInductive, stood_in}
 use Rattle.core_base.specs.declared.ops.Op as op
 use Rattle.spec_locks.specs.declared.outcomes.Outcome as outcome
 use Rattle.steps_base.specs.declared.acts.Act.TheVariants as act

@@ -1,14 +1,14 @@
 -- A wait that releases its mutex takes the first of its line, itself too where a notification brought it
 -- there: every lock is a site again.
-use Rattle.lot_laws.proofs.Names
-use Names.{ℕ, Bool, true, false, Option, Some, None, if◌then◌else◌, ◌==◌, ◌≡◌, ◌≢◌, ◌*◌, ◌<◌, List, [], ◌∷◌}
-use Names.{length, map, drop, get_or, set, refl, sym, ◌∙◌, ap, subst, inl, inr, get_or-set_same}
-use Names.{get_or-set_other, cases_eq, Waiter, first_of, At, Reply, Took, TakenBy, taken_from, Location}
-use Names.{location_by, Place, Condvar, Idle, next_place, UnlockAt, CondvarPlace, Wait, WaiterFate, WaitAt}
-use Names.{released, in_unlock, row_beside, row_there, there, wait_row, WaiterFollows, waiter_deeds}
-use Names.{Taken, first_thread, queued_of, Deed, Main, Site, State, is_there, place_at, put}
-use Names.{queue_at, queues_without_first, state_after_taking, acts, taken_at, role_on, location_at}
-use Names.{FitsItsLock, Goes, IsInductive, key_of, rules_in, site_of}
+use Rattle.lot_laws.proofs.Imports
+use Imports.{ℕ, Bool, true, false, Option, Some, None, if◌then◌else◌, ◌==◌, ◌≡◌, ◌≢◌, ◌*◌, ◌<◌, List, [], ◌∷◌}
+use Imports.{length, map, drop, get_or, set, refl, sym, ◌∙◌, ap, subst, inl, inr, get_or-set_same}
+use Imports.{get_or-set_other, cases_eq, Waiter, first_of, At, Reply, Took, TakenBy, taken_from, Location}
+use Imports.{location_by, Place, Condvar, Idle, next_place, UnlockAt, CondvarPlace, Wait, WaiterFate, WaitAt}
+use Imports.{released, in_unlock, row_at_mutex, row_at_condvar, there, wait_row, WaiterFollows, waiter_deeds}
+use Imports.{Taken, first_thread, queued_of, Deed, Main, Site, State, is_there, place_at, put}
+use Imports.{queue_at, queues_without_first, state_after_taking, acts, taken_at, role_on, location_at}
+use Imports.{FitsItsLock, Goes, IsInductive, key_of, rules_in, site_of}
 use Rattle.steps_mutex.specs.declared.places.MutexPlace.TheVariants as mutex
 use Rattle.steps_mutex.specs.declared.unlock.UnlockAt.TheVariants as unlock
 use Rattle.steps_condvar.specs.declared.wait.WaiterFate.TheVariants as stands
@@ -42,10 +42,10 @@ module _ (w : State) (t l m : ℕ) (timed : Bool) (inductive : IsInductive w) (h
   taking s = releasing s unlock.Take
 
   abbrev beside_of : WaitAt → Location
-  beside_of at = location_by (row_beside (At (waits at)))
+  beside_of at = location_by (row_at_mutex (At (waits at)))
 
   abbrev taken_of : WaitAt → Option Taken
-  taken_of at = taken_from (row_beside (At (waits at))).hand (row_beside (At (waits at))).wants true
+  taken_of at = taken_from (row_at_mutex (At (waits at))).hand (row_at_mutex (At (waits at))).wants true
 
   -- after it the bit goes, where nobody is left
   abbrev goes_to : WaiterFate → Bool → Bool → WaitAt
@@ -89,7 +89,7 @@ module _ (w : State) (t l m : ℕ) (timed : Bool) (inductive : IsInductive w) (h
 
     -- where it goes on, as it stands then
     module _ (s2 : WaiterFate) (any none_left : Bool)
-        (stays : location_by (row_there (At (waits (goes_to s2 any none_left)))) ≡ there (waits (taking s)))
+        (stays : location_by (row_at_condvar (At (waits (goes_to s2 any none_left)))) ≡ there (waits (taking s)))
       where
         abbrev then_at : Place
         then_at = Condvar l (waits (goes_to s2 any none_left))
@@ -108,7 +108,7 @@ module _ (w : State) (t l m : ℕ) (timed : Bool) (inductive : IsInductive w) (h
         does_then = beside.does_next w t l m timed inductive here apart sort (At (goes_to s2 any none_left))
             refl
 
-    next_there : (any none_left : Bool) → location_by (row_there (At (waits (goes_to s any none_left))))
+    next_there : (any none_left : Bool) → location_by (row_at_condvar (At (waits (goes_to s any none_left))))
         ≡ there (waits (taking s))
     next_there any true = refl
     next_there any false = refl
@@ -210,7 +210,7 @@ module _ (w : State) (t l m : ℕ) (timed : Bool) (inductive : IsInductive w) (h
     own_member = rw (itself, same t) refl
 
     own_there : (b : Bool)
-        → location_by (row_there (At (waits (goes_to (stands.InHand t) true b))))
+        → location_by (row_at_condvar (At (waits (goes_to (stands.InHand t) true b))))
         ≡ there (waits (taking stands.Moved))
     own_there true = refl
     own_there false = refl

@@ -1,15 +1,15 @@
 -- A wait that releases its mutex goes out of its section and wakes the threads that it has in hand, itself
 -- too where a notification brought it there and it took itself: every lock is a site again.
-use Rattle.lot_laws.proofs.Names
-use Names.{ℕ, Bool, true, false, Option, Some, None, if◌then◌else◌, ◌==◌, ◌≡◌, ◌≢◌, ◌⊎◌, ◌*◌, ◌<◌, [], ◌∷◌}
-use Names.{length, refl, sym, ◌∙◌, ap, subst, inl, inr, cases_eq, get_or-map, One, Act, At, Done, Woken}
-use Names.{wakes_taken, is_thread, hand, taken_from, in_hand, Location, location_by, Place, Condvar, Idle}
-use Names.{next_place, taker, CondvarPlace, Wait, WaiterFate, WaitAt, past_release, row_beside, row_there}
-use Names.{there}
-use Names.{hand_of, taker_of, wait_row, WaiterFollows, Taken, keep_from, Role, Main, Out, Site, wakened}
-use Names.{State, place_after_telling, place_at, put, state_after_act, state_after_telling}
-use Names.{state_with_sections, acts, taken_at, role_on, location_at, FitsItsLock, Goes, IsInductive}
-use Names.{carried_at, hand_at, key_of, rules_in, site_of}
+use Rattle.lot_laws.proofs.Imports
+use Imports.{ℕ, Bool, true, false, Option, Some, None, if◌then◌else◌, ◌==◌, ◌≡◌, ◌≢◌, ◌⊎◌, ◌*◌, ◌<◌, [], ◌∷◌}
+use Imports.{length, refl, sym, ◌∙◌, ap, subst, inl, inr, cases_eq, get_or-map, One, Act, At, Done, Woken}
+use Imports.{wakes_taken, is_thread, hand, taken_from, in_hand, Location, location_by, Place, Condvar, Idle}
+use Imports.{next_place, taker, CondvarPlace, Wait, WaiterFate, WaitAt, past_release, row_at_mutex, row_at_condvar}
+use Imports.{there}
+use Imports.{hand_of, taker_of, wait_row, WaiterFollows, Taken, keep_from, Role, Main, Out, Site, wakened}
+use Imports.{State, place_after_telling, place_at, put, state_after_act, state_after_telling}
+use Imports.{state_with_sections, acts, taken_at, role_on, location_at, FitsItsLock, Goes, IsInductive}
+use Imports.{carried_at, hand_at, key_of, rules_in, site_of}
 use Rattle.core_base.specs.declared.notes.Note.TheVariants as note
 use Rattle.steps_base.specs.declared.acts.Act.TheVariants as act
 use Rattle.steps_mutex.specs.declared.places.MutexPlace.TheVariants as mutex
@@ -27,7 +27,7 @@ use Rattle.lot_laws.proofs.mutex.Acts.{goes_out_at, goes_out_waking}
 use Rattle.lot_laws.proofs.mutex.Hands.{tries}
 use Rattle.lot_laws.proofs.mutex.Waiters.{IsHeldThere, calls_mutex_at, held_there, holds_here}
 use Rattle.lot_laws.proofs.condvar.WaitWords as beside
-use Rattle.lot_laws.proofs.condvar.WaitWords.{StaysThere}
+use Rattle.lot_laws.proofs.condvar.WaitWords.{StaysAtCondvar}
 use Rattle.lot_laws.proofs.sites.WakesAt.{IsWokenAt}
 use Rattle.lot_laws.proofs.sites.StandsKept.{AlikeBeside}
 
@@ -67,14 +67,14 @@ module _ (w : State) (t l m : ℕ) (timed : Bool) (inductive : IsInductive w) (i
 
   -- by its row
   abbrev taken_of : WaitAt → Option Taken
-  taken_of at = taken_from (row_beside (At (waits at))).hand (row_beside (At (waits at))).wants true
+  taken_of at = taken_from (row_at_mutex (At (waits at))).hand (row_at_mutex (At (waits at))).wants true
 
   abbrev beside_of : WaitAt → Location
-  beside_of at = location_by (row_beside (At (waits at)))
+  beside_of at = location_by (row_at_mutex (At (waits at)))
 
   -- tells what leaving makes of how it stands
   record GoesOn (any : Bool) (s s2 : WaiterFate) : Type 0 where
-    stays : location_by (row_there (At (waits (past_release s2)))) ≡ there (waits (leaving any s))
+    stays : location_by (row_at_condvar (At (waits (past_release s2)))) ≡ there (waits (leaving any s))
     side : beside_of (past_release s2) ≡ record (beside_of (leaving any s)) {
       inside = None;
       carries = None;
@@ -204,7 +204,7 @@ module _ (w : State) (t l m : ℕ) (timed : Bool) (inductive : IsInductive w) (i
     abbrev p2 : Place
     p2 = Condvar l (waits (past_release goes.0))
 
-    stays : StaysThere w t l m timed inductive is_there apart sort (leaving any s)
+    stays : StaysAtCondvar w t l m timed inductive is_there apart sort (leaving any s)
         (At (waits (past_release goes.0)))
     stays = (refl, goes.1.stays)
 
@@ -301,7 +301,7 @@ module _ (w : State) (t l m : ℕ) (timed : Bool) (inductive : IsInductive w) (i
     abbrev out_at : Place
     out_at = Condvar l (waits (past_release s))
 
-    out_there : (s : WaiterFate) → location_by (row_there (At (waits (past_release s)))) ≡ there
+    out_there : (s : WaiterFate) → location_by (row_at_condvar (At (waits (past_release s)))) ≡ there
         (waits (leaving false s))
     out_there stands.Listed = refl
     out_there stands.Moved = refl
@@ -329,7 +329,7 @@ module _ (w : State) (t l m : ℕ) (timed : Bool) (inductive : IsInductive w) (i
     out_taken (stands.Noted note.Normal) = refl
     out_taken (stands.Noted note.HandOff) = refl
 
-    abbrev out_stays : StaysThere w t l m timed inductive is_there apart sort (leaving false s)
+    abbrev out_stays : StaysAtCondvar w t l m timed inductive is_there apart sort (leaving false s)
         (At (waits (past_release s)))
     out_stays = (refl, out_there s)
 

@@ -1,16 +1,16 @@
 -- Each step of a wait on the word of its mutex, as it releases it and locks it again: every lock is a site
 -- again.
-use Rattle.lot_laws.proofs.Names
-use Names.{ℕ, Bool, true, false, Option, Some, None, if◌then◌else◌, ◌==◌, ◌&&◌, ◌≡◌, ◌≢◌, ◌<◌, List, [], ◌∷◌}
-use Names.{length, not, refl, sym, ◌∙◌, ap, subst, inl, inr, cases_eq, Op, Exclusive, apply, Next, At, Reply}
-use Names.{Value, Owners, with_exclusive, taken_from, location_by, Condvar, condvar_goes, LockAt, UnlockAt}
-use Names.{enter_deeds, is_locked, is_parked, in_unlock, unlock_act, CondvarPlace, Wait, WaiterFate, WaitAt}
-use Names.{condvar_next, condvar_owners, in_wait, next_wait, relocked, released, wait_act, past_release}
-use Names.{row_beside, row_there, there, LeavesMutex, MayHearWaiter, WaiterFollows, itself_woken, unended}
-use Names.{waiter_deeds, waiter_next, waiters_code, waiters_follow, code, Leave, Rules, Case, Clear, Deed}
-use Names.{Role, End, Main, Mark, MarkBrought, MarkOwned, Site, State, can_do, owners_at, place_at, put}
-use Names.{reply_to, state_after_operation, word_at, state_after_act, acts, taken_at, role_on, location_at}
-use Names.{FitsItsLock, Goes, IsInductive, rules_in, site_of, Act}
+use Rattle.lot_laws.proofs.Imports
+use Imports.{ℕ, Bool, true, false, Option, Some, None, if◌then◌else◌, ◌==◌, ◌&&◌, ◌≡◌, ◌≢◌, ◌<◌, List, [], ◌∷◌}
+use Imports.{length, not, refl, sym, ◌∙◌, ap, subst, inl, inr, cases_eq, Op, Exclusive, apply, Next, At, Reply}
+use Imports.{Value, Owners, with_exclusive, taken_from, location_by, Condvar, condvar_goes, LockAt, UnlockAt}
+use Imports.{enter_deeds, is_locked, is_parked, in_unlock, unlock_act, CondvarPlace, Wait, WaiterFate, WaitAt}
+use Imports.{condvar_next, condvar_owners, in_wait, next_wait, relocked, released, wait_act, past_release}
+use Imports.{row_at_mutex, row_at_condvar, there, LeavesMutex, MayHearWaiter, WaiterFollows, itself_woken, unended}
+use Imports.{waiter_deeds, waiter_next, waiters_code, waiters_follow, code, Leave, Rules, Case, Clear, Deed}
+use Imports.{Role, End, Main, Mark, MarkBrought, MarkOwned, Site, State, can_do, owners_at, place_at, put}
+use Imports.{reply_to, state_after_operation, word_at, state_after_act, acts, taken_at, role_on, location_at}
+use Imports.{FitsItsLock, Goes, IsInductive, rules_in, site_of, Act}
 use Rattle.core_base.specs.declared.ops.Op.TheVariants as op
 use Rattle.core_base.specs.declared.notes.Note.TheVariants as note
 use Rattle.steps_base.specs.declared.acts.Act.TheVariants as act
@@ -49,11 +49,11 @@ module _ (w : State) (t l m : ℕ) (timed : Bool) (inductive : IsInductive w) (i
   -- ---------------------------------------------------------------- where a step at the mutex leads
 
   -- the condition variable sees no change
-  abbrev pub StaysThere : WaitAt → Next CondvarPlace → Type 0
-  StaysThere at n = Beside m n × (location_by (row_there n) ≡ there (waits at))
+  abbrev pub StaysAtCondvar : WaitAt → Next CondvarPlace → Type 0
+  StaysAtCondvar at n = Beside m n × (location_by (row_at_condvar n) ≡ there (waits at))
 
   module _ (at : WaitAt) (is : place_at w t ≡ Condvar l (waits at)) (n : Next CondvarPlace)
-      (stays : StaysThere at n) where
+      (stays : StaysAtCondvar at n) where
     pub alike : AlikeBeside m (place_at w t) (condvar_goes l n)
     alike k ne = subst (λ q. Alike k q (condvar_goes l n)) (sym is) (elim (cases_eq k l) [
       | inl e ↦ subst (λ j. Alike j (Condvar l (waits at)) (condvar_goes l n)) (sym e)
@@ -61,17 +61,17 @@ module _ (w : State) (t l m : ℕ) (timed : Bool) (inductive : IsInductive w) (i
       | inr nl ↦ nothing_else l m apart (At (waits at)) n refl stays.0 k nl ne
     ])
 
-    pub location_was : location_at (place_at w t) m ≡ location_by (row_beside (At (waits at)))
+    pub location_was : location_at (place_at w t) m ≡ location_by (row_at_mutex (At (waits at)))
     location_was = ap (λ q. location_at q m) is ∙ location_beside l m apart (At (waits at)) refl
 
-    pub location_then : location_at (condvar_goes l n) m ≡ location_by (row_beside n)
+    pub location_then : location_at (condvar_goes l n) m ≡ location_by (row_at_mutex n)
     location_then = location_beside l m apart n stays.0
 
     pub taken_was : taken_at (place_at w t) m
-        ≡ taken_from (row_beside (At (waits at))).hand (row_beside (At (waits at))).wants true
+        ≡ taken_from (row_at_mutex (At (waits at))).hand (row_at_mutex (At (waits at))).wants true
     taken_was = ap (λ q. taken_at q m) is ∙ taken_beside l m apart (At (waits at)) refl
 
-    pub taken_then : taken_at (condvar_goes l n) m ≡ taken_from (row_beside n).hand (row_beside n).wants true
+    pub taken_then : taken_at (condvar_goes l n) m ≡ taken_from (row_at_mutex n).hand (row_at_mutex n).wants true
     taken_then = taken_beside l m apart n stays.0
 
   -- tells what it does about the mutex at the next place
@@ -79,7 +79,7 @@ module _ (w : State) (t l m : ℕ) (timed : Bool) (inductive : IsInductive w) (i
       → role_on (condvar_goes l (in_wait m timed n)) m ≡ waiter_next m n
   does_next n beside = role_beside l m apart (in_wait m timed n) beside ∙ by_next n
     where
-      by_next : (n : Next WaitAt) → (row_beside (in_wait m timed n)).role ≡ waiter_next m n
+      by_next : (n : Next WaitAt) → (row_at_mutex (in_wait m timed n)).role ≡ waiter_next m n
       by_next (At at) = refl
       by_next (Over answer) = refl
 
@@ -111,9 +111,9 @@ module _ (w : State) (t l m : ℕ) (timed : Bool) (inductive : IsInductive w) (i
   -- the thread stays in its line, its section and its hand
   abbrev pub StaysBeside : WaitAt → Next CondvarPlace → Type 0
   StaysBeside at n =
-      (location_by (row_beside n) ≡ location_by (row_beside (At (waits at))))
-      × (taken_from (row_beside n).hand (row_beside n).wants true ≡ taken_from
-      (row_beside (At (waits at))).hand (row_beside (At (waits at))).wants true)
+      (location_by (row_at_mutex n) ≡ location_by (row_at_mutex (At (waits at))))
+      × (taken_from (row_at_mutex n).hand (row_at_mutex n).wants true ≡ taken_from
+      (row_at_mutex (At (waits at))).hand (row_at_mutex (At (waits at))).wants true)
 
   module _ (at : WaitAt) (is : place_at w t ≡ Condvar l (waits at)) (op : Op) (acts_so : wait_act l m at
       ≡ act.Word m op)
@@ -138,7 +138,7 @@ module _ (w : State) (t l m : ℕ) (timed : Bool) (inductive : IsInductive w) (i
         (inductive.sites.site m) (hears.role_beside w t l (waits at) inductive is m refl)
         (subst (λ v. MayHearWaiter r here t at None (Value v)) (inductive.sites.word m) may_hear) acts_so refl
 
-    pub works : StaysThere at (in_wait m timed next) → StaysBeside at (in_wait m timed next)
+    pub works : StaysAtCondvar at (in_wait m timed next) → StaysBeside at (in_wait m timed next)
         → FitsItsLock w (condvar_goes l (in_wait m timed next)) → IsOfWord does → KeepsOthers at
         → Goes w (put (state_after_operation w t (Condvar l (waits at)) m op) t
         (condvar_goes l (in_wait m timed next))) m
@@ -183,11 +183,11 @@ module _ (w : State) (t l m : ℕ) (timed : Bool) (inductive : IsInductive w) (i
       abbrev subtracted : Bool → Next CondvarPlace
       subtracted b = At (waits (released s (in_unlock (if b then At unlock.Enter else Over answer.Ok))))
 
-      subtracted_there : (b : Bool) → StaysThere (releasing s unlock.Subtract) (subtracted b)
+      subtracted_there : (b : Bool) → StaysAtCondvar (releasing s unlock.Subtract) (subtracted b)
       subtracted_there true = (refl, refl)
       subtracted_there false = ended s
         where
-          ended : (s : WaiterFate) → StaysThere (releasing s unlock.Subtract) (At (waits (past_release s)))
+          ended : (s : WaiterFate) → StaysAtCondvar (releasing s unlock.Subtract) (At (waits (past_release s)))
           ended stands.Listed = (refl, refl)
           ended stands.Moved = (refl, refl)
           ended (stands.InHand by) = (refl, refl)
@@ -235,7 +235,7 @@ module _ (w : State) (t l m : ℕ) (timed : Bool) (inductive : IsInductive w) (i
 
       locked_there : (b : Bool) (at : LockAt) → (p : LockAt) → there (waits (relocks late retries p))
           ≡ nowhere
-          → there (waits (relocks late retries at)) ≡ nowhere → StaysThere (relocks late retries p)
+          → there (waits (relocks late retries at)) ≡ nowhere → StaysAtCondvar (relocks late retries p)
           (locked b at)
       locked_there true at p e f = (tt, sym e)
       locked_there false at p e f = (refl, f ∙ sym e)
@@ -275,7 +275,7 @@ module _ (w : State) (t l m : ℕ) (timed : Bool) (inductive : IsInductive w) (i
           (relocked timed late (in_lock entry.Lock retries (if not same then At (lock.Decide seen)
           else if locked then At (lock.Decide 3) else Over answer.Ok)))
 
-      decided_there : (x : ℕ) (same locked : Bool) → StaysThere (relocks late retries (lock.Decide x))
+      decided_there : (x : ℕ) (same locked : Bool) → StaysAtCondvar (relocks late retries (lock.Decide x))
           (decided_next same locked)
       decided_there x false locked = (refl, refl)
       decided_there x true true = (refl, refl)

@@ -1,12 +1,12 @@
 -- A waiter of a condition variable at its mutex goes on in its call as the event says: it is taken there,
 -- woken, or handed the mutex.
-use Rattle.lot_laws.proofs.Names
-use Names.{ℕ, Bool, true, false, Option, Some, None, if◌then◌else◌, ◌==◌, ◌&&◌, not, ◌≡◌, ◌≢◌, ◌⊎◌, inl, inr}
-use Names.{refl, sym, ◌∙◌, ap, subst, eqb-true, Want, Exclusive, Woken, TakenBy, HandedBy, Hand, Of, hand}
-use Names.{in_line, taken_from, Condvar, is_lock, next_place, Lock, Unlock, CondvarPlace, Wait, Look, Notify}
-use Names.{WaitAt, mutex_beside, condvar_profile, condvar_row, mutex_side, waiters_are_told, Rights}
-use Names.{IsReached, after_wake, is_taken_by, one_more_at, call_state, taken_at, Has, Line, Main, idle}
-use Names.{role_on, nowhere, location, location_at, hand_at}
+use Rattle.lot_laws.proofs.Imports
+use Imports.{ℕ, Bool, true, false, Option, Some, None, if◌then◌else◌, ◌==◌, ◌&&◌, not, ◌≡◌, ◌≢◌, ◌⊎◌, inl, inr}
+use Imports.{refl, sym, ◌∙◌, ap, subst, eqb-true, Want, Exclusive, Woken, TakenBy, HandedBy, Hand, Of, hand}
+use Imports.{in_line, taken_from, Condvar, is_lock, next_place, Lock, Unlock, CondvarPlace, Wait, Look, Notify}
+use Imports.{WaitAt, mutex_beside, condvar_profile, condvar_row, mutex_side, waiters_are_told, Rights}
+use Imports.{IsReached, after_wake, is_taken_by, one_more_at, call_state, taken_at, Has, Line, Main, idle}
+use Imports.{role_on, nowhere, location, location_at, hand_at}
 use Rattle.core_base.specs.declared.notes.Note.TheVariants as note
 use Rattle.steps_mutex.specs.declared.lock.LockAt.TheVariants as lock
 use Rattle.steps_condvar.specs.declared.wait.WaiterFate.TheVariants as stands

@@ -1,13 +1,13 @@
 -- A thread that waits to be notified stands nowhere at its mutex, is in no hand there, and doesn't try it
 -- again.
-use Rattle.lot_laws.proofs.Names
-use Names.{ℕ, Bool, true, false, Option, Some, None, if◌then◌else◌, ◌==◌, ◌≡◌, ◌≢◌, ◌+◌, ◌*◌, ◌≤◌, refl, sym}
-use Names.{◌∙◌, ap, subst, arith, eqb-true, Kind, is_plain_mutex, Hand, Profile, taken_from, Location}
-use Names.{location_by, CondvarPlace, Wait, Look, Notify, condvar_profile, condvar_row, mutex_side}
-use Names.{mutex_beside, Place, Idle, Mutex, RwLock, Once, Condvar, Semaphore, is_lock, profile_at}
-use Names.{WaitsAside, Rules, Sort, one_if_some, standing, rules_of, Main, Second, has_readers, State}
-use Names.{kind_at, place_at, queue_at, lock_state, taken_at, role_on, location, location_at, FitsCondvar}
-use Names.{FitsItsLock, IsInductive, condvar_of, rules_in, site_of, stood_in}
+use Rattle.lot_laws.proofs.Imports
+use Imports.{ℕ, Bool, true, false, Option, Some, None, if◌then◌else◌, ◌==◌, ◌≡◌, ◌≢◌, ◌+◌, ◌*◌, ◌≤◌, refl, sym}
+use Imports.{◌∙◌, ap, subst, arith, eqb-true, Kind, is_plain_mutex, Hand, Profile, taken_from, Location}
+use Imports.{location_by, CondvarPlace, Wait, Look, Notify, condvar_profile, condvar_row, mutex_side}
+use Imports.{mutex_beside, Place, Idle, Mutex, RwLock, Once, Condvar, Semaphore, is_lock, profile_at}
+use Imports.{WaitsAside, Rules, Sort, one_if_some, standing, rules_of, Main, Second, has_readers, State}
+use Imports.{kind_at, place_at, queue_at, lock_state, taken_at, role_on, location, location_at, FitsCondvar}
+use Imports.{FitsItsLock, IsInductive, condvar_of, rules_in, site_of, stood_in}
 use Rattle.spec_locks.specs.declared.kinds.Kind.TheVariants as kind
 use Rattle.steps_base.specs.Locations.{nowhere}
 use Rattle.spec_locks.specs.Locks as locks
@@ -24,7 +24,7 @@ plain_sort k plain = absurd cc
 -- ---------------------------------------------------------------- waiters
 
 -- a place of a call of the condition variable, where the thread stands in its queue
-pub record WaitsThere (w : State) (u l : ℕ) : Type 0 where
+pub record WaitsAtCondvar (w : State) (u l : ℕ) : Type 0 where
   pub at : CondvarPlace
   pub is : place_at w u ≡ Condvar l at
   pub listed : (condvar_row at).listed ≡ true
@@ -44,13 +44,13 @@ module _ (w : State) (inductive : IsInductive w) (l : ℕ) (sort : (rules_in w l
 
   module _ (u : ℕ) where
     by_place : (p : Place) → place_at w u ≡ p → FitsItsLock w p → 1 ≤ stood_in (location_at p l).stands Main
-        → WaitsThere w u l
+        → WaitsAtCondvar w u l
     by_place Idle is fits some = absurd (omega arith)
     by_place (Mutex k at) is fits some = either (k == l) refl some
       where
         either : (b : Bool) → (k == l) ≡ b
             → 1 ≤ stood_in (if b then location (Mutex k at) else nowhere).stands Main
-            → WaitsThere w u l
+            → WaitsAtCondvar w u l
         either true e h = absurd (no_mutex
             (sort_at k locks.Mutex e (ap (λ (r : Rules). r.sort) (mutex_rules (kind_at w k) fits))))
         either false e h = absurd (omega arith)
@@ -58,7 +58,7 @@ module _ (w : State) (inductive : IsInductive w) (l : ℕ) (sort : (rules_in w l
       where
         either : (b : Bool) → (k == l) ≡ b → 1 ≤ stood_in (if b then location (RwLock k a c)
             else nowhere).stands Main
-            → WaitsThere w u l
+            → WaitsAtCondvar w u l
         either true e h = absurd (let none : false ≡ true =
             sym (ap has_readers (ap (λ j. (rules_in w j).sort) (eqb-true k l e) ∙ sort)) ∙ fits.0.0 in cc)
         either false e h = absurd (omega arith)
@@ -66,27 +66,27 @@ module _ (w : State) (inductive : IsInductive w) (l : ℕ) (sort : (rules_in w l
       where
         either : (b : Bool) → (k == l) ≡ b → 1 ≤ stood_in (if b then location (Once k at) else nowhere).stands
             Main
-            → WaitsThere w u l
+            → WaitsAtCondvar w u l
         either true e h = absurd (no_once (sort_at k locks.Once e fits))
         either false e h = absurd (omega arith)
     by_place (Semaphore k at) is fits some = either (k == l) refl some
       where
         either : (b : Bool) → (k == l) ≡ b → 1 ≤ stood_in (if b then location (Semaphore k at)
             else nowhere).stands Main
-            → WaitsThere w u l
+            → WaitsAtCondvar w u l
         either true e h = absurd (no_semaphore (sort_at k locks.Semaphore e fits.0))
         either false e h = absurd (omega arith)
     by_place (Condvar k at) is fits some = either (k == l) refl some
       where
         beside : (o : Option ℕ) → mutex_beside at ≡ o
             → 1 ≤ stood_in (if is_lock l o then location_by (mutex_side at) else nowhere).stands Main
-            → WaitsThere w u l
+            → WaitsAtCondvar w u l
         beside None e h = absurd (omega arith)
         beside (Some m) e h = here (m == l) refl h
           where
             here : (b : Bool) → (m == l) ≡ b → 1 ≤ stood_in (if b then location_by (mutex_side at)
                 else nowhere).stands Main
-                → WaitsThere w u l
+                → WaitsAtCondvar w u l
             here true f g = absurd (no_mutex
                 (sort_at m locks.Mutex f (plain_sort (kind_at w m) (fits.mutex m e))))
             here false f g = absurd (omega arith)
@@ -100,7 +100,7 @@ module _ (w : State) (inductive : IsInductive w) (l : ℕ) (sort : (rules_in w l
             ≤ stood_in
             (if b then location_by (condvar_profile at) else if is_lock l (mutex_beside at) then location_by
             (mutex_side at) else nowhere).stands Main
-            → WaitsThere w u l
+            → WaitsAtCondvar w u l
         either true e h = record {
           at = at;
           is = is ∙ ap (λ j. Condvar j at) (eqb-true k l e);
@@ -108,7 +108,7 @@ module _ (w : State) (inductive : IsInductive w) (l : ℕ) (sort : (rules_in w l
         }
         either false e h = beside (mutex_beside at) refl h
 
-    pub waits_there : 1 ≤ locks.times u (lock_state w l).queue → WaitsThere w u l
+    pub waits_there : 1 ≤ locks.times u (lock_state w l).queue → WaitsAtCondvar w u l
     waits_there some = by_place (place_at w u) refl (inductive.stands.calls u)
         (let n : locks.times u (lock_state w l).queue ≡ stood_in (location_at (place_at w u) l).stands Main =
         queued_times u (queue_at w (2 * l)) ∙ inductive.stands.lines u l Main in omega arith)

@@ -1,11 +1,11 @@
 -- A take tells how many want to share, and what the one wants that wants more. Whether it has picked anybody
 -- is whether anybody is in the hand of its thread.
-use Rattle.lot_laws.proofs.Names
-use Names.{ℕ, zero, suc, Bool, true, false, Option, Some, None, if◌then◌else◌, ◌==◌, ◌&&◌, ◌||◌, not, cond}
-use Names.{◌≡◌, ◌⊎◌, List, [], ◌∷◌, length, get_or, inl, inr, refl, sym, ◌∙◌, ap, arith, or-true, Want}
-use Names.{any_picked, is_thread, Place, Idle, taker, wants, wants_shared, Successor, held, held_by}
-use Names.{shares_in_hand, sharers_in_hand, wants_more_in_hand, successor_or, successor_from}
-use Names.{want_of_successor}
+use Rattle.lot_laws.proofs.Imports
+use Imports.{ℕ, zero, suc, Bool, true, false, Option, Some, None, if◌then◌else◌, ◌==◌, ◌&&◌, ◌||◌, not, cond}
+use Imports.{◌≡◌, ◌⊎◌, List, [], ◌∷◌, length, get_or, inl, inr, refl, sym, ◌∙◌, ap, arith, or-true, Want}
+use Imports.{any_picked, is_thread, Place, Idle, taker, wants, wants_shared, Successor, held, held_by}
+use Imports.{shares_in_hand, sharers_in_hand, wants_more_in_hand, successor_or, successor_from}
+use Imports.{want_of_successor}
 use Rattle.steps_base.specs.Acts.{is_there}
 use Rattle.lot_laws.proofs.machine.Parts.{differ}
 

@@ -1,13 +1,13 @@
 -- The cases of an abstract lock change a hand little: no case of another thread brings anybody into it or
 -- lets anybody go. A thread that has nobody in hand takes one at most that wants more than to share.
-use Rattle.lot_laws.proofs.Names
-use Names.{ℕ, zero, suc, Bool, true, false, Option, Some, None, if◌then◌else◌, ◌==◌, ◌≡◌, ◌≢◌, ◌+◌, ◌≤◌, ◌⊎◌}
-use Names.{inl, inr, List, [], ◌∷◌, refl, sym, ◌∙◌, ap, arith, eqb-true, nat_tests, Want, Exclusive}
-use Names.{Upgradable, Shared, CallOnce, LockState, Rules, Queued, Taken, LockCase, OfOnce, Pend, Settle}
-use Names.{Leave, Convert, Park, Aside, TakeFirst, TakeAside, TakePicked, Wake, HandOff, Rollback, Needs}
-use Names.{HasTakenNobody, IsLockState, keep_from, one_if_some, picked, putting, standing, taking, unpicked}
-use Names.{wants_shared, OnceCase, Start, Finish, Fail, Rest, TakeAll, is_handed, kept_by, taking_by}
-use Names.{taking_others, times_picked}
+use Rattle.lot_laws.proofs.Imports
+use Imports.{ℕ, zero, suc, Bool, true, false, Option, Some, None, if◌then◌else◌, ◌==◌, ◌≡◌, ◌≢◌, ◌+◌, ◌≤◌, ◌⊎◌}
+use Imports.{inl, inr, List, [], ◌∷◌, refl, sym, ◌∙◌, ap, arith, eqb-true, nat_tests, Want, Exclusive}
+use Imports.{Upgradable, Shared, CallOnce, LockState, Rules, Queued, Taken, LockCase, OfOnce, Pend, Settle}
+use Imports.{Leave, Convert, Park, Aside, TakeFirst, TakeAside, TakePicked, Wake, HandOff, Rollback, Needs}
+use Imports.{HasTakenNobody, IsLockState, keep_from, one_if_some, picked, putting, standing, taking, unpicked}
+use Imports.{wants_shared, OnceCase, Start, Finish, Fail, Rest, TakeAll, is_handed, kept_by, taking_by}
+use Imports.{taking_others, times_picked}
 use Rattle.core_base.specs.declared.wants.Want.TheVariants.{Wait}
 use Rattle.spec_locks.specs.Locks.{Once, Enter}
 use Rattle.spec_locks.specs.Locks.{Late}

@@ -1,15 +1,15 @@
 -- A place's counts of the threads in hand, made anew from where all threads stand: these are handed the
 -- lock.
-use Rattle.lot_laws.proofs.Names
-use Names.{ℕ, zero, suc, Bool, true, false, Option, Some, None, if◌then◌else◌, ◌==◌, ◌&&◌, not, ◌≡◌, ◌≢◌, ◌+◌}
-use Names.{◌<◌, ◌≤◌, List, [], ◌∷◌, length, get_or, cond, refl, sym, ◌∙◌, ap, subst, arith, filter, eqb-true}
-use Names.{Want, Exclusive, Upgradable, Shared, CallOnce, heir_of, is_thread, Hand, Of, hand, hand_owner}
-use Names.{in_hand, taken_from, HasInHand, IsNamed, Place, Idle, Mutex, RwLock, Once, Condvar, Semaphore}
-use Names.{calls, is_lock, or_else, profile, taker, IsSuccessor, Queued, Taken, readers, shares_handed}
-use Names.{sharing_handed, wants_shared, Successor, State, held, held_by, place_at, shares_at, shares_in_hand}
-use Names.{sharers_in_hand, successor_from, successor_or, want_of_successor, wants_more_in_hand, lock_state}
-use Names.{taken_at, nowhere, location, IsCountOfHand, IsInductive, carried_at, hand_at, CondvarPlace}
-use Names.{mutex_beside, condvar_profile, mutex_side}
+use Rattle.lot_laws.proofs.Imports
+use Imports.{ℕ, zero, suc, Bool, true, false, Option, Some, None, if◌then◌else◌, ◌==◌, ◌&&◌, not, ◌≡◌, ◌≢◌, ◌+◌}
+use Imports.{◌<◌, ◌≤◌, List, [], ◌∷◌, length, get_or, cond, refl, sym, ◌∙◌, ap, subst, arith, filter, eqb-true}
+use Imports.{Want, Exclusive, Upgradable, Shared, CallOnce, heir_of, is_thread, Hand, Of, hand, hand_owner}
+use Imports.{in_hand, taken_from, HasInHand, IsNamed, Place, Idle, Mutex, RwLock, Once, Condvar, Semaphore}
+use Imports.{calls, is_lock, or_else, profile, taker, IsSuccessor, Queued, Taken, readers, shares_handed}
+use Imports.{sharing_handed, wants_shared, Successor, State, held, held_by, place_at, shares_at, shares_in_hand}
+use Imports.{sharers_in_hand, successor_from, successor_or, want_of_successor, wants_more_in_hand, lock_state}
+use Imports.{taken_at, nowhere, location, IsCountOfHand, IsInductive, carried_at, hand_at, CondvarPlace}
+use Imports.{mutex_beside, condvar_profile, mutex_side}
 use Rattle.core_base.specs.declared.wants.Want.TheVariants.{Wait}
 use Rattle.steps_rwlock_fair.specs.declared.hand_over.Taken.{Taken as Counted}
 use Rattle.lot_laws.specs.Locations.{Location, location_by}

@@ -1,18 +1,18 @@
 -- The places whose call has counted those that its thread has in hand: a thread comes to one by its own step
 -- alone, and none of them is in a hand.
-use Rattle.lot_laws.proofs.Names
-use Names.{ℕ, Bool, true, false, Option, Some, None, if◌then◌else◌, ◌==◌, ◌≡◌, refl, sym, ◌∙◌, ap, subst}
-use Names.{eqb-true, SemaphorePlace, semaphore_looking, semaphore_next, Access, Call, RwLockCall, Patience}
-use Names.{Kind, Next, Reply, in_hand, MutexPlace, mutex_looking, mutex_next, Admission, RwLockPlace}
-use Names.{RwLockAt, RwLockPurpose, rwlock_next, rwlock_looking, RwLockCallPlace, Plain, PeekQueue, HandOver}
-use Names.{Bump, Handed, HandOverAt, HandedAt, call_first, release_first, in_hand_of, in_call, any_taken}
-use Names.{bump_ended, bump_next, call_next, entering, given, gives_up_at, gives_way, glances, hand_over_next}
-use Names.{handed_by, handed_next, handed_woken, plain_next, unless_given, woken_with, OncePlace}
-use Names.{once_looking, once_next, CondvarPlace, condvar_next, condvar_looking, Place, Idle, Mutex, RwLock}
-use Names.{Once, Condvar, Semaphore, first_place, in_mutex, in_once, in_rwlock, late_key, respins_from}
-use Names.{mutex_goes}
-use Names.{next_place, once_goes, rwlock_goes, condvar_goes, in_condvar, in_semaphore, semaphore_goes, State}
-use Names.{held, place_at, AreCounted, IsCountOfHand, carried_at, nowhere, location}
+use Rattle.lot_laws.proofs.Imports
+use Imports.{ℕ, Bool, true, false, Option, Some, None, if◌then◌else◌, ◌==◌, ◌≡◌, refl, sym, ◌∙◌, ap, subst}
+use Imports.{eqb-true, SemaphorePlace, semaphore_respin, semaphore_next, Access, Call, RwLockCall, Patience}
+use Imports.{Kind, Next, Reply, in_hand, MutexPlace, mutex_respin, mutex_next, Admission, RwLockPlace}
+use Imports.{RwLockAt, RwLockPurpose, rwlock_next, rwlock_respin, RwLockCallPlace, Plain, PeekQueue, HandOver}
+use Imports.{Bump, Handed, HandOverAt, HandedAt, call_first, release_first, in_hand_of, in_call, any_taken}
+use Imports.{bump_ended, bump_next, call_next, entering, given, gives_up_at, gives_way, glances, hand_over_next}
+use Imports.{handed_by, handed_next, handed_woken, plain_next, unless_given, woken_with, OncePlace}
+use Imports.{once_respin, once_next, CondvarPlace, condvar_next, condvar_respin, Place, Idle, Mutex, RwLock}
+use Imports.{Once, Condvar, Semaphore, first_place, in_mutex, in_once, in_rwlock, late_key, respins_from}
+use Imports.{mutex_goes}
+use Imports.{next_place, once_goes, rwlock_goes, condvar_goes, in_condvar, in_semaphore, semaphore_goes, State}
+use Imports.{held, place_at, AreCounted, IsCountOfHand, carried_at, nowhere, location}
 use Rattle.core_base.specs.declared.notes.Note as note
 use Rattle.spec_locks.specs.declared.calls.Access.TheVariants as access
 use Rattle.spec_locks.specs.declared.calls.Call as call
@@ -306,7 +306,7 @@ looks_bare_at j a false (Some p) q is = let there : RwLock j a (Plain p) ≡ q =
 
 pub looks_bare : (p q : Place) → respins_from p ≡ Some q → LooksBare q
 looks_bare Idle q is = absurd cc
-looks_bare (Mutex j at) q is = by_place (mutex_looking at) is
+looks_bare (Mutex j at) q is = by_place (mutex_respin at) is
   where
     by_place : (o : Option MutexPlace) → in_mutex j o ≡ Some q → LooksBare q
     by_place None e = absurd cc
@@ -314,7 +314,7 @@ looks_bare (Mutex j at) q is = by_place (mutex_looking at) is
       bare = λ l. refl;
       goes_on = λ r l. mutex_counted l j (mutex_next at2 r);
     })
-looks_bare (Once j at) q is = by_place (once_looking at) is
+looks_bare (Once j at) q is = by_place (once_respin at) is
   where
     by_place : (o : Option OncePlace) → in_once j o ≡ Some q → LooksBare q
     by_place None e = absurd cc
@@ -322,7 +322,7 @@ looks_bare (Once j at) q is = by_place (once_looking at) is
       bare = λ l. refl;
       goes_on = λ r l. once_counted l j (once_next at2 r);
     })
-looks_bare (Semaphore j at) q is = by_place (semaphore_looking at) is
+looks_bare (Semaphore j at) q is = by_place (semaphore_respin at) is
   where
     by_place : (o : Option SemaphorePlace) → in_semaphore j o ≡ Some q → LooksBare q
     by_place None e = absurd cc
@@ -330,7 +330,7 @@ looks_bare (Semaphore j at) q is = by_place (semaphore_looking at) is
       bare = λ l. refl;
       goes_on = λ r l. semaphore_counted l j (semaphore_next at2 r);
     })
-looks_bare (Condvar j at) q is = by_place (condvar_looking at) is
+looks_bare (Condvar j at) q is = by_place (condvar_respin at) is
   where
     by_place : (o : Option CondvarPlace) → in_condvar j o ≡ Some q → LooksBare q
     by_place None e = absurd cc
@@ -338,8 +338,8 @@ looks_bare (Condvar j at) q is = by_place (condvar_looking at) is
       bare = λ l. refl;
       goes_on = λ r l. condvar_counted l j (condvar_next at2 r);
     })
-looks_bare (RwLock j a (Plain p)) q is = looks_bare_at j a false (rwlock_looking a p) q is
-looks_bare (RwLock j a (Bump p)) q is = looks_bare_at j a true (rwlock_looking a p) q is
+looks_bare (RwLock j a (Plain p)) q is = looks_bare_at j a false (rwlock_respin a p) q is
+looks_bare (RwLock j a (Bump p)) q is = looks_bare_at j a true (rwlock_respin a p) q is
 looks_bare (RwLock j a (PeekQueue x)) q is = absurd cc
 looks_bare (RwLock j a (HandOver x b to)) q is = absurd cc
 looks_bare (RwLock j a (Handed x how b to)) q is = absurd cc

@@ -1,7 +1,7 @@
 -- The changes of a line, and its counts.
-use Rattle.lot_laws.proofs.Names
-use Names.{ℕ, Bool, true, false, Option, Some, None, if◌then◌else◌, ◌≡◌, ◌≤◌, List, [], ◌∷◌, ◌==◌, refl}
-use Names.{arith, nat_tests, Waiter, without, times, first_of}
+use Rattle.lot_laws.proofs.Imports
+use Imports.{ℕ, Bool, true, false, Option, Some, None, if◌then◌else◌, ◌≡◌, ◌≤◌, List, [], ◌∷◌, ◌==◌, refl}
+use Imports.{arith, nat_tests, Waiter, without, times, first_of}
 use Rattle.spec_locks.specs.Locks as locks
 
 pub without_absent : (t : ℕ) (q : List Waiter) → times t q ≡ 0 → without t q ≡ q

@@ -1,19 +1,19 @@
 -- The counts that a call has made of the threads in its hand stay true, whatever any thread does. As long
 -- as it hasn't handed the lock over, no other thread brings anybody into its hand or lets anybody go.
-use Rattle.lot_laws.proofs.Names
-use Names.{ℕ, Bool, true, false, Option, Some, None, if◌then◌else◌, ◌==◌, ◌≡◌, ◌≢◌, ◌<◌, inl, inr, length}
-use Names.{nat_lt, refl, sym, ◌∙◌, ap, subst, get_or, get_or-set_same, length-set, set, semaphore_act}
-use Names.{semaphore_next, once_next, Run, reply_to, state_after_close, state_after_go, state_after_going}
-use Names.{has_readers, cases_eq, ltb-true, Op, lock_in, Access, Turn, Step, Outcome, Act, Next, Reply, Late}
-use Names.{mutex_act, mutex_next, Admission, RwLockCallPlace, Plain, PeekQueue, HandOver, Bump, Handed}
-use Names.{HandOverAt, in_hand_of, any_taken, call_act, call_next, freed_next, has_room, hand_over_act}
-use Names.{hand_over_next, looked, parked_as, with_taken, word_without, has_parked, once_act, condvar_act}
-use Names.{condvar_next, Place, Idle, Mutex, RwLock, Once, Condvar, Semaphore, act_of, first_place, late_key}
-use Names.{respins_from, next_place, rwlock_goes, LockState, Turned, State, after, can_turn, go_reply, held}
-use Names.{is_possible, kind_at, place_at, put, state_after_act, state_after_hand_over_by}
-use Names.{state_after_late_on, state_after_look, state_after_operation, state_after_turn, step_outcome}
-use Names.{word_at, IsWellFormed, after_size, both, lock_state, locks_of, AreCondvars, AreCounted}
-use Names.{FitsItsLock, IsCountOfHand, IsInductive, rules_in}
+use Rattle.lot_laws.proofs.Imports
+use Imports.{ℕ, Bool, true, false, Option, Some, None, if◌then◌else◌, ◌==◌, ◌≡◌, ◌≢◌, ◌<◌, inl, inr, length}
+use Imports.{nat_lt, refl, sym, ◌∙◌, ap, subst, get_or, get_or-set_same, length-set, set, semaphore_act}
+use Imports.{semaphore_next, once_next, Run, reply_to, state_after_close, state_after_go, state_after_going}
+use Imports.{has_readers, cases_eq, ltb-true, Op, lock_in, Access, Turn, Step, Outcome, Act, Next, Reply, Late}
+use Imports.{mutex_act, mutex_next, Admission, RwLockCallPlace, Plain, PeekQueue, HandOver, Bump, Handed}
+use Imports.{HandOverAt, in_hand_of, any_taken, call_act, call_next, freed_next, has_room, hand_over_act}
+use Imports.{hand_over_next, looked, parked_as, with_taken, word_without, has_parked, once_act, condvar_act}
+use Imports.{condvar_next, Place, Idle, Mutex, RwLock, Once, Condvar, Semaphore, act_of, first_place, late_key}
+use Imports.{respins_from, next_place, rwlock_goes, LockState, Turned, State, after, can_turn, go_reply, held}
+use Imports.{is_possible, kind_at, place_at, put, state_after_act, state_after_hand_over_by}
+use Imports.{state_after_late_on, state_after_look, state_after_operation, state_after_turn, step_outcome}
+use Imports.{word_at, IsWellFormed, after_size, both, lock_state, locks_of, AreCondvars, AreCounted}
+use Imports.{FitsItsLock, IsCountOfHand, IsInductive, rules_in}
 use Rattle.lot_laws.proofs.machine.Parts.{IsOfTwo, IsSingle, fits_two, single_or_two}
 use Rattle.lot_laws.proofs.hands.Counting.{once_counted, condvar_counted}
 use Rattle.steps_once.specs.declared.run.RunAt.TheVariants as run

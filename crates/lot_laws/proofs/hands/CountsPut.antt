@@ -1,9 +1,9 @@
 -- A thread stands elsewhere in its call: a thread that counted the threads that it has in hand has counted
 -- them still.
-use Rattle.lot_laws.proofs.Names
-use Names.{ℕ, Some, None, ◌≡◌, ◌<◌, List, inl, inr, length, length-set, get_or-set_other, get_or-set_same}
-use Names.{sym, ◌∙◌, ap, cases_eq, Kind, hand_owner, Place, Idle, respins_from, or_else, State, held, held_by}
-use Names.{opening, place_at, put, idle_at, look, AreCounted}
+use Rattle.lot_laws.proofs.Imports
+use Imports.{ℕ, Some, None, ◌≡◌, ◌<◌, List, inl, inr, length, length-set, get_or-set_other, get_or-set_same}
+use Imports.{sym, ◌∙◌, ap, cases_eq, Kind, hand_owner, Place, Idle, respins_from, or_else, State, held, held_by}
+use Imports.{opening, place_at, put, idle_at, look, AreCounted}
 use Rattle.lot_laws.proofs.hands.Counting.{are_counted, counted_on, counts_there, looks_bare, none_is}
 use Rattle.lot_laws.proofs.calls.Beside.{looks_beside}
 use Rattle.lot_laws.proofs.hands.Counted.{counted_stays}

@@ -1,16 +1,16 @@
 -- A thread that hands its lock over counts those that it takes: what its place says of them then is so.
-use Rattle.lot_laws.proofs.Names
-use Names.{ℕ, Bool, true, false, Option, Some, None, if◌then◌else◌, ◌==◌, ◌≡◌, ◌≢◌, ◌+◌, ◌*◌, ◌<◌, ◌≤◌, inl}
-use Names.{inr, List, [], ◌∷◌, length, set, get_or, map, refl, sym, ◌∙◌, ap, subst, arith, get_or-set_same}
-use Names.{get_or-set_other, length-set, cases_eq, cases_lt, set_past, Waiter, Want, threads_of, lock_picked}
-use Names.{without_lock_picked, Access, Turn, Outcome, Reply, TakenBy, Admission, HandOver, in_hand_of, took}
-use Names.{Place, Idle, RwLock, next_place, HasTakenNobody, LockState, is_recursive, picked, wants_shared}
-use Names.{queued_of, Turned, Main, has_readers, State, held, place_at, places_told, put, queue_at}
-use Names.{sharers_in_hand, state_after_take, successor_from, want_of_successor, wants_more_in_hand}
-use Names.{told_count, lock_state, locks_of, locations_of, FitsItsLock, IsCountOfHand, IsInductive}
-use Names.{carried_at, rules_in, nowhere, location, one_more_picked}
+use Rattle.lot_laws.proofs.Imports
+use Imports.{ℕ, Bool, true, false, Option, Some, None, if◌then◌else◌, ◌==◌, ◌≡◌, ◌≢◌, ◌+◌, ◌*◌, ◌<◌, ◌≤◌, inl}
+use Imports.{inr, List, [], ◌∷◌, length, set, get_or, map, refl, sym, ◌∙◌, ap, subst, arith, get_or-set_same}
+use Imports.{get_or-set_other, length-set, cases_eq, cases_lt, set_past, Waiter, Want, threads_of, lock_picked}
+use Imports.{without_lock_picked, Access, Turn, Outcome, Reply, TakenBy, Admission, HandOver, in_hand_of, took}
+use Imports.{Place, Idle, RwLock, next_place, HasTakenNobody, LockState, is_recursive, picked, wants_shared}
+use Imports.{queued_of, Turned, Main, has_readers, State, held, place_at, places_told, put, queue_at}
+use Imports.{sharers_in_hand, state_after_take, successor_from, want_of_successor, wants_more_in_hand}
+use Imports.{told_count, lock_state, locks_of, locations_of, FitsItsLock, IsCountOfHand, IsInductive}
+use Imports.{carried_at, rules_in, nowhere, location, one_more_picked}
 use Rattle.spec_locks.specs.declared.calls.Access.TheVariants as access
-use Rattle.steps_base.specs.declared.acts.Whom.TheVariants as whom
+use Rattle.steps_base.specs.declared.acts.TakeWhich.TheVariants as whom
 use Rattle.steps_rwlock_fair.specs.declared.hand_over.Taken.{Taken as Counted}
 use Rattle.steps_rwlock_fair.specs.declared.hand_over.HandOverAt.TheVariants as handing
 use Rattle.spec_locks.specs.Locks.{Once}

@@ -1,11 +1,11 @@
 -- A right is handed over to many at once: it is one case of the lock, and the calls of all that were handed
 -- it go on with what they wanted.
-use Rattle.lot_laws.proofs.Names
-use Names.{ℕ, zero, suc, Bool, true, false, Option, Some, None, if◌then◌else◌, ◌==◌, ◌≡◌, ◌<◌, List, [], ◌∷◌}
-use Names.{◌++◌, length, inl, inr, refl, sym, ◌∙◌, ap, arith, cases_lt, eqb-true, Want, claim_handed, Begin}
-use Names.{HandedBy, Place, Idle, next_place, Queued, Rights, Taken, HandOff, IsTaken, handed, putting}
-use Names.{readers, rights_of, AtLock, after_wake, is_taken_by, State, place_at, call_state, lock_state}
-use Names.{taken_at, rules_in}
+use Rattle.lot_laws.proofs.Imports
+use Imports.{ℕ, zero, suc, Bool, true, false, Option, Some, None, if◌then◌else◌, ◌==◌, ◌≡◌, ◌<◌, List, [], ◌∷◌}
+use Imports.{◌++◌, length, inl, inr, refl, sym, ◌∙◌, ap, arith, cases_lt, eqb-true, Want, claim_handed, Begin}
+use Imports.{HandedBy, Place, Idle, next_place, Queued, Rights, Taken, HandOff, IsTaken, handed, putting}
+use Imports.{readers, rights_of, AtLock, after_wake, is_taken_by, State, place_at, call_state, lock_state}
+use Imports.{taken_at, rules_in}
 use Rattle.lot_laws.specs.ThreadDeeds.{Act}
 use Rattle.lot_laws.proofs.machine.Parts.{past_all, put_same, same, IsSingle}
 use Rattle.lot_laws.proofs.calls.CallEvents.{AreClaims, IsEvent, OthersFollow, rights, rights_led}

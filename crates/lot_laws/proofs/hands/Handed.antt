@@ -1,11 +1,11 @@
 -- A thread that has somebody in hand at one lock alone: each thread in its hand is so there, and one at
 -- most where that lock lets one go at a time. Its leaving and its hand-over empty the hand.
-use Rattle.lot_laws.proofs.Names
-use Names.{ℕ, Bool, true, false, Option, Some, None, if◌then◌else◌, ◌==◌, ◌≡◌, ◌≢◌, ◌+◌, List, inl, inr, refl}
-use Names.{◌∙◌, ap, subst, arith, sharing_same, IsLockState, cases_eq, Waiter, Exclusive, Owners, Place}
-use Names.{Reply, taker, let_go, putting, sum, is_thread, with_exclusive, State, place_at, shares_at}
-use Names.{state_after_telling, held, owners_with_pending, owners_of_successor, shares_handed_over}
-use Names.{owners_handed_over, state_after_reply, lock_seen, taken_at, carried_at, hand_at, Hands}
+use Rattle.lot_laws.proofs.Imports
+use Imports.{ℕ, Bool, true, false, Option, Some, None, if◌then◌else◌, ◌==◌, ◌≡◌, ◌≢◌, ◌+◌, List, inl, inr, refl}
+use Imports.{◌∙◌, ap, subst, arith, sharing_same, IsLockState, cases_eq, Waiter, Exclusive, Owners, Place}
+use Imports.{Reply, taker, let_go, putting, sum, is_thread, with_exclusive, State, place_at, shares_at}
+use Imports.{state_after_telling, held, owners_with_pending, owners_of_successor, shares_handed_over}
+use Imports.{owners_handed_over, state_after_reply, lock_seen, taken_at, carried_at, hand_at, Hands}
 use Rattle.spec_locks.specs.Locks as locks
 pub use Rattle.steps_mutex.specs.MutexLaws.{heir}
 use Rattle.lot_laws.specs.Locations.{Location, hand}

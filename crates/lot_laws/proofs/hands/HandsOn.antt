@@ -1,21 +1,21 @@
 -- A thread in a call of a reader-writer lock hands its right over: where its operation takes effect, all that
 -- it has in hand own.
-use Rattle.lot_laws.proofs.Names
-use Names.{◌+◌, ◌*◌, ◌-◌, ℕ, Bool, true, false, Option, Some, None, if◌then◌else◌, ◌==◌, ◌≡◌, ◌≢◌, ◌^◌, ◌<◌}
-use Names.{◌≤◌, ◌⊎◌, inl, inr, List, [], ◌∷◌, ◌++◌, length, refl, sym, ◌∙◌, ap, subst, arith, eqb-true, Op}
-use Names.{Want, Exclusive, Upgradable, Shared, Waiter, apply, HandedBy, Value, Owners, takes_effect}
-use Names.{HandsOver, bit_left, claim_handed, heir_of, shares_then, Profile, hand, in_hand, Location}
-use Names.{location_by, Admission, RwLockPlace, RwLockAt, role_at, parked_hand as place_hand, RwLockCallPlace}
-use Names.{Plain, PeekQueue, HandOver, Bump, Handed, CallStands, in_hand_of, call_deeds, handing_deeds}
-use Names.{CallTells, StandsToHandOver as Hands, call_move, call_profile, call_act, call_next, call_owners}
-use Names.{call_shares, has_room, parked_as, tokens, with_taken, word_without, fair_sleepers_move}
-use Names.{hand_overs_move, handed_move, givers_keep, fair_calls_stand, hand_overs_tell, hand_overs_code}
-use Names.{hand_overs_follow, Place, Idle, Mutex, RwLock, Once, Condvar, Semaphore, next_place, profile}
-use Names.{LockState, Rules, Taken, HandOff, IsLockState, Owns, Queued, without_owner, Case, Role, Pends}
-use Names.{Site, has_readers, HasLimit, code, State, owners_at, place_at, put, queue_at, share_at, shares_at}
-use Names.{sharers_in_hand, state_after_act, successor_from, unshared_then, word_at, IsWellFormed, taken_at}
-use Names.{acts, FitsItsLock, Goes, LimitHasRoom, IsCountOfHand, IsInductive, carried_at, hand_at, rules_in}
-use Names.{role_on, location, Hand}
+use Rattle.lot_laws.proofs.Imports
+use Imports.{◌+◌, ◌*◌, ◌-◌, ℕ, Bool, true, false, Option, Some, None, if◌then◌else◌, ◌==◌, ◌≡◌, ◌≢◌, ◌^◌, ◌<◌}
+use Imports.{◌≤◌, ◌⊎◌, inl, inr, List, [], ◌∷◌, ◌++◌, length, refl, sym, ◌∙◌, ap, subst, arith, eqb-true, Op}
+use Imports.{Want, Exclusive, Upgradable, Shared, Waiter, apply, HandedBy, Value, Owners, takes_effect}
+use Imports.{HandsOver, bit_left, claim_handed, heir_of, shares_then, Profile, hand, in_hand, Location}
+use Imports.{location_by, Admission, RwLockPlace, RwLockAt, role_at, parked_hand as place_hand, RwLockCallPlace}
+use Imports.{Plain, PeekQueue, HandOver, Bump, Handed, CallStands, in_hand_of, call_deeds, handing_deeds}
+use Imports.{CallTells, StandsToHandOver as Hands, call_move, call_profile, call_act, call_next, call_owners}
+use Imports.{call_shares, has_room, parked_as, tokens, with_taken, word_without, fair_sleepers_move}
+use Imports.{hand_overs_move, handed_move, givers_keep, fair_calls_stand, hand_overs_tell, hand_overs_code}
+use Imports.{hand_overs_follow, Place, Idle, Mutex, RwLock, Once, Condvar, Semaphore, next_place, profile}
+use Imports.{LockState, Rules, Taken, HandOff, IsLockState, Owns, Queued, without_owner, Case, Role, Pends}
+use Imports.{Site, has_readers, HasLimit, code, State, owners_at, place_at, put, queue_at, share_at, shares_at}
+use Imports.{sharers_in_hand, state_after_act, successor_from, unshared_then, word_at, IsWellFormed, taken_at}
+use Imports.{acts, FitsItsLock, Goes, LimitHasRoom, IsCountOfHand, IsInductive, carried_at, hand_at, rules_in}
+use Imports.{role_on, location, Hand}
 use Rattle.lot_laws.proofs.rwlock.RwLockStaysASite.{beside_no_call, of_no_once}
 use Rattle.core_base.specs.declared.ops.Op.TheVariants as operation
 use Rattle.spec_locks.specs.declared.calls.Access.TheVariants as access

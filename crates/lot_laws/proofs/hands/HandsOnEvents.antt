@@ -1,16 +1,16 @@
 -- A hand-over of a reader-writer lock is one case of the abstract lock, and the calls of all that were handed
 -- it go on with what they wanted.
-use Rattle.lot_laws.proofs.Names
-use Names.{ℕ, Bool, true, false, Option, Some, None, if◌then◌else◌, ◌==◌, ◌≡◌, ◌<◌, List, ◌++◌, length}
-use Names.{get_or, get_or-set_other, refl, sym, ◌∙◌, ap, subst, eqb-true, get_or-map, Op, Want, Exclusive}
-use Names.{Upgradable, Shared, CallOnce, Next, HandedBy, Value, takes_effect, claim_handed, heir_of, row_of}
-use Names.{is_thread, Hand, Of, Profile, hand, taken_from, Location, location_by, Admission, RwLockCallPlace}
-use Names.{in_hand_of, call_deeds, next_rows, with_claim, call_move, call_profile, call_act, call_next}
-use Names.{handed_move, fair_sleepers_hear, Place, Idle, Mutex, RwLock, Once, Condvar, Semaphore, calls}
-use Names.{next_place, profile, rwlock_goes, taker, case_of, event_by, HandOff, IsTaken, Queued, Rights}
-use Names.{Taken, putting, AtLock, Event, is_taken_by, Deed, IsWellFormed, State, place_after_telling}
-use Names.{place_at, put, state_after_act, state_after_hand_over_by, unshared_then, word_at, acts, call_state}
-use Names.{lock_state, taken_at, FitsItsLock, Goes, IsCountOfHand, IsInductive, carried_at, rules_in}
+use Rattle.lot_laws.proofs.Imports
+use Imports.{ℕ, Bool, true, false, Option, Some, None, if◌then◌else◌, ◌==◌, ◌≡◌, ◌<◌, List, ◌++◌, length}
+use Imports.{get_or, get_or-set_other, refl, sym, ◌∙◌, ap, subst, eqb-true, get_or-map, Op, Want, Exclusive}
+use Imports.{Upgradable, Shared, CallOnce, Next, HandedBy, Value, takes_effect, claim_handed, heir_of, row_of}
+use Imports.{is_thread, Hand, Of, Profile, hand, taken_from, Location, location_by, Admission, RwLockCallPlace}
+use Imports.{in_hand_of, call_deeds, next_rows, with_claim, call_move, call_profile, call_act, call_next}
+use Imports.{handed_move, fair_sleepers_hear, Place, Idle, Mutex, RwLock, Once, Condvar, Semaphore, calls}
+use Imports.{next_place, profile, rwlock_goes, taker, case_of, event_by, HandOff, IsTaken, Queued, Rights}
+use Imports.{Taken, putting, AtLock, Event, is_taken_by, Deed, IsWellFormed, State, place_after_telling}
+use Imports.{place_at, put, state_after_act, state_after_hand_over_by, unshared_then, word_at, acts, call_state}
+use Imports.{lock_state, taken_at, FitsItsLock, Goes, IsCountOfHand, IsInductive, carried_at, rules_in}
 use Rattle.lot_laws.proofs.rwlock.RwLockStaysASite.{beside_no_call, of_no_once}
 use Rattle.core_base.specs.declared.wants.Want.TheVariants.{Wait}
 use Rattle.steps_base.specs.declared.acts.Act.TheVariants as act

@@ -1,25 +1,25 @@
 -- A thread hands its right over to all that it has in hand, one or many, each by its want: every lock is a
 -- site again. No place is named: the laws of its sort of lock say that its deeds may be done, what it does
 -- then, and where those in its hand go.
-use Rattle.lot_laws.proofs.Names
-use Names.{ℕ, zero, suc, Bool, true, false, Option, Some, None, if◌then◌else◌, ◌==◌, ◌&&◌, ◌||◌, ◌≡◌, ◌≢◌}
-use Names.{◌+◌, ◌-◌, ◌*◌, ◌%◌, ◌^◌, ◌≤◌, ◌<◌, ◌⊎◌, replicate, List, [], ◌∷◌, ◌++◌, length, get_or, set, map}
-use Names.{inl, inr, refl, sym, ◌∙◌, ap, subst, arith, length-set, get_or-set_same, get_or-set_other, sum}
-use Names.{cases_eq, cases_lt, eqb-true, nat_tests, length-map, Op, Waiter, Want, Exclusive, Upgradable}
-use Names.{Shared, CallOnce, apply, Owners, HandedBy, claim_handed, bit_left, is_thread, with_exclusive, hand}
-use Names.{Hand, Of, in_hand as in_hand_if, taken_from, Place, Idle, calls, next_place, owners_after, profile}
-use Names.{taker, wants, LockState, Queued, Taken, Rules, Sort, Recursive, HandOff, IsSuccessor, Knows}
-use Names.{keep_from, let_go, putting, sharing_from, sharing_handed, shares_handed, succeeding, wants_shared}
-use Names.{with_owner, with_successor, without_owner, handed, readers, Role, Site, IsSite, Deed, Has, Begin}
-use Names.{Case, Holds, has_readers, is_full, after_deed, code, code_of, fills, has_aside, has_parked}
-use Names.{HasLimit, TellsTrue, words_tell_true, handed_limit, sum_cons, unshared_successor}
-use Names.{has_upgradable_handed, has_exclusive_handed, pends_handed, shares_handed_on, Successor, State}
-use Names.{place_at, word_at, owners_at, shares_at, filled_at, kind_at, queue_at, section_at, unlocked, put}
-use Names.{state_after_hand_over, state_after_telling, place_after_telling, hand_over_told, unshared_then}
-use Names.{held, held_by, shares_in_hand, shares_given, shares_handed_over, with_share, successor_from}
-use Names.{owners_of_successor, owners_handed_over, owners_with_pending, given_count, taken_at, acts}
-use Names.{location, location_at, nowhere, role_on, locations_of, ActsNeeded, LimitHasRoom, IsInductive, Goes}
-use Names.{Hands, TakesOne, FitsItsLock, after_acts, rules_in, carried_at, hand_at}
+use Rattle.lot_laws.proofs.Imports
+use Imports.{ℕ, zero, suc, Bool, true, false, Option, Some, None, if◌then◌else◌, ◌==◌, ◌&&◌, ◌||◌, ◌≡◌, ◌≢◌}
+use Imports.{◌+◌, ◌-◌, ◌*◌, ◌%◌, ◌^◌, ◌≤◌, ◌<◌, ◌⊎◌, replicate, List, [], ◌∷◌, ◌++◌, length, get_or, set, map}
+use Imports.{inl, inr, refl, sym, ◌∙◌, ap, subst, arith, length-set, get_or-set_same, get_or-set_other, sum}
+use Imports.{cases_eq, cases_lt, eqb-true, nat_tests, length-map, Op, Waiter, Want, Exclusive, Upgradable}
+use Imports.{Shared, CallOnce, apply, Owners, HandedBy, claim_handed, bit_left, is_thread, with_exclusive, hand}
+use Imports.{Hand, Of, in_hand as in_hand_if, taken_from, Place, Idle, calls, next_place, owners_after, profile}
+use Imports.{taker, wants, LockState, Queued, Taken, Rules, Sort, Recursive, HandOff, IsSuccessor, Knows}
+use Imports.{keep_from, let_go, putting, sharing_from, sharing_handed, shares_handed, succeeding, wants_shared}
+use Imports.{with_owner, with_successor, without_owner, handed, readers, Role, Site, IsSite, Deed, Has, Begin}
+use Imports.{Case, Holds, has_readers, is_full, after_deed, code, code_of, fills, has_aside, has_parked}
+use Imports.{HasLimit, TellsTrue, words_tell_true, handed_limit, sum_cons, unshared_successor}
+use Imports.{has_upgradable_handed, has_exclusive_handed, pends_handed, shares_handed_on, Successor, State}
+use Imports.{place_at, word_at, owners_at, shares_at, filled_at, kind_at, queue_at, section_at, unlocked, put}
+use Imports.{state_after_hand_over, state_after_telling, place_after_telling, hand_over_told, unshared_then}
+use Imports.{held, held_by, shares_in_hand, shares_given, shares_handed_over, with_share, successor_from}
+use Imports.{owners_of_successor, owners_handed_over, owners_with_pending, given_count, taken_at, acts}
+use Imports.{location, location_at, nowhere, role_on, locations_of, ActsNeeded, LimitHasRoom, IsInductive, Goes}
+use Imports.{Hands, TakesOne, FitsItsLock, after_acts, rules_in, carried_at, hand_at}
 use Rattle.core_base.specs.declared.wants.Want.TheVariants.{Wait}
 use Rattle.spec_locks.specs.declared.kinds.Kind as kind
 use Rattle.steps_base.specs.Owners.{lock_seen}

@@ -1,10 +1,10 @@
 -- The threads in a hand by their wants: how many want to share, and which one wants more. A place's word on
 -- it stays true as long as nobody comes into the hand or leaves it, and the lock hands over by it.
-use Rattle.lot_laws.proofs.Names
-use Names.{ℕ, zero, suc, Bool, true, false, Option, Some, None, if◌then◌else◌, ◌==◌, ◌&&◌, ◌≡◌, ◌+◌, List, []}
-use Names.{◌∷◌, length, get_or, cond, refl, sym, ◌∙◌, ap, subst, arith, sum, filter, eqb-true, nat_tests}
-use Names.{Want, Taken, shares_handed, sharing_from, wants_shared, sum_cons, Place, Idle, Successor, held}
-use Names.{shares_in_hand, sharers_in_hand, successor_from, successor_or, wants_more_in_hand}
+use Rattle.lot_laws.proofs.Imports
+use Imports.{ℕ, zero, suc, Bool, true, false, Option, Some, None, if◌then◌else◌, ◌==◌, ◌&&◌, ◌≡◌, ◌+◌, List, []}
+use Imports.{◌∷◌, length, get_or, cond, refl, sym, ◌∙◌, ap, subst, arith, sum, filter, eqb-true, nat_tests}
+use Imports.{Want, Taken, shares_handed, sharing_from, wants_shared, sum_cons, Place, Idle, Successor, held}
+use Imports.{shares_in_hand, sharers_in_hand, successor_from, successor_or, wants_more_in_hand}
 
 -- tells what a thread wants, where t has taken it
 abbrev pub wanted_of : ℕ → Option Taken → Option Want

@@ -1,10 +1,10 @@
 -- A thread that has taken others is inside the section from whose line it took them. One that is yet to set a
 -- parked bit beside waiters is inside too, or has ended its run of a `Once` and owes them their wake.
-use Rattle.lot_laws.proofs.Names
-use Names.{ℕ, Bool, true, false, Some, None, if◌then◌else◌, ◌≡◌, inl, inr, sym, ◌∙◌, ap, subst, Taken, Role}
-use Names.{Line, Main, idle, CondvarPlace, Place, Condvar, beside_of, calls, is_lock, line_owed, or_else}
-use Names.{profile, profile_beside, State, place_at, lock_state, role_on, IsInductive, IsInside}
-use Names.{IsAboutToMark, IsToMark}
+use Rattle.lot_laws.proofs.Imports
+use Imports.{ℕ, Bool, true, false, Some, None, if◌then◌else◌, ◌≡◌, inl, inr, sym, ◌∙◌, ap, subst, Taken, Role}
+use Imports.{Line, Main, idle, CondvarPlace, Place, Condvar, beside_of, calls, is_lock, line_owed, or_else}
+use Imports.{profile, profile_at_mutex, State, place_at, lock_state, role_on, IsInductive, IsInside}
+use Imports.{IsAboutToMark, IsToMark}
 use Rattle.lot_laws.proofs.machine.Parts.{inside_is, single_role, single_or_two, single_owes}
 use Rattle.lot_laws.proofs.machine.PlaceTest.{beside_facts, row_facts}
 
@@ -17,7 +17,7 @@ CarriesInside d = d.carries ≡ true → (m : Line) × (d.inside ≡ Some m)
 role_inside : (p : Place) (l : ℕ) → CarriesInside (role_on p l)
 role_inside p l = by_locks (calls p l) (is_lock l (beside_of p))
   where
-    by_locks : (b c : Bool) → CarriesInside (if b then (profile p).role else if c then (profile_beside p).role
+    by_locks : (b c : Bool) → CarriesInside (if b then (profile p).role else if c then (profile_at_mutex p).role
         else idle)
     by_locks true c h = (row_facts p).carries h
     by_locks false true h = (beside_facts p).carries h
@@ -55,10 +55,10 @@ owes_soon p l = elim (single_or_two p) [
     own false sets wakes = absurd cc
 
     beside : (k : ℕ) (at : CondvarPlace) (b c : Bool) → (if b then (profile (Condvar k at)).role else if c
-        then (profile_beside (Condvar k at)).role else idle).sets ≡ true
-        → (if b then (profile (Condvar k at)).role else if c then (profile_beside (Condvar k at)).role
+        then (profile_at_mutex (Condvar k at)).role else idle).sets ≡ true
+        → (if b then (profile (Condvar k at)).role else if c then (profile_at_mutex (Condvar k at)).role
         else idle).wakes ≡ Some Main
-        → or_else (if c then (profile_beside (Condvar k at)).owes else None)
+        → or_else (if c then (profile_at_mutex (Condvar k at)).owes else None)
         (if b then (profile (Condvar k at)).owes else None) ≡ Some Main
     beside k at true c sets wakes = absurd cc
     beside k at false true sets wakes =

@@ -1,15 +1,15 @@
 -- A thread goes on by the act that hands its right over, at a lock that is shared: where the operation takes
 -- effect all that it has in hand own, and else nothing changes. No place is named, as in `MovesKept`.
-use Rattle.lot_laws.proofs.Names
-use Names.{ℕ, Bool, true, false, Option, Some, None, ◌≡◌, ◌+◌, ◌*◌, ◌<◌, List, [], ◌∷◌, ◌++◌, length, refl}
-use Names.{sym, ◌∙◌, ap, subst, Op, apply, Done, Value, Wakes, One, takes_effect, wakes_taken, StepView}
-use Names.{Hears}
-use Names.{Accepts, HandsOver, TellsHanded, bit_left, heir_of, inside_of, Profile, in_hand, Location}
-use Names.{location_by, Place, owners_after, profile, Rules, HandOff, without_owner, Site, Deed, Case, End}
-use Names.{Main, has_readers, code, Successor, State, place_at, word_at, owners_at, shares_at, queue_at, put}
-use Names.{state_after_act, state_after_leave, state_after_hand_over_by, successor_from, unshared_then}
-use Names.{want_of_successor, taken_at, acts, role_on, location, ActsNeeded, IsInductive, Goes, after_acts}
-use Names.{key_of, rules_in, hand_at}
+use Rattle.lot_laws.proofs.Imports
+use Imports.{ℕ, Bool, true, false, Option, Some, None, ◌≡◌, ◌+◌, ◌*◌, ◌<◌, List, [], ◌∷◌, ◌++◌, length, refl}
+use Imports.{sym, ◌∙◌, ap, subst, Op, apply, Done, Value, Wakes, One, takes_effect, wakes_taken, StepView}
+use Imports.{Hears}
+use Imports.{Accepts, HandsOver, TellsHanded, bit_left, heir_of, inside_of, Profile, in_hand, Location}
+use Imports.{location_by, Place, owners_after, profile, Rules, HandOff, without_owner, Site, Deed, Case, End}
+use Imports.{Main, has_readers, code, Successor, State, place_at, word_at, owners_at, shares_at, queue_at, put}
+use Imports.{state_after_act, state_after_leave, state_after_hand_over_by, successor_from, unshared_then}
+use Imports.{want_of_successor, taken_at, acts, role_on, location, ActsNeeded, IsInductive, Goes, after_acts}
+use Imports.{key_of, rules_in, hand_at}
 use Rattle.steps_base.specs.declared.acts.Act.TheVariants as act
 use Rattle.core_base.specs.declared.notes.Note.TheVariants.{HandOff as HandOffNote}
 use Rattle.steps_base.specs.Owners.{lock_seen}

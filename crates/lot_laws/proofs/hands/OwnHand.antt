@@ -1,8 +1,8 @@
 -- A thread that calls one lock is in no hand of its own: a thread that is in a hand has nobody in hand.
-use Rattle.lot_laws.proofs.Names
-use Names.{ℕ, Bool, true, false, Some, None, if◌then◌else◌, ◌≡◌, ◌⊎◌, inl, inr, refl, ◌∙◌, ap, Place, Idle}
-use Names.{Mutex, RwLock, Once, Condvar, Semaphore, calls, profile, is_taken_by, State, place_at, taken_at}
-use Names.{nowhere, location, IsInductive, carried_at}
+use Rattle.lot_laws.proofs.Imports
+use Imports.{ℕ, Bool, true, false, Some, None, if◌then◌else◌, ◌≡◌, ◌⊎◌, inl, inr, refl, ◌∙◌, ap, Place, Idle}
+use Imports.{Mutex, RwLock, Once, Condvar, Semaphore, calls, profile, is_taken_by, State, place_at, taken_at}
+use Imports.{nowhere, location, IsInductive, carried_at}
 use Rattle.lot_laws.specs.Locations.{Location}
 use Rattle.lot_laws.proofs.machine.AtPlaces.{unless_held}
 use Rattle.lot_laws.proofs.machine.PlaceTest.{call_facts, mutex_row_facts, once_facts, semaphore_facts}

@@ -1,11 +1,11 @@
 -- A thread at a place, between steps: the section that it is inside, the lines in which it stands, and its
 -- rights.
-use Rattle.lot_laws.proofs.Names
-use Names.{ℕ, Bool, true, false, Option, Some, None, if◌then◌else◌, ◌==◌, ◌≡◌, ◌*◌, [], get_or, map, refl}
-use Names.{sym, ◌∙◌, ap, get_or-map, Exclusive, without, times, Mutex, MutexPlace, Taken, HasTakenNobody}
-use Names.{keep_from, is_taken_by, Main, Has, State, place_at, word_at, owners_at, kind_at, queue_at}
-use Names.{lock_state, taken_at, IsMutexWord, mutex_role, location, location_at, role_on, IsInductive}
-use Names.{FitsItsLock, rules_in, carried_at, hand_at, stood_in}
+use Rattle.lot_laws.proofs.Imports
+use Imports.{ℕ, Bool, true, false, Option, Some, None, if◌then◌else◌, ◌==◌, ◌≡◌, ◌*◌, [], get_or, map, refl}
+use Imports.{sym, ◌∙◌, ap, get_or-map, Exclusive, without, times, Mutex, MutexPlace, Taken, HasTakenNobody}
+use Imports.{keep_from, is_taken_by, Main, Has, State, place_at, word_at, owners_at, kind_at, queue_at}
+use Imports.{lock_state, taken_at, IsMutexWord, mutex_role, location, location_at, role_on, IsInductive}
+use Imports.{FitsItsLock, rules_in, carried_at, hand_at, stood_in}
 use Rattle.spec_locks.specs.Locks as locks
 use Rattle.lot_laws.specs.Locations.{hand}
 use Rattle.lot_laws.proofs.hands.Counts.{without_absent}

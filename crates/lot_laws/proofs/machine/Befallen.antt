@@ -1,10 +1,10 @@
 -- A thread keeps, whatever befalls it, all that no wake, take or hand-over changes, as long as its own turn
 -- doesn't come.
-use Rattle.lot_laws.proofs.Names
-use Names.{ℕ, Bool, true, false, Option, Some, None, if◌then◌else◌, ◌≡◌, ◌≢◌, refl, ◌∙◌, ap, get_or-set_other}
-use Names.{One, Turn, Step, Act, Reply, Place, Idle, act_of, late_key, respins_from, next_place, State, after}
-use Names.{closed_place, is_possible, place_at, put, state_after_act, state_after_go, state_after_going}
-use Names.{state_after_late_on, state_after_look, state_after_turn, state_with_sections, acted_keeps}
+use Rattle.lot_laws.proofs.Imports
+use Imports.{ℕ, Bool, true, false, Option, Some, None, if◌then◌else◌, ◌≡◌, ◌≢◌, refl, ◌∙◌, ap, get_or-set_other}
+use Imports.{One, Turn, Step, Act, Reply, Place, Idle, act_of, late_key, respins_from, next_place, State, after}
+use Imports.{closed_place, is_possible, place_at, put, state_after_act, state_after_go, state_after_going}
+use Imports.{state_after_late_on, state_after_look, state_after_turn, state_with_sections, acted_keeps}
 use Rattle.spec_locks.specs.declared.calls.Turn as turn
 use Rattle.lot_laws.proofs.promises.RowPromises.{Befalls}
 

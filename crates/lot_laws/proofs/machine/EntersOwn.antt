@@ -1,10 +1,10 @@
 -- An act enters a section of the lock that its thread calls, or of the mutex beside.
-use Rattle.lot_laws.proofs.Names
-use Names.{ℕ, Bool, true, false, Some, ◌≡◌, ◌⊎◌, ◌*◌, inl, inr, refl, sym, ◌∙◌, ap, subst, arith, One, Two}
-use Names.{Act, Location, CondvarPlace, condvar_act, mutex_beside, move_act, Place, Idle, Mutex, RwLock, Once}
-use Names.{Condvar, Semaphore, act_of, beside_of, called_lock, Line, Main, Second, has_readers, rules_of}
-use Names.{State, kind_at, place_at, FitsItsLock, IsWorld, key_of, rules_in, EntersSection, HasLine, IsBarred}
-use Names.{location}
+use Rattle.lot_laws.proofs.Imports
+use Imports.{ℕ, Bool, true, false, Some, ◌≡◌, ◌⊎◌, ◌*◌, inl, inr, refl, sym, ◌∙◌, ap, subst, arith, One, Two}
+use Imports.{Act, Location, CondvarPlace, condvar_act, mutex_beside, move_act, Place, Idle, Mutex, RwLock, Once}
+use Imports.{Condvar, Semaphore, act_of, beside_of, called_lock, Line, Main, Second, has_readers, rules_of}
+use Imports.{State, kind_at, place_at, FitsItsLock, IsWorld, key_of, rules_in, EntersSection, HasLine, IsBarred}
+use Imports.{location}
 use Rattle.steps_base.specs.declared.acts.Act.TheVariants as act
 use Rattle.steps_condvar.specs.declared.places.CondvarPlace.TheVariants as condvar
 use Rattle.steps_condvar.specs.declared.wait.WaitAt.TheVariants as wait

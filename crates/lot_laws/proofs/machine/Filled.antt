@@ -1,19 +1,19 @@
 -- A lock is filled where it was before, or where as many share it now as its limit allows.
-use Rattle.lot_laws.proofs.Names
-use Names.{ℕ, zero, suc, Bool, true, false, Option, Some, None, if◌then◌else◌, ◌||◌, ◌≡◌, ◌⊎◌, inl, inr, List}
-use Names.{[], ◌∷◌, get_or, set, refl, ap, ◌∙◌, Keys, One, Two, Op, first_of, Step, Turn, Act, Wakes}
-use Names.{takes_effect, holds, Place, act_of, respins_from, late_key, fills, full_by, rules_of, is_full}
-use Names.{State}
-use Names.{unlocked, place_at, word_at, kind_at, filled_at, queue_at, put, state_after_operation}
-use Names.{state_after_hand_over_by, state_with_sections, queues_with_last, queues_without_first}
-use Names.{state_after_taking, state_after_wake, state_after_act, state_after_look, state_after_late_on}
-use Names.{state_after_turn, closed_place, is_possible, after, locks_of, lock_state, IsWorld, rules_in}
-use Names.{site_of}
+use Rattle.lot_laws.proofs.Imports
+use Imports.{ℕ, zero, suc, Bool, true, false, Option, Some, None, if◌then◌else◌, ◌||◌, ◌≡◌, ◌⊎◌, inl, inr, List}
+use Imports.{[], ◌∷◌, get_or, set, refl, ap, ◌∙◌, Keys, One, Two, Op, first_of, Step, Turn, Act, Wakes}
+use Imports.{takes_effect, holds, Place, act_of, respins_from, late_key, fills, full_by, rules_of, is_full}
+use Imports.{State}
+use Imports.{unlocked, place_at, word_at, kind_at, filled_at, queue_at, put, state_after_operation}
+use Imports.{state_after_hand_over_by, state_with_sections, queues_with_last, queues_without_first}
+use Imports.{state_after_taking, state_after_wake, state_after_act, state_after_look, state_after_late_on}
+use Imports.{state_after_turn, closed_place, is_possible, after, locks_of, lock_state, IsWorld, rules_in}
+use Imports.{site_of}
 use Rattle.spec_locks.specs.declared.kinds.Kind as kind
 use Rattle.spec_locks.specs.declared.calls.Turn as turn
 use Rattle.steps_base.specs.declared.acts.Act.TheVariants as act
 use Rattle.steps_base.specs.declared.acts.Wakes as wakes
-use Rattle.steps_base.specs.declared.acts.Whom as whom
+use Rattle.steps_base.specs.declared.acts.TakeWhich as whom
 use Rattle.lot_machine.specs.declared.locks.Lock.{Lock}
 use Rattle.lot_laws.proofs.sites.OneStep.{fills_by, noted}
 

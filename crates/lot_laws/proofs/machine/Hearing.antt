@@ -1,16 +1,16 @@
 -- Each place of a call of one lock, by what befalls its thread there: one that tells others something hears
 -- nothing, one that sleeps does so on, and a call goes on as it was where its thread is taken, and tries
 -- again where it is woken.
-use Rattle.lot_laws.proofs.Names
-use Names.{ℕ, Bool, true, false, Option, Some, None, if◌then◌else◌, ◌==◌, ◌≡◌, not, ◌+◌, ◌-◌, ◌*◌, refl, sym}
-use Names.{ap, ◌∙◌, One, Note, Access, has_aside, Rights, Bumps, CallState, Hand, hand, Act, Word, Enter}
-use Names.{Sleep, Next, At, Reply, TakenBy, MovedTo, HandedBy, Woken, MutexPlace, is_locked, mutex_act}
-use Names.{Admission, RwLockPlace, RwLockAt, RwLockPurpose, Decision, WakeAt, rwlock_profile, access_of}
-use Names.{act_at, decided, decided_act, plus, rwlock_act, rwlock_next, wake_next, wanted, taken_goes}
-use Names.{woken_goes, RwLockCallPlace, HandOverAt, bump_former, bump_released, bumping, bump_next, call_act}
-use Names.{given, handed_by, has_room, hand_over_act, plain_next, unless_given, Course, OncePlace, course_act}
-use Names.{course_of, once_act, SemaphorePlace, is_free, semaphore_act, Place, Mutex, RwLock, Once, Semaphore}
-use Names.{act_of, next_place, profile, rwlock_goes, Befalls, tells, call_state, sleeps}
+use Rattle.lot_laws.proofs.Imports
+use Imports.{ℕ, Bool, true, false, Option, Some, None, if◌then◌else◌, ◌==◌, ◌≡◌, not, ◌+◌, ◌-◌, ◌*◌, refl, sym}
+use Imports.{ap, ◌∙◌, One, Note, Access, has_aside, Rights, Bumps, CallState, Hand, hand, Act, Word, Enter}
+use Imports.{Sleep, Next, At, Reply, TakenBy, MovedTo, HandedBy, Woken, MutexPlace, is_locked, mutex_act}
+use Imports.{Admission, RwLockPlace, RwLockAt, RwLockPurpose, Decision, WakeAt, rwlock_profile, access_of}
+use Imports.{act_at, decided, decided_act, plus, rwlock_act, rwlock_next, wake_next, wanted, taken_goes}
+use Imports.{woken_goes, RwLockCallPlace, HandOverAt, bump_former, bump_released, bumping, bump_next, call_act}
+use Imports.{given, handed_by, has_room, hand_over_act, plain_next, unless_given, Course, OncePlace, course_act}
+use Imports.{course_of, once_act, SemaphorePlace, is_free, semaphore_act, Place, Mutex, RwLock, Once, Semaphore}
+use Imports.{act_of, next_place, profile, rwlock_goes, Befalls, tells, call_state, sleeps}
 use Rattle.core_base.specs.declared.keys.Line.{Line}
 use Rattle.core_base.specs.declared.notes.Note.TheVariants as note
 use Rattle.core_base.specs.declared.ops.Op as op

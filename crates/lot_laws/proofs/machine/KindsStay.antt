@@ -1,12 +1,12 @@
 -- Locks stay of their kinds.
-use Rattle.lot_laws.proofs.Names
-use Names.{ℕ, Bool, true, false, Option, Some, None, if◌then◌else◌, ◌||◌, ◌≡◌, length, replicate, get_or, set}
-use Names.{refl, ap, ◌∙◌, Op, Kind, has_readers, rules_of, MutexCall, RwLockCall, Turn, Step, CondvarCall}
-use Names.{OnceCall, SemaphoreCall, Place, has_call, act_of, respins_from, late_key, State}
-use Names.{shares_handed_over}
-use Names.{unlocked, place_at, word_at, shares_at, filled_at, kind_at, state_after_hand_over}
-use Names.{state_after_look, put, state_after_late_on, state_after_turn, closed_place, is_possible, after}
-use Names.{apply, fills, or-false, is_mutex}
+use Rattle.lot_laws.proofs.Imports
+use Imports.{ℕ, Bool, true, false, Option, Some, None, if◌then◌else◌, ◌||◌, ◌≡◌, length, replicate, get_or, set}
+use Imports.{refl, ap, ◌∙◌, Op, Kind, has_readers, rules_of, MutexCall, RwLockCall, Turn, Step, CondvarCall}
+use Imports.{OnceCall, SemaphoreCall, Place, has_call, act_of, respins_from, late_key, State}
+use Imports.{shares_handed_over}
+use Imports.{unlocked, place_at, word_at, shares_at, filled_at, kind_at, state_after_hand_over}
+use Imports.{state_after_look, put, state_after_late_on, state_after_turn, closed_place, is_possible, after}
+use Imports.{apply, fills, or-false, is_mutex}
 use Rattle.spec_locks.specs.declared.kinds.Kind as kind
 use Rattle.spec_locks.specs.declared.calls.Call as call
 use Rattle.spec_locks.specs.declared.calls.Turn as turn

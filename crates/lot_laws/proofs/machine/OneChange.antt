@@ -1,17 +1,17 @@
 -- A step changes one word at most, or queues whose sections its thread is in.
-use Rattle.lot_laws.proofs.Names
-use Names.{subst, sym, ℕ, Bool, true, false, Option, Some, None, if◌then◌else◌, ◌≡◌, ◌<◌, ◌⊎◌, inl, inr, List}
-use Names.{[], ◌∷◌, ◌++◌, get_or, set, map, drop, refl, ◌∙◌, ap, get_or-set_other, Value, word_after}
-use Names.{state_after_close, state_after_operation, closed_place, cases_eq, ltb-true, Keys, One, Two, waiter}
-use Names.{without, first_of, Act, Wakes, Late, Turn, Step, Place, lock_in, act_of, called_lock, next_place}
-use Names.{first_place, respins_from, late_key, state_after_hand_over_by, State, left_in_line}
-use Names.{state_after_requeue}
-use Names.{state_after_take, can_turn, unlocked, place_at, word_at, queue_at, section_at, put}
-use Names.{state_with_sections, queues_with_last, queues_without_first, state_after_taking, state_after_wake}
-use Names.{state_after_act, state_after_look, state_after_late_on, go_reply, state_after_turn, is_possible}
-use Names.{after, kind_at, both, location, FitsItsLock, IsInductive, CondvarPlace, Condvar, Requeue, Want}
-use Names.{Waiter, without_lock_picked, Whom, takes_effect, holds, ChangesOneThing, KeepsWordsAndQueues}
-use Names.{TouchesOnlyByGoing}
+use Rattle.lot_laws.proofs.Imports
+use Imports.{subst, sym, ℕ, Bool, true, false, Option, Some, None, if◌then◌else◌, ◌≡◌, ◌<◌, ◌⊎◌, inl, inr, List}
+use Imports.{[], ◌∷◌, ◌++◌, get_or, set, map, drop, refl, ◌∙◌, ap, get_or-set_other, Value, word_after}
+use Imports.{state_after_close, state_after_operation, closed_place, cases_eq, ltb-true, Keys, One, Two, waiter}
+use Imports.{without, first_of, Act, Wakes, Late, Turn, Step, Place, lock_in, act_of, called_lock, next_place}
+use Imports.{first_place, respins_from, late_key, state_after_hand_over_by, State, left_in_line}
+use Imports.{state_after_requeue}
+use Imports.{state_after_take, can_turn, unlocked, place_at, word_at, queue_at, section_at, put}
+use Imports.{state_with_sections, queues_with_last, queues_without_first, state_after_taking, state_after_wake}
+use Imports.{state_after_act, state_after_look, state_after_late_on, go_reply, state_after_turn, is_possible}
+use Imports.{after, kind_at, both, location, FitsItsLock, IsInductive, CondvarPlace, Condvar, Requeue, Want}
+use Imports.{Waiter, without_lock_picked, TakeWhich, takes_effect, holds, ChangesOneThing, KeepsWordsAndQueues}
+use Imports.{TouchesOnlyByGoing}
 use Rattle.lot_laws.proofs.calls.Closures.{RunsOne, closes_one}
 use Rattle.lot_laws.proofs.calls.Closings.{afterwards, closing, goes_there, is_after}
 use Rattle.lot_laws.proofs.calls.Looking.{closing_here}
@@ -28,7 +28,7 @@ use Rattle.lot_laws.proofs.machine.Parts.{IsOf, IsOfTwo, IsSingle, calls_none, f
 use Rattle.lot_laws.proofs.machine.Parts.{single_or_two}
 use Rattle.lot_laws.proofs.promises.LineActs.{line_act, holds_line, removed_at}
 use Rattle.lot_laws.proofs.machine.PlaceTest.{IsLineAct}
-use Rattle.steps_base.specs.declared.acts.Whom.TheVariants as whom
+use Rattle.steps_base.specs.declared.acts.TakeWhich.TheVariants as whom
 
 -- a thread that looks at the word once more changes none
 spun_touches : (w : State) (t : ℕ) → t < length w.places → (o : Option Place) → respins_from (place_at w t)
@@ -126,7 +126,7 @@ module _ (w : State) (t : ℕ) (inductive : IsInductive w) (there : t < length w
         (λ k. inl refl),
   )
 
-  take_one : (key : ℕ) → section_at w key ≡ Some t → (x : Whom)
+  take_one : (key : ℕ) → section_at w key ≡ Some t → (x : TakeWhich)
       → ChangesOneThing w t (state_after_take w t key x)
   take_one key held whom.First = take_first key held (first_of (queue_at w key))
   take_one key held (whom.Picked start recursive) =

@@ -1,20 +1,20 @@
 -- The state of a world by its parts, as total functions, and what each act does to a lock and to what the
 -- threads do about it.
-use Rattle.lot_laws.proofs.Names
-use Names.{ℕ, zero, suc, Bool, true, false, Option, Some, None, if◌then◌else◌, ◌==◌, ◌||◌, ◌≡◌, ◌≢◌, ◌+◌, ◌*◌}
-use Names.{◌≤◌, ◌⊎◌, List, [], ◌∷◌, map, length, get_or, set, inl, inr, refl, sym, ◌∙◌, ap, subst, arith}
-use Names.{length-set, get_or-set_same, get_or-set_other, not, wants_shared, cases_lt, eqb-true, nat_tests}
-use Names.{Waiter, Exclusive, Owners, OncePlace, SemaphorePlace, semaphore_next, once_next, CondvarPlace}
-use Names.{Wait, Look, Notify, mutex_beside, mutex_side, Kind, is_plain_mutex, rules_of, Place, Idle, Mutex}
-use Names.{RwLock, Once, Condvar, Semaphore, Entry, MutexPlace, Lock, Reply, parked_in, aside_in, Next}
-use Names.{RwLockCallPlace, call_next, mutex_next, Want, Hand, Of, hand_owner, taken_from, Profile, blank_row}
-use Names.{next_place, taker, mutex_goes, rwlock_goes, once_goes, semaphore_goes, called_lock, profile, wants}
-use Names.{is_lock, calls, beside_of, or_else, profile_beside, key_in, late_key, line_owed, retries_on}
-use Names.{LockState, Taken, Rules, keep_from, putting, is_thread, Role, Site, idle, wakened, State, place_at}
-use Names.{kind_at, word_at, owners_at, shares_at, filled_at, queue_at, place_after_telling, held}
-use Names.{shares_in_hand, with_share, shares_given, wants_more_in_hand, successor_or, successor_from, put}
-use Names.{held_by, Successor, lock_seen, taken_at, mutex_location, mutex_role, location, location_at}
-use Names.{nowhere, role_on, rules_in, hand_at, FitsItsLock, IsInductive, TakesOne}
+use Rattle.lot_laws.proofs.Imports
+use Imports.{ℕ, zero, suc, Bool, true, false, Option, Some, None, if◌then◌else◌, ◌==◌, ◌||◌, ◌≡◌, ◌≢◌, ◌+◌, ◌*◌}
+use Imports.{◌≤◌, ◌⊎◌, List, [], ◌∷◌, map, length, get_or, set, inl, inr, refl, sym, ◌∙◌, ap, subst, arith}
+use Imports.{length-set, get_or-set_same, get_or-set_other, not, wants_shared, cases_lt, eqb-true, nat_tests}
+use Imports.{Waiter, Exclusive, Owners, OncePlace, SemaphorePlace, semaphore_next, once_next, CondvarPlace}
+use Imports.{Wait, Look, Notify, mutex_beside, mutex_side, Kind, is_plain_mutex, rules_of, Place, Idle, Mutex}
+use Imports.{RwLock, Once, Condvar, Semaphore, Entry, MutexPlace, Lock, Reply, parked_in, aside_in, Next}
+use Imports.{RwLockCallPlace, call_next, mutex_next, Want, Hand, Of, hand_owner, taken_from, Profile, blank_row}
+use Imports.{next_place, taker, mutex_goes, rwlock_goes, once_goes, semaphore_goes, called_lock, profile, wants}
+use Imports.{is_lock, calls, beside_of, or_else, profile_at_mutex, key_in, late_key, line_owed, retries_on}
+use Imports.{LockState, Taken, Rules, keep_from, putting, is_thread, Role, Site, idle, wakened, State, place_at}
+use Imports.{kind_at, word_at, owners_at, shares_at, filled_at, queue_at, place_after_telling, held}
+use Imports.{shares_in_hand, with_share, shares_given, wants_more_in_hand, successor_or, successor_from, put}
+use Imports.{held_by, Successor, lock_seen, taken_at, mutex_location, mutex_role, location, location_at}
+use Imports.{nowhere, role_on, rules_in, hand_at, FitsItsLock, IsInductive, TakesOne}
 use Rattle.spec_locks.specs.declared.kinds.Kind as kind
 use Rattle.steps_mutex.specs.declared.lock.LockAt.TheVariants as lock
 use Rattle.steps_base.specs.declared.acts.Next as next
@@ -204,7 +204,7 @@ none_beside (Once k at) single = refl
 none_beside (Semaphore k at) single = refl
 none_beside (Condvar k at) single = absurd single
 
-pub blank_beside : (p : Place) → IsSingle p → profile_beside p ≡ blank_row
+pub blank_beside : (p : Place) → IsSingle p → profile_at_mutex p ≡ blank_row
 blank_beside Idle single = refl
 blank_beside (Mutex k at) single = refl
 blank_beside (RwLock k a at) single = refl
@@ -216,30 +216,30 @@ blank_beside (Condvar k at) single = absurd single
 pub single_location : (p : Place) (l : ℕ) → IsSingle p → location_at p l ≡ (if calls p l then location p
     else nowhere)
 single_location p l single = ap (λ o. if calls p l then location p else if is_lock l o then location_by
-    (profile_beside p) else nowhere) (none_beside p single)
+    (profile_at_mutex p) else nowhere) (none_beside p single)
 
 pub single_role : (p : Place) (l : ℕ) → IsSingle p → role_on p l ≡ (if calls p l then (profile p).role
     else idle)
 single_role p l single = ap (λ o. if calls p l then (profile p).role else if is_lock l o
-    then (profile_beside p).role else idle) (none_beside p single)
+    then (profile_at_mutex p).role else idle) (none_beside p single)
 
 pub single_taken : (p : Place) (l : ℕ) → IsSingle p → taken_at p l ≡ taken_from (profile p).hand
     (profile p).wants (calls p l)
-single_taken p l single = ap (λ o. if is_lock l o && not (calls p l) then taken_from (profile_beside p).hand
-    (profile_beside p).wants true else taken_from (profile p).hand (profile p).wants (calls p l))
+single_taken p l single = ap (λ o. if is_lock l o && not (calls p l) then taken_from (profile_at_mutex p).hand
+    (profile_at_mutex p).wants true else taken_from (profile p).hand (profile p).wants (calls p l))
     (none_beside p single)
 
 pub single_late : (p : Place) → IsSingle p → late_key p ≡ key_in (called_lock p) (profile p).late_line
-single_late p single = ap (λ o. or_else (key_in o (profile_beside p).late_line)
+single_late p single = ap (λ o. or_else (key_in o (profile_at_mutex p).late_line)
     (key_in (called_lock p) (profile p).late_line)) (none_beside p single)
 
 pub single_owes : (p : Place) (l : ℕ) → IsSingle p → line_owed p l ≡ (if calls p l then (profile p).owes
     else None)
-single_owes p l single = ap (λ o. or_else (if is_lock l o then (profile_beside p).owes else None)
+single_owes p l single = ap (λ o. or_else (if is_lock l o then (profile_at_mutex p).owes else None)
     (if calls p l then (profile p).owes else None)) (none_beside p single)
 
 pub single_retries : (p : Place) (l : ℕ) → IsSingle p → retries_on p l ≡ ((profile p).retries && calls p l)
-single_retries p l single = ap (λ o. (is_lock l o && (profile_beside p).retries) ||
+single_retries p l single = ap (λ o. (is_lock l o && (profile_at_mutex p).retries) ||
     ((profile p).retries && calls p l)) (none_beside p single)
 
 pub single_held : (p : Place) → IsSingle p → held p ≡ held_by (hand_owner (profile p).hand) (profile p).wants
@@ -348,13 +348,13 @@ pub taken_held : (p : Place) (t l : ℕ) (want : Want) → taken_at p l ≡ Some
     → hand_at p l ≡ hand t false
 taken_held p t l want = which (calls p l) (is_lock l (beside_of p))
   where
-    which : (b c : Bool) → (if c && not b then taken_from (profile_beside p).hand (profile_beside p).wants
+    which : (b c : Bool) → (if c && not b then taken_from (profile_at_mutex p).hand (profile_at_mutex p).wants
         true else taken_from (profile p).hand (profile p).wants b) ≡ Some (record { by = t; want = want })
-        → (if b then location p else if c then location_by (profile_beside p) else nowhere).hand
+        → (if b then location p else if c then location_by (profile_at_mutex p) else nowhere).hand
         ≡ hand t false
     which true true e = held_from t (profile p).hand (profile p).wants want e
     which true false e = held_from t (profile p).hand (profile p).wants want e
-    which false true e = held_from t (profile_beside p).hand (profile_beside p).wants want e
+    which false true e = held_from t (profile_at_mutex p).hand (profile_at_mutex p).wants want e
     which false false e = absurd (let none : ◌≡◌ {A = Option Taken} None
         (Some (record { by = t; want = want })) = sym (taken_out (profile p).hand (profile p).wants) ∙ e
         in cc)
@@ -366,13 +366,13 @@ untaken p t l none = which (calls p l) (is_lock l (beside_of p)) none
     out : (h : Option Hand) (x : Option Want) → Untaken t (taken_from h x false)
     out h x = ap (keep_from t) (taken_out h x) ∙ sym (taken_out h x)
 
-    which : (b c : Bool) → ((if b then location p else if c then location_by (profile_beside p)
+    which : (b c : Bool) → ((if b then location p else if c then location_by (profile_at_mutex p)
         else nowhere).hand ≡ hand t false → ⊥)
-        → Untaken t (if c && not b then taken_from (profile_beside p).hand (profile_beside p).wants true
+        → Untaken t (if c && not b then taken_from (profile_at_mutex p).hand (profile_at_mutex p).wants true
         else taken_from (profile p).hand (profile p).wants b)
     which true true free = untaken_by t (profile p).hand (profile p).wants free
     which true false free = untaken_by t (profile p).hand (profile p).wants free
-    which false true free = untaken_by t (profile_beside p).hand (profile_beside p).wants free
+    which false true free = untaken_by t (profile_at_mutex p).hand (profile_at_mutex p).wants free
     which false false free = out (profile p).hand (profile p).wants
 
 -- ---------------------------------------------------------------- one thread goes elsewhere
@@ -544,8 +544,8 @@ role_here l p h = single_role p l (of_single l p h) ∙ by_lock (called_lock p) 
 pub inside_is : (p : Place) (l : ℕ) → (role_on p l).inside ≡ (location_at p l).inside
 inside_is p l = which (calls p l) (is_lock l (beside_of p))
   where
-    which : (b c : Bool) → (if b then role_of p else if c then (profile_beside p).role else idle).inside
-        ≡ (if b then location p else if c then location_by (profile_beside p) else nowhere).inside
+    which : (b c : Bool) → (if b then role_of p else if c then (profile_at_mutex p).role else idle).inside
+        ≡ (if b then location p else if c then location_by (profile_at_mutex p) else nowhere).inside
     which true c = refl
     which false true = refl
     which false false = refl

@@ -1,18 +1,18 @@
 -- Each place, tested once: its row and the act that its thread does there agree, by a test that computes.
 -- Other files read off it what they need.
-use Rattle.lot_laws.proofs.Names
-use Names.{ℕ, Bool, true, false, Option, Some, None, if◌then◌else◌, ◌==◌, ◌&&◌, ◌||◌, not, ◌≡◌, ◌⊎◌, ◌+◌, ◌-◌}
-use Names.{◌*◌, inl, inr, refl, sym, ◌∙◌, ap, subst, One, Two, Shared, Access, OnceCall, Act, Hand, Profile}
-use Names.{in_line, is_line, is_try, no_line, has_aside, CondvarPhase, CondvarMemory, Blank, Purpose, Enters}
-use Names.{Converts, once_purpose, Patience, Try, Line, Main, Second, Entry, MutexPlace, inside}
-use Names.{entry_purpose, mutex_profile, is_locked, mutex_act, Course, OncePlace, once_profile, course_act}
-use Names.{course_of, once_act, SemaphorePlace, patience, semaphore_profile, is_free, semaphore_act}
-use Names.{Admission, RwLockPlace, RwLockAt, Decision, RwLockPurpose, rwlock_profile, act_at, decided}
-use Names.{decided_act, exchange, plus, HandOverAt, RwLockCallPlace, call_profile, call_act, has_room}
-use Names.{hand_over_act, NotifyAt, CondvarPlace, WaiterFate, WaitAt, condvar_profile, hand_of, has_moved}
-use Names.{is_main_line, is_moved, mutex_side, condvar_act, move_act, Place, Idle, Mutex, RwLock, Once}
-use Names.{Condvar, Semaphore, act_of, profile, profile_beside, IsTry, keys_entered, sleeps, key_of}
-use Names.{EntersSection}
+use Rattle.lot_laws.proofs.Imports
+use Imports.{ℕ, Bool, true, false, Option, Some, None, if◌then◌else◌, ◌==◌, ◌&&◌, ◌||◌, not, ◌≡◌, ◌⊎◌, ◌+◌, ◌-◌}
+use Imports.{◌*◌, inl, inr, refl, sym, ◌∙◌, ap, subst, One, Two, Shared, Access, OnceCall, Act, Hand, Profile}
+use Imports.{in_line, is_line, is_try, no_line, has_aside, CondvarPhase, CondvarMemory, Blank, Purpose, Enters}
+use Imports.{Converts, once_purpose, Patience, Try, Line, Main, Second, Entry, MutexPlace, inside}
+use Imports.{entry_purpose, mutex_profile, is_locked, mutex_act, Course, OncePlace, once_profile, course_act}
+use Imports.{course_of, once_act, SemaphorePlace, patience, semaphore_profile, is_free, semaphore_act}
+use Imports.{Admission, RwLockPlace, RwLockAt, Decision, RwLockPurpose, rwlock_profile, act_at, decided}
+use Imports.{decided_act, exchange, plus, HandOverAt, RwLockCallPlace, call_profile, call_act, has_room}
+use Imports.{hand_over_act, NotifyAt, CondvarPlace, WaiterFate, WaitAt, condvar_profile, hand_of, has_moved}
+use Imports.{is_main_line, is_moved, mutex_side, condvar_act, move_act, Place, Idle, Mutex, RwLock, Once}
+use Imports.{Condvar, Semaphore, act_of, profile, profile_at_mutex, IsTry, keys_entered, sleeps, key_of}
+use Imports.{EntersSection}
 use Rattle.core_base.specs.declared.ops.Op.TheVariants as op
 use Rattle.spec_locks.specs.declared.calls.Access.TheVariants as access
 use Rattle.spec_locks.specs.declared.calls.OnceCall.TheVariants as once_call
@@ -62,18 +62,18 @@ abbrev pub IsWithinLine : ℕ → Location → ℕ → Type 0
 IsWithinLine l s key = (m : Line) × (s.inside ≡ Some m) × (key ≡ key_of l m)
 
 -- a thread that stands in a line stands in that one
-abbrev pub StandsThere : Location → Type 0
-StandsThere s = (s.stands ≡ None) ⊎ (s.stands ≡ s.inside)
+abbrev pub StandsAtCondvar : Location → Type 0
+StandsAtCondvar s = (s.stands ≡ None) ⊎ (s.stands ≡ s.inside)
 
 abbrev pub IsLineAct : ℕ → Location → Act → Type 0
 IsLineAct l s (act.Enter (One key)) = IsOfLine l key
 IsLineAct l s (act.Enter (Two first second)) = ⊥
 IsLineAct l s (act.Leave (One key) x) = IsWithinLine l s key
 IsLineAct l s (act.Leave (Two first second) x) = ⊥
-IsLineAct l s (act.Park lock key check x) = IsWithinLine l s key × StandsThere s
-IsLineAct l s (act.Stand key x) = IsWithinLine l s key × StandsThere s
+IsLineAct l s (act.Park lock key check x) = IsWithinLine l s key × StandsAtCondvar s
+IsLineAct l s (act.Stand key x) = IsWithinLine l s key × StandsAtCondvar s
 IsLineAct l s (act.Take key x) = IsWithinLine l s key
-IsLineAct l s (act.Remove key) = IsWithinLine l s key × StandsThere s
+IsLineAct l s (act.Remove key) = IsWithinLine l s key × StandsAtCondvar s
 IsLineAct l s (act.Requeue from to how) = ⊥
 IsLineAct l s a = Unit {0}
 
@@ -280,7 +280,7 @@ module _ (l : ℕ) (m : Line) (row : Profile) where
 
   stands_so : (key : ℕ) → (is_line m row.role.inside && (no_line row.stands || is_line m row.stands)) ≡ true
       → key ≡ key_of l m
-      → IsWithinLine l (location_by row) key × StandsThere (location_by row)
+      → IsWithinLine l (location_by row) key × StandsAtCondvar (location_by row)
   stands_so key h e =
       let t = both (is_line m row.role.inside) _ h in (
         within_so key t.0 e,
@@ -591,7 +591,7 @@ row_facts (Once l to) = (once_facts l to).by_row
 row_facts (Semaphore l to) = (semaphore_facts l to).by_row
 row_facts (Condvar l to) = condvar_facts l to
 
-pub beside_facts : (p : Place) → RowFacts (profile_beside p) (act_of p)
+pub beside_facts : (p : Place) → RowFacts (profile_at_mutex p) (act_of p)
 beside_facts (Condvar l (condvar.Wait m timed to)) = wait_beside l m timed to
 beside_facts (Condvar l (condvar.Look all)) = row_shows refl
 beside_facts (Condvar l (condvar.Notify all m to)) = notify_beside l m all to

@@ -1,8 +1,8 @@
 -- By a turn that changes no more than its thread's place, and sections, no lock changes: its call alone does.
-use Rattle.lot_laws.proofs.Names
-use Names.{ℕ, Option, ◌≡◌, ◌<◌, List, length, length-set, replicate, get_or, get_or-set_other}
-use Names.{get_or-set_same, inl, inr, refl, ◌∙◌, ap, cases_eq, Place, Idle, Rights, rights_of, CallState}
-use Names.{Stays, State, place_at, put, call_state, lock_state, locks_of, taken_at}
+use Rattle.lot_laws.proofs.Imports
+use Imports.{ℕ, Option, ◌≡◌, ◌<◌, List, length, length-set, replicate, get_or, get_or-set_other}
+use Imports.{get_or-set_same, inl, inr, refl, ◌∙◌, ap, cases_eq, Place, Idle, Rights, rights_of, CallState}
+use Imports.{Stays, State, place_at, put, call_state, lock_state, locks_of, taken_at}
 use Rattle.spec_locks.specs.declared.outcomes.Outcome as outcome
 use Rattle.lot_laws.proofs.calls.CallEvents.{put_is, rights}
 

@@ -1,25 +1,25 @@
 -- A turn is possible exactly where the abstract locks and the call say so, and a thread is told that it
 -- sleeps where it does.
 use Rattle.spec_locks.specs.declared.calls.CondvarCall.TheVariants as condvar
-use Rattle.lot_laws.proofs.Names
-use Names.{is_some, subst, ℕ, Bool, true, false, Option, Some, None, if◌then◌else◌, ◌&&◌, ◌≡◌, ◌≢◌, ◌+◌, ◌*◌}
-use Names.{◌≤◌, ◌<◌, ◌↔◌, ◌⊎◌, inl, inr, List, length, is_none, refl, sym, ◌∙◌, ap, arith, get_or-set_other}
-use Names.{get_or-set_same, length-set, set, once_profile, is_closure, cases_eq, cases_lt, get_or_past, Keys}
-use Names.{One, Two, first_of, Waiter, Turn, Call, MutexCall, Kind, is_fair, Act, Enter, Take, Sleep, Closure}
-use Names.{Reply, Late, Next, MutexPlace, OncePlace, once_act, once_next, SemaphorePlace, semaphore_act}
-use Names.{semaphore_first, semaphore_next, SemaphoreCall, CondvarPlace, condvar_next, condvar_act}
-use Names.{mutex_beside, Place, Idle, Mutex, RwLock, Once, Condvar, Semaphore, Wakes, Whom, takes_effect}
-use Names.{outcome_of, holds, mutex_act, mutex_first, mutex_next, act_of, beside_of, called_lock}
-use Names.{profile_beside, next_place, next_act, mutex_goes, mutex_does, late_key, first_place, respins_from}
-use Names.{key_in, profile, rwlock_does, rwlock_goes, once_does, once_goes, condvar_goes, condvar_does}
-use Names.{semaphore_does, semaphore_goes, Op, state_after_hand_over_by, State, state_after_take, place_at}
-use Names.{queue_at, section_at, can_do, can_go, is_free_under, word_at, state_with_sections}
-use Names.{queues_without_first, state_after_taking, state_after_wake, state_after_act, state_after_go}
-use Names.{state_after_late_on, IsWellFormed, PlaceFits, Main, Line, Second, location, location_at}
-use Names.{FitsItsLock, IsInductive, stood_in, key_of, lock_state, locks_of, call_state, sleeps, keys_entered}
-use Names.{call_on_both, Wait, Look, Notify, runs_closure, Rights, AreFree, MayBeLate, MayTurn, IsTimed}
-use Names.{StandsFreely, SectionChanges, CallState, RwLockCallPlace, admission_of_kind, call_first, call_act}
-use Names.{call_next, RwLockCall, Patient, Timed, Try}
+use Rattle.lot_laws.proofs.Imports
+use Imports.{is_some, subst, ℕ, Bool, true, false, Option, Some, None, if◌then◌else◌, ◌&&◌, ◌≡◌, ◌≢◌, ◌+◌, ◌*◌}
+use Imports.{◌≤◌, ◌<◌, ◌↔◌, ◌⊎◌, inl, inr, List, length, is_none, refl, sym, ◌∙◌, ap, arith, get_or-set_other}
+use Imports.{get_or-set_same, length-set, set, once_profile, is_closure, cases_eq, cases_lt, get_or_past, Keys}
+use Imports.{One, Two, first_of, Waiter, Turn, Call, MutexCall, Kind, is_fair, Act, Enter, Take, Sleep, Closure}
+use Imports.{Reply, Late, Next, MutexPlace, OncePlace, once_act, once_next, SemaphorePlace, semaphore_act}
+use Imports.{semaphore_first, semaphore_next, SemaphoreCall, CondvarPlace, condvar_next, condvar_act}
+use Imports.{mutex_beside, Place, Idle, Mutex, RwLock, Once, Condvar, Semaphore, Wakes, TakeWhich, takes_effect}
+use Imports.{outcome_of, holds, mutex_act, mutex_first, mutex_next, act_of, beside_of, called_lock}
+use Imports.{profile_at_mutex, next_place, next_act, mutex_goes, mutex_does, late_key, first_place, respins_from}
+use Imports.{key_in, profile, rwlock_does, rwlock_goes, once_does, once_goes, condvar_goes, condvar_does}
+use Imports.{semaphore_does, semaphore_goes, Op, state_after_hand_over_by, State, state_after_take, place_at}
+use Imports.{queue_at, section_at, can_do, can_go, is_free_under, word_at, state_with_sections}
+use Imports.{queues_without_first, state_after_taking, state_after_wake, state_after_act, state_after_go}
+use Imports.{state_after_late_on, IsWellFormed, PlaceFits, Main, Line, Second, location, location_at}
+use Imports.{FitsItsLock, IsInductive, stood_in, key_of, lock_state, locks_of, call_state, sleeps, keys_entered}
+use Imports.{call_on_both, Wait, Look, Notify, runs_closure, Rights, AreFree, MayBeLate, MayTurn, IsTimed}
+use Imports.{StandsFreely, SectionChanges, CallState, RwLockCallPlace, admission_of_kind, call_first, call_act}
+use Imports.{call_next, RwLockCall, Patient, Timed, Try}
 use Rattle.lot_laws.proofs.once.OnceOwing.{late_place}
 use Rattle.lot_laws.proofs.calls.Closures.{call_runs_none, closure_told, mutex_runs_none, condvar_runs_none}
 use Rattle.lot_laws.proofs.calls.Closures.{semaphore_runs_none}
@@ -32,7 +32,7 @@ use Rattle.steps_base.specs.declared.acts.Act.TheVariants as act
 use Rattle.steps_base.specs.declared.acts.Next.TheVariants as next
 use Rattle.spec_locks.specs.declared.calls.SemaphoreCall.TheVariants as semaphore_call
 use Rattle.steps_base.specs.declared.acts.Wakes as wakes
-use Rattle.steps_base.specs.declared.acts.Whom as whom
+use Rattle.steps_base.specs.declared.acts.TakeWhich as whom
 use Rattle.lot_laws.specs.Locations.{Location}
 use Rattle.lot_laws.specs.Refinement.{runs_closure}
 use Rattle.lot_laws.proofs.calls.SingleCalls.{call_none}
@@ -99,7 +99,7 @@ called_of : (w : State) (p : Place) (r : ℕ → Rights) → can_do w (act_of p)
 called_of w p r can = by_lock (beside_of p) (called_lock p) refl
   where
     by_lock : (m o : Option ℕ) → called_lock p ≡ o
-        → (call_on_both m o (profile p) (profile_beside p) r).purpose ≢ None
+        → (call_on_both m o (profile p) (profile_at_mutex p) r).purpose ≢ None
     by_lock None (Some l) e = λ h. cc
     by_lock (Some m) (Some l) e = λ h. cc
     by_lock m None e = absurd (let f : can_do w Rest ≡ true =
@@ -486,7 +486,7 @@ module _ (w : State) (t : ℕ) where
   given_sections p k op true key = refl
   given_sections p k op false key = refl
 
-  took_all : (key : ℕ) (x : Whom) (k : ℕ) → section_at (state_after_take w t key x) k ≡ section_at w k
+  took_all : (key : ℕ) (x : TakeWhich) (k : ℕ) → section_at (state_after_take w t key x) k ≡ section_at w k
   took_all key whom.TheVariants.First k = took_sections (queues_without_first w.queues key)
       (first_of (queue_at w key)) k
   took_all key (whom.TheVariants.Picked start recursive) k = refl

@@ -1,9 +1,9 @@
 -- A call that reads the waiters does so in the main line of its lock, which it has to itself where the thread
 -- has its way.
-use Rattle.lot_laws.proofs.Names
-use Names.{ℕ, Bool, true, false, Some, ◌≡◌, inl, ap, Call, CondvarCall, MutexCall, OnceCall, RwLockCall}
-use Names.{SemaphoreCall, Kind, lock_in, first_place, called_lock, mutex_purpose, purpose_of, rwlock_purpose}
-use Names.{purpose_at, Main, State, kind_at, place_at, locks_of, IsUnobstructed, HasMainLine, HasWhatItReads}
+use Rattle.lot_laws.proofs.Imports
+use Imports.{ℕ, Bool, true, false, Some, ◌≡◌, inl, ap, Call, CondvarCall, MutexCall, OnceCall, RwLockCall}
+use Imports.{SemaphoreCall, Kind, lock_in, first_place, called_lock, mutex_purpose, purpose_of, rwlock_purpose}
+use Imports.{purpose_at, Main, State, kind_at, place_at, locks_of, IsUnobstructed, HasMainLine, HasWhatItReads}
 use Rattle.spec_locks.specs.declared.calls.Access.TheVariants as access
 use Rattle.spec_locks.specs.declared.calls.Call.TheVariants as call
 use Rattle.spec_locks.specs.declared.calls.CondvarCall.TheVariants as condvar_call

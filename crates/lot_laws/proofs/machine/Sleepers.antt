@@ -1,22 +1,22 @@
 -- A thread that sleeps does so on, whatever befalls it but a wake; and another thread wakes only those that
 -- it has in hand.
-use Rattle.lot_laws.proofs.Names
-use Names.{ℕ, Bool, true, false, Option, Some, None, if◌then◌else◌, ◌==◌, ◌≡◌, ◌≢◌, ◌⊎◌, inl, inr, List, []}
-use Names.{◌∷◌, length, map, set, get_or, refl, sym, ◌∙◌, ap, subst, get_or-set_other, get_or-set_same}
-use Names.{get_or-map, cases_eq, cases_lt, eqb-true, set_past, Keys, One, Two, first_of, threads_of}
-use Names.{lock_picked, taken_by, Step, Turn, Act, Sleep, Next, At, Reply, TakenBy, MovedTo, HandedBy, Woken}
-use Names.{holds, takes_effect, is_thread, MutexPlace, mutex_act, mutex_next, CondvarPlace, WaitAt, NotifyAt}
-use Names.{condvar_act, condvar_next, notify_act, move_act, in_wait, relocked, wait_act, Place, Idle, Mutex}
-use Names.{RwLock, Once, Condvar, Semaphore, act_of, condvar_goes, late_key, respins_from, mutex_goes}
-use Names.{next_place}
-use Names.{taker, State, hand_over_told, is_possible, after, listed, moved_threads, place_after_telling}
-use Names.{place_at, places_told, put, queue_at, queues_without_first, closed_place, state_after_act}
-use Names.{state_after_go, state_after_hand_over_by, state_after_late_on, state_after_look}
-use Names.{state_after_taking, state_after_turn, state_with_sections, word_at, SleepersStay}
+use Rattle.lot_laws.proofs.Imports
+use Imports.{ℕ, Bool, true, false, Option, Some, None, if◌then◌else◌, ◌==◌, ◌≡◌, ◌≢◌, ◌⊎◌, inl, inr, List, []}
+use Imports.{◌∷◌, length, map, set, get_or, refl, sym, ◌∙◌, ap, subst, get_or-set_other, get_or-set_same}
+use Imports.{get_or-map, cases_eq, cases_lt, eqb-true, set_past, Keys, One, Two, first_of, threads_of}
+use Imports.{lock_picked, taken_by, Step, Turn, Act, Sleep, Next, At, Reply, TakenBy, MovedTo, HandedBy, Woken}
+use Imports.{holds, takes_effect, is_thread, MutexPlace, mutex_act, mutex_next, CondvarPlace, WaitAt, NotifyAt}
+use Imports.{condvar_act, condvar_next, notify_act, move_act, in_wait, relocked, wait_act, Place, Idle, Mutex}
+use Imports.{RwLock, Once, Condvar, Semaphore, act_of, condvar_goes, late_key, respins_from, mutex_goes}
+use Imports.{next_place}
+use Imports.{taker, State, hand_over_told, is_possible, after, listed, moved_threads, place_after_telling}
+use Imports.{place_at, places_told, put, queue_at, queues_without_first, closed_place, state_after_act}
+use Imports.{state_after_go, state_after_hand_over_by, state_after_late_on, state_after_look}
+use Imports.{state_after_taking, state_after_turn, state_with_sections, word_at, SleepersStay}
 use Rattle.spec_locks.specs.declared.calls.Turn.TheVariants as turn
 use Rattle.steps_base.specs.declared.acts.Act.TheVariants as act
 use Rattle.steps_base.specs.declared.acts.Wakes.TheVariants as wakes
-use Rattle.steps_base.specs.declared.acts.Whom.TheVariants as whom
+use Rattle.steps_base.specs.declared.acts.TakeWhich.TheVariants as whom
 use Rattle.steps_condvar.specs.declared.places.CondvarPlace.TheVariants as condvar
 use Rattle.steps_condvar.specs.declared.wait.WaiterFate.TheVariants as stands
 use Rattle.steps_condvar.specs.declared.wait.WaitAt.TheVariants as wait

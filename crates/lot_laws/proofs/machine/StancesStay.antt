@@ -1,16 +1,16 @@
 -- A thread that is awake stands as it does, whatever befalls it as long as its own turn doesn't come.
-use Rattle.lot_laws.proofs.Names
-use Names.{ℕ, Bool, true, false, Option, Some, None, if◌then◌else◌, ◌==◌, ◌≡◌, ◌≢◌, refl, sym, ◌∙◌, ap}
-use Names.{get_or-set_other, is_some, One, Step, Turn, Status, Act, Sleep, At, Reply, TakenBy, MovedTo}
-use Names.{HandedBy, Woken, MutexPlace, mutex_act, mutex_looking, mutex_next, Admission, RwLockPlace}
-use Names.{RwLockAt, RwLockPurpose, act_at, rwlock_next, RwLockCallPlace, bump_next, call_act, given}
-use Names.{plain_next, unless_given, OncePlace, once_act, SemaphorePlace, semaphore_act, CondvarPlace, WaitAt}
-use Names.{NotifyAt, condvar_act, in_lock, in_wait, relocked, wait_act, Place, Idle, Mutex, RwLock, Once}
-use Names.{Condvar, Semaphore, act_of, condvar_goes, in_condvar, in_mutex, in_once, in_semaphore, late_key}
-use Names.{respins_from, mutex_goes, next_place, rwlock_goes, State, after, closed_place, is_possible}
-use Names.{place_at}
-use Names.{put, state_after_act, state_after_go, state_after_going, state_after_late_on, state_after_look}
-use Names.{state_after_turn, state_with_sections, Befalls, acted_keeps, sleeps, stance_by, stance_of}
+use Rattle.lot_laws.proofs.Imports
+use Imports.{ℕ, Bool, true, false, Option, Some, None, if◌then◌else◌, ◌==◌, ◌≡◌, ◌≢◌, refl, sym, ◌∙◌, ap}
+use Imports.{get_or-set_other, is_some, One, Step, Turn, Status, Act, Sleep, At, Reply, TakenBy, MovedTo}
+use Imports.{HandedBy, Woken, MutexPlace, mutex_act, mutex_respin, mutex_next, Admission, RwLockPlace}
+use Imports.{RwLockAt, RwLockPurpose, act_at, rwlock_next, RwLockCallPlace, bump_next, call_act, given}
+use Imports.{plain_next, unless_given, OncePlace, once_act, SemaphorePlace, semaphore_act, CondvarPlace, WaitAt}
+use Imports.{NotifyAt, condvar_act, in_lock, in_wait, relocked, wait_act, Place, Idle, Mutex, RwLock, Once}
+use Imports.{Condvar, Semaphore, act_of, condvar_goes, in_condvar, in_mutex, in_once, in_semaphore, late_key}
+use Imports.{respins_from, mutex_goes, next_place, rwlock_goes, State, after, closed_place, is_possible}
+use Imports.{place_at}
+use Imports.{put, state_after_act, state_after_go, state_after_going, state_after_late_on, state_after_look}
+use Imports.{state_after_turn, state_with_sections, Befalls, acted_keeps, sleeps, stance_by, stance_of}
 use Rattle.core_base.specs.declared.notes.Note.TheVariants as note
 use Rattle.spec_locks.specs.declared.calls.Turn as turn
 use Rattle.steps_mutex.specs.declared.lock.LockAt.TheVariants as lock
@@ -54,7 +54,7 @@ record StaysAwake (l : ℕ) (at : MutexPlace) (r : Reply) : Type 0 where
   pub place : MutexPlace
   pub is : mutex_next at r ≡ At place
   pub act : mutex_act l place ≡ mutex_act l at
-  pub spins : is_some (mutex_looking place) ≡ is_some (mutex_looking at)
+  pub spins : is_some (mutex_respin place) ≡ is_some (mutex_respin at)
 
 either_some : (b : Bool) (x y : MutexPlace) → is_some (if b then Some x else None) ≡ is_some
     (if b then Some y else None)
@@ -269,8 +269,8 @@ mutex_stands : (l : ℕ) (at : MutexPlace) (r : Reply) → Befalls r → mutex_a
     → Stands (Mutex l at) r
 mutex_stands l at r b n = let stays = mutex_stays l at r b n in
     ap (λ x. stance_of (mutex_goes l x)) stays.is
-    ∙ stance_so (mutex_act l stays.place) (mutex_act l at) (in_mutex l (mutex_looking stays.place))
-    (in_mutex l (mutex_looking at)) stays.act (mutex_spins l _ ∙ stays.spins ∙ sym (mutex_spins l _))
+    ∙ stance_so (mutex_act l stays.place) (mutex_act l at) (in_mutex l (mutex_respin stays.place))
+    (in_mutex l (mutex_respin at)) stays.act (mutex_spins l _ ∙ stays.spins ∙ sym (mutex_spins l _))
 
 -- ---------------------------------------------------------------- a condition variable
 
@@ -284,8 +284,8 @@ wait_stands l m timed (wait.Release s at) (Woken k) b n = refl
 wait_stands l m timed (wait.Lock late at) r b n = let stays = mutex_stays m at r b n in
     ap (λ x. stance_of (condvar_goes l (in_wait m timed (relocked timed late x)))) stays.is
     ∙ stance_so (mutex_act m stays.place) (mutex_act m at)
-    (in_condvar l (in_lock m timed late (mutex_looking stays.place)))
-    (in_condvar l (in_lock m timed late (mutex_looking at))) stays.act
+    (in_condvar l (in_lock m timed late (mutex_respin stays.place)))
+    (in_condvar l (in_lock m timed late (mutex_respin at))) stays.act
     (lock_spins l m timed late _ ∙ stays.spins ∙ sym (lock_spins l m timed late _))
 wait_stands l m timed at (TakenBy t) b n = refl
 wait_stands l m timed at (MovedTo key) b n = refl
@@ -331,8 +331,8 @@ once_stands l (once.Look c again (look.Decide seen)) (HandedBy t alone) b n = re
 once_stands l (once.Look c again (look.Decide seen)) (Woken note.Normal) b n =
     stance_so (once_act l (once.Look c again (look.Decide seen)))
     (once_act l (once.Look c again (look.Decide seen)))
-    (in_once l (once_steps.once_looking (once.Look c true (look.Decide seen))))
-    (in_once l (once_steps.once_looking (once.Look c again (look.Decide seen)))) refl (once_spins l _ _ _)
+    (in_once l (once_steps.once_respin (once.Look c true (look.Decide seen))))
+    (in_once l (once_steps.once_respin (once.Look c again (look.Decide seen)))) refl (once_spins l _ _ _)
 once_stands l (once.Look c again (look.Decide seen)) (Woken note.HandOff) b n = refl
 once_stands l (once.Look c again at) (TakenBy t) b n = refl
 once_stands l (once.Look c again at) (MovedTo key) b n = refl
@@ -369,8 +369,8 @@ semaphore_stands l (semaphore.Acquire timed again (acquire.Decide seen)) (Handed
 semaphore_stands l (semaphore.Acquire timed again (acquire.Decide seen)) (Woken note.Normal) b n =
     stance_so (semaphore_act l (semaphore.Acquire timed again (acquire.Decide seen)))
     (semaphore_act l (semaphore.Acquire timed again (acquire.Decide seen)))
-    (in_semaphore l (semaphore_steps.semaphore_looking (semaphore.Acquire timed true (acquire.Decide seen))))
-    (in_semaphore l (semaphore_steps.semaphore_looking (semaphore.Acquire timed again (acquire.Decide seen))))
+    (in_semaphore l (semaphore_steps.semaphore_respin (semaphore.Acquire timed true (acquire.Decide seen))))
+    (in_semaphore l (semaphore_steps.semaphore_respin (semaphore.Acquire timed again (acquire.Decide seen))))
     refl (semaphore_spins l _ _ _)
 semaphore_stands l (semaphore.Acquire timed again (acquire.Decide seen)) (Woken note.HandOff) b n = refl
 semaphore_stands l (semaphore.Acquire timed again at) (TakenBy t) b n = refl

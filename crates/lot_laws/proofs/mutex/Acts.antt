@@ -1,16 +1,16 @@
 -- A thread acts at a mutex, by its rows there and whatever its call: every lock is a site again. Elsewhere
 -- it is as it was.
-use Rattle.lot_laws.proofs.Names
-use Names.{ℕ, Bool, true, false, Option, Some, None, if◌then◌else◌, ◌||◌, ◌≡◌, ◌+◌, ◌*◌, ◌<◌, List, [], ◌∷◌}
-use Names.{length, refl, sym, ◌∙◌, ap, subst, nat_le, or-false, One, Op, Exclusive, apply, shares_then}
-use Names.{with_exclusive, is_thread, Place, owners_after, shares_after, taker, aside_in, code, count_in}
-use Names.{parked_in, word_by, Leave, Rules, one_if_some, putting, Park, keep_from, Case, Clear, Deed, End}
-use Names.{In, Main, Mark, MarkBrought, MarkOwned, Site, has_readers, FindNobody, Second, State, filled_at}
-use Names.{owners_at, place_at, put, queue_at, section_at, share_at, shares_at, state_after_operation}
-use Names.{state_with_sections, word_at, state_after_telling, queues_with_last, queues_without_first}
-use Names.{queues_without, lock_seen, taken_at, acts, role_on, location_at, FitsItsLock, Goes, IsInductive}
-use Names.{after_acts, key_of, rules_in, hand_at, carried_at, stood_in, AreLeaving, Normal, Woken, first_of}
-use Names.{times, without}
+use Rattle.lot_laws.proofs.Imports
+use Imports.{ℕ, Bool, true, false, Option, Some, None, if◌then◌else◌, ◌||◌, ◌≡◌, ◌+◌, ◌*◌, ◌<◌, List, [], ◌∷◌}
+use Imports.{length, refl, sym, ◌∙◌, ap, subst, nat_le, or-false, One, Op, Exclusive, apply, shares_then}
+use Imports.{with_exclusive, is_thread, Place, owners_after, shares_after, taker, aside_in, code, count_in}
+use Imports.{parked_in, word_by, Leave, Rules, one_if_some, putting, Park, keep_from, Case, Clear, Deed, End}
+use Imports.{In, Main, Mark, MarkBrought, MarkOwned, Site, has_readers, FindNobody, Second, State, filled_at}
+use Imports.{owners_at, place_at, put, queue_at, section_at, share_at, shares_at, state_after_operation}
+use Imports.{state_with_sections, word_at, state_after_telling, queues_with_last, queues_without_first}
+use Imports.{queues_without, lock_seen, taken_at, acts, role_on, location_at, FitsItsLock, Goes, IsInductive}
+use Imports.{after_acts, key_of, rules_in, hand_at, carried_at, stood_in, AreLeaving, Normal, Woken, first_of}
+use Imports.{times, without}
 use Rattle.std.specs.Prelude.{◌&&◌}
 use Rattle.spec_locks.specs.Codes as codes
 use Rattle.spec_locks.specs.Deeds as laws

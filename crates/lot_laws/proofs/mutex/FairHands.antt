@@ -1,13 +1,13 @@
 -- A mutex that each call gives up fairly is owned while a waiter is in a hand. A fair one is owned while a
 -- thread waits for it too, by the thread that has the waiter in its hand.
-use Rattle.lot_laws.proofs.Names
-use Names.{ℕ, Bool, true, false, Option, Some, None, if◌then◌else◌, ◌==◌, ◌≡◌, ◌≢◌, ◌≤◌, ◌+◌, ◌⊎◌, inl, inr}
-use Names.{refl, sym, ◌∙◌, ap, subst, arith, cases_lt, eqb-true, Exclusive, Upgradable, Kind, ReleasesFairly}
-use Names.{is_fair, is_plain_mutex, IsSomePending, Rights, Taken, one_if_some, one_if_thread}
-use Names.{standing, rules_of, Has, Role, has_readers, idle, Location, mutex_beside, mutex_profile}
-use Names.{MutexPlace, Place, Idle, Mutex, RwLock, Once, Condvar, Semaphore, beside_of, is_lock, State}
-use Names.{kind_at, place_at, location_at, role_on, IsGivenUpFairly, call_state, lock_state, FitsItsLock}
-use Names.{IsWorld, rules_in}
+use Rattle.lot_laws.proofs.Imports
+use Imports.{ℕ, Bool, true, false, Option, Some, None, if◌then◌else◌, ◌==◌, ◌≡◌, ◌≢◌, ◌≤◌, ◌+◌, ◌⊎◌, inl, inr}
+use Imports.{refl, sym, ◌∙◌, ap, subst, arith, cases_lt, eqb-true, Exclusive, Upgradable, Kind, ReleasesFairly}
+use Imports.{is_fair, is_plain_mutex, IsSomePending, Rights, Taken, one_if_some, one_if_thread}
+use Imports.{standing, rules_of, Has, Role, has_readers, idle, Location, mutex_beside, mutex_profile}
+use Imports.{MutexPlace, Place, Idle, Mutex, RwLock, Once, Condvar, Semaphore, beside_of, is_lock, State}
+use Imports.{kind_at, place_at, location_at, role_on, IsGivenUpFairly, call_state, lock_state, FitsItsLock}
+use Imports.{IsWorld, rules_in}
 use Rattle.spec_locks.specs.declared.kinds.Kind.TheVariants as kinds
 use Rattle.spec_locks.specs.Locks.{times}
 use Rattle.spec_locks.specs.Locks as locks

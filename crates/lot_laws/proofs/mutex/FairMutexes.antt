@@ -1,13 +1,13 @@
 -- A fair mutex is released fairly, is owned while somebody waits for it, and lets nobody be overtaken.
-use Rattle.lot_laws.proofs.Names
-use Names.{ℕ, true, false, Option, Some, None, ◌≡◌, ◌≢◌, ◌≤◌, ◌<◌, inl, inr, List, [], ◌∷◌, length}
-use Names.{get_or-set_other, get_or-set_same, refl, sym, ◌∙◌, ap, subst, arith, cases_eq, nat_tests, Step}
-use Names.{Kind, ReleasesFairly, LockState, Queued, Rights, rights_of, rules_of, IsOpening, has_readers}
-use Names.{fair_stays, Place, Idle, RwLock, act_of, beside_of, called_lock, profile, profile_beside}
-use Names.{IsWellFormed, Admission, RwLockPlace, RwLockPurpose, purpose_by, Plain, State, after, kind_at}
-use Names.{opening, place_at, put, runs_closure, step_outcome, call_at, call_on_both, call_state, lock_state}
-use Names.{locks_of, AreFairMutexes, IsFairMutex, IsInductive, IsSettled, IsWorld, AreCondvars, AreCounted}
-use Names.{is_mutex, rules_in}
+use Rattle.lot_laws.proofs.Imports
+use Imports.{ℕ, true, false, Option, Some, None, ◌≡◌, ◌≢◌, ◌≤◌, ◌<◌, inl, inr, List, [], ◌∷◌, length}
+use Imports.{get_or-set_other, get_or-set_same, refl, sym, ◌∙◌, ap, subst, arith, cases_eq, nat_tests, Step}
+use Imports.{Kind, ReleasesFairly, LockState, Queued, Rights, rights_of, rules_of, IsOpening, has_readers}
+use Imports.{fair_stays, Place, Idle, RwLock, act_of, beside_of, called_lock, profile, profile_at_mutex}
+use Imports.{IsWellFormed, Admission, RwLockPlace, RwLockPurpose, purpose_by, Plain, State, after, kind_at}
+use Imports.{opening, place_at, put, runs_closure, step_outcome, call_at, call_on_both, call_state, lock_state}
+use Imports.{locks_of, AreFairMutexes, IsFairMutex, IsInductive, IsSettled, IsWorld, AreCondvars, AreCounted}
+use Imports.{is_mutex, rules_in}
 use Rattle.spec_locks.specs.declared.kinds.Kind.TheVariants as kinds
 use Rattle.spec_locks.specs.Locks.{times}
 use Rattle.spec_locks.specs.Locks as locks
@@ -77,8 +77,8 @@ settled_after w s shape inductive counted condvars h = record {
 purpose_same : (p : Place) (r q : ℕ → Rights) → (call_state p r).purpose ≡ (call_state p q).purpose
 purpose_same p r q = by_lock (beside_of p) (called_lock p)
   where
-    by_lock : (m o : Option ℕ) → (call_on_both m o (profile p) (profile_beside p) r).purpose
-        ≡ (call_on_both m o (profile p) (profile_beside p) q).purpose
+    by_lock : (m o : Option ℕ) → (call_on_both m o (profile p) (profile_at_mutex p) r).purpose
+        ≡ (call_on_both m o (profile p) (profile_at_mutex p) q).purpose
     by_lock None None = refl
     by_lock None (Some l) = refl
     by_lock (Some m) None = refl

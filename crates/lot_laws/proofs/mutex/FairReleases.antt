@@ -1,11 +1,11 @@
 -- A mutex that each call gives up fairly is let go by no step while somebody waits for it.
-use Rattle.lot_laws.proofs.Names
-use Names.{ℕ, Bool, true, false, Option, Some, None, if◌then◌else◌, ◌==◌, ◌≡◌, ◌≢◌, inl, inr, refl, sym, ◌∙◌}
-use Names.{ap, eqb-true, Step, Kind, LetsGoWhileSomeWait, parked_in, Rules, rules_of, Role, has_readers, idle}
-use Names.{FairlyGoes, fairly_goes, mutex_beside, MutexPlace, Place, Idle, Mutex, RwLock, Once, Condvar}
-use Names.{Semaphore, beside_of, is_lock, profile, profile_beside, State, after, kind_at, place_at}
-use Names.{step_outcome, word_at, role_on, IsGivenUpFairly, WaitsFor, locks_of, owner_at, FitsItsLock}
-use Names.{IsWorld, is_mutex, rules_in}
+use Rattle.lot_laws.proofs.Imports
+use Imports.{ℕ, Bool, true, false, Option, Some, None, if◌then◌else◌, ◌==◌, ◌≡◌, ◌≢◌, inl, inr, refl, sym, ◌∙◌}
+use Imports.{ap, eqb-true, Step, Kind, LetsGoWhileSomeWait, parked_in, Rules, rules_of, Role, has_readers, idle}
+use Imports.{FairlyGoes, fairly_goes, mutex_beside, MutexPlace, Place, Idle, Mutex, RwLock, Once, Condvar}
+use Imports.{Semaphore, beside_of, is_lock, profile, profile_at_mutex, State, after, kind_at, place_at}
+use Imports.{step_outcome, word_at, role_on, IsGivenUpFairly, WaitsFor, locks_of, owner_at, FitsItsLock}
+use Imports.{IsWorld, is_mutex, rules_in}
 use Rattle.spec_locks.specs.Locks as locks
 use Rattle.steps_mutex.specs.declared.hand_off.HandOffAt.TheVariants as hand_off
 use Rattle.steps_mutex.specs.declared.lock.LockAt.TheVariants as lock
@@ -66,7 +66,7 @@ module _ (w : State) (l : ℕ) (sort : (rules_in w l).sort ≡ locks.Mutex) wher
   place_sets (Condvar k at) fits apart = two (k == l) refl (is_lock l (mutex_beside at)) refl
     where
       two : (b : Bool) → (k == l) ≡ b → (c : Bool) → is_lock l (mutex_beside at) ≡ c
-          → (if b then (profile (Condvar k at)).role else if c then (profile_beside
+          → (if b then (profile (Condvar k at)).role else if c then (profile_at_mutex
           (Condvar k at)).role else idle).sets ≡ false
       two true e c f = absurd (away k locks.Condvar fits.sort (λ g. cc) e)
       two false e false f = refl

@@ -1,13 +1,13 @@
 -- A step by which a thread comes to own a free mutex takes nobody into a hand. A waiter that stays in a queue
 -- comes closer to its front, or stays where it is.
-use Rattle.lot_laws.proofs.Names
-use Names.{ℕ, zero, suc, Bool, true, false, Option, Some, None, if◌then◌else◌, ◌==◌, ◌≡◌, ◌≢◌, ◌≤◌, ◌+◌, ◌⊎◌}
-use Names.{inl, inr, List, [], ◌∷◌, ◌++◌, refl, sym, ◌∙◌, ap, subst, arith, eqb-true, nat_tests, Want}
-use Names.{Exclusive, Upgradable, Shared, Turn, Outcome, ahead, moved_of, IsPartOf, KeepsOrderOf, LockState}
-use Names.{LockCase, Queued, Rules, Needs, Pend, Settle, Leave, Convert, Park, Aside, TakeFirst}
-use Names.{TakeAside, TakePicked, Wake, HandOff, Rollback, OfOnce, OfCondvar, SeeOwner, IsLockState}
-use Names.{after_case, left_after, putting, LocksState, AreLockStates, Event, Nothing, AtLock, Moves, Does}
-use Names.{GoesOn, MayHappen, Turned, joined_by, locks_after, rules_at, needs_of}
+use Rattle.lot_laws.proofs.Imports
+use Imports.{ℕ, zero, suc, Bool, true, false, Option, Some, None, if◌then◌else◌, ◌==◌, ◌≡◌, ◌≢◌, ◌≤◌, ◌+◌, ◌⊎◌}
+use Imports.{inl, inr, List, [], ◌∷◌, ◌++◌, refl, sym, ◌∙◌, ap, subst, arith, eqb-true, nat_tests, Want}
+use Imports.{Exclusive, Upgradable, Shared, Turn, Outcome, ahead, moved_of, IsPartOf, KeepsOrderOf, LockState}
+use Imports.{LockCase, Queued, Rules, Needs, Pend, Settle, Leave, Convert, Park, Aside, TakeFirst}
+use Imports.{TakeAside, TakePicked, Wake, HandOff, Rollback, OfOnce, OfCondvar, SeeOwner, IsLockState}
+use Imports.{after_case, left_after, putting, LocksState, AreLockStates, Event, Nothing, AtLock, Moves, Does}
+use Imports.{GoesOn, MayHappen, Turned, joined_by, locks_after, rules_at, needs_of}
 use Rattle.spec_locks.specs.declared.calls.Turn as turn
 use Rattle.spec_locks.specs.Locks as locks
 use Rattle.spec_locks.specs.Locks.{Mutex, Enter}

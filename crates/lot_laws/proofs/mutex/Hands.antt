@@ -1,16 +1,16 @@
 -- The first waiter of a mutex is taken, handed the mutex, or let go: so the mutex is a site again, by what
 -- befalls that thread.
-use Rattle.lot_laws.proofs.Names
-use Names.{ℕ, Bool, true, false, Some, None, if◌then◌else◌, Option, ◌==◌, ◌⊎◌, ◌≡◌, ◌≢◌, ◌*◌, ◌<◌, List, []}
-use Names.{◌∷◌, length, drop, map, inl, inr, refl, sym, ◌∙◌, ap, subst, arith, length-set, get_or-set_same}
-use Names.{get_or-set_other, queued_of, acts, location_at, IsLockState, cases_eq, Waiter, Want, Exclusive}
-use Names.{Owners, Place, Mutex, Woken, TakenBy, HandedBy, or-false, is_parked, next_place, IsSuccessor}
-use Names.{IsTaken, Knows, KnowsAll, Queued, Rules, TakeFirst, Taken, keep_from, let_go, putting}
-use Names.{with_exclusive, Has, Deed, Site, Main, Begin, Mark, Clear, Case, wakened, held, lock_seen}
-use Names.{lock_state, taken_at, mutex_location, queued, nowhere, role_on, after_acts, hand_at, Hands, times}
-use Names.{threads_of, State, place_at, section_at, places_told, put, queue_at, queues_without_first}
-use Names.{state_after_reply, told_count, locations_of, AreWaiting, FitsItsLock, Goes, IsInductive, rules_in}
-use Names.{stood_in}
+use Rattle.lot_laws.proofs.Imports
+use Imports.{ℕ, Bool, true, false, Some, None, if◌then◌else◌, Option, ◌==◌, ◌⊎◌, ◌≡◌, ◌≢◌, ◌*◌, ◌<◌, List, []}
+use Imports.{◌∷◌, length, drop, map, inl, inr, refl, sym, ◌∙◌, ap, subst, arith, length-set, get_or-set_same}
+use Imports.{get_or-set_other, queued_of, acts, location_at, IsLockState, cases_eq, Waiter, Want, Exclusive}
+use Imports.{Owners, Place, Mutex, Woken, TakenBy, HandedBy, or-false, is_parked, next_place, IsSuccessor}
+use Imports.{IsTaken, Knows, KnowsAll, Queued, Rules, TakeFirst, Taken, keep_from, let_go, putting}
+use Imports.{with_exclusive, Has, Deed, Site, Main, Begin, Mark, Clear, Case, wakened, held, lock_seen}
+use Imports.{lock_state, taken_at, mutex_location, queued, nowhere, role_on, after_acts, hand_at, Hands, times}
+use Imports.{threads_of, State, place_at, section_at, places_told, put, queue_at, queues_without_first}
+use Imports.{state_after_reply, told_count, locations_of, AreWaiting, FitsItsLock, Goes, IsInductive, rules_in}
+use Imports.{stood_in}
 use Rattle.lot_laws.proofs.machine.Parts.{put_places}
 use Rattle.core_base.specs.declared.notes.Note.TheVariants as note
 use Rattle.steps_mutex.specs.declared.places.MutexPlace.TheVariants.{HandOff}

@@ -1,19 +1,19 @@
 -- Each step of a mutex takes its thread in the machine where its act says.
-use Rattle.lot_laws.proofs.Names
-use Names.{ℕ, Bool, true, false, Some, None, if◌then◌else◌, ◌==◌, ◌≡◌, ◌+◌, ◌*◌, [], ◌∷◌, inl, inr, refl}
-use Names.{subst, not, ◌⊎◌, One, Exclusive, Act, Next, At, Owners, with_exclusive, Accepts, GoesIn, GoesOut}
-use Names.{Hears, LeavesLine, StepView, Parks, TellsHanded, inside_of, row_of, location_of, location_then}
-use Names.{in_hand, Location, location_by, code, Leave, Rules, Case, End, Line, Main, Mark, Site, Entry}
-use Names.{MutexPlace, Lock, TryLock, Unlock, UnlockFair, enter_deeds, mutex_deeds, take_deeds, mutex_row}
-use Names.{next_row, mutex_late_line, in_unlock, is_locked, is_parked, mutex_act, mutex_next, mutex_owners}
-use Names.{GivesUpTimed}
+use Rattle.lot_laws.proofs.Imports
+use Imports.{ℕ, Bool, true, false, Some, None, if◌then◌else◌, ◌==◌, ◌≡◌, ◌+◌, ◌*◌, [], ◌∷◌, inl, inr, refl}
+use Imports.{subst, not, ◌⊎◌, One, Exclusive, Act, Next, At, Owners, with_exclusive, Accepts, GoesIn, GoesOut}
+use Imports.{Hears, LeavesLine, StepView, Parks, TellsHanded, inside_of, row_of, location_of, location_then}
+use Imports.{in_hand, Location, location_by, code, Leave, Rules, Case, End, Line, Main, Mark, Site, Entry}
+use Imports.{MutexPlace, Lock, TryLock, Unlock, UnlockFair, enter_deeds, mutex_deeds, take_deeds, mutex_row}
+use Imports.{next_row, mutex_late_line, in_unlock, is_locked, is_parked, mutex_act, mutex_next, mutex_owners}
+use Imports.{GivesUpTimed}
 use Rattle.std.specs.Prelude.{◌&&◌}
 use Rattle.core_base.specs.declared.ops.Op.TheVariants as op
 use Rattle.core_base.specs.Keys.{key_of}
 use Rattle.steps_base.specs.declared.acts.Act.TheVariants as act
 use Rattle.steps_base.specs.declared.acts.Next.TheVariants.{End as Over}
 use Rattle.steps_base.specs.declared.acts.Reply.TheVariants as reply
-use Rattle.steps_base.specs.declared.acts.Whom.TheVariants.{First}
+use Rattle.steps_base.specs.declared.acts.TakeWhich.TheVariants.{First}
 use Rattle.spec_locks.specs.declared.outcomes.Answer.TheVariants as answer
 use Rattle.steps_base.specs.Locations.{nowhere}
 use Rattle.steps_mutex.specs.declared.lock.Entry.TheVariants as entries

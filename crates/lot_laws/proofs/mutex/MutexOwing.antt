@@ -1,13 +1,13 @@
 -- A call of a mutex comes to owe a wake by the word that it sees, and by entering the section. An
 -- event that befalls a thread asleep changes nothing of that.
-use Rattle.lot_laws.proofs.Names
-use Names.{ℕ, Bool, true, false, Some, None, if◌then◌else◌, ◌==◌, not, ◌≡◌, ◌*◌, inl, inr, length, drop, refl}
-use Names.{sym, ◌∙◌, ap, subst, first_of, MutexCall, Outcome, Reply, TakenBy, MovedTo, HandedBy, Woken, Late}
-use Names.{MutexPlace, Lock, TryLock, Unlock, UnlockFair, LockAt, Place, Idle, Mutex, outcome_of, Entry, Next}
-use Names.{UnlockAt, HandOffAt, in_unlock, is_parked, is_locked, next_lock, lock_act, mutex_first, next_place}
-use Names.{mutex_goes, mutex_does, State, place_at, word_at, queue_at, is_there, reply_to, owner_at, Main}
-use Names.{IsMutexWord, IsInductive, line_owed, profile, mutex_act, mutex_next, line_let_in, tells_of, Line}
-use Names.{Second}
+use Rattle.lot_laws.proofs.Imports
+use Imports.{ℕ, Bool, true, false, Some, None, if◌then◌else◌, ◌==◌, not, ◌≡◌, ◌*◌, inl, inr, length, drop, refl}
+use Imports.{sym, ◌∙◌, ap, subst, first_of, MutexCall, Outcome, Reply, TakenBy, MovedTo, HandedBy, Woken, Late}
+use Imports.{MutexPlace, Lock, TryLock, Unlock, UnlockFair, LockAt, Place, Idle, Mutex, outcome_of, Entry, Next}
+use Imports.{UnlockAt, HandOffAt, in_unlock, is_parked, is_locked, next_lock, lock_act, mutex_first, next_place}
+use Imports.{mutex_goes, mutex_does, State, place_at, word_at, queue_at, is_there, reply_to, owner_at, Main}
+use Imports.{IsMutexWord, IsInductive, line_owed, profile, mutex_act, mutex_next, line_let_in, tells_of, Line}
+use Imports.{Second}
 use Rattle.core_base.specs.declared.notes.Note.TheVariants as note
 use Rattle.spec_locks.specs.declared.calls.MutexCall as mutex_call
 use Rattle.spec_locks.specs.declared.outcomes.Outcome as outcome

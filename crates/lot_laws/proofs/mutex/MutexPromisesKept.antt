@@ -1,14 +1,14 @@
 -- The promises of every state, and of every step, in the words that users of a mutex know.
-use Rattle.lot_laws.proofs.Names
-use Names.{ℕ, true, false, Option, Some, None, ◌≡◌, ◌⊎◌, inl, inr, refl, sym, ◌∙◌, ap, subst, Want, Exclusive}
-use Names.{Upgradable, Shared, Outcome, is_parked, line_owed, Knows, Sort, parked_in, aside_in, word_by, Line}
-use Names.{Main, Second, has_readers, CondvarMemory, Purpose, Enters, Releases, Converts, Bumps, CallsOnce}
-use Names.{Awaits}
-use Names.{Waits, Notifies, State, place_at, word_at, kind_at, owner_at, lock_state, call_at, is_mutex}
-use Names.{rules_in, Owes, IsInside, IsWait, ReleasesLock, LetsOthersIn, SeesWaiters, OwesSince, OnlyLooks}
-use Names.{LooksFirst, line_let_in, tells_by, sort_at, WakesWaiters, IsKept, IsLookedAfterIn, IsOpenNow}
-use Names.{KnowsRights, WakesAside, HasDebtor, HasReleasedIt, IsShownToOwe, WakesOne, GoesToRelease}
-use Names.{SeesParkedBit, IsMutexKept, MutexesAreKept, OwesMutexSince, MutexesOwe}
+use Rattle.lot_laws.proofs.Imports
+use Imports.{ℕ, true, false, Option, Some, None, ◌≡◌, ◌⊎◌, inl, inr, refl, sym, ◌∙◌, ap, subst, Want, Exclusive}
+use Imports.{Upgradable, Shared, Outcome, is_parked, line_owed, Knows, Sort, parked_in, aside_in, word_by, Line}
+use Imports.{Main, Second, has_readers, CondvarMemory, Purpose, Enters, Releases, Converts, Bumps, CallsOnce}
+use Imports.{Awaits}
+use Imports.{Waits, Notifies, State, place_at, word_at, kind_at, owner_at, lock_state, call_at, is_mutex}
+use Imports.{rules_in, Owes, IsInside, IsWait, ReleasesLock, LetsOthersIn, SeesWaiters, OwesSince, OnlyLooks}
+use Imports.{LooksFirst, line_let_in, tells_by, sort_at, WakesWaiters, IsKept, IsLookedAfterIn, IsOpenNow}
+use Imports.{KnowsRights, WakesAside, HasDebtor, HasReleasedIt, IsShownToOwe, WakesOne, GoesToRelease}
+use Imports.{SeesParkedBit, IsMutexKept, MutexesAreKept, OwesMutexSince, MutexesOwe}
 use Rattle.lot_steps.specs.Steps.{is_line}
 use Rattle.spec_locks.specs.Locks as locks
 use Rattle.lot_laws.proofs.machine.Parts.{mutex}

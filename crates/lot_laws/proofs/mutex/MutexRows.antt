@@ -1,8 +1,8 @@
 -- The rows of a mutex: all that is asked of them beside their promises.
-use Rattle.lot_laws.proofs.Names
-use Names.{ℕ, Bool, true, false, if◌then◌else◌, not, ◌≡◌, ◌≢◌, ◌+◌, ◌*◌, inl, inr, refl, One, Sleep, LetsIn}
-use Names.{is_acting, Entry, MutexPlace, Lock, LockAt, UnlockAt, mutex_row, lock_row, mutex_act, unlock_act}
-use Names.{mutex_promises}
+use Rattle.lot_laws.proofs.Imports
+use Imports.{ℕ, Bool, true, false, if◌then◌else◌, not, ◌≡◌, ◌≢◌, ◌+◌, ◌*◌, inl, inr, refl, One, Sleep, LetsIn}
+use Imports.{is_acting, Entry, MutexPlace, Lock, LockAt, UnlockAt, mutex_row, lock_row, mutex_act, unlock_act}
+use Imports.{mutex_promises}
 use Rattle.core_base.specs.declared.ops.Op as op
 use Rattle.steps_base.specs.declared.acts.Act.TheVariants as act
 use Rattle.steps_mutex.specs.declared.lock.Entry.TheVariants as entries

@@ -1,25 +1,25 @@
 -- A thread goes on: every lock is a site again. Here a call of a mutex.
-use Rattle.lot_laws.proofs.Names
-use Names.{append-nil, ◌++◌, ℕ, Bool, true, false, Option, Some, None, if◌then◌else◌, ◌==◌, ◌≡◌, ◌≢◌, ◌+◌}
-use Names.{◌*◌, ◌<◌, ◌⊎◌, List, [], ◌∷◌, length, inl, inr, refl, sym, ◌∙◌, ap, subst, Normal, Op, Waiter}
-use Names.{Exclusive, first_of, apply, Act, Next, Reply, Value, Took, HandedBy, TakenBy, Late, CallFollows}
-use Names.{inside_of, location_of, location_then, row_of, with_exclusive, Profile, in_hand, Location}
-use Names.{IsLockState, IsSuccessor, Rules, let_go, Case, Clear, Deed, End}
-use Names.{Line, Main, Mark, MarkBrought, MarkOwned, Site, aside_in, code, case_of, MutexPlace, mutex_deeds}
-use Names.{take_deeds, HandsOverToHeir, heir, mutex_row, next_row, mutex_late_line, hand_off_word, mutex_act}
-use Names.{mutex_next, mutex_owners, mutex_hand_overs_code, mutex_steps_code, mutex_steps_follow}
-use Names.{mutex_steps_tell, Place, Idle, Mutex, RwLock, Once, Condvar, Semaphore, act_of, mutex_goes}
-use Names.{next_place, profile, State, can_do, hand_over_told, section_is_free as is_free_in, owners_at}
-use Names.{place_at, put, queue_at, queues_without_first, reply_to, section_at, kind_at, state_after_act}
-use Names.{state_after_hand_over, state_after_late_under, state_after_operation, state_after_reply}
-use Names.{unshared_then, word_at, GivesUpTimed, IsWellFormed, PlaceFits, taken_at, acts, claims_of, location}
-use Names.{location_at, ActsNeeded, AreCounted, FitsItsLock, Goes, IsInductive, carried_at, hand_at, is_mutex}
-use Names.{key_of, rules_in}
+use Rattle.lot_laws.proofs.Imports
+use Imports.{append-nil, ◌++◌, ℕ, Bool, true, false, Option, Some, None, if◌then◌else◌, ◌==◌, ◌≡◌, ◌≢◌, ◌+◌}
+use Imports.{◌*◌, ◌<◌, ◌⊎◌, List, [], ◌∷◌, length, inl, inr, refl, sym, ◌∙◌, ap, subst, Normal, Op, Waiter}
+use Imports.{Exclusive, first_of, apply, Act, Next, Reply, Value, Took, HandedBy, TakenBy, Late, CallFollows}
+use Imports.{inside_of, location_of, location_then, row_of, with_exclusive, Profile, in_hand, Location}
+use Imports.{IsLockState, IsSuccessor, Rules, let_go, Case, Clear, Deed, End}
+use Imports.{Line, Main, Mark, MarkBrought, MarkOwned, Site, aside_in, code, case_of, MutexPlace, mutex_deeds}
+use Imports.{take_deeds, HandsOverToHeir, heir, mutex_row, next_row, mutex_late_line, hand_off_word, mutex_act}
+use Imports.{mutex_next, mutex_owners, mutex_hand_overs_code, mutex_steps_code, mutex_steps_follow}
+use Imports.{mutex_steps_tell, Place, Idle, Mutex, RwLock, Once, Condvar, Semaphore, act_of, mutex_goes}
+use Imports.{next_place, profile, State, can_do, hand_over_told, section_is_free as is_free_in, owners_at}
+use Imports.{place_at, put, queue_at, queues_without_first, reply_to, section_at, kind_at, state_after_act}
+use Imports.{state_after_hand_over, state_after_late_under, state_after_operation, state_after_reply}
+use Imports.{unshared_then, word_at, GivesUpTimed, IsWellFormed, PlaceFits, taken_at, acts, claims_of, location}
+use Imports.{location_at, ActsNeeded, AreCounted, FitsItsLock, Goes, IsInductive, carried_at, hand_at, is_mutex}
+use Imports.{key_of, rules_in}
 use Rattle.core_base.specs.declared.notes.Note.TheVariants.{HandOff as HandOffNote}
 use Rattle.core_base.specs.declared.ops.Op.TheVariants as ops
 use Rattle.steps_base.specs.declared.acts.Act.TheVariants as act
 use Rattle.steps_base.specs.declared.acts.Next.TheVariants as next
-use Rattle.steps_base.specs.declared.acts.Whom.TheVariants as whoms
+use Rattle.steps_base.specs.declared.acts.TakeWhich.TheVariants as whoms
 use Rattle.spec_locks.specs.Locks as locks
 use Rattle.spec_locks.specs.Deeds as laws
 use Rattle.steps_mutex.specs.declared.places.MutexPlace.TheVariants.{HandOff}

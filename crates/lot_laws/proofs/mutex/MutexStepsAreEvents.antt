@@ -1,14 +1,14 @@
 -- A thread in a call of a mutex goes on by its act: that is one event of the mutex, and its call goes on
 -- with it.
-use Rattle.lot_laws.proofs.Names
-use Names.{inl, inr, ℕ, Bool, true, false, Option, Some, None, ◌≡◌, ◌<◌, ◌≤◌, length, get_or-set_same}
-use Names.{get_or-set_other, refl, sym, ◌∙◌, ap, subst, Next, Reply, Value, outcome_of, row_of, Hand, Of}
-use Names.{Profile, RowPromises, Location, Entry, MutexPlace, Lock, Unlock, mutex_deeds, mutex_row, next_row}
-use Names.{mutex_act, mutex_next, decides, mutex_promises, Place, Idle, Mutex, called_lock, mutex_does}
-use Names.{mutex_goes, next_act, next_place, profile, case_of, event_by, LockCase, rights_of}
-use Names.{standing, Line, Main, GoesOn, Nothing, Stays, is_closure, State, can_do, going_outcome, place_at}
-use Names.{reply_to, state_after_act, state_after_going, word_at, IsWellFormed, mutex_runs_none}
-use Names.{performed_counts, call_state, lock_state, locks_of, IsInductive, carried_at, rules_in, location}
+use Rattle.lot_laws.proofs.Imports
+use Imports.{inl, inr, ℕ, Bool, true, false, Option, Some, None, ◌≡◌, ◌<◌, ◌≤◌, length, get_or-set_same}
+use Imports.{get_or-set_other, refl, sym, ◌∙◌, ap, subst, Next, Reply, Value, outcome_of, row_of, Hand, Of}
+use Imports.{Profile, RowPromises, Location, Entry, MutexPlace, Lock, Unlock, mutex_deeds, mutex_row, next_row}
+use Imports.{mutex_act, mutex_next, decides, mutex_promises, Place, Idle, Mutex, called_lock, mutex_does}
+use Imports.{mutex_goes, next_act, next_place, profile, case_of, event_by, LockCase, rights_of}
+use Imports.{standing, Line, Main, GoesOn, Nothing, Stays, is_closure, State, can_do, going_outcome, place_at}
+use Imports.{reply_to, state_after_act, state_after_going, word_at, IsWellFormed, mutex_runs_none}
+use Imports.{performed_counts, call_state, lock_state, locks_of, IsInductive, carried_at, rules_in, location}
 use Rattle.core_base.specs.declared.ops.Op.TheVariants as op
 use Rattle.steps_base.specs.declared.acts.Act.TheVariants as act
 use Rattle.steps_base.specs.declared.acts.Next.TheVariants as next

@@ -1,14 +1,14 @@
 -- A waiter in the queue of a mutex, or in a hand there, and all that befalls it: by its rows at the mutex,
 -- in a call of that mutex or of a condition variable beside it. No other lock sees a change of it.
-use Rattle.lot_laws.proofs.Names
-use Names.{ℕ, Bool, true, false, Option, Some, None, if◌then◌else◌, ◌==◌, ◌≡◌, ◌≢◌, ◌⊎◌, inl, inr, refl, sym}
-use Names.{◌∙◌, ap, subst, cases_eq, eqb-true, Exclusive, Woken, TakenBy, HandedBy, taken_from, in_line}
-use Names.{Place, Idle, Mutex, RwLock, Once, Condvar, Semaphore, next_place, or_else, wants, Entry, LockAt}
-use Names.{MutexPlace, Lock, Unlock, NotifyAt, CondvarPlace, Wait, Look, Notify, WaitAt, mutex_beside}
-use Names.{condvar_profile, mutex_side, notify_row, IsReached, IsUnlockPlace, IsLockOf, IsRelock, Rules}
-use Names.{Taken, Role, Line, Main, Has, has_readers, idle, State, place_at, taken_at, mutex_profile}
-use Names.{mutex_location, nowhere, location, location_at, role_on, FitsItsLock, IsInductive, Hands, hand_at}
-use Names.{rules_in}
+use Rattle.lot_laws.proofs.Imports
+use Imports.{ℕ, Bool, true, false, Option, Some, None, if◌then◌else◌, ◌==◌, ◌≡◌, ◌≢◌, ◌⊎◌, inl, inr, refl, sym}
+use Imports.{◌∙◌, ap, subst, cases_eq, eqb-true, Exclusive, Woken, TakenBy, HandedBy, taken_from, in_line}
+use Imports.{Place, Idle, Mutex, RwLock, Once, Condvar, Semaphore, next_place, or_else, wants, Entry, LockAt}
+use Imports.{MutexPlace, Lock, Unlock, NotifyAt, CondvarPlace, Wait, Look, Notify, WaitAt, mutex_beside}
+use Imports.{condvar_profile, mutex_side, notify_row, IsReached, IsUnlockPlace, IsLockOf, IsRelock, Rules}
+use Imports.{Taken, Role, Line, Main, Has, has_readers, idle, State, place_at, taken_at, mutex_profile}
+use Imports.{mutex_location, nowhere, location, location_at, role_on, FitsItsLock, IsInductive, Hands, hand_at}
+use Imports.{rules_in}
 use Rattle.core_base.specs.declared.notes.Note.TheVariants as note
 use Rattle.steps_mutex.specs.declared.lock.Entry.TheVariants as entries
 use Rattle.steps_mutex.specs.declared.lock.LockAt.TheVariants as lock

@@ -1,6 +1,6 @@
 -- The word of a mutex tells its owner.
-use Rattle.lot_laws.proofs.Names
-use Names.{ℕ, true, false, Option, Some, None, ◌≡◌, inl, inr, refl, is_locked, IsMutexWord}
+use Rattle.lot_laws.proofs.Imports
+use Imports.{ℕ, true, false, Option, Some, None, ◌≡◌, inl, inr, refl, is_locked, IsMutexWord}
 
 pub free_word : (v : ℕ) (o : Option ℕ) → IsMutexWord v o → is_locked v ≡ false → o ≡ None
 free_word v None c h = refl

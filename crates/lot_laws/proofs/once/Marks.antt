@@ -1,18 +1,18 @@
 -- Nobody marks the word of a `Once` that is done.
-use Rattle.lot_laws.proofs.Names
-use Names.{ℕ, Bool, true, false, Option, Some, None, if◌then◌else◌, ◌==◌, ◌≡◌, ◌≢◌, ◌<◌, List, []}
-use Names.{◌∷◌, length, get_or, map, nat_lt, refl, sym, ◌∙◌, ap, subst, eqb-true, ltb-true}
-use Names.{One, Two, first_of, apply, OnceCall, Step, Turn, Kind, Sort, Phase, New, Poisoned, InProgress}
-use Names.{rules_of, has_readers, Act, holds, takes_effect, CondvarPlace, Wait, Look as PeekQueue, Notify}
-use Names.{mutex_act, Course, Ends, Marks, OncePlace, Run, GiveUp, course_act, course_of, is_forced, marked}
-use Names.{once_act, started, MayGo, coded, marked_is, may_go, started_is, unmarked_is, word, call_act}
-use Names.{semaphore_act, Place, Idle, Mutex, RwLock, Once, Condvar, Semaphore, act_of, late_key}
-use Names.{respins_from}
-use Names.{IsWellFormed, State, after, can_turn, is_possible, kind_at, opening, first_word, place_at, put}
-use Names.{queue_at, queues_with_last, queues_without_first, state_after_act, state_after_close}
-use Names.{state_after_go, state_after_hand_over_by, state_after_late_on, state_after_look}
-use Names.{state_after_taking, state_after_turn, unlocked, word_at, IsOwn, call_own, mutex_own, semaphore_own}
-use Names.{set_all, both, lock_state, AreUnmarked, FitsItsLock, IsInductive, is_mutex, rules_in, site_of}
+use Rattle.lot_laws.proofs.Imports
+use Imports.{ℕ, Bool, true, false, Option, Some, None, if◌then◌else◌, ◌==◌, ◌≡◌, ◌≢◌, ◌<◌, List, []}
+use Imports.{◌∷◌, length, get_or, map, nat_lt, refl, sym, ◌∙◌, ap, subst, eqb-true, ltb-true}
+use Imports.{One, Two, first_of, apply, OnceCall, Step, Turn, Kind, Sort, Phase, New, Poisoned, InProgress}
+use Imports.{rules_of, has_readers, Act, holds, takes_effect, CondvarPlace, Wait, Look as PeekQueue, Notify}
+use Imports.{mutex_act, Course, Ends, Marks, OncePlace, Run, GiveUp, course_act, course_of, is_forced, marked}
+use Imports.{once_act, started, MayGo, coded, marked_is, may_go, started_is, unmarked_is, word, call_act}
+use Imports.{semaphore_act, Place, Idle, Mutex, RwLock, Once, Condvar, Semaphore, act_of, late_key}
+use Imports.{respins_from}
+use Imports.{IsWellFormed, State, after, can_turn, is_possible, kind_at, opening, first_word, place_at, put}
+use Imports.{queue_at, queues_with_last, queues_without_first, state_after_act, state_after_close}
+use Imports.{state_after_go, state_after_hand_over_by, state_after_late_on, state_after_look}
+use Imports.{state_after_taking, state_after_turn, unlocked, word_at, IsOwn, call_own, mutex_own, semaphore_own}
+use Imports.{set_all, both, lock_state, AreUnmarked, FitsItsLock, IsInductive, is_mutex, rules_in, site_of}
 use Rattle.core_base.specs.declared.ops.Op.TheVariants as op
 use Rattle.spec_locks.specs.declared.calls.Turn as turn
 use Rattle.spec_locks.specs.declared.kinds.Kind.TheVariants as kinds
@@ -20,7 +20,7 @@ use Rattle.spec_locks.specs.Locks as locks
 use Rattle.spec_locks.specs.Onces.{Done}
 use Rattle.steps_base.specs.declared.acts.Act.TheVariants as act
 use Rattle.steps_base.specs.declared.acts.Wakes as wakes
-use Rattle.steps_base.specs.declared.acts.Whom as whom
+use Rattle.steps_base.specs.declared.acts.TakeWhich as whom
 use Rattle.steps_condvar.specs.declared.wait.WaitAt.TheVariants as wait
 use Rattle.steps_condvar.specs.declared.notify.NotifyAt.TheVariants as notify
 use Rattle.steps_once.specs.declared.give_up.GiveUpAt.TheVariants as give_up

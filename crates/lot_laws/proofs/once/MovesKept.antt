@@ -1,17 +1,17 @@
 -- A thread in a call of a `Once` goes on where its act takes it: on the word, after the last of the queue,
 -- or with all that wait in its hand. No place is named.
-use Rattle.lot_laws.proofs.Names
-use Names.{ℕ, Bool, true, false, Option, Some, None, if◌then◌else◌, ◌==◌, ◌||◌, ◌≡◌, ◌*◌, ◌≤◌, ◌<◌, List, []}
-use Names.{◌∷◌, ◌++◌, length, not, refl, sym, ◌∙◌, ap, subst, arith, nat_le, or-false, Op, Waiter, Want}
-use Names.{times, waiter, apply, Check, Reply, Value, Parked, Took, holds, StepView, Hears, StaysPut}
-use Names.{inside_of}
-use Names.{location_of, in_hand, Location, Rest, TakeAll, Rules, OfOnce, HasTakenNobody, Site, Deed, Main}
-use Names.{Case, has_readers, aside_in, code, count_in, fills, parked_in, Place, next_place, profile}
-use Names.{RestsAfter, TakesAll, State, filled_at, place_at, put, queue_at, queues_with_last}
-use Names.{state_after_operation, state_after_park, state_after_take, word_at, lock_state, taken_at, acts}
-use Names.{location, location_at, Goes, IsInductive, TakesOne, after_acts, carried_at, rules_in, stood_in}
+use Rattle.lot_laws.proofs.Imports
+use Imports.{ℕ, Bool, true, false, Option, Some, None, if◌then◌else◌, ◌==◌, ◌||◌, ◌≡◌, ◌*◌, ◌≤◌, ◌<◌, List, []}
+use Imports.{◌∷◌, ◌++◌, length, not, refl, sym, ◌∙◌, ap, subst, arith, nat_le, or-false, Op, Waiter, Want}
+use Imports.{times, waiter, apply, Check, Reply, Value, Parked, Took, holds, StepView, Hears, StaysPut}
+use Imports.{inside_of}
+use Imports.{location_of, in_hand, Location, Rest, TakeAll, Rules, OfOnce, HasTakenNobody, Site, Deed, Main}
+use Imports.{Case, has_readers, aside_in, code, count_in, fills, parked_in, Place, next_place, profile}
+use Imports.{RestsAfter, TakesAll, State, filled_at, place_at, put, queue_at, queues_with_last}
+use Imports.{state_after_operation, state_after_park, state_after_take, word_at, lock_state, taken_at, acts}
+use Imports.{location, location_at, Goes, IsInductive, TakesOne, after_acts, carried_at, rules_in, stood_in}
 use Rattle.std.specs.Prelude.{◌&&◌}
-use Rattle.steps_base.specs.declared.acts.Whom.TheVariants as whom
+use Rattle.steps_base.specs.declared.acts.TakeWhich.TheVariants as whom
 use Rattle.spec_locks.specs.Deeds as laws
 use Rattle.lot_laws.proofs.sites.ActsKept.{lock_by, operated, park_goes, place_goes, with_line, word_goes}
 use Rattle.lot_laws.proofs.machine.AtPlaces.{in_no_hand}

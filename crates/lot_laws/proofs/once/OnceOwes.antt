@@ -1,12 +1,12 @@
 -- A thread in a call of a `Once` owes a wake from the end of its run on, where that saw waiters, or from
 -- entering the section, until it leaves it.
-use Rattle.lot_laws.proofs.Names
-use Names.{ℕ, Bool, true, false, Option, Some, None, if◌then◌else◌, ◌≡◌, inl, inr, refl, sym, ◌∙◌, ap, subst}
-use Names.{OnceCall, WaitTimed, Next, Reply, outcome_of, Line, Main, is_marked, GiveUpAt, LookAt, RunAt}
-use Names.{OncePlace, Run, GiveUp, begins_run, ended, closure_begun, in_look, in_run, is_forced, next_look}
-use Names.{once_act, once_next, run_act, is_late_asleep, give_up_act, in_give_up, is_timed, next_give_up}
-use Names.{retried_want, once_profile, run_row, act_of, once_does, once_goes, profile, State, reply_to}
-use Names.{word_at, tells_by, tells_of}
+use Rattle.lot_laws.proofs.Imports
+use Imports.{ℕ, Bool, true, false, Option, Some, None, if◌then◌else◌, ◌≡◌, inl, inr, refl, sym, ◌∙◌, ap, subst}
+use Imports.{OnceCall, WaitTimed, Next, Reply, outcome_of, Line, Main, is_marked, GiveUpAt, LookAt, RunAt}
+use Imports.{OncePlace, Run, GiveUp, begins_run, ended, closure_begun, in_look, in_run, is_forced, next_look}
+use Imports.{once_act, once_next, run_act, is_late_asleep, give_up_act, in_give_up, is_timed, next_give_up}
+use Imports.{retried_want, once_profile, run_row, act_of, once_does, once_goes, profile, State, reply_to}
+use Imports.{word_at, tells_by, tells_of}
 use Rattle.spec_locks.specs.declared.calls.OnceCall.TheVariants.{CallOnce, Wait}
 use Rattle.steps_base.specs.declared.acts.Next.TheVariants as next
 use Rattle.steps_base.specs.declared.acts.Reply.TheVariants as reply

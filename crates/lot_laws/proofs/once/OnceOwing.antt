@@ -1,7 +1,7 @@
 -- The places of a `Once` owe the same, whatever befalls their thread, and as its time is up.
-use Rattle.lot_laws.proofs.Names
-use Names.{ℕ, Bool, ◌≡◌, Some, refl, sym, ap, subst, Normal, WaitTimed, Reply, TakenBy, MovedTo, HandedBy}
-use Names.{Late, Woken, OncePlace, Run, GiveUp, once_profile, Once, line_owed, next_place}
+use Rattle.lot_laws.proofs.Imports
+use Imports.{ℕ, Bool, ◌≡◌, Some, refl, sym, ap, subst, Normal, WaitTimed, Reply, TakenBy, MovedTo, HandedBy}
+use Imports.{Late, Woken, OncePlace, Run, GiveUp, once_profile, Once, line_owed, next_place}
 use Rattle.core_base.specs.declared.keys.Line.{Line}
 use Rattle.core_base.specs.declared.keys.Line.TheVariants.{Main}
 use Rattle.spec_locks.specs.declared.calls.OnceCall.TheVariants.{CallOnce, Wait}

@@ -1,8 +1,8 @@
 -- The rows of a `Once`: all that is asked of them beside their promises.
-use Rattle.lot_laws.proofs.Names
-use Names.{ℕ, Bool, true, false, Option, Some, ◌≡◌, inl, inr, refl, subst, Want, OnceCall, WaitTimed, LetsIn}
-use Names.{Line, IsReleasing, once_purpose, is_timed, GiveUpAt, LookAt, GiveUp, retried_want, look_row}
-use Names.{once_profile}
+use Rattle.lot_laws.proofs.Imports
+use Imports.{ℕ, Bool, true, false, Option, Some, ◌≡◌, inl, inr, refl, subst, Want, OnceCall, WaitTimed, LetsIn}
+use Imports.{Line, IsReleasing, once_purpose, is_timed, GiveUpAt, LookAt, GiveUp, retried_want, look_row}
+use Imports.{once_profile}
 use Rattle.spec_locks.specs.declared.calls.OnceCall.TheVariants.{CallOnce, Wait}
 use Rattle.spec_locks.specs.Locks as locks
 use Rattle.steps_once.specs.declared.look.LookAt.TheVariants as look

@@ -1,21 +1,21 @@
 -- The pages of the places of a `Once`: what its laws say of each, as any sort of lock says it.
-use Rattle.lot_laws.proofs.Names
-use Names.{rules, ℕ, Bool, true, false, Option, Some, None, ◌==◌, ◌≡◌, ◌≢◌, List, inl, inr, refl}
-use Names.{sym, ◌∙◌, ap, subst, Op, OnceCall, WaitTimed, Act, Next, Reply, Done, Value, Parked, Took, Removed}
-use Names.{Late, IsNotLate, row_of, OfOnce, Rules, is_recursive, Deed, Runs as Running, Site, aside_in, code}
-use Names.{is_marked, parked_in, Course, Ends, Marks, OncePlace, Run, GiveUp, OnceSectionsFollow, closes}
-use Names.{run_ending, exchanged_deeds, looked_deeds, once_deeds, OnceMoves, once_hears, once_move}
-use Names.{once_profile, course_of, once_act, once_next, once_acts_move, once_late_move, once_sleepers_move}
-use Names.{once_owners_follow, once_steps_code, once_steps_follow, once_promises, once_sections_tell}
-use Names.{once_steps_tell, Once, once_does, once_goes, owners_after, shares_after, State, can_do, reply_to}
-use Names.{word_at, FitsItsLock, rules_in, OnceState, Outcome, holds, outcome_of, case_of, event_by, Phase}
-use Names.{New, Poisoned, InProgress, MayStart, AtLock, Begins, LocksState, Nothing, state_told, lock_state}
-use Names.{locks_of, IsInductive, site_of, is_poisoned, check_of, closure_begun, course_act, ended, in_look}
-use Names.{in_run, is_forced, is_run, marked, state_before}
+use Rattle.lot_laws.proofs.Imports
+use Imports.{rules, ℕ, Bool, true, false, Option, Some, None, ◌==◌, ◌≡◌, ◌≢◌, List, inl, inr, refl}
+use Imports.{sym, ◌∙◌, ap, subst, Op, OnceCall, WaitTimed, Act, Next, Reply, Done, Value, Parked, Took, Removed}
+use Imports.{Late, IsNotLate, row_of, OfOnce, Rules, is_recursive, Deed, Runs as Running, Site, aside_in, code}
+use Imports.{is_marked, parked_in, Course, Ends, Marks, OncePlace, Run, GiveUp, OnceSectionsFollow, closes}
+use Imports.{run_ending, exchanged_deeds, looked_deeds, once_deeds, OnceMoves, once_hears, once_move}
+use Imports.{once_profile, course_of, once_act, once_next, once_acts_move, once_late_move, once_sleepers_move}
+use Imports.{once_owners_follow, once_steps_code, once_steps_follow, once_promises, once_sections_tell}
+use Imports.{once_steps_tell, Once, once_does, once_goes, owners_after, shares_after, State, can_do, reply_to}
+use Imports.{word_at, FitsItsLock, rules_in, OnceState, Outcome, holds, outcome_of, case_of, event_by, Phase}
+use Imports.{New, Poisoned, InProgress, MayStart, AtLock, Begins, LocksState, Nothing, state_told, lock_state}
+use Imports.{locks_of, IsInductive, site_of, is_poisoned, check_of, closure_begun, course_act, ended, in_look}
+use Imports.{in_run, is_forced, is_run, marked, state_before}
 use Rattle.spec_locks.specs.declared.calls.OnceCall.TheVariants.{CallOnce, Wait}
 use Rattle.steps_base.specs.declared.acts.Act.TheVariants as act
 use Rattle.steps_base.specs.declared.acts.Next.TheVariants as next
-use Rattle.steps_base.specs.declared.acts.Whom.TheVariants as whom
+use Rattle.steps_base.specs.declared.acts.TakeWhich.TheVariants as whom
 use Rattle.spec_locks.specs.Locks as locks
 use Rattle.spec_locks.specs.Deeds as laws
 use Rattle.steps_once.specs.declared.give_up.GiveUpAt.TheVariants as give_up

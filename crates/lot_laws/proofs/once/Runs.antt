@@ -1,19 +1,19 @@
 -- A run of a `Once` is on only while its thread is in the closure of its call.
-use Rattle.lot_laws.proofs.Names
-use Names.{moved_of, ◌==◌, ℕ, Bool, true, false, Option, Some, None, if◌then◌else◌, ◌≡◌, ◌≢◌, ◌⊎◌, inl, inr}
-use Names.{is_some, List, get_or-set_other, refl, sym, ◌∙◌, ap, subst, cases_eq, Step, Turn, Kind, Outcome}
-use Names.{Next, Reply, TakenBy, MovedTo, HandedBy, Woken, LockCase, LockState, OfOnce, Rules, left_after}
-use Names.{after_case, once_after, rights_of, phase_by, Phase, OnceCase, New, InProgress, Start, Finish, Fail}
-use Names.{Rest, TakeAll, Purpose, Enters, Releases, Converts, Bumps, CallsOnce, Awaits, Waits, Notifies}
-use Names.{AtLock, Begins, CallState, Closes, Does, Event, GoesOn, LocksState, MayDo, MayHappen, MayTurn}
-use Names.{Nothing, calls_after, is_closure, locks_after, rules_at, state_told, Moves, joined_by, OnceCall}
-use Names.{MutexPlace, mutex_next, GiveUpAt, LookAt, RunAt, Run, GiveUp, begins_run, course_of, closure_begun}
-use Names.{in_look, in_run, is_forced, next_look, next_run, is_late_asleep, in_give_up, next_give_up}
-use Names.{SemaphorePlace, semaphore_next, RwLockCallPlace, call_next, CondvarPlace, condvar_next, Place}
-use Names.{Idle, Mutex, RwLock, Once, Condvar, Semaphore, act_of, called_lock, respins_from, mutex_goes}
-use Names.{next_place, once_goes, rwlock_goes, condvar_goes, semaphore_goes, IsWellFormed, State, after}
-use Names.{opening, place_at, put, runs_closure, step_outcome, RunsClosure, call_at, call_state, lock_state}
-use Names.{locks_of, sleeps, AreCondvars, AreCounted, IsInductive, RunsInClosures}
+use Rattle.lot_laws.proofs.Imports
+use Imports.{moved_of, ◌==◌, ℕ, Bool, true, false, Option, Some, None, if◌then◌else◌, ◌≡◌, ◌≢◌, ◌⊎◌, inl, inr}
+use Imports.{is_some, List, get_or-set_other, refl, sym, ◌∙◌, ap, subst, cases_eq, Step, Turn, Kind, Outcome}
+use Imports.{Next, Reply, TakenBy, MovedTo, HandedBy, Woken, LockCase, LockState, OfOnce, Rules, left_after}
+use Imports.{after_case, once_after, rights_of, phase_by, Phase, OnceCase, New, InProgress, Start, Finish, Fail}
+use Imports.{Rest, TakeAll, Purpose, Enters, Releases, Converts, Bumps, CallsOnce, Awaits, Waits, Notifies}
+use Imports.{AtLock, Begins, CallState, Closes, Does, Event, GoesOn, LocksState, MayDo, MayHappen, MayTurn}
+use Imports.{Nothing, calls_after, is_closure, locks_after, rules_at, state_told, Moves, joined_by, OnceCall}
+use Imports.{MutexPlace, mutex_next, GiveUpAt, LookAt, RunAt, Run, GiveUp, begins_run, course_of, closure_begun}
+use Imports.{in_look, in_run, is_forced, next_look, next_run, is_late_asleep, in_give_up, next_give_up}
+use Imports.{SemaphorePlace, semaphore_next, RwLockCallPlace, call_next, CondvarPlace, condvar_next, Place}
+use Imports.{Idle, Mutex, RwLock, Once, Condvar, Semaphore, act_of, called_lock, respins_from, mutex_goes}
+use Imports.{next_place, once_goes, rwlock_goes, condvar_goes, semaphore_goes, IsWellFormed, State, after}
+use Imports.{opening, place_at, put, runs_closure, step_outcome, RunsClosure, call_at, call_state, lock_state}
+use Imports.{locks_of, sleeps, AreCondvars, AreCounted, IsInductive, RunsInClosures}
 use Rattle.std.proofs.Common.{eqb-true}
 use Rattle.spec_locks.specs.declared.calls.Turn as turn
 use Rattle.spec_locks.specs.declared.outcomes.Outcome as outcome

@@ -1,12 +1,12 @@
 -- A debtor of a line is inside its section or on its way into it. Each thread inside owes, and so does each
 -- one on its way but for a wait.
-use Rattle.lot_laws.proofs.Names
-use Names.{ℕ, Bool, true, false, Option, Some, None, if◌then◌else◌, ◌==◌, ◌≡◌, ◌≢◌, ◌⊎◌, ◌↔◌, inl, inr, refl}
-use Names.{sym, ◌∙◌, ap, subst, eqb-true, One, Enter, in_line, location_by, LockAt, inside, NotifyAt}
-use Names.{CondvarPlace, Wait, Look, Notify, IsLockOf, IsReached, condvar_row, has_moved, mutex_side}
-use Names.{section_in, mutex_beside, move_act, Condvar, act_of, is_lock, line_owed, or_else, Rights, Waits}
-use Names.{Line, Main, State, place_at, call_at, call_state, location, location_at, FitsCondvar, FitsItsLock}
-use Names.{IsInductive, key_of, IsInside, IsWait, Owes, GoesToWake, WaitHasReleased}
+use Rattle.lot_laws.proofs.Imports
+use Imports.{ℕ, Bool, true, false, Option, Some, None, if◌then◌else◌, ◌==◌, ◌≡◌, ◌≢◌, ◌⊎◌, ◌↔◌, inl, inr, refl}
+use Imports.{sym, ◌∙◌, ap, subst, eqb-true, One, Enter, in_line, location_by, LockAt, inside, NotifyAt}
+use Imports.{CondvarPlace, Wait, Look, Notify, IsLockOf, IsReached, condvar_row, has_moved, mutex_side}
+use Imports.{section_in, mutex_beside, move_act, Condvar, act_of, is_lock, line_owed, or_else, Rights, Waits}
+use Imports.{Line, Main, State, place_at, call_at, call_state, location, location_at, FitsCondvar, FitsItsLock}
+use Imports.{IsInductive, key_of, IsInside, IsWait, Owes, GoesToWake, WaitHasReleased}
 use Rattle.steps_base.specs.Locations.{nowhere}
 use Rattle.steps_mutex.specs.declared.lock.Entry.TheVariants as entry
 use Rattle.steps_mutex.specs.declared.lock.LockAt.TheVariants as lock

@@ -1,8 +1,8 @@
 -- The exclusive owner of a mutex after a step on its word.
-use Rattle.lot_laws.proofs.Names
-use Names.{ℕ, Bool, true, false, Option, Some, None, if◌then◌else◌, ◌==◌, ◌&&◌, not, ◌≡◌, inl, inr, refl}
-use Names.{Owners, Lock, TryLock, Unlock, UnlockFair, LockAt, First, Decide, UnlockAt, is_locked}
-use Names.{mutex_owners, MutexPlace, with_exclusive, IsMutexWord}
+use Rattle.lot_laws.proofs.Imports
+use Imports.{ℕ, Bool, true, false, Option, Some, None, if◌then◌else◌, ◌==◌, ◌&&◌, not, ◌≡◌, inl, inr, refl}
+use Imports.{Owners, Lock, TryLock, Unlock, UnlockFair, LockAt, First, Decide, UnlockAt, is_locked}
+use Imports.{mutex_owners, MutexPlace, with_exclusive, IsMutexWord}
 use Rattle.steps_mutex.specs.declared.places.MutexPlace.TheVariants.{Bump}
 use Rattle.steps_mutex.specs.declared.places.MutexPlace.TheVariants.{HandOff}
 use Rattle.steps_mutex.specs.declared.unlock.UnlockAt.TheVariants as unlock

@@ -1,25 +1,25 @@
 -- Each step of the world is fair.
-use Rattle.lot_laws.proofs.Names
-use Names.{ℕ, Bool, true, false, Option, Some, None, if◌then◌else◌, ◌==◌, ◌&&◌, not, ◌≡◌, ◌≢◌, ◌+◌, ◌*◌, ◌<◌}
-use Names.{◌⊎◌, inl, inr, [], length, refl, sym, ◌∙◌, ap, subst, arith, get_or-set_same, length-set, Run}
-use Names.{GiveUp, cases_eq, eqb-true, ltb-true, nat_tests, One, Op, Want, Exclusive, Upgradable, Shared}
-use Names.{CallOnce, first_of, Turn, Step, MutexPlace, Lock, TryLock, Unlock, UnlockFair, LockAt, NOT_PARKED}
-use Names.{HandOffAt, Place, Idle, Mutex, RwLock, Once, Condvar, Semaphore, CondvarPlace, is_locked}
-use Names.{is_parked, lock_act, hand_off_act, act_of, respins_from, late_key, next_place, called_lock}
-use Names.{profile}
-use Names.{State, unlocked, place_at, word_at, owners_at, kind_at, queue_at, state_after_operation}
-use Names.{queues_with_last, queues_without_first, state_after_act, state_after_taking, state_after_look}
-use Names.{state_after_go, put, state_after_late_on, state_after_turn, can_turn, is_possible, after}
-use Names.{step_outcome, can_do, reply_to, IsWellFormed, PlaceFits, IsMutexWord, mutex_location, AreCondvars}
-use Names.{AreCounted, IsInductive, FitsItsLock, is_mutex, rules_in, Main, both, looking_well_formed}
-use Names.{OnceCase, Start, Finish, Fail, Rest, TakeAll, LockState, Rules, Taken, LockCase, Pend, Settle}
-use Names.{Leave, Convert, Park, Aside, TakeFirst, TakeAside, TakePicked, Wake, HandOff as HandsLockOff}
-use Names.{Rollback, OfOnce, Needs, IsTaken, HasTakenNobody, IsLockState, keep_from, first_thread, Owns}
-use Names.{CallState, AreLockStates, MayMove, rules_at, locks_after, Moves, call_at, lock_state, locks_of}
-use Names.{call_state, owner_at, OwnerReleasesFairly, IsFairRelease, OwnsOn, HandsMutexOver, LetsMutexGo}
-use Names.{IsFair, IsToGiveAt, GivesUpFairly, FairReleaseComesTo as GivesFrom, IsToGive, call_act, Admission}
-use Names.{RwLockCallPlace, rules_of, Owners, with_exclusive, Purpose, Enters, Releases, Converts, Bumps}
-use Names.{CallsOnce, Awaits, Waits, Notifies, lock_for, has_readers, call_profile}
+use Rattle.lot_laws.proofs.Imports
+use Imports.{ℕ, Bool, true, false, Option, Some, None, if◌then◌else◌, ◌==◌, ◌&&◌, not, ◌≡◌, ◌≢◌, ◌+◌, ◌*◌, ◌<◌}
+use Imports.{◌⊎◌, inl, inr, [], length, refl, sym, ◌∙◌, ap, subst, arith, get_or-set_same, length-set, Run}
+use Imports.{GiveUp, cases_eq, eqb-true, ltb-true, nat_tests, One, Op, Want, Exclusive, Upgradable, Shared}
+use Imports.{CallOnce, first_of, Turn, Step, MutexPlace, Lock, TryLock, Unlock, UnlockFair, LockAt, NOT_PARKED}
+use Imports.{HandOffAt, Place, Idle, Mutex, RwLock, Once, Condvar, Semaphore, CondvarPlace, is_locked}
+use Imports.{is_parked, lock_act, hand_off_act, act_of, respins_from, late_key, next_place, called_lock}
+use Imports.{profile}
+use Imports.{State, unlocked, place_at, word_at, owners_at, kind_at, queue_at, state_after_operation}
+use Imports.{queues_with_last, queues_without_first, state_after_act, state_after_taking, state_after_look}
+use Imports.{state_after_go, put, state_after_late_on, state_after_turn, can_turn, is_possible, after}
+use Imports.{step_outcome, can_do, reply_to, IsWellFormed, PlaceFits, IsMutexWord, mutex_location, AreCondvars}
+use Imports.{AreCounted, IsInductive, FitsItsLock, is_mutex, rules_in, Main, both, looking_well_formed}
+use Imports.{OnceCase, Start, Finish, Fail, Rest, TakeAll, LockState, Rules, Taken, LockCase, Pend, Settle}
+use Imports.{Leave, Convert, Park, Aside, TakeFirst, TakeAside, TakePicked, Wake, HandOff as HandsLockOff}
+use Imports.{Rollback, OfOnce, Needs, IsTaken, HasTakenNobody, IsLockState, keep_from, first_thread, Owns}
+use Imports.{CallState, AreLockStates, MayMove, rules_at, locks_after, Moves, call_at, lock_state, locks_of}
+use Imports.{call_state, owner_at, OwnerReleasesFairly, IsFairRelease, OwnsOn, HandsMutexOver, LetsMutexGo}
+use Imports.{IsFair, IsToGiveAt, GivesUpFairly, FairReleaseComesTo as GivesFrom, IsToGive, call_act, Admission}
+use Imports.{RwLockCallPlace, rules_of, Owners, with_exclusive, Purpose, Enters, Releases, Converts, Bumps}
+use Imports.{CallsOnce, Awaits, Waits, Notifies, lock_for, has_readers, call_profile}
 use Rattle.steps_semaphore.specs.declared.places.SemaphorePlace.TheVariants as semaphore
 use Rattle.spec_locks.specs.declared.calls.OnceCall.TheVariants as once_call
 use Rattle.steps_once.specs.declared.places.OncePlace.TheVariants.{Look}

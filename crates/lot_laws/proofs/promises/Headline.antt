@@ -1,13 +1,13 @@
 -- The promises of the world say the headline: in the words of the abstract locks alone, nobody is forgotten.
-use Rattle.lot_laws.proofs.Names
-use Names.{ℕ, Bool, true, false, Option, Some, None, ◌≤◌, ◌⊎◌, List, [], ◌∷◌, ◌++◌, ◌≡◌, ◌≢◌, inl, inr, refl}
-use Names.{sym, ◌∙◌, ap, subst, length-replicate, length-map, Kind, Step, Outcome, Act, Sleep, Place, Idle}
-use Names.{Once, act_of, beside_of, called_lock, line_owed, profile, profile_beside, retries_on, Run}
-use Names.{runs_one, Rights, rights_of, standing, CallsOnce, MayTell, Behaves, Opens, State, kind_at, opening}
-use Names.{unlocked, place_at, filled_at, after, step_outcome, after_steps, step_outcomes, RunsClosure}
-use Names.{call_at, call_on_both, call_state, keys_entered, lock_state, locks_of, sleeps, AreLookedAfterIn}
-use Names.{IsKept, IsDebtorOf, IsLookedAfterIn, IsHandedOverIn, Owes, IsWorld, Tells, states_of, StateHolds}
-use Names.{StepHolds, AllHold, IsGuaranteed, IsSafe, safe_holds, step_holds}
+use Rattle.lot_laws.proofs.Imports
+use Imports.{ℕ, Bool, true, false, Option, Some, None, ◌≤◌, ◌⊎◌, List, [], ◌∷◌, ◌++◌, ◌≡◌, ◌≢◌, inl, inr, refl}
+use Imports.{sym, ◌∙◌, ap, subst, length-replicate, length-map, Kind, Step, Outcome, Act, Sleep, Place, Idle}
+use Imports.{Once, act_of, beside_of, called_lock, line_owed, profile, profile_at_mutex, retries_on, Run}
+use Imports.{runs_one, Rights, rights_of, standing, CallsOnce, MayTell, Behaves, Opens, State, kind_at, opening}
+use Imports.{unlocked, place_at, filled_at, after, step_outcome, after_steps, step_outcomes, RunsClosure}
+use Imports.{call_at, call_on_both, call_state, keys_entered, lock_state, locks_of, sleeps, AreLookedAfterIn}
+use Imports.{IsKept, IsDebtorOf, IsLookedAfterIn, IsHandedOverIn, Owes, IsWorld, Tells, states_of, StateHolds}
+use Imports.{StepHolds, AllHold, IsGuaranteed, IsSafe, safe_holds, step_holds}
 use Rattle.core_base.specs.declared.keys.Line.{Line}
 use Rattle.core_base.specs.declared.keys.Line.TheVariants.{Main, Second}
 use Rattle.steps_once.specs.declared.run.RunAt.TheVariants as running
@@ -36,7 +36,7 @@ in_call : (p : Place) (r : ℕ → Rights) → (p ≡ Idle → ⊥) → (call_st
 in_call p r busy = by_lock (beside_of p) (called_lock p) refl
   where
     by_lock : (m o : Option ℕ) → called_lock p ≡ o
-        → (call_on_both m o (profile p) (profile_beside p) r).purpose ≢ None
+        → (call_on_both m o (profile p) (profile_at_mutex p) r).purpose ≢ None
     by_lock None (Some l) e = λ h. cc
     by_lock (Some m) (Some l) e = λ h. cc
     by_lock m None e = absurd (busy (calls_none p e))
@@ -102,7 +102,7 @@ module _ (w : State) (k : IsKept w) where
     debtor = many.debtor;
     apart = many.apart;
     each = λ i lt. (let h = many.each i lt in
-        subst (λ t. headline.IsDebtor (locks_of w) t l Main × headline.IsUp ((locks_of w).stances t)) h.1 (
+        subst (λ t. headline.IsDebtor (locks_of w) t l Main × headline.IsAwake ((locks_of w).stances t)) h.1 (
           debt_so h.0.debtor l Main h.0.debt,
           (
             awake_is (act_of (place_at w h.0.debtor)) h.0.awake,

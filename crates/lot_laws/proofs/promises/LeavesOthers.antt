@@ -1,11 +1,11 @@
 -- A step leaves the other threads as they are, but for the sleepers that its thread wakes.
-use Rattle.lot_laws.proofs.Names
-use Names.{ℕ, Bool, true, false, Option, Some, None, ◌==◌, ◌≡◌, ◌≢◌, ◌≤◌, ◌⊎◌, inl, inr, refl, sym, ◌∙◌}
-use Names.{subst, arith, is_some, cases_lt, Step, Taken, standing, MayWait, LeavesOthers, MayWake}
-use Names.{is_taken_by, Main, Act, Sleep, Word, act_of, respins_from, taker, State, after, place_at}
-use Names.{section_at}
-use Names.{call_at, lock_state, locks_of, sleeps, stance_of, IsHandedOverIn, IsKept, LeadsToSleep, holder}
-use Names.{sort_at}
+use Rattle.lot_laws.proofs.Imports
+use Imports.{ℕ, Bool, true, false, Option, Some, None, ◌==◌, ◌≡◌, ◌≢◌, ◌≤◌, ◌⊎◌, inl, inr, refl, sym, ◌∙◌}
+use Imports.{subst, arith, is_some, cases_lt, Step, Taken, standing, MayWait, LeavesOthers, MayWake}
+use Imports.{is_taken_by, Main, Act, Sleep, Word, act_of, respins_from, taker, State, after, place_at}
+use Imports.{section_at}
+use Imports.{call_at, lock_state, locks_of, sleeps, stance_of, IsHandedOverIn, IsKept, LeadsToSleep, holder}
+use Imports.{sort_at}
 use Rattle.core_base.specs.Keys.{key_of}
 use Rattle.lot_laws.proofs.machine.Sleepers.{sleepers_stay}
 use Rattle.lot_laws.proofs.machine.StancesStay.{awake_stay, stance_so}

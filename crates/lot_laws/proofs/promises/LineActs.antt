@@ -1,15 +1,15 @@
 -- An act that enters a section is of a line of the lock that the thread calls, and one that leaves a section
 -- or touches a queue is of the line whose section the thread is in, as its place says.
-use Rattle.lot_laws.proofs.Names
-use Names.{ℕ, zero, suc, Option, Some, None, ◌≡◌, ◌≢◌, ◌⊎◌, ◌+◌, ◌*◌, ◌<◌, inl, inr, [], map, length, get_or}
-use Names.{refl, sym, ◌∙◌, ap, subst, arith, cases_eq, get_or-map, without, times, Act, act_of, key_in}
-use Names.{late_key, called_lock, profile, Place, Idle, Mutex, RwLock, Once, Condvar, Semaphore, Line, Main}
-use Names.{Second, State, place_at, section_at, queue_at, IsWellFormed, PlaceFits, location, location_at}
-use Names.{IsInductive, key_of, stood_in}
+use Rattle.lot_laws.proofs.Imports
+use Imports.{ℕ, zero, suc, Option, Some, None, ◌≡◌, ◌≢◌, ◌⊎◌, ◌+◌, ◌*◌, ◌<◌, inl, inr, [], map, length, get_or}
+use Imports.{refl, sym, ◌∙◌, ap, subst, arith, cases_eq, get_or-map, without, times, Act, act_of, key_in}
+use Imports.{late_key, called_lock, profile, Place, Idle, Mutex, RwLock, Once, Condvar, Semaphore, Line, Main}
+use Imports.{Second, State, place_at, section_at, queue_at, IsWellFormed, PlaceFits, location, location_at}
+use Imports.{IsInductive, key_of, stood_in}
 use Rattle.steps_base.specs.declared.acts.Act.TheVariants as act
 use Rattle.lot_laws.specs.Locations.{Location}
 use Rattle.lot_laws.proofs.hands.Counts.{without_absent}
-use Rattle.lot_laws.proofs.machine.PlaceTest.{IsLineAct, IsOfLine, IsWithinLine, StandsThere, call_facts}
+use Rattle.lot_laws.proofs.machine.PlaceTest.{IsLineAct, IsOfLine, IsWithinLine, StandsAtCondvar, call_facts}
 use Rattle.lot_laws.proofs.machine.PlaceTest.{mutex_row_facts, once_facts, semaphore_facts}
 use Rattle.lot_laws.proofs.machine.Parts.{IsOf, location_here, location_elsewhere, IsSingle, single_late}
 
@@ -87,7 +87,7 @@ module _ (w : State) (t l : ℕ) (inductive : IsInductive w) (is_of : IsOf l (pl
 
   -- in no queue but that of its section it stands
   stood_out : (k : ℕ) (m n : Line) → (location (place_at w t)).inside ≡ Some m
-      → StandsThere (location (place_at w t))
+      → StandsAtCondvar (location (place_at w t))
       → key_of k n ≢ key_of l m → times t (queue_at w (key_of k n)) ≡ 0
   stood_out k m n within stands ne = inductive.stands.lines t k n ∙ elim (cases_eq k l) [
     | inl e ↦ ap (λ (x : Location). stood_in x.stands n) (ap (location_at (place_at w t)) e
@@ -101,13 +101,13 @@ module _ (w : State) (t l : ℕ) (inductive : IsInductive w) (is_of : IsOf l (pl
       other Second Main f = refl
       other Second Second f = absurd (f refl)
 
-      here : StandsThere (location (place_at w t)) → n ≢ m → stood_in (location (place_at w t)).stands n ≡ 0
+      here : StandsAtCondvar (location (place_at w t)) → n ≢ m → stood_in (location (place_at w t)).stands n ≡ 0
       here (inl none) f = ap (λ x. stood_in x n) none
       here (inr same) f = ap (λ x. stood_in x n) (same ∙ within) ∙ other n m f
 
   -- where it leaves the queues, only that one changes
   pub removed_at : (m : Line) → (location (place_at w t)).inside ≡ Some m
-      → StandsThere (location (place_at w t)) → (key : ℕ)
+      → StandsAtCondvar (location (place_at w t)) → (key : ℕ)
       → (get_or (map (without t) w.queues) key [] ≡ queue_at w key) ⊎ (section_at w key ≡ Some t)
   removed_at m within stands key = let of = line_of_key key in elim (cases_eq (key_of of.0 of.1)
       (key_of l m)) [

@@ -1,13 +1,13 @@
 -- In a run of the world a mutex that each call gives up fairly has no more new owners than there were threads
 -- before one that waits.
-use Rattle.lot_laws.proofs.Names
-use Names.{ℕ, zero, suc, true, false, Option, Some, None, ◌≡◌, ◌≢◌, ◌+◌, ◌≤◌, ◌<◌, ◌⊎◌, inl, inr, List, []}
-use Names.{◌∷◌, length, refl, sym, ◌∙◌, ap, subst, arith, cases_lt, Step, IsHandedOn, ahead, in_hands, passed}
-use Names.{turns, Taken, one_if_some, standing, MayWait, Line, Main, Second, has_readers}
-use Names.{nobody_overtakes, queues_keep_order, Idle, State, after, after_steps, kind_at, place_at}
-use Names.{step_outcome, after_size, IsKept, WaitsFor, IsInside, call_at, call_state, lock_state, locks_of}
-use Names.{owner_at, taken_at, IsWorld, is_mutex, rules_in, FairlyThroughout, IsGivenUpFairly}
-use Names.{NobodyIsOvertaken, StandsThroughout, new_owners, newly_owned}
+use Rattle.lot_laws.proofs.Imports
+use Imports.{ℕ, zero, suc, true, false, Option, Some, None, ◌≡◌, ◌≢◌, ◌+◌, ◌≤◌, ◌<◌, ◌⊎◌, inl, inr, List, []}
+use Imports.{◌∷◌, length, refl, sym, ◌∙◌, ap, subst, arith, cases_lt, Step, IsHandedOn, ahead, in_hands, passed}
+use Imports.{turns, Taken, one_if_some, standing, MayWait, Line, Main, Second, has_readers}
+use Imports.{nobody_overtakes, queues_keep_order, Idle, State, after, after_steps, kind_at, place_at}
+use Imports.{step_outcome, after_size, IsKept, WaitsFor, IsInside, call_at, call_state, lock_state, locks_of}
+use Imports.{owner_at, taken_at, IsWorld, is_mutex, rules_in, FairlyThroughout, IsGivenUpFairly}
+use Imports.{NobodyIsOvertaken, StandsThroughout, new_owners, newly_owned}
 use Rattle.spec_locks.specs.declared.kinds.Kind.TheVariants as kinds
 use Rattle.spec_locks.specs.Locks as locks
 use Rattle.lot_laws.proofs.alone.WorldRuns.{step_is, world_after, world_kept}

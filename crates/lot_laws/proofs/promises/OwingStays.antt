@@ -1,16 +1,16 @@
 -- A debtor owes its wake since it saw waiters, or since it entered the section.
-use Rattle.lot_laws.proofs.Names
-use Names.{outcome_of, ℕ, Bool, true, false, Option, Some, None, if◌then◌else◌, ◌≡◌, ◌≢◌, ◌<◌, ◌⊎◌, ◌↔◌, inl}
-use Names.{inr, length, refl, sym, ◌∙◌, ap, subst, get_or-set_same, nat_lt, is_some, length-set, closed_place}
-use Names.{close_outcome, state_after_close, ltb-true, One, Call, Turn, Step, Outcome, Enter, Late, Place}
-use Names.{Idle, lock_in, condvar_first, act_of, condvar_goes, next_place, first_place, is_idle, respins_from}
-use Names.{late_key, called_lock, line_owed, profile, next_act, State, place_at, word_at, state_after_go}
-use Names.{state_after_going, go_reply, go_outcome, going_outcome, is_free_under, is_open_to, can_begin}
-use Names.{state_after_begin, can_turn, turn_outcome, kind_at, put, state_after_look, look_outcome}
-use Names.{state_after_late_on, state_after_turn, is_possible, after, step_outcome, Rights, Owes, IsInside}
-use Names.{IsWait, SeesWaiters, OwesSince, OnlyLooks, LooksFirst, LetsOthersIn, line_let_in, sort_at}
-use Names.{tells_by, IsWellFormed, call_at, call_state, Line, AreCondvars, AreCounted, IsInductive, key_of}
-use Names.{both, Profile, call_by, CallState, no_call, Purpose, Waits, lock_for}
+use Rattle.lot_laws.proofs.Imports
+use Imports.{outcome_of, ℕ, Bool, true, false, Option, Some, None, if◌then◌else◌, ◌≡◌, ◌≢◌, ◌<◌, ◌⊎◌, ◌↔◌, inl}
+use Imports.{inr, length, refl, sym, ◌∙◌, ap, subst, get_or-set_same, nat_lt, is_some, length-set, closed_place}
+use Imports.{close_outcome, state_after_close, ltb-true, One, Call, Turn, Step, Outcome, Enter, Late, Place}
+use Imports.{Idle, lock_in, condvar_first, act_of, condvar_goes, next_place, first_place, is_idle, respins_from}
+use Imports.{late_key, called_lock, line_owed, profile, next_act, State, place_at, word_at, state_after_go}
+use Imports.{state_after_going, go_reply, go_outcome, going_outcome, is_free_under, is_open_to, can_begin}
+use Imports.{state_after_begin, can_turn, turn_outcome, kind_at, put, state_after_look, look_outcome}
+use Imports.{state_after_late_on, state_after_turn, is_possible, after, step_outcome, Rights, Owes, IsInside}
+use Imports.{IsWait, SeesWaiters, OwesSince, OnlyLooks, LooksFirst, LetsOthersIn, line_let_in, sort_at}
+use Imports.{tells_by, IsWellFormed, call_at, call_state, Line, AreCondvars, AreCounted, IsInductive, key_of}
+use Imports.{both, Profile, call_by, CallState, no_call, Purpose, Waits, lock_for}
 use Rattle.lot_laws.proofs.calls.Looking.{alike_calls, closing_inductive, like}
 use Rattle.lot_laws.proofs.calls.Closings.{closing, closing_there}
 use Rattle.lot_laws.proofs.calls.OwnPlace.{gone_place, gone_told}

@@ -1,14 +1,14 @@
 -- The promises of a thread at any place of a call, by its row, and their sense in the state.
-use Rattle.lot_laws.proofs.Names
-use Names.{ℕ, Bool, true, false, Option, Some, None, if◌then◌else◌, ◌≡◌, ◌≢◌, ◌*◌, ◌+◌, ◌≤◌, ◌⊎◌, ◌↔◌, inl}
-use Names.{inr, refl, sym, ◌∙◌, ap, subst, arith, ◌&&◌, not, once_promises, semaphore_promises, One, first_of}
-use Names.{Enter, taken_from, Place, Idle, Mutex, RwLock, Once, Condvar, Semaphore, act_of, called_lock}
-use Names.{is_lock, calls, profile, line_owed, beside_of, profile_beside, Taken, IsSomePending, one_if_some}
-use Names.{one_if_thread, standing, CallState, Purpose, IsReleasing, Waits, cases_eq, Role, Line, Main}
-use Names.{Second, Pends, idle, has_readers, State, place_at, kind_at, queue_at, lock_state, call_on, call_at}
-use Names.{taken_at, nowhere, location, location_at, role_on, IsInductive, FitsItsLock, key_of, stood_in}
-use Names.{rules_in, Owes, IsInside, LetsOthersIn, sort_at, IsDowngrade, GoesToWake, WaitHasReleased}
-use Names.{WakesAside, mutex_promises, call_profile, call_act}
+use Rattle.lot_laws.proofs.Imports
+use Imports.{ℕ, Bool, true, false, Option, Some, None, if◌then◌else◌, ◌≡◌, ◌≢◌, ◌*◌, ◌+◌, ◌≤◌, ◌⊎◌, ◌↔◌, inl}
+use Imports.{inr, refl, sym, ◌∙◌, ap, subst, arith, ◌&&◌, not, once_promises, semaphore_promises, One, first_of}
+use Imports.{Enter, taken_from, Place, Idle, Mutex, RwLock, Once, Condvar, Semaphore, act_of, called_lock}
+use Imports.{is_lock, calls, profile, line_owed, beside_of, profile_at_mutex, Taken, IsSomePending, one_if_some}
+use Imports.{one_if_thread, standing, CallState, Purpose, IsReleasing, Waits, cases_eq, Role, Line, Main}
+use Imports.{Second, Pends, idle, has_readers, State, place_at, kind_at, queue_at, lock_state, call_on, call_at}
+use Imports.{taken_at, nowhere, location, location_at, role_on, IsInductive, FitsItsLock, key_of, stood_in}
+use Imports.{rules_in, Owes, IsInside, LetsOthersIn, sort_at, IsDowngrade, GoesToWake, WaitHasReleased}
+use Imports.{WakesAside, mutex_promises, call_profile, call_act}
 use Rattle.core_base.specs.Lines as Lines
 use Rattle.steps_base.specs.declared.acts.Act.TheVariants.{Rest}
 use Rattle.spec_locks.specs.Locks as locks
@@ -43,17 +43,17 @@ called p l own = ap (is_lock l) own ∙ same l
 module _ (p : Place) (l : ℕ) (own : called_lock p ≡ Some l) where
   pub location_own : location_at p l ≡ location p
   location_own = ap (λ b. if b then location p else if is_lock l (beside_of p) then location_by
-      (profile_beside p) else nowhere) (called p l own)
+      (profile_at_mutex p) else nowhere) (called p l own)
 
   pub role_own : role_on p l ≡ (profile p).role
-  role_own = ap (λ b. if b then (profile p).role else if is_lock l (beside_of p) then (profile_beside p).role
+  role_own = ap (λ b. if b then (profile p).role else if is_lock l (beside_of p) then (profile_at_mutex p).role
       else idle) (called p l own)
 
   pub taken_own : taken_at p l ≡ taken_in_row (profile p)
   taken_own = here (is_lock l (beside_of p)) (calls p l) (called p l own)
     where
       here : (b c : Bool) → c ≡ true
-          → (if b && not c then taken_from (profile_beside p).hand (profile_beside p).wants true
+          → (if b && not c then taken_from (profile_at_mutex p).hand (profile_at_mutex p).wants true
           else taken_from (profile p).hand (profile p).wants c)
           ≡ taken_from (profile p).hand (profile p).wants true
       here true true e = refl

@@ -1,13 +1,13 @@
 -- A step changes the debt of its thread as its place says.
 use Rattle.spec_locks.specs.declared.calls.CondvarCall.TheVariants as condvar
-use Rattle.lot_laws.proofs.Names
-use Names.{Bool, ℕ, true, false, Some, None, if◌then◌else◌, ◌≡◌, refl, sym, ◌∙◌, ap, subst, Call, Reply, Late}
-use Names.{Place, Idle, Mutex, RwLock, Once, Condvar, Semaphore, outcome_of, Kind, is_fair, act_of, next_act}
-use Names.{next_place, first_place, called_lock, line_owed, profile, rwlock_does, rwlock_goes, State}
-use Names.{place_at, word_at, kind_at, reply_to, sort_at, Exclusive, Has, Line, has_readers, idle, role_on}
-use Names.{IsInductive, FitsItsLock, rules_in, site_of, Next, Admission, RwLockPlace, Admits, MayStand}
-use Names.{rwlock_act, RwLockCallPlace, admission_of_kind, Plain, HandOver, given, call_act, call_next}
-use Names.{call_profile, CallStands}
+use Rattle.lot_laws.proofs.Imports
+use Imports.{Bool, ℕ, true, false, Some, None, if◌then◌else◌, ◌≡◌, refl, sym, ◌∙◌, ap, subst, Call, Reply, Late}
+use Imports.{Place, Idle, Mutex, RwLock, Once, Condvar, Semaphore, outcome_of, Kind, is_fair, act_of, next_act}
+use Imports.{next_place, first_place, called_lock, line_owed, profile, rwlock_does, rwlock_goes, State}
+use Imports.{place_at, word_at, kind_at, reply_to, sort_at, Exclusive, Has, Line, has_readers, idle, role_on}
+use Imports.{IsInductive, FitsItsLock, rules_in, site_of, Next, Admission, RwLockPlace, Admits, MayStand}
+use Imports.{rwlock_act, RwLockCallPlace, admission_of_kind, Plain, HandOver, given, call_act, call_next}
+use Imports.{call_profile, CallStands}
 use Rattle.lot_laws.proofs.condvar.CondvarOwing.{condvar_befallen}
 use Rattle.lot_laws.proofs.once.OnceOwes.{once_owes_next}
 use Rattle.lot_laws.proofs.semaphore.SemaphoreOwes.{semaphore_owes_next}

@@ -1,20 +1,20 @@
 -- The promises between steps, as callers are told them.
-use Rattle.lot_laws.proofs.Names
-use Names.{ℕ, Bool, true, false, Option, Some, None, if◌then◌else◌, ◌==◌, ◌&&◌, ◌≡◌, ◌≢◌, ◌+◌, ◌-◌, ◌*◌, ◌≤◌}
-use Names.{◌<◌, ◌⊎◌, inl, inr, List, [], ◌∷◌, length, refl, ◌∙◌, ap, subst, arith, ◌↔◌, sym, Want, Exclusive}
-use Names.{Sleep, Profile, hand, hand_owner, Kind, Place, Condvar, act_of, calls, is_lock, called_lock}
-use Names.{or_else, profile, retries_on, taker, State, opening, place_at, kind_at, filled_at, section_at}
-use Names.{location_at, role_on, AreCondvars, AreUnmarked, IsInductive, IsSettled, rules_in, site_of}
-use Names.{HasPermits, debt, debts, IsTended, semaphore, nobody_forgotten, CallState, IsOpening, LockState}
-use Names.{Sort, Queued, Rights, opening_lock, Rules, IsSomePending, has_caller, rights_of, readers, count}
-use Names.{standing, InProgress, IsRunning, Role, Line, Main, Second, Has, Pends, Runs, IsOpen, counts_some}
-use Names.{has_readers, IsDebtorRole, IsSite, LooksAfter, HasLimit, Enters, Converts, Bumps, CallsOnce}
-use Names.{Awaits, Purpose, MayWait, Waits, RunsClosure, locks_of, lock_state, lock_seen, taken_at, call_at}
-use Names.{call_on, call_state, stance_of, Owes, sort_at, AreLookedAfterIn, IsKept, WaitsFor, WakesWaiters}
-use Names.{IsDebtorOf, IsLookedAfterIn, IsOpenNow, WasNeverFull, HasOrPends, IsHandedOverIn, IsOwedWake}
-use Names.{IsWithinLimit, want_of, WaitHasReleased, KnowsRights, CondvarPlace, line_owed, FitsItsLock, One}
-use Names.{condvar_profile, condvar_place_purpose, condvar_recalls, condvar_released, condvar_row}
-use Names.{mutex_beside, idle_at, none_at, empty_at, nobody_owns, opening_shares, cases_lt, eqb-true}
+use Rattle.lot_laws.proofs.Imports
+use Imports.{ℕ, Bool, true, false, Option, Some, None, if◌then◌else◌, ◌==◌, ◌&&◌, ◌≡◌, ◌≢◌, ◌+◌, ◌-◌, ◌*◌, ◌≤◌}
+use Imports.{◌<◌, ◌⊎◌, inl, inr, List, [], ◌∷◌, length, refl, ◌∙◌, ap, subst, arith, ◌↔◌, sym, Want, Exclusive}
+use Imports.{Sleep, Profile, hand, hand_owner, Kind, Place, Condvar, act_of, calls, is_lock, called_lock}
+use Imports.{or_else, profile, retries_on, taker, State, opening, place_at, kind_at, filled_at, section_at}
+use Imports.{location_at, role_on, AreCondvars, AreUnmarked, IsInductive, IsSettled, rules_in, site_of}
+use Imports.{HasPermits, debt, debts, IsTended, semaphore, nobody_forgotten, CallState, IsOpening, LockState}
+use Imports.{Sort, Queued, Rights, opening_lock, Rules, IsSomePending, has_caller, rights_of, readers, count}
+use Imports.{standing, InProgress, IsRunning, Role, Line, Main, Second, Has, Pends, Runs, IsOpen, counts_some}
+use Imports.{has_readers, IsDebtorRole, IsSite, LooksAfter, HasLimit, Enters, Converts, Bumps, CallsOnce}
+use Imports.{Awaits, Purpose, MayWait, Waits, RunsClosure, locks_of, lock_state, lock_seen, taken_at, call_at}
+use Imports.{call_on, call_state, stance_of, Owes, sort_at, AreLookedAfterIn, IsKept, WaitsFor, WakesWaiters}
+use Imports.{IsDebtorOf, IsLookedAfterIn, IsOpenNow, WasNeverFull, HasOrPends, IsHandedOverIn, IsOwedWake}
+use Imports.{IsWithinLimit, want_of, WaitHasReleased, KnowsRights, CondvarPlace, line_owed, FitsItsLock, One}
+use Imports.{condvar_profile, condvar_place_purpose, condvar_recalls, condvar_released, condvar_row}
+use Imports.{mutex_beside, idle_at, none_at, empty_at, nobody_owns, opening_shares, cases_lt, eqb-true}
 use Rattle.steps_base.specs.declared.acts.Act.TheVariants.{Leave, Rest}
 use Rattle.lot_laws.specs.Locations.{Location}
 use Rattle.spec_locks.specs.Onces.{Done}

@@ -1,8 +1,8 @@
 -- One run of the world, and what its definitions refuse.
-use Rattle.lot_laws.proofs.Names
-use Names.{ℕ, zero, suc, true, Some, None, ◌≡◌, inl, inr, [], ◌∷◌, refl, sym, ◌∙◌, arith, Option, after_steps}
-use Names.{Line, Main, IsLookedAfterIn, FairUnlockHandsOver, NoWaiterIsForgotten, NobodyIsPassedOver, three}
-use Names.{row, row_told, forgotten, opening_well_formed, All-cons, All-nil, fits, IsWorld}
+use Rattle.lot_laws.proofs.Imports
+use Imports.{ℕ, zero, suc, true, Some, None, ◌≡◌, inl, inr, [], ◌∷◌, refl, sym, ◌∙◌, arith, Option, after_steps}
+use Imports.{Line, Main, IsLookedAfterIn, FairUnlockHandsOver, NoWaiterIsForgotten, NobodyIsPassedOver, three}
+use Imports.{row, row_told, forgotten, opening_well_formed, All-cons, All-nil, fits, IsWorld}
 use Rattle.spec_locks.specs.declared.kinds.Kind.TheVariants as kind
 use Rattle.lot_laws.proofs.sites.Opening.{opening_condvars, opening_inductive}
 use Rattle.lot_laws.proofs.hands.CountsPut.{opening_counted}

@@ -1,9 +1,9 @@
 -- The row of a place promises of a step to the next one, whatever the sort of its lock.
-use Rattle.lot_laws.proofs.Names
-use Names.{ℕ, Bool, true, false, Option, Some, None, ◌||◌, ◌≡◌, ◌≢◌, ◌⊎◌, inl, inr, refl, sym, ◌∙◌, One, Want}
-use Names.{Exclusive, Outcome, Act, Enter, Sleep, Profile, Place, act_of, profile, parked_in, Sort, Purpose}
-use Names.{Enters, Releases, Converts, Bumps, CallsOnce, Awaits, IsReleasing, lock_for, Waits, Notifies, Line}
-use Names.{Main, Second, key_of, LooksFirst, line_let_in, tells_by, tells_of, IsDowngrade, KnowsRights}
+use Rattle.lot_laws.proofs.Imports
+use Imports.{ℕ, Bool, true, false, Option, Some, None, ◌||◌, ◌≡◌, ◌≢◌, ◌⊎◌, inl, inr, refl, sym, ◌∙◌, One, Want}
+use Imports.{Exclusive, Outcome, Act, Enter, Sleep, Profile, Place, act_of, profile, parked_in, Sort, Purpose}
+use Imports.{Enters, Releases, Converts, Bumps, CallsOnce, Awaits, IsReleasing, lock_for, Waits, Notifies, Line}
+use Imports.{Main, Second, key_of, LooksFirst, line_let_in, tells_by, tells_of, IsDowngrade, KnowsRights}
 use Rattle.spec_locks.specs.declared.outcomes.Outcome.TheVariants as told
 use Rattle.spec_locks.specs.Locks as sorts
 pub use Rattle.steps_base.specs.Rows.{is_acting, taken_in_row, IsWaiting, HasClaimed, WasHanded, LetsIn}

@@ -1,9 +1,9 @@
 -- A site of a mutex promises of its word and of its waiters.
-use Rattle.lot_laws.proofs.Names
-use Names.{ℕ, Bool, true, false, Option, Some, None, ◌⊎◌, ◌≡◌, ◌≢◌, ◌+◌, ◌*◌, ◌≤◌, List, [], ◌∷◌, inl, inr}
-use Names.{sym, ◌∙◌, ap, subst, arith, is_parked, Queued, one_if_some, Main, bit, code, parked_in, State}
-use Names.{place_at, word_at, owners_at, queue_at, section_at, lock_state, IsAboutToMark, WaitsFor}
-use Names.{IsMutexWord, IsInductive, rules_in}
+use Rattle.lot_laws.proofs.Imports
+use Imports.{ℕ, Bool, true, false, Option, Some, None, ◌⊎◌, ◌≡◌, ◌≢◌, ◌+◌, ◌*◌, ◌≤◌, List, [], ◌∷◌, inl, inr}
+use Imports.{sym, ◌∙◌, ap, subst, arith, is_parked, Queued, one_if_some, Main, bit, code, parked_in, State}
+use Imports.{place_at, word_at, owners_at, queue_at, section_at, lock_state, IsAboutToMark, WaitsFor}
+use Imports.{IsMutexWord, IsInductive, rules_in}
 use Rattle.core_base.specs.Lines as Lines
 use Rattle.spec_locks.specs.Locks.{times}
 use Rattle.spec_locks.specs.Locks as locks

@@ -1,16 +1,16 @@
 -- How a fair release, a bump, and a thread that was handed the lock come to owe a wake: by the word that they
 -- see, and by entering a section.
-use Rattle.lot_laws.proofs.Names
-use Names.{eqb-true, ℕ, Bool, true, false, Option, Some, None, if◌then◌else◌, ◌==◌, ◌&&◌, ◌||◌, ◌≡◌, ◌⊎◌, inl}
-use Names.{inr, refl, sym, ◌∙◌, ap, subst, arith, One, Want, Exclusive, Upgradable, Access, Patience, Patient}
-use Names.{Answer, Ok, Act, Next, Reply, Value, outcome_of, row_of, Profile, Admission, RwLockPlace, RwLockAt}
-use Names.{RwLockPurpose, WakeAt, rwlock_act, next_at, Admits, StandsAt, rwlock_profile, RwLockCallPlace}
-use Names.{Plain, PeekQueue, HandOver, Bump, Handed, HandOverAt, HandedAt, any_taken, bump_next, enters_again}
-use Names.{exchange_act, gives_up_at, gives_way, glance_next, has_room, looked, took, call_act, call_next}
-use Names.{bumping, call_profile, has_given, release_purpose, next_rows, CallStands, HandsOverAt, IsOfBump}
-use Names.{bit, code, code_of, count_in, has_aside, has_parked, packed, parked_in, aside_in, writers}
-use Names.{Recursive, Rules, Sort, count, one_if_some, readers, IsSite, Site, has_readers, words_tell_true}
-use Names.{State, word_at, reply_to, rules_in, line_let_in, tells_by}
+use Rattle.lot_laws.proofs.Imports
+use Imports.{eqb-true, ℕ, Bool, true, false, Option, Some, None, if◌then◌else◌, ◌==◌, ◌&&◌, ◌||◌, ◌≡◌, ◌⊎◌, inl}
+use Imports.{inr, refl, sym, ◌∙◌, ap, subst, arith, One, Want, Exclusive, Upgradable, Access, Patience, Patient}
+use Imports.{Answer, Ok, Act, Next, Reply, Value, outcome_of, row_of, Profile, Admission, RwLockPlace, RwLockAt}
+use Imports.{RwLockPurpose, WakeAt, rwlock_act, next_at, Admits, StandsAt, rwlock_profile, RwLockCallPlace}
+use Imports.{Plain, PeekQueue, HandOver, Bump, Handed, HandOverAt, HandedAt, any_taken, bump_next, enters_again}
+use Imports.{exchange_act, gives_up_at, gives_way, glance_next, has_room, looked, took, call_act, call_next}
+use Imports.{bumping, call_profile, has_given, release_purpose, next_rows, CallStands, HandsOverAt, IsOfBump}
+use Imports.{bit, code, code_of, count_in, has_aside, has_parked, packed, parked_in, aside_in, writers}
+use Imports.{Recursive, Rules, Sort, count, one_if_some, readers, IsSite, Site, has_readers, words_tell_true}
+use Imports.{State, word_at, reply_to, rules_in, line_let_in, tells_by}
 use Rattle.core_base.specs.declared.keys.Line.{Line}
 use Rattle.core_base.specs.declared.keys.Line.TheVariants.{Main, Second}
 use Rattle.core_base.specs.declared.ops.Op.TheVariants as operation

@@ -1,15 +1,15 @@
 -- Each place of a call of a reader-writer lock says of its thread what is promised of it: also of a fair
 -- release, of a bump, and of one that was handed the lock.
-use Rattle.lot_laws.proofs.Names
-use Names.{ℕ, Bool, true, false, Some, None, if◌then◌else◌, ◌≡◌, ◌≢◌, ◌+◌, ◌*◌, ◌⊎◌, inl, inr, refl, sym, ◌∙◌}
-use Names.{ap, subst, arith, One, Exclusive, Access, Patience, Patient, Timed, Try, Sleep, Profile, Admission}
-use Names.{RwLockPlace, RwLockAt, RwLockPurpose, Decision, wanted, decided, decided_act, rwlock_act, Admits}
-use Names.{MayStand, WaitsIfBlocked as HasTime, ParksBy, StandsAt, rwlock_profile, late_at, has_given_up}
-use Names.{RwLockCallPlace, Plain, PeekQueue, HandOver, Bump, Handed, HandOverAt, HandedAt, any_taken}
-use Names.{has_room}
-use Names.{exchange_act, hand_over_act, handed_act, call_act, claim_at, call_profile, carries_taken}
-use Names.{release_purpose, CallStands, HandsOverAt, IsOfBump, WaitsWithPatience, Rules, Sort, Bumps, MayWait}
-use Names.{lock_for, Has, has_readers, want_of, KnowsRights, WakesAside}
+use Rattle.lot_laws.proofs.Imports
+use Imports.{ℕ, Bool, true, false, Some, None, if◌then◌else◌, ◌≡◌, ◌≢◌, ◌+◌, ◌*◌, ◌⊎◌, inl, inr, refl, sym, ◌∙◌}
+use Imports.{ap, subst, arith, One, Exclusive, Access, Patience, Patient, Timed, Try, Sleep, Profile, Admission}
+use Imports.{RwLockPlace, RwLockAt, RwLockPurpose, Decision, wanted, decided, decided_act, rwlock_act, Admits}
+use Imports.{MayStand, WaitsIfBlocked as HasTime, ParksBy, StandsAt, rwlock_profile, late_at, has_given_up}
+use Imports.{RwLockCallPlace, Plain, PeekQueue, HandOver, Bump, Handed, HandOverAt, HandedAt, any_taken}
+use Imports.{has_room}
+use Imports.{exchange_act, hand_over_act, handed_act, call_act, claim_at, call_profile, carries_taken}
+use Imports.{release_purpose, CallStands, HandsOverAt, IsOfBump, WaitsWithPatience, Rules, Sort, Bumps, MayWait}
+use Imports.{lock_for, Has, has_readers, want_of, KnowsRights, WakesAside}
 use Rattle.core_base.specs.declared.keys.Line.{Line}
 use Rattle.core_base.specs.declared.keys.Line.TheVariants.{Main, Second}
 use Rattle.core_base.specs.declared.notes.Note.TheVariants as note

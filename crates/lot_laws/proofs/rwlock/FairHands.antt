@@ -1,20 +1,20 @@
 -- A fair release, or a bump, of a lock that is shared: what its own steps make of those that it has taken.
-use Rattle.lot_laws.proofs.Names
-use Names.{ℕ, Bool, true, false, Option, Some, None, if◌then◌else◌, ◌≡◌, ◌≢◌, ◌<◌, ◌==◌, ◌⊎◌, inl, inr}
-use Names.{length, refl, sym, ◌∙◌, ap, subst, One, Two, Op, Want, Exclusive, Upgradable, Shared, CallOnce}
-use Names.{first_of, Access, Act, Value, holds, takes_effect, in_hand, Admission, RwLockCallPlace, Plain}
-use Names.{PeekQueue, HandOver, Bump, Handed, CallStands, HasInHand, in_hand_of, call_deeds, IsToGive}
-use Names.{CallMoves}
-use Names.{call_hears, call_move, call_profile, any_taken, call_act, has_room, parked_as, with_taken}
-use Names.{word_without, fair_acts_move, bump_keeps, fair_releases_give, handed_keeps, plain_keeps, after_all}
-use Names.{Owns, Rules, Site, deeds_lead, Place, RwLock, profile, IsWellFormed, State, can_do, owners_at}
-use Names.{place_at, queue_at, queues_without_first, reply_to, state_after_act, state_after_taking}
-use Names.{successor_from, word_at, FairReleaseComesTo, lock_state, AreCounted, IsInductive, rules_in}
+use Rattle.lot_laws.proofs.Imports
+use Imports.{ℕ, Bool, true, false, Option, Some, None, if◌then◌else◌, ◌≡◌, ◌≢◌, ◌<◌, ◌==◌, ◌⊎◌, inl, inr}
+use Imports.{length, refl, sym, ◌∙◌, ap, subst, One, Two, Op, Want, Exclusive, Upgradable, Shared, CallOnce}
+use Imports.{first_of, Access, Act, Value, holds, takes_effect, in_hand, Admission, RwLockCallPlace, Plain}
+use Imports.{PeekQueue, HandOver, Bump, Handed, CallStands, HasInHand, in_hand_of, call_deeds, IsToGive}
+use Imports.{CallMoves}
+use Imports.{call_hears, call_move, call_profile, any_taken, call_act, has_room, parked_as, with_taken}
+use Imports.{word_without, fair_acts_move, bump_keeps, fair_releases_give, handed_keeps, plain_keeps, after_all}
+use Imports.{Owns, Rules, Site, deeds_lead, Place, RwLock, profile, IsWellFormed, State, can_do, owners_at}
+use Imports.{place_at, queue_at, queues_without_first, reply_to, state_after_act, state_after_taking}
+use Imports.{successor_from, word_at, FairReleaseComesTo, lock_state, AreCounted, IsInductive, rules_in}
 use Rattle.core_base.specs.declared.ops.Op.TheVariants as operation
 use Rattle.core_base.specs.declared.wants.Want.TheVariants.{Wait}
 use Rattle.steps_base.specs.declared.acts.Act.TheVariants as act
 use Rattle.steps_base.specs.declared.acts.Wakes.TheVariants as wakes
-use Rattle.steps_base.specs.declared.acts.Whom.TheVariants as whoms
+use Rattle.steps_base.specs.declared.acts.TakeWhich.TheVariants as whoms
 use Rattle.steps_rwlock_fair.specs.declared.hand_over.Taken.{Taken as Counted}
 use Rattle.steps_rwlock_fair.specs.declared.hand_over.HandOverAt.TheVariants as handing
 use Rattle.steps_rwlock_fair.specs.FairDeeds.{exchanged_deeds}

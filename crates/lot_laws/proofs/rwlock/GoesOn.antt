@@ -1,20 +1,20 @@
 -- A conversion or a roll-back that works on the word while threads wait does not end by that step.
-use Rattle.lot_laws.proofs.Names
-use Names.{ℕ, Bool, true, false, Option, Some, None, if◌then◌else◌, ◌≡◌, ◌≢◌, ◌<◌, ◌⊎◌, is_some, inl, inr}
-use Names.{length, nat_lt, refl, sym, ◌∙◌, ap, subst, Op, Downgrade, Patient, Step, Turn, has_parked, Rights}
-use Names.{Rules, rights_of, Line, Main, Second, has_readers, Act, Value, Next, outcome_of, IsDowngrade}
-use Names.{Admission, RwLockPlace, RwLockAt, ParkAt, RwLockPurpose, DowngradesAt, StandsAt, act_at, next_at}
-use Names.{park_act, park_next, parks_at, start_of, wakes_or_ends, want_at, enters_late, gone_to}
-use Names.{has_given_up, late_at, looking_at, purpose_by, rwlock_profile, RwLockCallPlace, CallStands}
-use Names.{IsOfBump, bump_next, call_act, plain_next, Place, Idle, Mutex, RwLock, Once, Condvar, Semaphore}
-use Names.{call_profile, in_call, OncePlace, CondvarPlace, mutex_act, semaphore_act, IsOwn, call_runs_none}
-use Names.{mutex_own, semaphore_own, ltb-true, Call, MutexPlace, SemaphorePlace, both, Want, act_of}
-use Names.{in_rwlock, is_idle, key_in, late_key, respins_from, next_act, next_place, profile, rwlock_does}
-use Names.{rwlock_goes, location, location_at, key_of, State, after, can_begin, can_close, can_do, can_turn}
-use Names.{closed_place, go_outcome, is_free_under, is_open_to, is_possible, kind_at, place_at, reply_to}
-use Names.{runs_closure, state_after_go, state_after_turn, step_outcome, turn_outcome, word_at}
-use Names.{GivesWayWhileSomeWait, IsInside, LetsMoreIn, TakesNext, sort_at, call_at, call_state, lock_state}
-use Names.{FitsItsLock, IsInductive}
+use Rattle.lot_laws.proofs.Imports
+use Imports.{ℕ, Bool, true, false, Option, Some, None, if◌then◌else◌, ◌≡◌, ◌≢◌, ◌<◌, ◌⊎◌, is_some, inl, inr}
+use Imports.{length, nat_lt, refl, sym, ◌∙◌, ap, subst, Op, Downgrade, Patient, Step, Turn, has_parked, Rights}
+use Imports.{Rules, rights_of, Line, Main, Second, has_readers, Act, Value, Next, outcome_of, IsDowngrade}
+use Imports.{Admission, RwLockPlace, RwLockAt, ParkAt, RwLockPurpose, DowngradesAt, StandsAt, act_at, next_at}
+use Imports.{park_act, park_next, parks_at, start_of, wakes_or_ends, want_at, enters_late, gone_to}
+use Imports.{has_given_up, late_at, looking_at, purpose_by, rwlock_profile, RwLockCallPlace, CallStands}
+use Imports.{IsOfBump, bump_next, call_act, plain_next, Place, Idle, Mutex, RwLock, Once, Condvar, Semaphore}
+use Imports.{call_profile, in_call, OncePlace, CondvarPlace, mutex_act, semaphore_act, IsOwn, call_runs_none}
+use Imports.{mutex_own, semaphore_own, ltb-true, Call, MutexPlace, SemaphorePlace, both, Want, act_of}
+use Imports.{in_rwlock, is_idle, key_in, late_key, respins_from, next_act, next_place, profile, rwlock_does}
+use Imports.{rwlock_goes, location, location_at, key_of, State, after, can_begin, can_close, can_do, can_turn}
+use Imports.{closed_place, go_outcome, is_free_under, is_open_to, is_possible, kind_at, place_at, reply_to}
+use Imports.{runs_closure, state_after_go, state_after_turn, step_outcome, turn_outcome, word_at}
+use Imports.{GivesWayWhileSomeWait, IsInside, LetsMoreIn, TakesNext, sort_at, call_at, call_state, lock_state}
+use Imports.{FitsItsLock, IsInductive}
 use Rattle.spec_locks.specs.declared.calls.Access.TheVariants as access
 use Rattle.spec_locks.specs.declared.calls.Downgrade.TheVariants as downgrade
 use Rattle.spec_locks.specs.declared.calls.Turn as turn
@@ -34,7 +34,7 @@ use Rattle.steps_condvar.specs.declared.places.CondvarPlace.TheVariants as condv
 use Rattle.steps_mutex.specs.declared.lock.Entry.TheVariants as entry
 use Rattle.steps_mutex.specs.declared.places.MutexPlace.TheVariants as mutex
 use Rattle.steps_semaphore.specs.declared.places.SemaphorePlace.TheVariants as semaphore
-use Rattle.steps_base.specs.declared.acts.Whom.TheVariants as whom
+use Rattle.steps_base.specs.declared.acts.TakeWhich.TheVariants as whom
 use Rattle.lot_laws.specs.Locations.{Location}
 use Rattle.lot_laws.specs.Owing.{kept_by}
 use Rattle.lot_laws.proofs.calls.OwnPlace.{gone_place, gone_told}

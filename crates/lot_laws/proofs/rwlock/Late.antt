@@ -1,8 +1,8 @@
 -- A reader-writer call whose time is up: it sleeps in the line that its row says, and stands there still.
-use Rattle.lot_laws.proofs.Names
-use Names.{Some, None, ◌≡◌, refl, ap, RwLockAt, rwlock_next, next_at, patience_of, Admission, RwLockPlace}
-use Names.{rwlock_late_line, late_line_at, parked_hand as rwlock_hand, RwLockCallPlace, Plain, PeekQueue}
-use Names.{HandOver, Bump as BumpCall, Handed, call_late_line, call_profile, bump_next, call_next, plain_next}
+use Rattle.lot_laws.proofs.Imports
+use Imports.{Some, None, ◌≡◌, refl, ap, RwLockAt, rwlock_next, next_at, patience_of, Admission, RwLockPlace}
+use Imports.{rwlock_late_line, late_line_at, parked_hand as rwlock_hand, RwLockCallPlace, Plain, PeekQueue}
+use Imports.{HandOver, Bump as BumpCall, Handed, call_late_line, call_profile, bump_next, call_next, plain_next}
 use Rattle.steps_rwlock.specs.declared.places.RwLockAt.TheVariants as at
 use Rattle.steps_rwlock.specs.declared.park.ParkAt.TheVariants as parking
 use Rattle.core_base.specs.declared.keys.Line.{Line}

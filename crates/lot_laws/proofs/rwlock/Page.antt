@@ -1,21 +1,21 @@
 -- The pages of the places of a reader-writer lock: what its laws say of each, as any sort of lock says it.
-use Rattle.lot_laws.proofs.Names
-use Names.{ℕ, true, false, Option, None, ◌≡◌, ◌≢◌, ◌-◌, ◌^◌, ◌<◌, inl, inr, refl, sym}
-use Names.{◌∙◌, ap, subst, Op, Act, Next, Reply, Done, Value, Picked}
-use Names.{Late, outcome_of, IsNotLate, Admission}
-use Names.{Admits, RwLockCallPlace}
-use Names.{HandOver, CallMayBeTold, CallMayHear, CallStands, CallStandsNext, IsInCall}
-use Names.{call_deeds, next_rows, CallMoves, call_hears, call_move}
-use Names.{call_profile, call_act, call_next, fair_acts_move, fair_late_moves, fair_sleepers_move}
-use Names.{fair_sections_tell, fair_steps_tell, fair_steps_code, fair_steps_follow, handed_move}
-use Names.{fair_owners_follow, fair_sections_follow, fair_calls_stand, HasLimit, TellsTrue, code}
-use Names.{Rules, is_recursive, standing, is_closure, IsSite, Site, has_readers, RwLock}
-use Names.{owners_after, rwlock_does, rwlock_goes, shares_after, State, reply_to, runs_closure, word_at}
-use Names.{call_runs_none, locks_of, FitsItsLock, IsInductive, rules_in, acts, words_tell_true}
+use Rattle.lot_laws.proofs.Imports
+use Imports.{ℕ, true, false, Option, None, ◌≡◌, ◌≢◌, ◌-◌, ◌^◌, ◌<◌, inl, inr, refl, sym}
+use Imports.{◌∙◌, ap, subst, Op, Act, Next, Reply, Done, Value, Picked}
+use Imports.{Late, outcome_of, IsNotLate, Admission}
+use Imports.{Admits, RwLockCallPlace}
+use Imports.{HandOver, CallMayBeTold, CallMayHear, CallStands, CallStandsNext, IsInCall}
+use Imports.{call_deeds, next_rows, CallMoves, call_hears, call_move}
+use Imports.{call_profile, call_act, call_next, fair_acts_move, fair_late_moves, fair_sleepers_move}
+use Imports.{fair_sections_tell, fair_steps_tell, fair_steps_code, fair_steps_follow, handed_move}
+use Imports.{fair_owners_follow, fair_sections_follow, fair_calls_stand, HasLimit, TellsTrue, code}
+use Imports.{Rules, is_recursive, standing, is_closure, IsSite, Site, has_readers, RwLock}
+use Imports.{owners_after, rwlock_does, rwlock_goes, shares_after, State, reply_to, runs_closure, word_at}
+use Imports.{call_runs_none, locks_of, FitsItsLock, IsInductive, rules_in, acts, words_tell_true}
 use Rattle.spec_locks.specs.declared.calls.Patience.TheVariants as patience
 use Rattle.steps_base.specs.declared.acts.Act.TheVariants as act
 use Rattle.steps_base.specs.declared.acts.Next.TheVariants as next
-use Rattle.steps_base.specs.declared.acts.Whom.TheVariants as whom
+use Rattle.steps_base.specs.declared.acts.TakeWhich.TheVariants as whom
 use Rattle.steps_rwlock.specs.declared.places.RwLockAt.TheVariants as at
 use Rattle.steps_rwlock.specs.declared.park.ParkAt.TheVariants as parking
 use Rattle.spec_locks.specs.Deeds as laws

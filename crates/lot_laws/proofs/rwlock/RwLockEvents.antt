@@ -1,19 +1,19 @@
 -- Each step of a thread in a call of a reader-writer lock is a step of the abstract locks, and a call begins
 -- where it has its right.
-use Rattle.lot_laws.proofs.Names
-use Names.{ℕ, Bool, true, false, Option, Some, None, if◌then◌else◌, ◌==◌, not, ◌≡◌, ◌≤◌, ◌<◌, ◌⊎◌, inl, inr}
-use Names.{length, get_or-set_same, refl, sym, ◌∙◌, ap, subst, arith, is_closure, nat_tests, Access}
-use Names.{RwLockCall, Kind, Act, Next, Reply, outcome_of, Hand, Profile, hand, taken_from, Location}
-use Names.{Admission, RwLockPlace, has_access, from_of, rwlock_next, wanted, RwLockCallPlace, RwLockPurpose}
-use Names.{Ok, Done, HandedBy, Picked, Value, Woken, Normal, Plain, PeekQueue, HandOver, Bump, Handed}
-use Names.{HandOverAt, CallMoves, call_hears, call_move, any_taken, bump_next, call_act, call_next}
-use Names.{enters_again, freed_next, given, gives_up_at, gives_way, hand_over_next, has_room, looked}
-use Names.{plain_next, took, unless_given, fair_acts_move, never_given, call_first, call_right, CallOpens}
-use Names.{next_rows, call_profile, calls_open, Idle, RwLock, calls, called_lock, next_act, profile}
-use Names.{rwlock_does, rwlock_goes, LockCase, Owns, Rights, standing, purpose_of, rules_of, rwlock_purpose}
-use Names.{GoesOn, HasRight, new_call, has_readers, State, can_do, owners_at, place_at, reply_to, share_at}
-use Names.{state_after_act, IsWellFormed, performed_counts, call_state, lock_state, locks_of, taken_at}
-use Names.{AreCounted, FitsItsLock, IsInductive, rules_in}
+use Rattle.lot_laws.proofs.Imports
+use Imports.{ℕ, Bool, true, false, Option, Some, None, if◌then◌else◌, ◌==◌, not, ◌≡◌, ◌≤◌, ◌<◌, ◌⊎◌, inl, inr}
+use Imports.{length, get_or-set_same, refl, sym, ◌∙◌, ap, subst, arith, is_closure, nat_tests, Access}
+use Imports.{RwLockCall, Kind, Act, Next, Reply, outcome_of, Hand, Profile, hand, taken_from, Location}
+use Imports.{Admission, RwLockPlace, has_access, from_of, rwlock_next, wanted, RwLockCallPlace, RwLockPurpose}
+use Imports.{Ok, Done, HandedBy, Picked, Value, Woken, Normal, Plain, PeekQueue, HandOver, Bump, Handed}
+use Imports.{HandOverAt, CallMoves, call_hears, call_move, any_taken, bump_next, call_act, call_next}
+use Imports.{enters_again, freed_next, given, gives_up_at, gives_way, hand_over_next, has_room, looked}
+use Imports.{plain_next, took, unless_given, fair_acts_move, never_given, call_first, call_right, CallOpens}
+use Imports.{next_rows, call_profile, calls_open, Idle, RwLock, calls, called_lock, next_act, profile}
+use Imports.{rwlock_does, rwlock_goes, LockCase, Owns, Rights, standing, purpose_of, rules_of, rwlock_purpose}
+use Imports.{GoesOn, HasRight, new_call, has_readers, State, can_do, owners_at, place_at, reply_to, share_at}
+use Imports.{state_after_act, IsWellFormed, performed_counts, call_state, lock_state, locks_of, taken_at}
+use Imports.{AreCounted, FitsItsLock, IsInductive, rules_in}
 use Rattle.lot_laws.proofs.calls.Closures.{call_runs_none, closure_told}
 use Rattle.lot_laws.proofs.rwlock.RwLockStaysASite.{admits, stands}
 use Rattle.lot_laws.proofs.calls.CallEvents.{RunsNothing, begins_nothing, runs_nothing}
@@ -24,7 +24,7 @@ use Rattle.spec_locks.specs.declared.kinds.Kind.TheVariants as kind
 use Rattle.spec_locks.specs.declared.outcomes.Outcome.TheVariants as outcome
 use Rattle.steps_base.specs.declared.acts.Act.TheVariants as act
 use Rattle.steps_base.specs.declared.acts.Next.TheVariants as next
-use Rattle.steps_base.specs.declared.acts.Whom.TheVariants as whom
+use Rattle.steps_base.specs.declared.acts.TakeWhich.TheVariants as whom
 use Rattle.steps_rwlock.specs.declared.purposes.RwLockPurpose.TheVariants as purpose
 use Rattle.core_base.specs.declared.notes.Note.TheVariants.{HandOff}
 use Rattle.steps_rwlock_fair.specs.declared.hand_over.HandOverAt.TheVariants as handing

@@ -1,19 +1,19 @@
 -- A call of a reader-writer lock comes to owe a wake by the word that it sees, and by entering a
 -- section. An event that befalls a thread changes nothing of that.
-use Rattle.lot_laws.proofs.Names
-use Names.{ℕ, Bool, true, false, Option, Some, None, if◌then◌else◌, ◌==◌, ◌&&◌, ◌≡◌, inl, inr, refl, sym, ◌∙◌}
-use Names.{ap, subst, Note, Access, Patience, Patient, Timed, Try, RwLockCall, Answer, Next, Reply}
-use Names.{outcome_of, in_line, Admission, RwLockPlace, RwLockAt, RwLockPurpose, Decision, ParkAt, WakeAt}
-use Names.{plus, decided, patience_of, patience_at, entered, looked_by, missed, came_in, came_in_for}
-use Names.{exchanged_next, after_count, rolled_back, gave_way_by, park_next, parks_at, looks_again, clears}
-use Names.{wake_next, next_at, rwlock_act, rwlock_next, act_at, Admits, rwlock_role, pends, StandsAt}
-use Names.{MayStand, RwLockCallPlace, Plain, PeekQueue, HandOver, Bump, Handed, HandOverAt, HandedAt}
-use Names.{call_first}
-use Names.{bump_ended, bump_next, given, glances, hand_over_next, handed_by, handed_next, handed_woken}
-use Names.{plain_next, unless_given, woken_with, call_profile, rwlock_profile, owes_at, late_line_at}
-use Names.{purpose_by, count_in, has_aside, has_parked, parked_in, aside_in, Rules, Sort, has_readers, RwLock}
-use Names.{next_place, line_owed, profile, rwlock_goes, State, word_at, reply_to, rules_in, line_let_in}
-use Names.{tells_by, tells_of}
+use Rattle.lot_laws.proofs.Imports
+use Imports.{ℕ, Bool, true, false, Option, Some, None, if◌then◌else◌, ◌==◌, ◌&&◌, ◌≡◌, inl, inr, refl, sym, ◌∙◌}
+use Imports.{ap, subst, Note, Access, Patience, Patient, Timed, Try, RwLockCall, Answer, Next, Reply}
+use Imports.{outcome_of, in_line, Admission, RwLockPlace, RwLockAt, RwLockPurpose, Decision, ParkAt, WakeAt}
+use Imports.{plus, decided, patience_of, patience_at, entered, looked_by, missed, came_in, came_in_for}
+use Imports.{exchanged_next, after_count, rolled_back, gave_way_by, park_next, parks_at, looks_again, clears}
+use Imports.{wake_next, next_at, rwlock_act, rwlock_next, act_at, Admits, rwlock_role, pends, StandsAt}
+use Imports.{MayStand, RwLockCallPlace, Plain, PeekQueue, HandOver, Bump, Handed, HandOverAt, HandedAt}
+use Imports.{call_first}
+use Imports.{bump_ended, bump_next, given, glances, hand_over_next, handed_by, handed_next, handed_woken}
+use Imports.{plain_next, unless_given, woken_with, call_profile, rwlock_profile, owes_at, late_line_at}
+use Imports.{purpose_by, count_in, has_aside, has_parked, parked_in, aside_in, Rules, Sort, has_readers, RwLock}
+use Imports.{next_place, line_owed, profile, rwlock_goes, State, word_at, reply_to, rules_in, line_let_in}
+use Imports.{tells_by, tells_of}
 use Rattle.core_base.specs.declared.keys.Line.{Line}
 use Rattle.core_base.specs.declared.keys.Line.TheVariants.{Main, Second}
 use Rattle.core_base.specs.declared.notes.Note.TheVariants as note

@@ -1,14 +1,14 @@
 -- Each place of a reader-writer lock says of its thread what is promised of it.
-use Rattle.lot_laws.proofs.Names
-use Names.{ℕ, Bool, true, false, Option, Some, None, if◌then◌else◌, ◌≡◌, ◌≢◌, ◌+◌, ◌*◌, ◌⊎◌, inl, inr, refl}
-use Names.{sym, ◌∙◌, ap, arith, One, Want, Exclusive, Access, Downgrade, Patience, Patient, Timed, Try, Sleep}
-use Names.{Admission, RwLockPlace, RwLockAt, RwLockPurpose, Decision, ParkAt, WakeAt, wanted, to_of, start_of}
-use Names.{patience_of, want_at, decided, decided_act, park_act, act_at, rwlock_act, exchange, plus, Admits}
-use Names.{parking_role, waking_role, role_at, rwlock_role, falls_back, pends, claimed, ParksBy, StandsAt}
-use Names.{IsNoRefusal, IsDecided, MayStand, rwlock_profile, is_inside, owes_at, stands_at, parked_hand}
-use Names.{carries_at, late_line_at, late_at, has_given_up, purpose_by, wants_for, Profile, hand, in_line}
-use Names.{taken_from, has_aside, Rules, Sort, Knows, MayWait, lock_for, Blank, IsTimed, Pends, Claim}
-use Names.{counts_some, has_readers, idle, KnowsRights, WakesAside}
+use Rattle.lot_laws.proofs.Imports
+use Imports.{ℕ, Bool, true, false, Option, Some, None, if◌then◌else◌, ◌≡◌, ◌≢◌, ◌+◌, ◌*◌, ◌⊎◌, inl, inr, refl}
+use Imports.{sym, ◌∙◌, ap, arith, One, Want, Exclusive, Access, Downgrade, Patience, Patient, Timed, Try, Sleep}
+use Imports.{Admission, RwLockPlace, RwLockAt, RwLockPurpose, Decision, ParkAt, WakeAt, wanted, to_of, start_of}
+use Imports.{patience_of, want_at, decided, decided_act, park_act, act_at, rwlock_act, exchange, plus, Admits}
+use Imports.{parking_role, waking_role, role_at, rwlock_role, falls_back, pends, claimed, ParksBy, StandsAt}
+use Imports.{IsNoRefusal, IsDecided, MayStand, rwlock_profile, is_inside, owes_at, stands_at, parked_hand}
+use Imports.{carries_at, late_line_at, late_at, has_given_up, purpose_by, wants_for, Profile, hand, in_line}
+use Imports.{taken_from, has_aside, Rules, Sort, Knows, MayWait, lock_for, Blank, IsTimed, Pends, Claim}
+use Imports.{counts_some, has_readers, idle, KnowsRights, WakesAside}
 use Rattle.core_base.specs.declared.keys.Line.{Line}
 use Rattle.core_base.specs.declared.keys.Line.TheVariants.{Main, Second}
 use Rattle.core_base.specs.Keys.{key_of}

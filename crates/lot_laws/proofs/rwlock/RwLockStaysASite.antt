@@ -1,29 +1,29 @@
 -- A thread in a call of a reader-writer lock goes on: every lock is a site again.
-use Rattle.lot_laws.proofs.Names
-use Names.{ℕ, Bool, true, false, Option, Some, None, ◌≡◌, ◌+◌, ◌-◌}
-use Names.{◌^◌, ◌≤◌, ◌<◌, [], ◌∷◌, length, refl, sym, ◌∙◌, ap, subst, arith}
-use Names.{RwLockCall, Kind, Patience, Act, Next, Reply, Done, Value}
-use Names.{Late, takes_aside, row_of}
-use Names.{Profile, Admission, RwLockPlace}
-use Names.{RwLockAt, patience_of, Admits, late_line_at, HasDeadline, MayBeTold, admission_of_kind}
-use Names.{RwLockCallPlace, Plain, PeekQueue, HandOver, Bump, Handed, CallMayBeTold, CallMayHear, CallStands}
-use Names.{CallStandsNext, IsInCall, call_deeds, call_role, call_role_next, call_move}
-use Names.{call_late_line, call_profile}
-use Names.{fair_sections_follow, fair_calls_stand, call_first}
-use Names.{CallTells, next_rows, call_next, calls_open, SemaphorePlace}
-use Names.{Place, Mutex, RwLock, Once, Condvar, Semaphore as OfSemaphore, MutexPlace, OncePlace}
-use Names.{next_place, profile, calls, rwlock_goes, Rules, Sort, Recursive, count, one_if_some}
-use Names.{Site, IsSite, Line, has_readers, HasLimit, bit}
-use Names.{code, code_of, packed, writers, case_of, rules_of, State, place_at, kind_at}
-use Names.{put, state_after_act}
-use Names.{reply_to, IsWellFormed, acts, IsInductive}
-use Names.{Goes, FitsItsLock, TakesOne, is_mutex, rules_in}
-use Names.{CondvarPlace, is_lock, mutex_beside}
+use Rattle.lot_laws.proofs.Imports
+use Imports.{ℕ, Bool, true, false, Option, Some, None, ◌≡◌, ◌+◌, ◌-◌}
+use Imports.{◌^◌, ◌≤◌, ◌<◌, [], ◌∷◌, length, refl, sym, ◌∙◌, ap, subst, arith}
+use Imports.{RwLockCall, Kind, Patience, Act, Next, Reply, Done, Value}
+use Imports.{Late, takes_aside, row_of}
+use Imports.{Profile, Admission, RwLockPlace}
+use Imports.{RwLockAt, patience_of, Admits, late_line_at, HasDeadline, MayBeTold, admission_of_kind}
+use Imports.{RwLockCallPlace, Plain, PeekQueue, HandOver, Bump, Handed, CallMayBeTold, CallMayHear, CallStands}
+use Imports.{CallStandsNext, IsInCall, call_deeds, call_role, call_role_next, call_move}
+use Imports.{call_late_line, call_profile}
+use Imports.{fair_sections_follow, fair_calls_stand, call_first}
+use Imports.{CallTells, next_rows, call_next, calls_open, SemaphorePlace}
+use Imports.{Place, Mutex, RwLock, Once, Condvar, Semaphore as OfSemaphore, MutexPlace, OncePlace}
+use Imports.{next_place, profile, calls, rwlock_goes, Rules, Sort, Recursive, count, one_if_some}
+use Imports.{Site, IsSite, Line, has_readers, HasLimit, bit}
+use Imports.{code, code_of, packed, writers, case_of, rules_of, State, place_at, kind_at}
+use Imports.{put, state_after_act}
+use Imports.{reply_to, IsWellFormed, acts, IsInductive}
+use Imports.{Goes, FitsItsLock, TakesOne, is_mutex, rules_in}
+use Imports.{CondvarPlace, is_lock, mutex_beside}
 use Rattle.spec_locks.specs.declared.kinds.Kind.TheVariants as kinds
 use Rattle.spec_locks.specs.declared.calls.Patience.TheVariants as patience
 use Rattle.steps_base.specs.declared.acts.Act.TheVariants as act
 use Rattle.steps_base.specs.declared.acts.Next.TheVariants as next
-use Rattle.steps_base.specs.declared.acts.Whom as whom
+use Rattle.steps_base.specs.declared.acts.TakeWhich as whom
 use Rattle.steps_rwlock.specs.declared.places.RwLockAt.TheVariants as at
 use Rattle.steps_rwlock.specs.declared.park.ParkAt.TheVariants as parking
 use Rattle.steps_rwlock.specs.RwLockDeeds.{MayReply}

@@ -1,15 +1,15 @@
 -- A thread in a call of a reader-writer lock goes on by its act: for itself alone, or handing its right over
 -- to those that it has in hand.
-use Rattle.lot_laws.proofs.Names
-use Names.{ℕ, Bool, true, false, Option, Some, ◌≡◌, ◌≢◌, ◌<◌, ◌*◌, ◌+◌, List, [], ◌∷◌, length, refl, sym, ◌∙◌}
-use Names.{ap, subst, append-nil, Op, Act, Value, takes_effect, Location, Admission, RwLockPlace, MayStand}
-use Names.{rwlock_move, rwlock_hears, rwlock_act, rwlock_acts_move, MovesByAct, RwLockCallPlace, Plain}
-use Names.{PeekQueue, HandOver, Bump, Handed, CallStands, in_hand_of, call_deeds, CallTells, CallMoves}
-use Names.{call_hears, call_move, call_profile, call_act, fair_acts_move, Idle, RwLock, called_lock}
-use Names.{next_place, case_of, event_by, LockCase, Begin, Deed, State, can_do, kind_at, owners_at, place_at}
-use Names.{put, queue_at, reply_to, share_at, shares_at, state_after_hand_over_by, word_at, IsWellFormed}
-use Names.{acts, AreCounted, Goes, IsInductive, carried_at, rules_in, location, has_readers, RwLockCall}
-use Names.{admission_of_kind, call_first, call_right, CallOpens, calls_open, Place, taken_at}
+use Rattle.lot_laws.proofs.Imports
+use Imports.{ℕ, Bool, true, false, Option, Some, ◌≡◌, ◌≢◌, ◌<◌, ◌*◌, ◌+◌, List, [], ◌∷◌, length, refl, sym, ◌∙◌}
+use Imports.{ap, subst, append-nil, Op, Act, Value, takes_effect, Location, Admission, RwLockPlace, MayStand}
+use Imports.{rwlock_move, rwlock_hears, rwlock_act, rwlock_acts_move, MovesByAct, RwLockCallPlace, Plain}
+use Imports.{PeekQueue, HandOver, Bump, Handed, CallStands, in_hand_of, call_deeds, CallTells, CallMoves}
+use Imports.{call_hears, call_move, call_profile, call_act, fair_acts_move, Idle, RwLock, called_lock}
+use Imports.{next_place, case_of, event_by, LockCase, Begin, Deed, State, can_do, kind_at, owners_at, place_at}
+use Imports.{put, queue_at, reply_to, share_at, shares_at, state_after_hand_over_by, word_at, IsWellFormed}
+use Imports.{acts, AreCounted, Goes, IsInductive, carried_at, rules_in, location, has_readers, RwLockCall}
+use Imports.{admission_of_kind, call_first, call_right, CallOpens, calls_open, Place, taken_at}
 use Rattle.spec_locks.specs.declared.calls.Access.TheVariants as access
 use Rattle.steps_base.specs.declared.acts.Act.TheVariants as act
 use Rattle.steps_rwlock_fair.specs.declared.hand_over.Taken.{Taken as Counted}

@@ -1,11 +1,11 @@
 -- As many different threads look after the line of a semaphore as its roles owe.
-use Rattle.lot_laws.proofs.Names
-use Names.{ℕ, zero, suc, Bool, true, false, Option, Some, None, if◌then◌else◌, ◌==◌, ◌≡◌, ◌≢◌, ◌+◌, ◌≤◌, ◌<◌}
-use Names.{inl, inr, refl, sym, ◌∙◌, ap, subst, arith, cases_eq, eqb-true, nat_tests, Want, bit, one_if_some}
-use Names.{debt, sum_to, wakes_main, rules_of, IsDebtorRole, Line, Main, Second, Role, has_readers, idle}
-use Names.{Kind, is_plain_mutex, mutex_beside, SemaphorePlace, Acquire, Release, semaphore_profile, Place}
-use Names.{Idle, Mutex, RwLock, Once, Condvar, Semaphore, is_lock, profile, profile_beside, State, kind_at}
-use Names.{place_at, role_on, FitsItsLock, IsInductive, is_mutex, rules_in}
+use Rattle.lot_laws.proofs.Imports
+use Imports.{ℕ, zero, suc, Bool, true, false, Option, Some, None, if◌then◌else◌, ◌==◌, ◌≡◌, ◌≢◌, ◌+◌, ◌≤◌, ◌<◌}
+use Imports.{inl, inr, refl, sym, ◌∙◌, ap, subst, arith, cases_eq, eqb-true, nat_tests, Want, bit, one_if_some}
+use Imports.{debt, sum_to, wakes_main, rules_of, IsDebtorRole, Line, Main, Second, Role, has_readers, idle}
+use Imports.{Kind, is_plain_mutex, mutex_beside, SemaphorePlace, Acquire, Release, semaphore_profile, Place}
+use Imports.{Idle, Mutex, RwLock, Once, Condvar, Semaphore, is_lock, profile, profile_at_mutex, State, kind_at}
+use Imports.{place_at, role_on, FitsItsLock, IsInductive, is_mutex, rules_in}
 use Rattle.spec_locks.specs.Locks as locks
 use Rattle.spec_locks.specs.declared.kinds.Kind.TheVariants as kinds
 use Rattle.steps_semaphore.specs.declared.acquire.AcquireAt.TheVariants as acquire
@@ -163,7 +163,7 @@ module _ (w : State) (l : ℕ) (sort : (rules_in w l).sort ≡ locks.Semaphore) 
   place_few (Condvar k at) fits = two (k == l) refl (is_lock l (mutex_beside at)) refl
     where
       two : (b : Bool) → (k == l) ≡ b → (c : Bool) → is_lock l (mutex_beside at) ≡ c
-          → debt (if b then (profile (Condvar k at)).role else if c then (profile_beside (Condvar k at)).role
+          → debt (if b then (profile (Condvar k at)).role else if c then (profile_at_mutex (Condvar k at)).role
           else idle) ≤ 1
       two true e c f = absurd (away k locks.Condvar fits.sort (λ g. cc) e)
       two false e false f = omega arith

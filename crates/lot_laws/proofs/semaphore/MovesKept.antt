@@ -1,13 +1,13 @@
 -- A thread inside the section of a semaphore takes the first that waits: every lock is a site again. No place
 -- is named.
-use Rattle.lot_laws.proofs.Names
-use Names.{ℕ, Bool, true, false, Some, None, if◌then◌else◌, ◌==◌, ◌≡◌, ◌*◌, ◌<◌, List, [], ◌∷◌, length, map}
-use Names.{drop, refl, sym, ◌∙◌, ap, subst, arith, length-set, get_or-set_same, get_or-set_other, Waiter}
-use Names.{Want, Shared, threads_of, times, TakenBy, Took, Hears, StepView, inside_of, Location}
-use Names.{Knows, KnowsAll, Rules, TakeFirst, putting, queued_of, Case, Main, Place, next_place}
-use Names.{profile, State, place_at, places_told, put, queue_at, queues_without_first, state_after_reply}
-use Names.{told_count, taken_at, acts, role_on, location, location_at, ActsNeeded, AreWaiting, FitsItsLock}
-use Names.{Goes, IsInductive, TakesOne, after_acts, rules_in, locations_of, stood_in}
+use Rattle.lot_laws.proofs.Imports
+use Imports.{ℕ, Bool, true, false, Some, None, if◌then◌else◌, ◌==◌, ◌≡◌, ◌*◌, ◌<◌, List, [], ◌∷◌, length, map}
+use Imports.{drop, refl, sym, ◌∙◌, ap, subst, arith, length-set, get_or-set_same, get_or-set_other, Waiter}
+use Imports.{Want, Shared, threads_of, times, TakenBy, Took, Hears, StepView, inside_of, Location}
+use Imports.{Knows, KnowsAll, Rules, TakeFirst, putting, queued_of, Case, Main, Place, next_place}
+use Imports.{profile, State, place_at, places_told, put, queue_at, queues_without_first, state_after_reply}
+use Imports.{told_count, taken_at, acts, role_on, location, location_at, ActsNeeded, AreWaiting, FitsItsLock}
+use Imports.{Goes, IsInductive, TakesOne, after_acts, rules_in, locations_of, stood_in}
 use Rattle.spec_locks.specs.Locks.{Semaphore}
 use Rattle.spec_locks.specs.Locks as locks
 use Rattle.steps_semaphore.specs.SemaphoreDeeds.{queued, take_deeds}

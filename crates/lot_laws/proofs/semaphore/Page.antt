@@ -1,20 +1,20 @@
 -- The pages of a semaphore's places: what its laws say of each, as any sort of lock says it.
-use Rattle.lot_laws.proofs.Names
-use Names.{ℕ, Bool, true, false, Option, Some, None, if◌then◌else◌, ◌-◌, ◌==◌, ◌≡◌, ◌≢◌, ◌≤◌, List, []}
-use Names.{◌∷◌, inl, not, refl, sym, ◌∙◌, ap, subst, arith, slice_index, nat_tests, Op, Shared, SemaphoreCall}
-use Names.{Act, Next, Reply, Value, Late, outcome_of, row_of, LockState, Rules, is_recursive, Case, Claim}
-use Names.{Deed, End, Has, HasClaim, Line, Main, Mark, Site, is_closure, aside_in, code, has_parked}
-use Names.{parked_in, SemaphorePlace, Acquire, Release, semaphore_deeds, LeavesWord, semaphore_role}
-use Names.{semaphore_profile, is_free, semaphore_act, semaphore_first, semaphore_next, semaphore_right}
-use Names.{semaphore_steps_code, semaphore_steps_follow, semaphore_promises, semaphore_steps_tell, Semaphore}
-use Names.{Idle, owners_after, semaphore_does, semaphore_goes, shares_after, State, reply_to, runs_closure}
-use Names.{semaphore_runs_none, location, FitsItsLock, LateIsTimed, rules_in, locks_of}
+use Rattle.lot_laws.proofs.Imports
+use Imports.{ℕ, Bool, true, false, Option, Some, None, if◌then◌else◌, ◌-◌, ◌==◌, ◌≡◌, ◌≢◌, ◌≤◌, List, []}
+use Imports.{◌∷◌, inl, not, refl, sym, ◌∙◌, ap, subst, arith, slice_index, nat_tests, Op, Shared, SemaphoreCall}
+use Imports.{Act, Next, Reply, Value, Late, outcome_of, row_of, LockState, Rules, is_recursive, Case, Claim}
+use Imports.{Deed, End, Has, HasClaim, Line, Main, Mark, Site, is_closure, aside_in, code, has_parked}
+use Imports.{parked_in, SemaphorePlace, Acquire, Release, semaphore_deeds, LeavesWord, semaphore_role}
+use Imports.{semaphore_profile, is_free, semaphore_act, semaphore_first, semaphore_next, semaphore_right}
+use Imports.{semaphore_steps_code, semaphore_steps_follow, semaphore_promises, semaphore_steps_tell, Semaphore}
+use Imports.{Idle, owners_after, semaphore_does, semaphore_goes, shares_after, State, reply_to, runs_closure}
+use Imports.{semaphore_runs_none, location, FitsItsLock, LateIsTimed, rules_in, locks_of}
 use Rattle.std.specs.Prelude.{◌&&◌}
 use Rattle.spec_locks.specs.declared.calls.Patience.TheVariants as how
 use Rattle.spec_locks.specs.declared.calls.SemaphoreCall.TheVariants as semaphore_call
 use Rattle.steps_base.specs.declared.acts.Act.TheVariants as act
 use Rattle.steps_base.specs.declared.acts.Next.TheVariants as next
-use Rattle.steps_base.specs.declared.acts.Whom.TheVariants as whom
+use Rattle.steps_base.specs.declared.acts.TakeWhich.TheVariants as whom
 use Rattle.spec_locks.specs.Locks as locks
 use Rattle.spec_locks.specs.Deeds as laws
 use Rattle.steps_semaphore.specs.declared.acquire.AcquireAt.TheVariants as acquire

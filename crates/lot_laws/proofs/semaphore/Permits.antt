@@ -1,7 +1,7 @@
 -- Deeds of threads of the world keep what holds of a semaphore's permits.
-use Rattle.lot_laws.proofs.Names
-use Names.{ℕ, ◌≡◌, ◌<◌, List, [], ◌∷◌, length, refl, sym, ◌∙◌, subst, Rules, HasPermits, Deed, Site, IsSite}
-use Names.{after_deed, IsTended, semaphore, one_keeps, same_sharers, acts, ActsNeeded, AllBy, after_acts}
+use Rattle.lot_laws.proofs.Imports
+use Imports.{ℕ, ◌≡◌, ◌<◌, List, [], ◌∷◌, length, refl, sym, ◌∙◌, subst, Rules, HasPermits, Deed, Site, IsSite}
+use Imports.{after_deed, IsTended, semaphore, one_keeps, same_sharers, acts, ActsNeeded, AllBy, after_acts}
 use Rattle.spec_locks.specs.Locks.{Semaphore}
 use Rattle.lot_laws.specs.ThreadDeeds as deeds
 

@@ -1,20 +1,20 @@
 -- Each step of a semaphore takes its thread in the machine where its act says, and so does what befalls it
 -- asleep.
-use Rattle.lot_laws.proofs.Names
-use Names.{ℕ, Bool, true, false, Some, if◌then◌else◌, ◌==◌, ◌≡◌, ◌-◌, ◌*◌, [], ◌∷◌, inr, refl, sym, ap, subst}
-use Names.{not, One, Shared, Act, Next, At, AreOfWord, GoesIn, Hears, IsHeld, StepView, MovesByAct, Sleeps}
-use Names.{StaysPut, RowWaits, inside_of, row_of, location_then, hand, in_hand, Location, location_by}
-use Names.{has_parked, Leave as GivesBack, Case, End, Line, Main, Mark, Normal, Reply, TryAt, ReleaseAt}
-use Names.{SemaphorePlace, Acquire, Release, semaphore_deeds, semaphore_late_line, semaphore_profile}
-use Names.{acquired, in_acquire, in_release, in_try, is_free, next_release, next_try, semaphore_act}
-use Names.{semaphore_next, LateIsTimed}
+use Rattle.lot_laws.proofs.Imports
+use Imports.{ℕ, Bool, true, false, Some, if◌then◌else◌, ◌==◌, ◌≡◌, ◌-◌, ◌*◌, [], ◌∷◌, inr, refl, sym, ap, subst}
+use Imports.{not, One, Shared, Act, Next, At, AreOfWord, GoesIn, Hears, IsHeld, StepView, MovesByAct, Sleeps}
+use Imports.{StaysPut, RowWaits, inside_of, row_of, location_then, hand, in_hand, Location, location_by}
+use Imports.{has_parked, Leave as GivesBack, Case, End, Line, Main, Mark, Normal, Reply, TryAt, ReleaseAt}
+use Imports.{SemaphorePlace, Acquire, Release, semaphore_deeds, semaphore_late_line, semaphore_profile}
+use Imports.{acquired, in_acquire, in_release, in_try, is_free, next_release, next_try, semaphore_act}
+use Imports.{semaphore_next, LateIsTimed}
 use Rattle.std.specs.Prelude.{◌&&◌}
 use Rattle.core_base.specs.declared.ops.Op.TheVariants as op
 use Rattle.core_base.specs.Keys.{key_of}
 use Rattle.steps_base.specs.declared.acts.Act.TheVariants as act
 use Rattle.steps_base.specs.declared.acts.Next.TheVariants.{End as Over}
 use Rattle.steps_base.specs.declared.acts.Reply.TheVariants as reply
-use Rattle.steps_base.specs.declared.acts.Whom.TheVariants.{First}
+use Rattle.steps_base.specs.declared.acts.TakeWhich.TheVariants.{First}
 use Rattle.spec_locks.specs.declared.outcomes.Answer.TheVariants as answer
 use Rattle.steps_base.specs.Locations.{nowhere}
 use Rattle.core_base.specs.declared.notes.Note.TheVariants.{HandOff}

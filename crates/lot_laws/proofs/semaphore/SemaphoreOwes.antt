@@ -1,11 +1,11 @@
 -- A thread in a call of a semaphore owes a wake from the step that gave its permit back on, where that saw
 -- waiters, or from entering the section, until it leaves it.
-use Rattle.lot_laws.proofs.Names
-use Names.{ℕ, Bool, true, false, Some, if◌then◌else◌, ◌≡◌, inl, inr, refl, sym, ◌∙◌, ap, subst, Next, Reply}
-use Names.{outcome_of, LetsIn, Line, Main, has_parked, AcquireAt, TryAt, ReleaseAt, SemaphorePlace, Acquire}
-use Names.{Release, semaphore_profile, acquire_act, in_acquire, in_release, in_try, next_acquire}
-use Names.{next_release, next_try, release_act, semaphore_act, semaphore_next, try_act, act_of, profile}
-use Names.{semaphore_does, semaphore_goes, State, reply_to, word_at, tells_by, tells_of}
+use Rattle.lot_laws.proofs.Imports
+use Imports.{ℕ, Bool, true, false, Some, if◌then◌else◌, ◌≡◌, inl, inr, refl, sym, ◌∙◌, ap, subst, Next, Reply}
+use Imports.{outcome_of, LetsIn, Line, Main, has_parked, AcquireAt, TryAt, ReleaseAt, SemaphorePlace, Acquire}
+use Imports.{Release, semaphore_profile, acquire_act, in_acquire, in_release, in_try, next_acquire}
+use Imports.{next_release, next_try, release_act, semaphore_act, semaphore_next, try_act, act_of, profile}
+use Imports.{semaphore_does, semaphore_goes, State, reply_to, word_at, tells_by, tells_of}
 use Rattle.steps_base.specs.declared.acts.Next.TheVariants as next
 use Rattle.spec_locks.specs.declared.outcomes.Answer.TheVariants as answer
 use Rattle.spec_locks.specs.Locks as locks

@@ -1,7 +1,7 @@
 -- The places of a semaphore owe the same, whatever befalls their thread, and as its time is up.
-use Rattle.lot_laws.proofs.Names
-use Names.{ℕ, Bool, true, false, ◌≡◌, Some, refl, sym, ap, subst, Normal, Reply, TakenBy, MovedTo, HandedBy}
-use Names.{Late, Woken, SemaphorePlace, Acquire, Release, semaphore_profile, Semaphore, line_owed, next_place}
+use Rattle.lot_laws.proofs.Imports
+use Imports.{ℕ, Bool, true, false, ◌≡◌, Some, refl, sym, ap, subst, Normal, Reply, TakenBy, MovedTo, HandedBy}
+use Imports.{Late, Woken, SemaphorePlace, Acquire, Release, semaphore_profile, Semaphore, line_owed, next_place}
 use Rattle.core_base.specs.declared.keys.Line.{Line}
 use Rattle.core_base.specs.declared.keys.Line.TheVariants.{Main}
 use Rattle.steps_semaphore.specs.declared.acquire.AcquireAt.TheVariants as acquire

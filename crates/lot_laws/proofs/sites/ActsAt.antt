@@ -1,16 +1,16 @@
 -- Each act of one thread keeps every lock of the world a site whose word says so, whatever the thread does
 -- about other locks meanwhile: it is there as it was.
-use Rattle.lot_laws.proofs.Names
-use Names.{ℕ, Bool, true, Option, Some, None, if◌then◌else◌, ◌==◌, ◌||◌, ◌≡◌, ◌≢◌, ◌+◌, ◌*◌, ◌/◌, ◌%◌, ◌≤◌}
-use Names.{◌<◌, ◌⊎◌, List, [], ◌∷◌, ◌++◌, length, replicate, get_or, set, map, drop, inl, inr, refl, sym, ◌∙◌}
-use Names.{ap, subst, arith, length-set, get_or-set_same, get_or-set_other, cases_eq, length-map, get_or-map}
-use Names.{One, Op, Waiter, Want, apply, waiter, without, times, times_append, times_without, times_gone}
-use Names.{Place, Idle, owners_after, shares_after, Rules, putting, Role, IsSite, Deed, Line, Main, Second}
-use Names.{In, FindNobody, has_readers, after_deed, code, fills, State, unlocked, place_at, word_at}
-use Names.{owners_at, share_at, filled_at, kind_at, queue_at, section_at, put, state_after_operation}
-use Names.{state_with_sections, queues_with_last, queues_without, queues_without_first, taken_at, acts}
-use Names.{location_at, nowhere, role_on, locations_of, TakesOne, ActsNeeded, IsInductive, SiteFollows, Goes}
-use Names.{FitsItsLock, AllAreWaiting, AreWaiting, rules_in, key_of, stood_in}
+use Rattle.lot_laws.proofs.Imports
+use Imports.{ℕ, Bool, true, Option, Some, None, if◌then◌else◌, ◌==◌, ◌||◌, ◌≡◌, ◌≢◌, ◌+◌, ◌*◌, ◌/◌, ◌%◌, ◌≤◌}
+use Imports.{◌<◌, ◌⊎◌, List, [], ◌∷◌, ◌++◌, length, replicate, get_or, set, map, drop, inl, inr, refl, sym, ◌∙◌}
+use Imports.{ap, subst, arith, length-set, get_or-set_same, get_or-set_other, cases_eq, length-map, get_or-map}
+use Imports.{One, Op, Waiter, Want, apply, waiter, without, times, times_append, times_without, times_gone}
+use Imports.{Place, Idle, owners_after, shares_after, Rules, putting, Role, IsSite, Deed, Line, Main, Second}
+use Imports.{In, FindNobody, has_readers, after_deed, code, fills, State, unlocked, place_at, word_at}
+use Imports.{owners_at, share_at, filled_at, kind_at, queue_at, section_at, put, state_after_operation}
+use Imports.{state_with_sections, queues_with_last, queues_without, queues_without_first, taken_at, acts}
+use Imports.{location_at, nowhere, role_on, locations_of, TakesOne, ActsNeeded, IsInductive, SiteFollows, Goes}
+use Imports.{FitsItsLock, AllAreWaiting, AreWaiting, rules_in, key_of, stood_in}
 use Rattle.spec_locks.specs.declared.kinds.Kind as kind
 use Rattle.lot_machine.specs.declared.locks.Lock.{Lock}
 use Rattle.lot_laws.specs.Locations.{Location}

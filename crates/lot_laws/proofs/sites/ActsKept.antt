@@ -1,11 +1,11 @@
 -- Each act of one thread in a call of one lock keeps every lock of the world a site whose word says so.
-use Rattle.lot_laws.proofs.Names
-use Names.{ℕ, true, Some, None, ◌≡◌, ◌≢◌, ◌<◌, List, [], ◌∷◌, ◌++◌, length, sym, ◌∙◌, ap, One, Op, Want}
-use Names.{apply, waiter, without, Place, Rules, putting, Role, IsSite, Deed, Line, In, FindNobody}
-use Names.{has_readers, after_deed, code, State, place_at, word_at, queue_at, section_at, put}
-use Names.{state_after_operation, state_with_sections, queues_with_last, queues_without, queues_without_first}
-use Names.{taken_at, acts, location, location_at, nowhere, role_on, ActsNeeded, IsInductive, Goes}
-use Names.{FitsItsLock, rules_in, key_of}
+use Rattle.lot_laws.proofs.Imports
+use Imports.{ℕ, true, Some, None, ◌≡◌, ◌≢◌, ◌<◌, List, [], ◌∷◌, ◌++◌, length, sym, ◌∙◌, ap, One, Op, Want}
+use Imports.{apply, waiter, without, Place, Rules, putting, Role, IsSite, Deed, Line, In, FindNobody}
+use Imports.{has_readers, after_deed, code, State, place_at, word_at, queue_at, section_at, put}
+use Imports.{state_after_operation, state_with_sections, queues_with_last, queues_without, queues_without_first}
+use Imports.{taken_at, acts, location, location_at, nowhere, role_on, ActsNeeded, IsInductive, Goes}
+use Imports.{FitsItsLock, rules_in, key_of}
 use Rattle.lot_laws.specs.Locations.{Location}
 use Rattle.lot_laws.proofs.machine.Parts.{parts_at, seen_in, IsOf, location_here, location_elsewhere}
 use Rattle.lot_laws.proofs.sites.OneStep.{Steps}

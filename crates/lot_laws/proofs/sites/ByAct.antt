@@ -1,18 +1,18 @@
 -- A thread in a call of one lock goes on by an act that is no step on the word: every lock is a site
 -- again, where the row of its place says where the act takes it. Beside that stands its reply, and what
 -- becomes of the calls of the others.
-use Rattle.lot_laws.proofs.Names
-use Names.{ℕ, Bool, true, false, Option, Some, None, ◌==◌, ◌≡◌, ◌≢◌, ◌*◌, ◌<◌, List, [], ◌∷◌, length, is_none}
-use Names.{inl, inr, refl, sym, ◌∙◌, ap, subst, arith, Keys, One, Normal, Waiter, Want, first_of, Act, Check}
-use Names.{Reply, Done, Value, Parked, Took, Removed, Late, Wakes, holds, wakes_taken, IsNotLate, Location}
-use Names.{Accepts, AreLeaving, AreOfWord, GoesIn, GoesOut, Hears, LeavesLine, StepView, Parks, TellsHanded}
-use Names.{location_then, parks_in, in_hand, case_of, Rules, Case, Clear, Deed, End, FindNobody, In}
-use Names.{LeaveLine, Line, Main, Mark, Out, Site, Place, next_place, profile, State, are_free, place_at, put}
-use Names.{queue_at, reply_to, section_at, state_after_act, word_at, IsWellFormed, main_key_there, acts, Goes}
-use Names.{IsInductive, hand_at, key_of, rules_in}
+use Rattle.lot_laws.proofs.Imports
+use Imports.{ℕ, Bool, true, false, Option, Some, None, ◌==◌, ◌≡◌, ◌≢◌, ◌*◌, ◌<◌, List, [], ◌∷◌, length, is_none}
+use Imports.{inl, inr, refl, sym, ◌∙◌, ap, subst, arith, Keys, One, Normal, Waiter, Want, first_of, Act, Check}
+use Imports.{Reply, Done, Value, Parked, Took, Removed, Late, Wakes, holds, wakes_taken, IsNotLate, Location}
+use Imports.{Accepts, AreLeaving, AreOfWord, GoesIn, GoesOut, Hears, LeavesLine, StepView, Parks, TellsHanded}
+use Imports.{location_then, parks_in, in_hand, case_of, Rules, Case, Clear, Deed, End, FindNobody, In}
+use Imports.{LeaveLine, Line, Main, Mark, Out, Site, Place, next_place, profile, State, are_free, place_at, put}
+use Imports.{queue_at, reply_to, section_at, state_after_act, word_at, IsWellFormed, main_key_there, acts, Goes}
+use Imports.{IsInductive, hand_at, key_of, rules_in}
 use Rattle.core_base.specs.declared.notes.Note.TheVariants.{HandOff}
 use Rattle.steps_base.specs.declared.acts.Act.TheVariants as act
-use Rattle.steps_base.specs.declared.acts.Whom.TheVariants as whom
+use Rattle.steps_base.specs.declared.acts.TakeWhich.TheVariants as whom
 use Rattle.spec_locks.specs.Locks as locks
 use Rattle.lot_laws.specs.Locations.{hand}
 use Rattle.lot_laws.proofs.calls.OtherCalls.{IsCalm, WakesOwn}

@@ -1,12 +1,12 @@
 -- The first waiter in the line of a lock, if there is one, comes into the hand of a thread inside its
 -- section, for the sorts of lock whose waiters are taken one at a time.
-use Rattle.lot_laws.proofs.Names
-use Names.{ℕ, Bool, true, false, Option, Some, None, ◌==◌, ◌≡◌, ◌*◌, ◌<◌, List, [], ◌∷◌, length, map, drop}
-use Names.{is_none, not, refl, sym, ◌∙◌, ap, subst, Waiter, first_of, Reply, Took, Location, Hears, StepView}
-use Names.{inside_of, location_of, location_then, in_hand, HasTakenNobody, Rules, first_thread, queued_of}
-use Names.{Deed, FindNobody, Main, Site, idle, is_empty, Place, next_place, profile, State, is_there}
-use Names.{place_at, put, queue_at, queues_without_first, state_after_taking, lock_state, taken_at, acts}
-use Names.{location, Goes, IsInductive, carried_at, rules_in}
+use Rattle.lot_laws.proofs.Imports
+use Imports.{ℕ, Bool, true, false, Option, Some, None, ◌==◌, ◌≡◌, ◌*◌, ◌<◌, List, [], ◌∷◌, length, map, drop}
+use Imports.{is_none, not, refl, sym, ◌∙◌, ap, subst, Waiter, first_of, Reply, Took, Location, Hears, StepView}
+use Imports.{inside_of, location_of, location_then, in_hand, HasTakenNobody, Rules, first_thread, queued_of}
+use Imports.{Deed, FindNobody, Main, Site, idle, is_empty, Place, next_place, profile, State, is_there}
+use Imports.{place_at, put, queue_at, queues_without_first, state_after_taking, lock_state, taken_at, acts}
+use Imports.{location, Goes, IsInductive, carried_at, rules_in}
 use Rattle.lot_laws.proofs.machine.AtPlaces.{in_no_hand}
 use Rattle.lot_laws.proofs.machine.Parts.{IsOf, free_of, nothing_at, of_single}
 use Rattle.lot_laws.proofs.sites.ActsKept.{finds_none, lock_by, nobody_goes}

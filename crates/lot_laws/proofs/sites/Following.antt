@@ -1,14 +1,14 @@
 -- A step whose deeds are allowed leaves every lock a site, and its word says so.
-use Rattle.lot_laws.proofs.Names
-use Names.{ℕ, Bool, true, false, Option, Some, None, if◌then◌else◌, ◌==◌, ◌||◌, ◌≡◌, ◌≢◌, ◌+◌, ◌*◌, ◌^◌, ◌≤◌}
-use Names.{◌<◌, List, [], ◌∷◌, ◌++◌, length, replicate, get_or, set, map, inl, inr, refl, sym, ◌∙◌, ap, subst}
-use Names.{length-set, get_or-set_same, get_or-set_other, cases_eq, eqb-true, Op, Waiter, Want, apply, waiter}
-use Names.{first_of, Place, shares_then, owners_after, shares_after, Rules, putting, queued_of, Site, IsSite}
-use Names.{Deed, Line, Main, Second, Case, has_readers, after_deed, code, fills, HasLimit, IsHandOff}
-use Names.{HasPermits, rules_of, State, place_at, word_at, owners_at, shares_at, share_at, shares_with}
-use Names.{filled_at, kind_at, queue_at, lock_state, taken_at, acts, role_on, ActsNeeded, AllBy, LimitHasRoom}
-use Names.{SameNumbers, IsInductive, SiteFollows, Goes, after_acts, site_of, rules_in, stood_in, FollowAll}
-use Names.{GoesAll}
+use Rattle.lot_laws.proofs.Imports
+use Imports.{ℕ, Bool, true, false, Option, Some, None, if◌then◌else◌, ◌==◌, ◌||◌, ◌≡◌, ◌≢◌, ◌+◌, ◌*◌, ◌^◌, ◌≤◌}
+use Imports.{◌<◌, List, [], ◌∷◌, ◌++◌, length, replicate, get_or, set, map, inl, inr, refl, sym, ◌∙◌, ap, subst}
+use Imports.{length-set, get_or-set_same, get_or-set_other, cases_eq, eqb-true, Op, Waiter, Want, apply, waiter}
+use Imports.{first_of, Place, shares_then, owners_after, shares_after, Rules, putting, queued_of, Site, IsSite}
+use Imports.{Deed, Line, Main, Second, Case, has_readers, after_deed, code, fills, HasLimit, IsHandOff}
+use Imports.{HasPermits, rules_of, State, place_at, word_at, owners_at, shares_at, share_at, shares_with}
+use Imports.{filled_at, kind_at, queue_at, lock_state, taken_at, acts, role_on, ActsNeeded, AllBy, LimitHasRoom}
+use Imports.{SameNumbers, IsInductive, SiteFollows, Goes, after_acts, site_of, rules_in, stood_in, FollowAll}
+use Imports.{GoesAll}
 use Rattle.spec_locks.specs.Locks as locks
 use Rattle.lot_laws.specs.ThreadDeeds as deeds
 use Rattle.lot_laws.specs.SitesOf.{Stands}

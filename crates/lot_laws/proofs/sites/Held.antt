@@ -1,11 +1,11 @@
 -- A thread that stands at a lock is by its place in the hand of the one that has taken it, and of nobody
 -- while it stands in a line.
-use Rattle.lot_laws.proofs.Names
-use Names.{ℕ, Bool, true, false, Option, Some, None, if◌then◌else◌, ◌≡◌, ◌≢◌, ◌≤◌, inl, inr, refl, sym, ◌∙◌}
-use Names.{ap, subst, eqb-true, is_thread, Profile, hand_owner, location_by, Taken, standing, Line, Main}
-use Names.{CondvarPlace, NotifyAt, WaiterFate, WaitAt, condvar_row, hand_of, is_listed, notify_row, wait_row}
-use Names.{Place, Condvar, beside_of, calls, is_lock, or_else, profile, profile_beside, taker, State}
-use Names.{place_at, lock_state, taken_at, location, location_at, IsInductive, holder}
+use Rattle.lot_laws.proofs.Imports
+use Imports.{ℕ, Bool, true, false, Option, Some, None, if◌then◌else◌, ◌≡◌, ◌≢◌, ◌≤◌, inl, inr, refl, sym, ◌∙◌}
+use Imports.{ap, subst, eqb-true, is_thread, Profile, hand_owner, location_by, Taken, standing, Line, Main}
+use Imports.{CondvarPlace, NotifyAt, WaiterFate, WaitAt, condvar_row, hand_of, is_listed, notify_row, wait_row}
+use Imports.{Place, Condvar, beside_of, calls, is_lock, or_else, profile, profile_at_mutex, taker, State}
+use Imports.{place_at, lock_state, taken_at, location, location_at, IsInductive, holder}
 use Rattle.steps_base.specs.Locations.{nowhere}
 use Rattle.steps_condvar.specs.declared.places.CondvarPlace.TheVariants as condvar
 use Rattle.steps_condvar.specs.declared.notify.NotifyAt.TheVariants as notify
@@ -59,7 +59,7 @@ stands_free p l m = elim (single_or_two p) [
     own false h = absurd cc
 
     beside : (k : ℕ) (to : CondvarPlace) (b c : Bool) → (if b then location (Condvar k to) else if c
-        then location_by (profile_beside (Condvar k to)) else nowhere).stands ≡ Some m
+        then location_by (profile_at_mutex (Condvar k to)) else nowhere).stands ≡ Some m
         → taker (Condvar k to) ≡ None
     beside k to true c h = ap (λ x. hand_owner (or_else x None))
         (row_listed to (in_some (condvar_row to).listed m h))

@@ -1,11 +1,11 @@
 -- A step on the word of a lock that is shared, by what the laws of its sort conclude of it: that its deeds
 -- may be done, what its thread does then, the owners and the word after it.
-use Rattle.lot_laws.proofs.Names
-use Names.{ℕ, true, ◌||◌, ◌≡◌, ◌<◌, List, [], ◌∷◌, length, refl, sym, ◌∙◌, ap, Op, apply, Place, Rules, Sort}
-use Names.{Recursive, Site, IsSite, Deed, has_readers, after_deed, code, fills, parked_in, aside_in}
-use Names.{has_parked, has_aside, TellsTrue, words_tell_true, State, place_at, word_at, filled_at, put}
-use Names.{state_after_operation, taken_at, acts, location, role_on, ActsNeeded, IsInductive, Goes}
-use Names.{FitsItsLock, after_acts, rules_in}
+use Rattle.lot_laws.proofs.Imports
+use Imports.{ℕ, true, ◌||◌, ◌≡◌, ◌<◌, List, [], ◌∷◌, length, refl, sym, ◌∙◌, ap, Op, apply, Place, Rules, Sort}
+use Imports.{Recursive, Site, IsSite, Deed, has_readers, after_deed, code, fills, parked_in, aside_in}
+use Imports.{has_parked, has_aside, TellsTrue, words_tell_true, State, place_at, word_at, filled_at, put}
+use Imports.{state_after_operation, taken_at, acts, location, role_on, ActsNeeded, IsInductive, Goes}
+use Imports.{FitsItsLock, after_acts, rules_in}
 use Rattle.spec_locks.specs.Locks.{Mutex, Normal, Semaphore, Once, Condvar}
 use Rattle.spec_locks.specs.Deeds as laws
 use Rattle.lot_laws.proofs.machine.Parts.{parts_at, lock_in, IsOf}

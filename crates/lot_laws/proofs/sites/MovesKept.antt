@@ -1,26 +1,26 @@
 -- A thread goes on where its act takes it: every lock is a site again. No place is named: the row of a place
 -- says where the act takes its thread, and the laws of its sort of lock that its deeds may be done.
-use Rattle.lot_laws.proofs.Names
-use Names.{ℕ, Bool, true, false, Option, Some, None, if◌then◌else◌, ◌==◌, ◌≡◌, ◌≢◌, ◌+◌, ◌*◌, ◌≤◌, ◌<◌, List}
-use Names.{[], ◌∷◌, length, map, drop, get_or, cond, not, inl, inr, refl, sym, ◌∙◌, ap, subst, arith}
-use Names.{eqb-true, One, Normal, Op, Waiter, Want, Exclusive, without, first_of, times, apply, Check, Reply}
-use Names.{Wakes, Done, Value, Parked, Took, Picked, Removed, TakenBy, Woken, holds, wakes_taken, StepView}
-use Names.{Hears}
-use Names.{StaysPut, GoesIn, Parks, Picks, TakesAside, LeavesLine, GoesOut, Sleeps, IsHeld, AreOfWord}
-use Names.{AreLeaving, parks_in, inside_of, location_of, location_then, Profile, Of, hand, in_hand}
-use Names.{taken_from, CallWaits, Location, location_by, want_in_line, Place, next_place, profile}
-use Names.{profile_beside, wants, taker, called_lock, is_lock, calls, beside_of, Idle, lock_picker}
-use Names.{lock_picked, without_lock_picked, is_thread, Rules, Pending, IsSomePending, Park, Aside, TakeAside}
-use Names.{TakePicked, Wake, is_recursive, HandOff, keep_from, one_if_some, putting, standing, queued_of}
-use Names.{Role, Pends, wakened, is_empty, Site, IsSite, Deed, Line, Main, Second, End, In, Out, Mark, Clear}
-use Names.{FindNobody, Case, has_readers, idle, code, State, place_at, word_at, queue_at, section_at, put}
-use Names.{state_with_sections, state_after_operation, state_after_telling, state_after_leave}
-use Names.{state_after_park, queues_with_last, queues_without, queues_without_first, is_there}
-use Names.{state_after_reply, state_after_taking, state_after_take_first, state_after_take, reply_to_take}
-use Names.{sharers_in_hand, successor_from, want_of_successor, taken_at, acts, location, location_at, role_on}
-use Names.{locations_of, ActsNeeded, AreWaiting, IsInductive, Goes, FitsItsLock, TakesOne, after_acts}
-use Names.{rules_in, key_of, stood_in, carried_at, hand_at}
-use Rattle.steps_base.specs.declared.acts.Whom as whom
+use Rattle.lot_laws.proofs.Imports
+use Imports.{ℕ, Bool, true, false, Option, Some, None, if◌then◌else◌, ◌==◌, ◌≡◌, ◌≢◌, ◌+◌, ◌*◌, ◌≤◌, ◌<◌, List}
+use Imports.{[], ◌∷◌, length, map, drop, get_or, cond, not, inl, inr, refl, sym, ◌∙◌, ap, subst, arith}
+use Imports.{eqb-true, One, Normal, Op, Waiter, Want, Exclusive, without, first_of, times, apply, Check, Reply}
+use Imports.{Wakes, Done, Value, Parked, Took, Picked, Removed, TakenBy, Woken, holds, wakes_taken, StepView}
+use Imports.{Hears}
+use Imports.{StaysPut, GoesIn, Parks, Picks, TakesAside, LeavesLine, GoesOut, Sleeps, IsHeld, AreOfWord}
+use Imports.{AreLeaving, parks_in, inside_of, location_of, location_then, Profile, Of, hand, in_hand}
+use Imports.{taken_from, CallWaits, Location, location_by, want_in_line, Place, next_place, profile}
+use Imports.{profile_at_mutex, wants, taker, called_lock, is_lock, calls, beside_of, Idle, lock_picker}
+use Imports.{lock_picked, without_lock_picked, is_thread, Rules, Pending, IsSomePending, Park, Aside, TakeAside}
+use Imports.{TakePicked, Wake, is_recursive, HandOff, keep_from, one_if_some, putting, standing, queued_of}
+use Imports.{Role, Pends, wakened, is_empty, Site, IsSite, Deed, Line, Main, Second, End, In, Out, Mark, Clear}
+use Imports.{FindNobody, Case, has_readers, idle, code, State, place_at, word_at, queue_at, section_at, put}
+use Imports.{state_with_sections, state_after_operation, state_after_telling, state_after_leave}
+use Imports.{state_after_park, queues_with_last, queues_without, queues_without_first, is_there}
+use Imports.{state_after_reply, state_after_taking, state_after_take_first, state_after_take, reply_to_take}
+use Imports.{sharers_in_hand, successor_from, want_of_successor, taken_at, acts, location, location_at, role_on}
+use Imports.{locations_of, ActsNeeded, AreWaiting, IsInductive, Goes, FitsItsLock, TakesOne, after_acts}
+use Imports.{rules_in, key_of, stood_in, carried_at, hand_at}
+use Rattle.steps_base.specs.declared.acts.TakeWhich as whom
 use Rattle.steps_base.specs.Locations.{nowhere}
 use Rattle.spec_locks.specs.Locks as locks
 use Rattle.spec_locks.specs.Deeds as laws
@@ -485,7 +485,7 @@ module _ (w : State) (t l : ℕ) (inductive : IsInductive w) (there : t < length
       → g (location_at p l) ≡ Some y → (calls p l ≡ true) × (g (location p) ≡ Some y)
   by_calls p apart g y none h =
       either (calls p l) (ap (λ c. g (if calls p l then location p else if c then location_by
-      (profile_beside p) else nowhere)) (sym apart) ∙ h)
+      (profile_at_mutex p) else nowhere)) (sym apart) ∙ h)
     where
       either : (b : Bool) → g (if b then location p else nowhere) ≡ Some y → (b ≡ true)
           × (g (location p) ≡ Some y)

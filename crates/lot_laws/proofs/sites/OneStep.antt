@@ -1,15 +1,15 @@
 -- A step of one thread and the site of the lock that it calls, for locks of any rules and places of any
 -- sort.
-use Rattle.lot_laws.proofs.Names
-use Names.{ℕ, Bool, true, false, Option, Some, None, if◌then◌else◌, ◌==◌, ◌||◌, ◌≡◌, ◌≢◌, ◌+◌, ◌*◌, ◌≤◌, ◌<◌}
-use Names.{length, length-set, List, [], ◌∷◌, ◌++◌, inl, inr, map, cond, not, refl, sym, ◌∙◌, ap, arith, sum}
-use Names.{cases_eq, or-false, Waiter, Want, waiter, without, times, Place, OnceCase, Start, Finish, Fail}
-use Names.{Rest, TakeAll, LockState, LockCase, Pending, Rules, Sort, Recursive, OfOnce, once_after, putting}
-use Names.{readers, CondvarCase, Hide, queued_of, Site, IsSite, Deed, Main, Begin, End, In, Out, Mark, Clear}
-use Names.{FindNobody, MarkOwned, Bring, MarkBrought, Send, LeaveLine, Case, has_readers, is_empty, is_full}
-use Names.{after_deed, Needed, bit, packed, code, word_by, parked_in, aside_in, fills, HasLimit, IsHandOff}
-use Names.{shown_code, words_tell_true, limit_kept, deed_keeps, taken_at, acts, role_on, ActsNeeded}
-use Names.{after_acts}
+use Rattle.lot_laws.proofs.Imports
+use Imports.{ℕ, Bool, true, false, Option, Some, None, if◌then◌else◌, ◌==◌, ◌||◌, ◌≡◌, ◌≢◌, ◌+◌, ◌*◌, ◌≤◌, ◌<◌}
+use Imports.{length, length-set, List, [], ◌∷◌, ◌++◌, inl, inr, map, cond, not, refl, sym, ◌∙◌, ap, arith, sum}
+use Imports.{cases_eq, or-false, Waiter, Want, waiter, without, times, Place, OnceCase, Start, Finish, Fail}
+use Imports.{Rest, TakeAll, LockState, LockCase, Pending, Rules, Sort, Recursive, OfOnce, once_after, putting}
+use Imports.{readers, CondvarCase, Hide, queued_of, Site, IsSite, Deed, Main, Begin, End, In, Out, Mark, Clear}
+use Imports.{FindNobody, MarkOwned, Bring, MarkBrought, Send, LeaveLine, Case, has_readers, is_empty, is_full}
+use Imports.{after_deed, Needed, bit, packed, code, word_by, parked_in, aside_in, fills, HasLimit, IsHandOff}
+use Imports.{shown_code, words_tell_true, limit_kept, deed_keeps, taken_at, acts, role_on, ActsNeeded}
+use Imports.{after_acts}
 use Rattle.core_base.specs.declared.wants.Want.TheVariants as wants
 use Rattle.spec_locks.specs.Locks.{Mutex, Normal}
 use Rattle.spec_locks.specs.Locks.{Semaphore, Once, Look}

@@ -1,13 +1,13 @@
 -- In the opening state each lock is a site, and nobody stands anywhere.
-use Rattle.lot_laws.proofs.Names
-use Names.{subst, ℕ, zero, suc, true, false, None, ◌&&◌, ◌≡◌, ◌+◌, ◌-◌, ◌*◌, ◌^◌, ◌≤◌, ◌<◌, List, [], ◌∷◌}
-use Names.{length, get_or, map, replicate, All, inl, inr, refl, sym, ◌∙◌, ap, arith, cases_lt, leb-true}
-use Names.{length-replicate, length-map, Kind, MOST_READERS, fits, Idle, Rules, opening_lock, HasPermits}
-use Names.{code, HasLimit, rules_of, Main, Site, IsSite, is_full, has_readers, opening_is_state, State}
-use Names.{first_word, opening, unlocked, place_at, kind_at, nowhere, location_at, IsCondvar, opening_condvar}
-use Names.{queued_of, profile_at, AreCondvars, condvar_of, inside_as, IsInductive, LimitHasRoom, site_of}
-use Names.{rules_in, key_of, carried_at, hand_at, idle_at, none_at, empty_at, nobody_owns, no_readers}
-use Names.{opening_shares, both, few_permits, new_words, new_site}
+use Rattle.lot_laws.proofs.Imports
+use Imports.{subst, ℕ, zero, suc, true, false, None, ◌&&◌, ◌≡◌, ◌+◌, ◌-◌, ◌*◌, ◌^◌, ◌≤◌, ◌<◌, List, [], ◌∷◌}
+use Imports.{length, get_or, map, replicate, All, inl, inr, refl, sym, ◌∙◌, ap, arith, cases_lt, leb-true}
+use Imports.{length-replicate, length-map, Kind, MOST_READERS, fits, Idle, Rules, opening_lock, HasPermits}
+use Imports.{code, HasLimit, rules_of, Main, Site, IsSite, is_full, has_readers, opening_is_state, State}
+use Imports.{first_word, opening, unlocked, place_at, kind_at, nowhere, location_at, IsCondvar, opening_condvar}
+use Imports.{queued_of, profile_at, AreCondvars, condvar_of, inside_as, IsInductive, LimitHasRoom, site_of}
+use Imports.{rules_in, key_of, carried_at, hand_at, idle_at, none_at, empty_at, nobody_owns, no_readers}
+use Imports.{opening_shares, both, few_permits, new_words, new_site}
 use Rattle.std.proofs.Common.{sum, nat_le}
 use Rattle.spec_locks.specs.declared.kinds.Kind as kind
 use Rattle.spec_locks.specs.Locks as sorts

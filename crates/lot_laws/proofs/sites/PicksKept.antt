@@ -1,17 +1,17 @@
 -- A thread takes those that are picked of the main queue of a reader-writer lock, the writer aside, or all
 -- that wait for a `Once`: what the machine does is the case of the lock.
-use Rattle.lot_laws.proofs.Names
-use Names.{ℕ, Bool, true, false, Option, Some, None, if◌then◌else◌, ◌==◌, ◌||◌, ◌≡◌, ◌+◌, ◌*◌, ◌≤◌, ◌<◌, List}
-use Names.{[], ◌∷◌, length, map, drop, refl, sym, ◌∙◌, ap, subst, arith, length-set, get_or-set_same}
-use Names.{get_or-set_other, nat_tests, LockPicker, Pick, Unpark, Skip, Stop, Waiter, Want, Exclusive, line}
-use Names.{times, threads_of, without_picked, lock_answer, next_picker, lock_picker, lock_picked}
-use Names.{without_lock_picked, Place, Idle, TakenBy, next_place, TakeAll, OfOnce, Rules, Sort, TakePicked}
-use Names.{TakeAside, is_recursive, putting, queued_of, Line, Main, Second, Case, pickers_pick, State}
-use Names.{place_at, queue_at, put, state_after_take, state_after_reply, queues_without_first, places_told}
-use Names.{told_count, taken_at, acts, location, role_on, locations_of, ActsNeeded, AreWaiting, TakesOne}
-use Names.{IsInductive, Goes, FitsItsLock, after_acts, rules_in, key_of}
+use Rattle.lot_laws.proofs.Imports
+use Imports.{ℕ, Bool, true, false, Option, Some, None, if◌then◌else◌, ◌==◌, ◌||◌, ◌≡◌, ◌+◌, ◌*◌, ◌≤◌, ◌<◌, List}
+use Imports.{[], ◌∷◌, length, map, drop, refl, sym, ◌∙◌, ap, subst, arith, length-set, get_or-set_same}
+use Imports.{get_or-set_other, nat_tests, LockPicker, Pick, Unpark, Skip, Stop, Waiter, Want, Exclusive, line}
+use Imports.{times, threads_of, without_picked, lock_answer, next_picker, lock_picker, lock_picked}
+use Imports.{without_lock_picked, Place, Idle, TakenBy, next_place, TakeAll, OfOnce, Rules, Sort, TakePicked}
+use Imports.{TakeAside, is_recursive, putting, queued_of, Line, Main, Second, Case, pickers_pick, State}
+use Imports.{place_at, queue_at, put, state_after_take, state_after_reply, queues_without_first, places_told}
+use Imports.{told_count, taken_at, acts, location, role_on, locations_of, ActsNeeded, AreWaiting, TakesOne}
+use Imports.{IsInductive, Goes, FitsItsLock, after_acts, rules_in, key_of}
 use Rattle.core_base.specs.Picks.{picked}
-use Rattle.steps_base.specs.declared.acts.Whom as whom
+use Rattle.steps_base.specs.declared.acts.TakeWhich as whom
 use Rattle.spec_locks.specs.Locks as locks
 use Rattle.lot_laws.specs.Locations.{Location}
 use Rattle.lot_laws.proofs.machine.Parts.{put_places, same, location_here, IsOf}

@@ -1,15 +1,15 @@
 -- A mutex that is handed over, and every other lock, is a site again, whose word says so.
-use Rattle.lot_laws.proofs.Names
-use Names.{ℕ, Bool, true, false, Option, Some, None, if◌then◌else◌, ◌==◌, ◌&&◌, ◌≡◌, ◌≢◌, ◌+◌, ◌*◌, ◌<◌, ◌⊎◌}
-use Names.{List, ◌++◌, length, replicate, get_or, set, inl, inr, refl, sym, ◌∙◌, ap, subst, arith, length-set}
-use Names.{get_or-set_same, get_or-set_other, Waiter, Owners, Place, Mutex, MutexPlace, Act, hand_off_word}
-use Names.{is_parked, bit, one_if_some, with_exclusive, next_place, putting, IsLockState, Exclusive, Has}
-use Names.{Role, Site, IsSite, sum, unshared_then, State, hand_over_told, shares_handed_over, unlocked}
-use Names.{place_at, word_at, owners_at, shares_at, kind_at, queue_at, put, section_at, state_after_reply}
-use Names.{state_after_telling, state_after_hand_over, state_after_act, reply_to, lock_state}
-use Names.{mutex_location, acts, location_at, role_on, SameNumbers, TakesOne, rules_in, ActsNeeded}
-use Names.{IsInductive, SiteFollows, Goes, FitsItsLock, carried_at, hand_at, after_acts, cases_eq}
-use Names.{locations_of, Hands, is_mutex}
+use Rattle.lot_laws.proofs.Imports
+use Imports.{ℕ, Bool, true, false, Option, Some, None, if◌then◌else◌, ◌==◌, ◌&&◌, ◌≡◌, ◌≢◌, ◌+◌, ◌*◌, ◌<◌, ◌⊎◌}
+use Imports.{List, ◌++◌, length, replicate, get_or, set, inl, inr, refl, sym, ◌∙◌, ap, subst, arith, length-set}
+use Imports.{get_or-set_same, get_or-set_other, Waiter, Owners, Place, Mutex, MutexPlace, Act, hand_off_word}
+use Imports.{is_parked, bit, one_if_some, with_exclusive, next_place, putting, IsLockState, Exclusive, Has}
+use Imports.{Role, Site, IsSite, sum, unshared_then, State, hand_over_told, shares_handed_over, unlocked}
+use Imports.{place_at, word_at, owners_at, shares_at, kind_at, queue_at, put, section_at, state_after_reply}
+use Imports.{state_after_telling, state_after_hand_over, state_after_act, reply_to, lock_state}
+use Imports.{mutex_location, acts, location_at, role_on, SameNumbers, TakesOne, rules_in, ActsNeeded}
+use Imports.{IsInductive, SiteFollows, Goes, FitsItsLock, carried_at, hand_at, after_acts, cases_eq}
+use Imports.{locations_of, Hands, is_mutex}
 use Rattle.core_base.specs.declared.ops.Op.TheVariants as op
 use Rattle.spec_locks.specs.declared.kinds.Kind as kind
 use Rattle.steps_mutex.specs.declared.places.MutexPlace.TheVariants.{HandOff}

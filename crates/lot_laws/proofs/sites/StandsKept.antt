@@ -1,11 +1,11 @@
 -- How the sections, the lines and the hands of the machine are kept, by the stations of threads. No place is
 -- named.
-use Rattle.lot_laws.proofs.Names
-use Names.{ℕ, Bool, true, false, Option, Some, None, if◌then◌else◌, ◌==◌, ◌&&◌, ◌≡◌, ◌≢◌, ◌≤◌, ◌↔◌, ◌⊎◌, List}
-use Names.{[], ◌∷◌, ◌++◌, cond, not, inl, inr, refl, sym, ◌∙◌, ap, subst, arith, cases_eq, eqb-true, Waiter}
-use Names.{times, without, is_plain_mutex, Place, Idle, Mutex, RwLock, Once, Condvar, Semaphore, putting}
-use Names.{rules_of, Admits, Line, Main, Second, State, kind_at, is_mutex, taken_at, role_on, location_at}
-use Names.{Sections, Lines, AllAreWaiting, AreWaiting, HandsBy, FitsItsLock, key_of, stood_in}
+use Rattle.lot_laws.proofs.Imports
+use Imports.{ℕ, Bool, true, false, Option, Some, None, if◌then◌else◌, ◌==◌, ◌&&◌, ◌≡◌, ◌≢◌, ◌≤◌, ◌↔◌, ◌⊎◌, List}
+use Imports.{[], ◌∷◌, ◌++◌, cond, not, inl, inr, refl, sym, ◌∙◌, ap, subst, arith, cases_eq, eqb-true, Waiter}
+use Imports.{times, without, is_plain_mutex, Place, Idle, Mutex, RwLock, Once, Condvar, Semaphore, putting}
+use Imports.{rules_of, Admits, Line, Main, Second, State, kind_at, is_mutex, taken_at, role_on, location_at}
+use Imports.{Sections, Lines, AllAreWaiting, AreWaiting, HandsBy, FitsItsLock, key_of, stood_in}
 use Rattle.lot_laws.specs.Locations.{Hand, Location, hand}
 use Rattle.lot_laws.proofs.machine.Parts.{IsOf, put_here, put_other, same, location_elsewhere, role_elsewhere}
 use Rattle.lot_laws.proofs.machine.Parts.{taken_elsewhere}

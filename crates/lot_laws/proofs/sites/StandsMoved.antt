@@ -1,9 +1,9 @@
 -- The machine keeps more than its locks' being sites, where one thread goes elsewhere, or two.
-use Rattle.lot_laws.proofs.Names
-use Names.{ℕ, true, Option, Some, None, ◌≡◌, ◌≢◌, List, inl, inr, refl, sym, ◌∙◌, ap, subst, cases_eq, Waiter}
-use Names.{times, Kind, Place, Rules, putting, rules_of, Line, State, place_at, kind_at, section_at, queue_at}
-use Names.{is_mutex, location_at, Sections, Lines, AllAreWaiting, Hands, HandsBy, TakesOne, FitsItsLock}
-use Names.{rules_in, key_of, stood_in, locations_of}
+use Rattle.lot_laws.proofs.Imports
+use Imports.{ℕ, true, Option, Some, None, ◌≡◌, ◌≢◌, List, inl, inr, refl, sym, ◌∙◌, ap, subst, cases_eq, Waiter}
+use Imports.{times, Kind, Place, Rules, putting, rules_of, Line, State, place_at, kind_at, section_at, queue_at}
+use Imports.{is_mutex, location_at, Sections, Lines, AllAreWaiting, Hands, HandsBy, TakesOne, FitsItsLock}
+use Imports.{rules_in, key_of, stood_in, locations_of}
 use Rattle.spec_locks.specs.declared.kinds.Kind as kind
 use Rattle.lot_laws.specs.Locations.{Location}
 use Rattle.lot_laws.specs.SitesOf.{Stands}

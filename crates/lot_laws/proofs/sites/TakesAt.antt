@@ -1,15 +1,15 @@
 -- A thread takes waiters of a line of a lock, as many as it is to, where each may be in a call of another
 -- lock too, and the thread itself among them:
 -- every lock is a site again.
-use Rattle.lot_laws.proofs.Names
-use Names.{ℕ, Bool, true, false, Option, Some, None, if◌then◌else◌, ◌==◌, ◌&&◌, ◌||◌, ◌≡◌, ◌≢◌, ◌+◌, ◌*◌, ◌≤◌}
-use Names.{◌<◌, ◌⊎◌, replicate, List, [], ◌∷◌, length, get_or, set, map, inl, inr, refl, sym, ◌∙◌, ap, subst}
-use Names.{arith, cases_eq, nat_tests, and-true, and-false, Waiter, times, threads_of, Place, Idle, Reply}
-use Names.{TakenBy, next_place, Rules, Taken, putting, queued_of, Site, Deed, Line, Main, Second, code, State}
-use Names.{unlocked, shares_at, place_at, section_at, queue_at, kind_at, places_told, taken_at, acts}
-use Names.{location_at, role_on, ActsNeeded, TakesOne, Hands, IsInductive, Goes, FitsItsLock, Lines}
-use Names.{AllAreWaiting, AreWaiting, Sections, after_acts, rules_in, key_of, stood_in, carried_at, hand_at}
-use Names.{locations_of}
+use Rattle.lot_laws.proofs.Imports
+use Imports.{ℕ, Bool, true, false, Option, Some, None, if◌then◌else◌, ◌==◌, ◌&&◌, ◌||◌, ◌≡◌, ◌≢◌, ◌+◌, ◌*◌, ◌≤◌}
+use Imports.{◌<◌, ◌⊎◌, replicate, List, [], ◌∷◌, length, get_or, set, map, inl, inr, refl, sym, ◌∙◌, ap, subst}
+use Imports.{arith, cases_eq, nat_tests, and-true, and-false, Waiter, times, threads_of, Place, Idle, Reply}
+use Imports.{TakenBy, next_place, Rules, Taken, putting, queued_of, Site, Deed, Line, Main, Second, code, State}
+use Imports.{unlocked, shares_at, place_at, section_at, queue_at, kind_at, places_told, taken_at, acts}
+use Imports.{location_at, role_on, ActsNeeded, TakesOne, Hands, IsInductive, Goes, FitsItsLock, Lines}
+use Imports.{AllAreWaiting, AreWaiting, Sections, after_acts, rules_in, key_of, stood_in, carried_at, hand_at}
+use Imports.{locations_of}
 use Rattle.spec_locks.specs.Locks as locks
 use Rattle.spec_locks.specs.declared.kinds.Kind as kind
 use Rattle.lot_laws.specs.Locations.{Location, hand}

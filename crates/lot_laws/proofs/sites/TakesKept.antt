@@ -1,11 +1,11 @@
 -- A thread in a call of one lock takes waiters of a line of it, as many as it is to, each in a call of that
 -- lock.
-use Rattle.lot_laws.proofs.Names
-use Names.{ℕ, Bool, true, false, Option, Some, None, if◌then◌else◌, ◌≡◌, ◌≢◌, ◌+◌, ◌≤◌, ◌<◌, List, [], ◌∷◌}
-use Names.{length, map, refl, sym, ◌∙◌, ap, arith, Waiter, Want, times, Place, TakenBy, next_place, Rules}
-use Names.{putting, queued_of, Site, Deed, Line, State, place_at, queue_at, taken_at, acts, location}
-use Names.{location_at, nowhere, role_on, ActsNeeded, TakesOne, IsInductive, Goes, FitsItsLock, AreWaiting}
-use Names.{after_acts, rules_in, key_of, stood_in, locations_of, want_in_line, profile}
+use Rattle.lot_laws.proofs.Imports
+use Imports.{ℕ, Bool, true, false, Option, Some, None, if◌then◌else◌, ◌≡◌, ◌≢◌, ◌+◌, ◌≤◌, ◌<◌, List, [], ◌∷◌}
+use Imports.{length, map, refl, sym, ◌∙◌, ap, arith, Waiter, Want, times, Place, TakenBy, next_place, Rules}
+use Imports.{putting, queued_of, Site, Deed, Line, State, place_at, queue_at, taken_at, acts, location}
+use Imports.{location_at, nowhere, role_on, ActsNeeded, TakesOne, IsInductive, Goes, FitsItsLock, AreWaiting}
+use Imports.{after_acts, rules_in, key_of, stood_in, locations_of, want_in_line, profile}
 use Rattle.spec_locks.specs.Locks as locks
 use Rattle.lot_laws.specs.Locations.{Location, hand}
 use Rattle.lot_laws.proofs.machine.Parts.{parts_at, lock_in, seen_in, IsOf, location_here}

@@ -1,11 +1,11 @@
 -- All that a thread has in hand at one lock are told one thing, and it goes on itself: where the threads
 -- stand then. They may be in calls of other locks too, and the thread itself may be among them.
-use Rattle.lot_laws.proofs.Names
-use Names.{ℕ, Bool, true, false, Option, Some, None, if◌then◌else◌, ◌==◌, ◌&&◌, ◌≡◌, ◌≢◌, ◌<◌, ◌⊎◌, length}
-use Names.{get_or, map, inl, inr, refl, sym, ◌∙◌, ap, subst, arith, cases_eq, eqb-true, length-map, and-true}
-use Names.{and-false, get_or-map, Place, Idle, Reply, is_thread, next_place, taker, putting, State, place_at}
-use Names.{put, state_after_telling, place_after_telling, location_at, IsInductive, FitsItsLock, carried_at}
-use Names.{hand_at}
+use Rattle.lot_laws.proofs.Imports
+use Imports.{ℕ, Bool, true, false, Option, Some, None, if◌then◌else◌, ◌==◌, ◌&&◌, ◌≡◌, ◌≢◌, ◌<◌, ◌⊎◌, length}
+use Imports.{get_or, map, inl, inr, refl, sym, ◌∙◌, ap, subst, arith, cases_eq, eqb-true, length-map, and-true}
+use Imports.{and-false, get_or-map, Place, Idle, Reply, is_thread, next_place, taker, putting, State, place_at}
+use Imports.{put, state_after_telling, place_after_telling, location_at, IsInductive, FitsItsLock, carried_at}
+use Imports.{hand_at}
 use Rattle.lot_laws.specs.Locations.{Location, Hand, hand}
 use Rattle.lot_laws.proofs.machine.Parts.{same, differ, put_places, put_here, put_other}
 use Rattle.lot_laws.proofs.sites.StandsKept.{AlikeBeside}

@@ -1,18 +1,18 @@
 -- Each turn of a thread keeps every lock a site, and every thread in the line, the section and the hand that
 -- its place says.
-use Rattle.lot_laws.proofs.Names
-use Names.{ℕ, Bool, true, false, Option, Some, None, if◌then◌else◌, ◌≡◌, ◌<◌, [], ◌∷◌, length, length-set}
-use Names.{nat_lt, inl, inr, refl, subst, sym, ◌∙◌, ap, once_first, semaphore_first, can_close, can_do}
-use Names.{can_go, state_after_close, state_after_go, state_after_going, mutex_profile, once_profile}
-use Names.{semaphore_profile, ltb-true, Exclusive, Call, MutexCall, Step, Turn, has_call, is_fair, Place}
-use Names.{Idle, Mutex, RwLock, Once, Condvar, Semaphore, MutexPlace, mutex_first, mutex_right, act_of}
-use Names.{is_idle, respins_from, late_key, key_in, Claim, Has, Begin, HasClaim, idle, State, place_at}
-use Names.{owners_at}
-use Names.{kind_at, put, state_after_begin, can_begin, is_open_to, state_after_look, state_after_late_on}
-use Names.{is_free_under, state_after_turn, can_turn, is_possible, after, IsWellFormed, PlaceFits, lock_state}
-use Names.{taken_at, is_mutex, mutex_role, mutex_location, acts, begin_deed, nowhere, location, AreCondvars}
-use Names.{AreCounted, IsInductive, Goes, both, looking_well_formed, Admission, RwLockCallPlace, Plain}
-use Names.{Bump as BumpCall, call_late_line}
+use Rattle.lot_laws.proofs.Imports
+use Imports.{ℕ, Bool, true, false, Option, Some, None, if◌then◌else◌, ◌≡◌, ◌<◌, [], ◌∷◌, length, length-set}
+use Imports.{nat_lt, inl, inr, refl, subst, sym, ◌∙◌, ap, once_first, semaphore_first, can_close, can_do}
+use Imports.{can_go, state_after_close, state_after_go, state_after_going, mutex_profile, once_profile}
+use Imports.{semaphore_profile, ltb-true, Exclusive, Call, MutexCall, Step, Turn, has_call, is_fair, Place}
+use Imports.{Idle, Mutex, RwLock, Once, Condvar, Semaphore, MutexPlace, mutex_first, mutex_right, act_of}
+use Imports.{is_idle, respins_from, late_key, key_in, Claim, Has, Begin, HasClaim, idle, State, place_at}
+use Imports.{owners_at}
+use Imports.{kind_at, put, state_after_begin, can_begin, is_open_to, state_after_look, state_after_late_on}
+use Imports.{is_free_under, state_after_turn, can_turn, is_possible, after, IsWellFormed, PlaceFits, lock_state}
+use Imports.{taken_at, is_mutex, mutex_role, mutex_location, acts, begin_deed, nowhere, location, AreCondvars}
+use Imports.{AreCounted, IsInductive, Goes, both, looking_well_formed, Admission, RwLockCallPlace, Plain}
+use Imports.{Bump as BumpCall, call_late_line}
 use Rattle.lot_laws.proofs.book.LockStaysASite.{begins_with, goes_late}
 use Rattle.lot_laws.proofs.book.Pages.{booked}
 use Rattle.lot_laws.proofs.calls.Looking.{closing_inductive}

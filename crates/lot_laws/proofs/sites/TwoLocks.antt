@@ -1,11 +1,11 @@
 -- A step of one thread at two locks that nobody shares: both are sites again, and every other lock is as it
 -- was.
-use Rattle.lot_laws.proofs.Names
-use Names.{ℕ, Bool, true, false, Option, Some, None, if◌then◌else◌, ◌==◌, ◌&&◌, ◌≡◌, ◌≢◌, ◌+◌, ◌*◌, ◌<◌, List}
-use Names.{[], length, replicate, get_or, set, inl, inr, refl, sym, ◌∙◌, ap, subst, arith, length-set}
-use Names.{cases_eq, Waiter, Place, Idle, putting, rules_of, Deed, Main, Site, has_readers, code, HasLimit}
-use Names.{State, place_at, kind_at, shares_at, unlocked, word_at, lock_state, acts, ActsNeeded, AllBy}
-use Names.{FollowAll, IsInductive, SameNumbers, after_acts, key_of, rules_in, site_of}
+use Rattle.lot_laws.proofs.Imports
+use Imports.{ℕ, Bool, true, false, Option, Some, None, if◌then◌else◌, ◌==◌, ◌&&◌, ◌≡◌, ◌≢◌, ◌+◌, ◌*◌, ◌<◌, List}
+use Imports.{[], length, replicate, get_or, set, inl, inr, refl, sym, ◌∙◌, ap, subst, arith, length-set}
+use Imports.{cases_eq, Waiter, Place, Idle, putting, rules_of, Deed, Main, Site, has_readers, code, HasLimit}
+use Imports.{State, place_at, kind_at, shares_at, unlocked, word_at, lock_state, acts, ActsNeeded, AllBy}
+use Imports.{FollowAll, IsInductive, SameNumbers, after_acts, key_of, rules_in, site_of}
 use Rattle.spec_locks.specs.declared.kinds.Kind as kind
 use Rattle.spec_locks.specs.Locks as locks
 use Rattle.lot_laws.specs.ThreadDeeds as deeds

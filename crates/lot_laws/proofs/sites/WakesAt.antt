@@ -1,13 +1,13 @@
 -- A thread leaves its section of a lock and lets go each thread that it has in hand there, one or many,
 -- itself among them or not: every lock is a site again.
-use Rattle.lot_laws.proofs.Names
-use Names.{Option, ℕ, Bool, true, false, Some, None, if◌then◌else◌, ◌==◌, ◌&&◌, ◌≡◌, ◌≢◌, ◌+◌, ◌*◌, ◌<◌}
-use Names.{replicate, List, [], ◌∷◌, length, get_or, map, inl, inr, refl, sym, ◌∙◌, ap, subst, length-set}
-use Names.{get_or-set_same, get_or-set_other, cases_eq, length-map, One, Note, Place, Woken, AreLeaving}
-use Names.{next_place, Rules, putting, keep_from, Deed, Line, End, Out, idle, wakened, leaves, State}
-use Names.{place_at, filled_at, section_at, queue_at, put, state_with_sections, state_after_telling}
-use Names.{place_after_telling, taken_at, acts, location_at, role_on, ActsNeeded, TakesOne, Hands, Sections}
-use Names.{IsInductive, Goes, FitsItsLock, after_acts, rules_in, key_of, carried_at, hand_at, locations_of}
+use Rattle.lot_laws.proofs.Imports
+use Imports.{Option, ℕ, Bool, true, false, Some, None, if◌then◌else◌, ◌==◌, ◌&&◌, ◌≡◌, ◌≢◌, ◌+◌, ◌*◌, ◌<◌}
+use Imports.{replicate, List, [], ◌∷◌, length, get_or, map, inl, inr, refl, sym, ◌∙◌, ap, subst, length-set}
+use Imports.{get_or-set_same, get_or-set_other, cases_eq, length-map, One, Note, Place, Woken, AreLeaving}
+use Imports.{next_place, Rules, putting, keep_from, Deed, Line, End, Out, idle, wakened, leaves, State}
+use Imports.{place_at, filled_at, section_at, queue_at, put, state_with_sections, state_after_telling}
+use Imports.{place_after_telling, taken_at, acts, location_at, role_on, ActsNeeded, TakesOne, Hands, Sections}
+use Imports.{IsInductive, Goes, FitsItsLock, after_acts, rules_in, key_of, carried_at, hand_at, locations_of}
 use Rattle.lot_laws.specs.Locations.{Location, hand}
 use Rattle.lot_laws.proofs.semaphore.Permits.{all_by}
 use Rattle.lot_laws.proofs.machine.Parts.{Parts, parts_at, lock_in, seen_in, put_here, put_other, LetGo}

@@ -1,10 +1,10 @@
 -- A thread in a call of one lock leaves its section and lets go each thread that it has in hand, one or many,
 -- each in a call of that lock.
-use Rattle.lot_laws.proofs.Names
-use Names.{ℕ, Bool, true, false, Some, None, if◌then◌else◌, ◌≡◌, ◌≢◌, ◌<◌, List, length, sym, ◌∙◌, ap, One}
-use Names.{Note, Place, Woken, next_place, Rules, keep_from, Deed, Line, State, place_at, put}
-use Names.{state_with_sections, state_after_telling, taken_at, acts, location, location_at, nowhere, role_on}
-use Names.{ActsNeeded, IsInductive, Goes, FitsItsLock, after_acts, rules_in, key_of, hand_at}
+use Rattle.lot_laws.proofs.Imports
+use Imports.{ℕ, Bool, true, false, Some, None, if◌then◌else◌, ◌≡◌, ◌≢◌, ◌<◌, List, length, sym, ◌∙◌, ap, One}
+use Imports.{Note, Place, Woken, next_place, Rules, keep_from, Deed, Line, State, place_at, put}
+use Imports.{state_with_sections, state_after_telling, taken_at, acts, location, location_at, nowhere, role_on}
+use Imports.{ActsNeeded, IsInductive, Goes, FitsItsLock, after_acts, rules_in, key_of, hand_at}
 use Rattle.lot_laws.specs.Locations.{Location, hand}
 use Rattle.lot_laws.proofs.machine.Parts.{Parts, seen_in, IsOf, LetGo, next_of, location_here}
 use Rattle.lot_laws.proofs.hands.Handed.{of_carries}

@@ -1,7 +1,7 @@
 //! The threads, and what comes of them.
 ghost use Rattle.std.specs.Prelude.{◌≡◌, All, IfOk, IfSome};
 ghost use Rattle.std.specs.Arc.{arc_value};
-ghost use Rattle.parking_lot.specs.Names.{lot_of, lot_of_rwlock};
+ghost use Rattle.parking_lot.specs.LotOf.{lot_of, lot_of_rwlock};
 ghost use Rattle.parking_lot_core.specs.Tokens.{IsTicketOf, IsTokenOf};
 
 use super::lines::Told;

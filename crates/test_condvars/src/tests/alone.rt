@@ -1,6 +1,6 @@
 //! One thread, which nobody notifies.
 ghost use Rattle.std.specs.Prelude.{◌<◌, ◌≤◌};
-ghost use Rattle.parking_lot.specs.Names.{IsTokenOf, lot_of};
+ghost use Rattle.parking_lot.specs.LotOf.{IsTokenOf, lot_of};
 
 use super::rooms::{Room, look, room_for};
 use super::{Limit, TURNS, check, check_eq, is_just_past, wait};

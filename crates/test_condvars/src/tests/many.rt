@@ -1,6 +1,6 @@
 //! Many threads that wait, and one that notifies all of them.
 ghost use Rattle.std.specs.Prelude.{◌≡◌, IfSome};
-ghost use Rattle.parking_lot.specs.Names.{IsTokenOf, lock_of, lot_of};
+ghost use Rattle.parking_lot.specs.LotOf.{IsTokenOf, lock_of, lot_of};
 
 use super::rooms::{Part, Room, play};
 use super::{Limit, TURNS, check_eq, wait, wait_long};

@@ -1,6 +1,6 @@
 //! Threads that send numbers to one another through a queue that is bounded.
 ghost use Rattle.std.specs.Prelude.{◌≡◌, ◌≤◌, All};
-ghost use Rattle.parking_lot.specs.Names.{IsTicketOf, IsTokenOf, lock_of, lot_of, lot_of_condvar};
+ghost use Rattle.parking_lot.specs.LotOf.{IsTicketOf, IsTokenOf, lock_of, lot_of, lot_of_condvar};
 
 use super::{Limit, check, condvar_of, mutex_of, seats, wait};
 use parking_lot::{Condvar, Mutex, MutexGuard, TickClock, Ticket, Token};

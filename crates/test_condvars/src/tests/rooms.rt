@@ -1,7 +1,7 @@
 //! Rooms in which the threads of a lot wait and notify.
 ghost use Rattle.std.specs.Prelude.{◌≡◌, ◌<◌, ◌≤◌, All};
 ghost use Rattle.std.specs.Arc.{arc_value};
-ghost use Rattle.parking_lot.specs.Names.{IsTicketOf, IsTokenOf, lot_of, lot_of_condvar};
+ghost use Rattle.parking_lot.specs.LotOf.{IsTicketOf, IsTokenOf, lot_of, lot_of_condvar};
 
 use super::alone::wait_turns;
 use super::many::{Whom, add_and_wait, notify_in_turn, notify_slow};

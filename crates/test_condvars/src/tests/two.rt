@@ -1,6 +1,6 @@
 //! One thread that waits, and one that notifies it.
 ghost use Rattle.std.specs.Prelude.{◌≡◌};
-ghost use Rattle.parking_lot.specs.Names.{IsTokenOf, lot_of};
+ghost use Rattle.parking_lot.specs.LotOf.{IsTokenOf, lot_of};
 
 use super::rooms::{Part, Room, look, play};
 use super::{Ended, Limit, TURNS, check_eq, is_just_past, wait, wait_long};

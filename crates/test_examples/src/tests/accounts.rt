@@ -1,7 +1,7 @@
 //! Two accounts in one struct, each under a mutex of its own.
 ghost use Rattle.std.specs.Prelude.{◌≡◌, IfOk};
 ghost use Rattle.std.specs.Arc.{arc_value};
-ghost use Rattle.parking_lot.specs.Names.{IsTokenOf, lot_of};
+ghost use Rattle.parking_lot.specs.LotOf.{IsTokenOf, lot_of};
 
 use super::check_eq;
 use parking_lot::{Fault, Mutex, ParkingLot, Team, Token};

@@ -1,7 +1,7 @@
 //! Prices with their tax, which many threads look up. The first that misses one works it out, and
 //! the others find it.
 ghost use Rattle.std.specs.Prelude.{◌≡◌, ◌+◌, ◌*◌, ◌/◌, IfOk, IfSome};
-ghost use Rattle.parking_lot.specs.Names.{IsTokenOf, lot_of_rwlock};
+ghost use Rattle.parking_lot.specs.LotOf.{IsTokenOf, lot_of_rwlock};
 
 use super::{all_are, check, check_eq};
 use parking_lot::{Fault, RwLock, Team, Token};

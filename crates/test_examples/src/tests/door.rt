@@ -1,7 +1,7 @@
 //! A primitive of one's own over a section: a door, at which threads wait until it is opened.
 ghost use Rattle.std.specs.Prelude.{◌≡◌, IfOk, IfSome};
 ghost use Rattle.std.specs.Arc.{arc_value};
-ghost use Rattle.parking_lot.specs.Names.{IsPlaceOf, IsTokenOf};
+ghost use Rattle.parking_lot.specs.LotOf.{IsPlaceOf, IsTokenOf};
 
 use super::{all_are, check};
 use parking_lot::{

@@ -1,7 +1,7 @@
 //! A pool of two drives for three threads. A permit of its semaphore is the right to take one.
 ghost use Rattle.std.specs.Prelude.{◌≡◌, IfOk};
 ghost use Rattle.std.specs.Arc.{arc_value};
-ghost use Rattle.parking_lot.specs.Names.{IsTokenOf, lot_of, lot_of_semaphore};
+ghost use Rattle.parking_lot.specs.LotOf.{IsTokenOf, lot_of, lot_of_semaphore};
 
 use super::{check, check_eq, sum_of};
 use parking_lot::{Fault, Mutex, ParkingLot, Semaphore, Team, Token};

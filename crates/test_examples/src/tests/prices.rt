@@ -1,5 +1,5 @@
 //! A function that locks, and calls another that locks.
-ghost use Rattle.parking_lot.specs.Names.{IsSameThread, IsTokenOf, lot_of};
+ghost use Rattle.parking_lot.specs.LotOf.{IsSameThread, IsTokenOf, lot_of};
 
 use super::check_eq;
 use parking_lot::{Fault, ReentrantMutex, Team, Token};

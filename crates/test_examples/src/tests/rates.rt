@@ -1,7 +1,7 @@
 //! Rates that are read from a text once, by the thread that asks first. A text that can't be read
 //! leaves the cell empty.
 ghost use Rattle.std.specs.Prelude.{◌≡◌};
-ghost use Rattle.parking_lot.specs.Names.{IsTokenOf, lot_of_once};
+ghost use Rattle.parking_lot.specs.LotOf.{IsTokenOf, lot_of_once};
 
 use super::{all_are, check, check_eq};
 use parking_lot::{OnceCell, Team, Token};

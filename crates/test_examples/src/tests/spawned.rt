@@ -1,7 +1,7 @@
 //! A thread that is spawned, and shares a mutex by an `Arc`.
 ghost use Rattle.std.specs.Prelude.{All, IfSome};
 ghost use Rattle.std.specs.Arc.{arc_value};
-ghost use Rattle.parking_lot.specs.Names.{IsTicketOf, lot_of};
+ghost use Rattle.parking_lot.specs.LotOf.{IsTicketOf, lot_of};
 
 use super::check_eq;
 use parking_lot::{Fault, Mutex, ParkingLot, Ticket};

@@ -1,5 +1,5 @@
 //! A wait that ends in time.
-ghost use Rattle.parking_lot.specs.Names.{IsTokenOf, lot_of};
+ghost use Rattle.parking_lot.specs.LotOf.{IsTokenOf, lot_of};
 
 use super::{check, check_eq};
 use parking_lot::{Monitor, Team, TickClock, Token};

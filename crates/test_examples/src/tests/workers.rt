@@ -1,6 +1,6 @@
 //! A queue of jobs with few places. A thread that brings jobs waits while it is full, and workers
 //! wait while it is empty.
-ghost use Rattle.parking_lot.specs.Names.{IsTokenOf, lot_of};
+ghost use Rattle.parking_lot.specs.LotOf.{IsTokenOf, lot_of};
 
 use super::{check_eq, sum_of};
 use parking_lot::{Fault, Monitor, Team, Token};

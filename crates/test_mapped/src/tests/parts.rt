@@ -1,7 +1,7 @@
 //! Guards of a part of a value.
 ghost use Rattle.std.specs.Prelude.{◌≡◌, Ok, refl};
 ghost use Rattle.parking_lot_core.specs.Tokens.{IsTokenOf};
-ghost use Rattle.parking_lot.specs.Names.{lot_of};
+ghost use Rattle.parking_lot.specs.LotOf.{lot_of};
 
 use super::{check_eq, mutex_alone, rwlock_alone};
 use crate::{Entry, Slot};

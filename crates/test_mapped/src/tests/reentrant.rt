@@ -2,7 +2,7 @@
 ghost use Rattle.std.specs.Prelude.{◌≡◌, ◌+◌, All, IfSome};
 ghost use Rattle.std.specs.Arc.{arc_value};
 ghost use Rattle.parking_lot_core.specs.Tokens.{IsSameThread, IsTicketOf, IsTokenOf};
-ghost use Rattle.parking_lot.specs.Names.{lot_of, thread_of};
+ghost use Rattle.parking_lot.specs.LotOf.{lot_of, thread_of};
 
 use super::check_eq;
 use super::parts::{Point, TheX};

@@ -1,7 +1,7 @@
 //! The texts of locks that are shown.
 ghost use Rattle.std.specs.Prelude.{◌≡◌};
 ghost use Rattle.parking_lot_core.specs.Tokens.{IsTokenOf};
-ghost use Rattle.parking_lot.specs.Names.{lot_of};
+ghost use Rattle.parking_lot.specs.LotOf.{lot_of};
 
 use super::{check_eq, lone, mutex_alone, rwlock_alone};
 use parking_lot::lock_api_rw::{RawRwLock, RwLock};

@@ -1,7 +1,7 @@
 //! Threads that meet at a mutex and a fair one.
 ghost use Rattle.std.specs.Prelude.{◌≡◌, ◌<◌, ◌≤◌};
 ghost use Rattle.parking_lot_core.specs.Tokens.{IsTicketOf, IsTokenOf};
-ghost use Rattle.parking_lot.specs.Names.{lot_of};
+ghost use Rattle.parking_lot.specs.LotOf.{lot_of};
 
 use super::fair::{GivesUp, give_up, take_and_keep};
 use super::fair_unlocks::{take_in_turn, unlock_in_turn};

@@ -1,7 +1,7 @@
 //! Releases that hand the mutex over, and fair mutexes.
 ghost use Rattle.std.specs.Prelude.{◌≡◌};
 ghost use Rattle.parking_lot_core.specs.Tokens.{IsTokenOf};
-ghost use Rattle.parking_lot.specs.Names.{lock_of, lot_of};
+ghost use Rattle.parking_lot.specs.LotOf.{lock_of, lot_of};
 
 use super::crowds::{Part, for_rooms};
 use super::{check_eq, fair_mutex_alone};

@@ -1,7 +1,7 @@
 //! The unlock of a fair mutex, which hands it to the first thread that waits.
 ghost use Rattle.std.specs.Prelude.{◌≡◌, All};
 ghost use Rattle.parking_lot_core.specs.Tokens.{IsTicketOf, IsTokenOf};
-ghost use Rattle.parking_lot.specs.Names.{lot_of};
+ghost use Rattle.parking_lot.specs.LotOf.{lot_of};
 
 use super::crowds::{Part, for_rooms};
 use super::fair::{TRIES, is_waited_for, wait_until};

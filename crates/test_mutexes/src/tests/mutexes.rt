@@ -2,7 +2,7 @@
 ghost use Rattle.std.specs.Prelude.{◌≡◌};
 ghost use Rattle.std.specs.Arc.{arc_value};
 ghost use Rattle.parking_lot_core.specs.Tokens.{IsTokenOf};
-ghost use Rattle.parking_lot.specs.Names.{lock_of, lot_of, value_of};
+ghost use Rattle.parking_lot.specs.LotOf.{lock_of, lot_of, value_of};
 
 use super::{check, check_eq, lone, mutex_alone, mutex_of};
 use parking_lot::{Fault, Mutex, MutexGuard, Token};

@@ -5,7 +5,7 @@ mod timed;
 ghost use Rattle.std.specs.Prelude.{◌≡◌, ◌≤◌, All};
 ghost use Rattle.std.specs.Arc.{arc_value};
 ghost use Rattle.parking_lot_core.specs.Tokens.{IsTicketOf, IsTokenOf};
-ghost use Rattle.parking_lot.specs.Names.{lot_of};
+ghost use Rattle.parking_lot.specs.LotOf.{lot_of};
 
 use super::fair::{is_waited_for, wait_until};
 use super::{check, check_eq, next_of};

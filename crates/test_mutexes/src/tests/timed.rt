@@ -1,7 +1,7 @@
 //! Calls of a mutex with a value that give up in time.
 ghost use Rattle.std.specs.Prelude.{◌≤◌};
 ghost use Rattle.parking_lot_core.specs.Tokens.{IsTicketOf, IsTokenOf};
-ghost use Rattle.parking_lot.specs.Names.{lot_of};
+ghost use Rattle.parking_lot.specs.LotOf.{lot_of};
 
 use super::{check_eq, fair_mutex_alone, mutex_alone, mutex_of, next_of, seats};
 use parking_lot::{Clock, Mutex, TickClock, Ticket, Token, lock_api};

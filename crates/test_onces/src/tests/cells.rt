@@ -1,10 +1,10 @@
 //! A value that the first that asks makes.
-ghost use Rattle.run_signals.specs.OnceUsers.{IsTokenOf, lot_of};
+ghost use Rattle.run_once_and_semaphores.specs.OnceUsers.{IsTokenOf, lot_of};
 
 use super::crowds::{Part, play};
 use super::{cell_of, check_eq, seats};
 use parking_lot_core::Token;
-use run_signals::OnceCell;
+use run_once_and_semaphores::OnceCell;
 use std::alloc::Global;
 use std::process::Abort;
 use std::sync::Wait;

@@ -1,13 +1,13 @@
 //! Threads that meet at a `Once` and a cell.
 ghost use Rattle.std.specs.Prelude.{◌≡◌, ◌≤◌};
-ghost use Rattle.run_signals.specs.OnceUsers.{IsTicketOf, IsTokenOf, lot_of};
+ghost use Rattle.run_once_and_semaphores.specs.OnceUsers.{IsTicketOf, IsTokenOf, lot_of};
 
 use super::cells::shared_value_of;
 use super::meets::{call_beside, let_go, run_long, wait_beside};
 use super::timed::{fail_long, race, wait_long};
 use super::{cell_of, check_eq, count_run, fail, once_of, seats};
 use parking_lot_core::{ParkingLot, Ticket, Token};
-use run_signals::{Once, OnceCell};
+use run_once_and_semaphores::{Once, OnceCell};
 use std::alloc::Global;
 use std::process::Abort;
 use std::sync::Wait;

@@ -1,11 +1,11 @@
 //! Threads that wait for the end of one run.
 ghost use Rattle.std.specs.Prelude.{◌≡◌};
-ghost use Rattle.run_signals.specs.OnceUsers.{IsTokenOf, lot_of};
+ghost use Rattle.run_once_and_semaphores.specs.OnceUsers.{IsTokenOf, lot_of};
 
 use super::crowds::{Part, Told, play};
 use super::{check_eq, count_run};
 use parking_lot_core::{Key, ParkingLot, Token};
-use run_signals::{Once, OnceFault, OnceState};
+use run_once_and_semaphores::{Once, OnceFault, OnceState};
 use std::sync::Wait;
 use std::sync::atomic::AtomicBool;
 use std::sync::atomic::Ordering::SeqCst;

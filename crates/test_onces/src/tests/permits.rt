@@ -3,11 +3,11 @@ mod crowds;
 
 ghost use Rattle.std.specs.Prelude.{◌≡◌, ◌≤◌, ◌^◌, IfSome};
 ghost use Rattle.std.specs.Arc.{arc_value};
-ghost use Rattle.run_signals.specs.SemaphoreUsers.{IsTokenOf, lot_of, semaphore_of};
+ghost use Rattle.run_once_and_semaphores.specs.SemaphoreUsers.{IsTokenOf, lot_of, semaphore_of};
 
 use super::{check_eq, seats};
 use parking_lot_core::{Fault, ParkingLot, TickClock, Token};
-use run_signals::{Permit, Semaphore};
+use run_once_and_semaphores::{Permit, Semaphore};
 use std::alloc::Global;
 use std::process::Abort;
 use std::sync::{Arc, Wait};

@@ -1,9 +1,9 @@
 //! What one thread does about a `Once`, and what it is told each time.
-ghost use Rattle.run_signals.specs.OnceUsers.{IsTokenOf, lot_of};
+ghost use Rattle.run_once_and_semaphores.specs.OnceUsers.{IsTokenOf, lot_of};
 
 use super::{check_eq, count_run, fail, once_alone, seats, told};
 use parking_lot_core::{Clock, Fault, TickClock, Token};
-use run_signals::{Once, OnceFault, OnceState};
+use run_once_and_semaphores::{Once, OnceFault, OnceState};
 use std::alloc::Global;
 use std::process::Abort;
 use std::sync::Wait;

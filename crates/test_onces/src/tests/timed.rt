@@ -1,12 +1,12 @@
 //! Waits that have a deadline, beside a run.
-ghost use Rattle.run_signals.specs.OnceUsers.{IsTokenOf, lot_of};
+ghost use Rattle.run_once_and_semaphores.specs.OnceUsers.{IsTokenOf, lot_of};
 
 use super::check_eq;
 use super::crowds::{Part, Told, play};
 use super::meets::await_flag;
 use super::scripts::waited;
 use parking_lot_core::{TickClock, Token};
-use run_signals::{Once, OnceFault};
+use run_once_and_semaphores::{Once, OnceFault};
 use std::sync::Wait;
 use std::sync::atomic::Ordering::SeqCst;
 use std::time::Duration;

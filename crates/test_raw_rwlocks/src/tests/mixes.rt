@@ -1,7 +1,7 @@
 //! Threads that do all that a reader-writer lock has, each in an order of its own.
 ghost use Rattle.std.specs.Prelude.{IfOk, IfSome};
 ghost use Rattle.parking_lot_core.specs.Tokens.{IsTokenOf};
-ghost use Rattle.parking_lot.specs.Names.{IsExclusiveOf, IsSharedOf, IsUpgradableOf};
+ghost use Rattle.parking_lot.specs.LotOf.{IsExclusiveOf, IsSharedOf, IsUpgradableOf};
 ghost use Rattle.test_any_rwlock.specs.AnyLocks.{lot_of, word_of};
 
 use super::check;

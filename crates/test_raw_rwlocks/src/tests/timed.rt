@@ -1,7 +1,7 @@
 //! Waits for a reader-writer lock that end in time.
 ghost use Rattle.std.specs.Prelude.{◌≡◌};
 ghost use Rattle.parking_lot_core.specs.Tokens.{IsTokenOf};
-ghost use Rattle.parking_lot.specs.Names.{IsSharedOf};
+ghost use Rattle.parking_lot.specs.LotOf.{IsSharedOf};
 ghost use Rattle.test_any_rwlock.specs.AnyLocks.{lot_of, word_of};
 
 use super::crowds::{Part, Told, play};

@@ -1,7 +1,7 @@
 //! Guards of reader-writer locks that are given up fairly, or bumped.
 ghost use Rattle.std.specs.Prelude.{◌≡◌};
 ghost use Rattle.parking_lot_core.specs.Tokens.{IsTokenOf};
-ghost use Rattle.parking_lot.specs.Names.{lot_of_rwlock};
+ghost use Rattle.parking_lot.specs.LotOf.{lot_of_rwlock};
 
 use super::crowds::{Part, play};
 use super::guards::is_waited_for;

@@ -3,7 +3,7 @@
 ghost use Rattle.std.specs.Prelude.{◌≡◌};
 ghost use Rattle.lock_api_rw.specs.Guards.{lock_of};
 ghost use Rattle.parking_lot_core.specs.Tokens.{IsTokenOf};
-ghost use Rattle.parking_lot.specs.Names.{lot_of_rwlock};
+ghost use Rattle.parking_lot.specs.LotOf.{lot_of_rwlock};
 
 use super::crowds::{Part, add_under, play};
 use super::{

@@ -1,4 +1,4 @@
-use Rattle.parking_lot.specs.Names.{IsTokenOf, lot_of}
+use Rattle.parking_lot.specs.LotOf.{IsTokenOf, lot_of}
 use Rattle.lock_examples.proofs.queue.take_all.Given as goal
 
 -- the token is of the queue's lot still

@@ -1,6 +1,6 @@
 use Rattle.std.proofs.Common.{◌≡◌, ◌-◌, ◌++◌, true, take}
 use Rattle.std.specs.Prelude.{replicate}
-use Rattle.lot_text.specs.Names.{are_name_bytes}
+use Rattle.lot_text.specs.LockNames.{are_name_bytes}
 use Rattle.lot_text.proofs.names.padded.Given as goal
 
 abbrev pub invariant-loop-at : goal.invariant-loop-at

@@ -1,4 +1,4 @@
-use Rattle.parking_lot.specs.Names.{lot_of}
+use Rattle.parking_lot.specs.LotOf.{lot_of}
 use Rattle.parking_lot_core.specs.Tokens.{IsTokenOf}
 use Rattle.lotbench.proofs.mutexes.lock_once.Given as goal
 

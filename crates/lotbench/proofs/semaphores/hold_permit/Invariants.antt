@@ -1,4 +1,4 @@
-use Rattle.parking_lot.specs.Names.{lot_of_semaphore}
+use Rattle.parking_lot.specs.LotOf.{lot_of_semaphore}
 use Rattle.parking_lot_core.specs.Tokens.{IsTokenOf}
 use Rattle.lotbench.proofs.semaphores.hold_permit.Given as goal
 

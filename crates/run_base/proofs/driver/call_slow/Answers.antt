@@ -1,5 +1,5 @@
 use Rattle.std.proofs.Common.{◌≡◌, ◌∙◌, false, None, sym, ap, subst, ℕ}
-use Rattle.core_clocks.specs.Clocks.{IsUp}
+use Rattle.core_clocks.specs.Clocks.{TimeIsUp}
 use Rattle.lot_steps.specs.Steps.{next_place}
 use Rattle.steps_base.specs.declared.acts.Reply.TheVariants.{Value}
 use Rattle.lot_steps.specs.declared.places.Place.{Place}
@@ -34,9 +34,9 @@ run-requires-clause-unqueued g c = subst (λ (p : Place). is_queued p ≡ false)
 pub run-requires-clause-start : goal.run-requires-clause-start
 run-requires-clause-start g c = let v = view_of c.args.token.now in (
   v.owns,
-  subst (λ (p : Place). Fits (IsUp g.C.Clock.tells c.args.limit) (view_of c.args.token.now).owns p
+  subst (λ (p : Place). Fits (TimeIsUp g.C.Clock.tells c.args.limit) (view_of c.args.token.now).owns p
       (stage_of c.args.token.now None)) (sym c.place_after-start.ensures)
-      (fits_after c.args.word.number (IsUp g.C.Clock.tells c.args.limit) c.args.call c.args.seen v.owns
+      (fits_after c.args.word.number (TimeIsUp g.C.Clock.tells c.args.limit) c.args.call c.args.seen v.owns
       (last_of c.args.token.now) v.steps c.requires.goes_on),
 )
 
@@ -58,31 +58,31 @@ returns-clause-path g c = λ before same saw untold. let n = c.args.word.number 
 pub returns-clause-over : goal.returns-clause-over
 returns-clause-over g c = let n = c.args.word.number in let owns = (view_of c.args.token.now).owns
     in let answer = c.in-Ended.answer in
-    let start = fits_after n (IsUp g.C.Clock.tells c.args.limit) c.args.call c.args.seen owns
+    let start = fits_after n (TimeIsUp g.C.Clock.tells c.args.limit) c.args.call c.args.seen owns
     (last_of c.args.token.now) (view_of c.args.token.now).steps c.requires.goes_on in
-    let fits = subst (λ (p : Place). Fits (IsUp g.C.Clock.tells c.args.limit) (view_of c.args.token.now).owns
+    let fits = subst (λ (p : Place). Fits (TimeIsUp g.C.Clock.tells c.args.limit) (view_of c.args.token.now).owns
     p (stage_of c.args.token.now None)) (sym c.place_after-start.ensures) start in
-    let stopped = subst (λ (stop : Stop). IsStopped (IsUp g.C.Clock.tells c.args.limit)
+    let stopped = subst (λ (stop : Stop). IsStopped (TimeIsUp g.C.Clock.tells c.args.limit)
     (view_of c.args.token.now).owns (call_purpose c.place_after-start.result) stop
     (stage_of c.run.new.token None)) c.in-Ended.is (c.run.ensures.stopped owns fits) in
-    over_after n (IsUp g.C.Clock.tells c.args.limit) c.args.call c.args.seen owns answer
+    over_after n (TimeIsUp g.C.Clock.tells c.args.limit) c.args.call c.args.seen owns answer
     (stage_of c.run.new.token None) c.requires.goes_on
-    (subst (λ (p : Place). IsOver (IsUp g.C.Clock.tells c.args.limit) (view_of c.args.token.now).owns
+    (subst (λ (p : Place). IsOver (TimeIsUp g.C.Clock.tells c.args.limit) (view_of c.args.token.now).owns
     (call_purpose p) c.in-Ended.answer (stage_of c.run.new.token None)) c.place_after-start.ensures
     stopped)
 
 pub unreachable-requires : goal.unreachable-requires
 unreachable-requires g c = let n = c.args.word.number in let owns = (view_of c.args.token.now).owns in
-    let start = fits_after n (IsUp g.C.Clock.tells c.args.limit) c.args.call c.args.seen owns
+    let start = fits_after n (TimeIsUp g.C.Clock.tells c.args.limit) c.args.call c.args.seen owns
     (last_of c.args.token.now) (view_of c.args.token.now).steps c.requires.goes_on in
-    let fits = subst (λ (p : Place). Fits (IsUp g.C.Clock.tells c.args.limit) (view_of c.args.token.now).owns
+    let fits = subst (λ (p : Place). Fits (TimeIsUp g.C.Clock.tells c.args.limit) (view_of c.args.token.now).owns
     p (stage_of c.args.token.now None)) (sym c.place_after-start.ensures) start in
-    let stopped = subst (λ (stop : Stop). IsStopped (IsUp g.C.Clock.tells c.args.limit)
+    let stopped = subst (λ (stop : Stop). IsStopped (TimeIsUp g.C.Clock.tells c.args.limit)
     (view_of c.args.token.now).owns (call_purpose c.place_after-start.result) stop
     (stage_of c.run.new.token None)) c.in-Paused.is (c.run.ensures.stopped owns fits) in
-    never_pauses n (IsUp g.C.Clock.tells c.args.limit) c.args.call c.args.seen owns c.in-Paused.place
+    never_pauses n (TimeIsUp g.C.Clock.tells c.args.limit) c.args.call c.args.seen owns c.in-Paused.place
     c.in-Paused.state (stage_of c.run.new.token None) c.requires.goes_on
-    (subst (λ (p : Place). IsStopped (IsUp g.C.Clock.tells c.args.limit) (view_of c.args.token.now).owns
+    (subst (λ (p : Place). IsStopped (TimeIsUp g.C.Clock.tells c.args.limit) (view_of c.args.token.now).owns
     (call_purpose p) (Paused c.in-Paused.place c.in-Paused.state) (stage_of c.run.new.token None))
     c.place_after-start.ensures stopped)
 

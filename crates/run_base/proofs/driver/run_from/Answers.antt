@@ -1,5 +1,5 @@
 use Rattle.std.proofs.Common.{ℕ, ◌≡◌, ◌∙◌, true, None, Some, Option, List, sym, refl, ap, subst, rules}
-use Rattle.core_clocks.specs.Clocks.{IsUp}
+use Rattle.core_clocks.specs.Clocks.{TimeIsUp}
 use Rattle.spec_locks.specs.declared.outcomes.Answer.{Answer}
 use Rattle.lot_steps.specs.Steps.{act_of, next_place, next_act}
 use Rattle.lot_steps.specs.declared.places.Place.{Place}
@@ -38,24 +38,24 @@ loop-preserved g c = let p = c.loop.place in let t = c.turn-reply in let reply =
     let before = c.loop.invariant in let next = c.advance_in_place-act.ensures.place in let from =
     c.go_from-act.ensures.place in
     let none : answer_of (next_act c.loop.place c.turn-reply.result) ≡ None = search rules in
-    let reached : (base : List Ownership) → Fits (IsUp g.C.Clock.tells c.args.limit) base c.args.start
-    (stage_of c.args.token.now c.args.inside) → ReachedBy (IsUp g.C.Clock.tells c.args.limit) base
+    let reached : (base : List Ownership) → Fits (TimeIsUp g.C.Clock.tells c.args.limit) base c.args.start
+    (stage_of c.args.token.now c.args.inside) → ReachedBy (TimeIsUp g.C.Clock.tells c.args.limit) base
     (call_purpose c.loop.place) (next_place c.loop.place c.turn-reply.result) None
     (stage_of c.turn-reply.new.token c.turn-reply.new.section)
     = λ (base : List Ownership) fits. subst (λ (o : Option Answer). ReachedBy
-    (IsUp g.C.Clock.tells c.args.limit) base (call_purpose c.loop.place)
+    (TimeIsUp g.C.Clock.tells c.args.limit) base (call_purpose c.loop.place)
     (next_place c.loop.place c.turn-reply.result) o (stage_of c.turn-reply.new.token
     c.turn-reply.new.section)) none (t.ensures.reached base (before.fits base fits)) in
     let words_then = subst (λ (q : Place). AreWordsFor q (kind_in c.args.words) (at_in c.args.words))
     (sym next) (words_on p reply (kind_in c.args.words) (at_in c.args.words) before.words) in
-    let goes_from : (base : List Ownership) → Fits (IsUp g.C.Clock.tells c.args.limit) base c.args.start
-    (stage_of c.args.token.now c.args.inside) → Fits (IsUp g.C.Clock.tells c.args.limit) base
+    let goes_from : (base : List Ownership) → Fits (TimeIsUp g.C.Clock.tells c.args.limit) base c.args.start
+    (stage_of c.args.token.now c.args.inside) → Fits (TimeIsUp g.C.Clock.tells c.args.limit) base
     c.go_from-act.new.place (stage_of c.turn-reply.new.token c.turn-reply.new.section)
     × (call_purpose c.go_from-act.new.place ≡ call_purpose c.advance_in_place-act.new.self)
-    = λ (base : List Ownership) fits. fits_from (IsUp g.C.Clock.tells c.args.limit) (kind_in c.args.words)
+    = λ (base : List Ownership) fits. fits_from (TimeIsUp g.C.Clock.tells c.args.limit) (kind_in c.args.words)
     (at_in c.args.words) base c.advance_in_place-act.new.self c.go_from-act.new.place
     (stage_of new t.new.section) from words_then
-    (subst (λ (q : Place). Fits (IsUp g.C.Clock.tells c.args.limit) base q
+    (subst (λ (q : Place). Fits (TimeIsUp g.C.Clock.tells c.args.limit) base q
     (stage_of c.turn-reply.new.token c.turn-reply.new.section)) (sym next) (reached base fits).0) in
     let me = c.args.token.now.number in
     let gone = subst (λ (n : ℕ). HasRecorded (at_in c.args.words) n c.loop.place c.turn-reply.result
@@ -84,11 +84,11 @@ returns-in-Some-answer_of-clause-path g c = let p = c.loop.place in let t = c.tu
     c.requires.start in let me = c.args.token.now.number in
     let is : answer_of (next_act c.loop.place c.turn-reply.result) ≡ Some c.in-Some-answer_of.answer =
     search rules in
-    let over = subst (λ (o : Option Answer). ReachedBy (IsUp g.C.Clock.tells c.args.limit) c.requires.start.0
+    let over = subst (λ (o : Option Answer). ReachedBy (TimeIsUp g.C.Clock.tells c.args.limit) c.requires.start.0
     (call_purpose c.loop.place) (next_place c.loop.place c.turn-reply.result) o
     (stage_of c.turn-reply.new.token c.turn-reply.new.section)) is (t.ensures.reached start.0
     (before.fits start.0 start.1)) in
-    let none = outside (IsUp g.C.Clock.tells c.args.limit) start.0 (view_of new).owns (call_purpose p) answer
+    let none = outside (TimeIsUp g.C.Clock.tells c.args.limit) start.0 (view_of new).owns (call_purpose p) answer
     (section_view t.new.section) (last_of new) (view_of new).steps over in
     let gone = subst (λ (n : ℕ). HasRecorded (at_in c.args.words) n c.loop.place c.turn-reply.result
     (trail_of c.loop.token c.loop.section) (trail_of c.turn-reply.new.token c.turn-reply.new.section))
@@ -106,7 +106,7 @@ returns-in-Some-closure_of-clause-path g c = let start = c.requires.start in let
     let is : closure_of (act_of c.loop.place) ≡ Some c.in-Some-closure_of.state =
     sym (ap closure_of c.loop.invariant.act) ∙ sym c.closure_of.ensures ∙ c.in-Some-closure_of.is in
     let none = closes_outside (kind_in words) (at_in words) st (act_of p) c.in-Some-closure_of.state is
-    (places_lead (IsUp g.C.Clock.tells c.args.limit) (kind_in words) (at_in words) start.0 p st
+    (places_lead (TimeIsUp g.C.Clock.tells c.args.limit) (kind_in words) (at_in words) start.0 p st
     c.loop.invariant.words (c.loop.invariant.fits start.0 start.1)).0 in
     subst (λ (x : Trail). ComesBy (at_in c.args.words) c.args.token.now.number c.args.start
     (trail_of c.args.token.now c.args.inside) x c.loop.place)
@@ -118,13 +118,13 @@ returns-in-Some-answer_of-clause-stopped g c = let p = c.loop.place in let t = c
     let is : answer_of (next_act c.loop.place c.turn-reply.result) ≡ Some c.in-Some-answer_of.answer =
     search rules in
     λ (base : List Ownership) fits. let over =
-    subst (λ (o : Option Answer). ReachedBy (IsUp g.C.Clock.tells c.args.limit) base
+    subst (λ (o : Option Answer). ReachedBy (TimeIsUp g.C.Clock.tells c.args.limit) base
     (call_purpose c.loop.place) (next_place c.loop.place c.turn-reply.result) o
     (stage_of c.turn-reply.new.token c.turn-reply.new.section)) is (t.ensures.reached base
     (before.fits base fits)) in
-    subst (λ (aim : CallPurpose). IsOver (IsUp g.C.Clock.tells c.args.limit) base aim
+    subst (λ (aim : CallPurpose). IsOver (TimeIsUp g.C.Clock.tells c.args.limit) base aim
     c.in-Some-answer_of.answer (stage_of c.turn-reply.new.token None)) before.aim
-    (ended (IsUp g.C.Clock.tells c.args.limit) base (view_of new).owns (call_purpose p) answer
+    (ended (TimeIsUp g.C.Clock.tells c.args.limit) base (view_of new).owns (call_purpose p) answer
     (section_view t.new.section) (last_of new) (view_of new).steps over)
 
 pub end-requires-in-Some-answer_of : goal.end-requires-in-Some-answer_of
@@ -132,11 +132,11 @@ end-requires-in-Some-answer_of g c = let start = c.requires.start in let p = c.l
     c.turn-reply in let new = t.new.token in let answer = c.in-Some-answer_of.answer in
     let is : answer_of (next_act c.loop.place c.turn-reply.result) ≡ Some c.in-Some-answer_of.answer =
     search rules in
-    let over = subst (λ (o : Option Answer). ReachedBy (IsUp g.C.Clock.tells c.args.limit) c.requires.start.0
+    let over = subst (λ (o : Option Answer). ReachedBy (TimeIsUp g.C.Clock.tells c.args.limit) c.requires.start.0
     (call_purpose c.loop.place) (next_place c.loop.place c.turn-reply.result) o
     (stage_of c.turn-reply.new.token c.turn-reply.new.section)) is (t.ensures.reached start.0
     (c.loop.invariant.fits start.0 start.1)) in
-    outside (IsUp g.C.Clock.tells c.args.limit) start.0 (view_of new).owns (call_purpose p) answer
+    outside (TimeIsUp g.C.Clock.tells c.args.limit) start.0 (view_of new).owns (call_purpose p) answer
     (section_view t.new.section) (last_of new) (view_of new).steps over
 
 pub end-requires : goal.end-requires
@@ -145,7 +145,7 @@ end-requires g c = let start = c.requires.start in let p = c.loop.place in let w
     let is : closure_of (act_of c.loop.place) ≡ Some c.in-Some-closure_of.state =
     sym (ap closure_of c.loop.invariant.act) ∙ sym c.closure_of.ensures ∙ c.in-Some-closure_of.is in
     closes_outside (kind_in words) (at_in words) st (act_of p) c.in-Some-closure_of.state is
-    (places_lead (IsUp g.C.Clock.tells c.args.limit) (kind_in words) (at_in words) start.0 p st
+    (places_lead (TimeIsUp g.C.Clock.tells c.args.limit) (kind_in words) (at_in words) start.0 p st
     c.loop.invariant.words (c.loop.invariant.fits start.0 start.1)).0
 
 pub returns-in-Some-closure_of-clause-stopped : goal.returns-in-Some-closure_of-clause-stopped
@@ -155,9 +155,9 @@ returns-in-Some-closure_of-clause-stopped g c = let p = c.loop.place in let word
     let is : closure_of (act_of c.loop.place) ≡ Some c.in-Some-closure_of.state =
     sym (ap closure_of c.loop.invariant.act) ∙ sym c.closure_of.ensures ∙ c.in-Some-closure_of.is in
     λ (base : List Ownership) fits. let needs =
-    (places_lead (IsUp g.C.Clock.tells c.args.limit) (kind_in words) (at_in words) base p st before.words
+    (places_lead (TimeIsUp g.C.Clock.tells c.args.limit) (kind_in words) (at_in words) base p st before.words
     (before.fits base fits)).0 in
-    closed (IsUp g.C.Clock.tells c.args.limit) base (view_of token).owns (call_purpose c.args.start) p
+    closed (TimeIsUp g.C.Clock.tells c.args.limit) base (view_of token).owns (call_purpose c.args.start) p
     c.in-Some-closure_of.state (section_view c.loop.section) (last_of token) (view_of token).steps is
     (closes_outside (kind_in words) (at_in words) st (act_of p) c.in-Some-closure_of.state is needs)
     (before.fits base fits) before.aim

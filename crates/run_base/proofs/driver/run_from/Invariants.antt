@@ -1,5 +1,5 @@
 use Rattle.std.proofs.Common.{◌≡◌, true, List}
-use Rattle.core_clocks.specs.Clocks.{IsUp}
+use Rattle.core_clocks.specs.Clocks.{TimeIsUp}
 use Rattle.lot_steps.specs.Steps.{act_of}
 use Rattle.core_words.specs.declared.owners.Ownership.{Ownership}
 use Rattle.parking_lot_core.specs.Tokens.{IsSameThread}
@@ -18,8 +18,8 @@ invariant-loop g l = record {
       (trail_of l.token l.section) l.place;
   queued : is_queued l.place ≡ true → HasPlace l.lot l.token.number l.queue;
   words : AreWordsFor l.place (kind_in l.words) (at_in l.words);
-  fits : (base : List Ownership) → Fits (IsUp g.C.Clock.tells l.limit) base l.fn.start
-      (stage_of l.fn.token l.fn.inside) → Fits (IsUp g.C.Clock.tells l.limit) base l.place
+  fits : (base : List Ownership) → Fits (TimeIsUp g.C.Clock.tells l.limit) base l.fn.start
+      (stage_of l.fn.token l.fn.inside) → Fits (TimeIsUp g.C.Clock.tells l.limit) base l.place
       (stage_of l.token l.section);
   act : l.act ≡ act_of l.place;
   aim : call_purpose l.place ≡ call_purpose l.fn.start;

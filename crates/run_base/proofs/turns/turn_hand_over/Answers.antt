@@ -1,5 +1,5 @@
 use Rattle.std.proofs.Common.{◌≡◌, ◌++◌, refl, sym, subst}
-use Rattle.core_clocks.specs.Clocks.{IsUp}
+use Rattle.core_clocks.specs.Clocks.{TimeIsUp}
 use Rattle.core_words.specs.Indices.{word_index}
 use Rattle.core_words.specs.Steps.{CodesWith, MayStep}
 use Rattle.core_words.specs.declared.words.Word.{Word}
@@ -14,7 +14,7 @@ use Rattle.run_base.proofs.turns.turn_hand_over.Goals as goal
 
 pub hand_over-requires-clause-may : goal.hand_over-requires-clause-may
 hand_over-requires-clause-may g c =
-    let needs = needs_by (IsUp g.C.Clock.tells c.args._limit) c.args.lot.now c.args.words c.requires.0
+    let needs = needs_by (TimeIsUp g.C.Clock.tells c.args._limit) c.args.lot.now c.args.words c.requires.0
     (act.TheVariants.HandOver c.args.lock c.args.op) c.args.token.now c.args.section.now c.requires.1
     c.requires.2 in
     subst (λ (w : Word). MayStep w.kind (word_index w.number w.kind) c.args.op
@@ -22,7 +22,7 @@ hand_over-requires-clause-may g c =
 
 pub hand_over-requires-clause-each : goal.hand_over-requires-clause-each
 hand_over-requires-clause-each g c =
-    let needs = needs_by (IsUp g.C.Clock.tells c.args._limit) c.args.lot.now c.args.words c.requires.0
+    let needs = needs_by (TimeIsUp g.C.Clock.tells c.args._limit) c.args.lot.now c.args.words c.requires.0
     (act.TheVariants.HandOver c.args.lock c.args.op) c.args.token.now c.args.section.now c.requires.1
     c.requires.2 in (
       needs.1,
@@ -34,7 +34,7 @@ hand_over-requires-clause-each g c =
 pub returns : goal.returns
 returns g c = λ p at is.
     let seen = c.hand_over.result in
-    turned_by (IsUp g.C.Clock.tells c.args._limit) c.args.lot.now c.args.words p c.args.token.now
+    turned_by (TimeIsUp g.C.Clock.tells c.args._limit) c.args.lot.now c.args.words p c.args.token.now
     c.hand_over.new.token c.args.section.now c.hand_over.new.section (act.TheVariants.HandOver c.args.lock
     c.args.op) (Value seen) is refl at
     c.hand_over.ensures.own.0 c.hand_over.ensures.own.1 (

@@ -1,5 +1,5 @@
 use Rattle.std.proofs.Common.{Option, ap, ◌∙◌, ◌≡◌, refl, sym, subst}
-use Rattle.core_clocks.specs.Clocks.{IsUp}
+use Rattle.core_clocks.specs.Clocks.{TimeIsUp}
 use Rattle.core_base.specs.declared.ops.Op.TheVariants.{Load}
 use Rattle.core_words.specs.Indices.{word_index}
 use Rattle.core_words.specs.Steps.{CodesWith, MayStep, after_step}
@@ -16,7 +16,7 @@ use Rattle.run_base.proofs.turns.turn_park.Goals as goal
 
 pub park-requires-clause-needs : goal.park-requires-clause-needs
 park-requires-clause-needs g c =
-    let needs = needs_by (IsUp g.C.Clock.tells c.args._limit) c.args.lot.now c.args.words c.requires.0
+    let needs = needs_by (TimeIsUp g.C.Clock.tells c.args._limit) c.args.lot.now c.args.words c.requires.0
     (act.TheVariants.Park c.args.lock c.args.key c.args.check c.args.want) c.args.token.now
     c.args.section.now c.requires.1 c.requires.2 in (
       subst (λ (w : Word). MayStep w.kind (word_index w.number w.kind) Load (view_of c.args.token.now).owns)
@@ -33,7 +33,7 @@ returns-clause-done g c = λ p at is.
     (view_of c.args.token.now).owns) c.of.ensures c.park.ensures.stepped.2 in
     let there = by_stage (word_among c.args.words c.args.lock) Load seen c.args.token.now c.args.section.now
     c.park.new.token then c.park.ensures.own.1 code in
-    turned_by (IsUp g.C.Clock.tells c.args._limit) c.args.lot.now c.args.words p c.args.token.now
+    turned_by (TimeIsUp g.C.Clock.tells c.args._limit) c.args.lot.now c.args.words p c.args.token.now
     c.park.new.token c.args.section.now c.park.new.section (act.TheVariants.Park c.args.lock c.args.key
     c.args.check c.args.want) (Parked c.park.result) is refl at
     c.park.ensures.own.0 c.park.ensures.same.0 (

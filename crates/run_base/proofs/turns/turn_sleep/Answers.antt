@@ -1,5 +1,5 @@
 use Rattle.std.proofs.Common.{refl, sym, subst}
-use Rattle.core_clocks.specs.Clocks.{IsUp}
+use Rattle.core_clocks.specs.Clocks.{TimeIsUp}
 use Rattle.steps_base.specs.declared.acts.Act as act
 use Rattle.core_words.specs.Indices.{word_index}
 use Rattle.core_words.specs.Lots.{IsWordOf}
@@ -21,7 +21,7 @@ sleep-requires g c = record {
     c.requires.at.0,
     subst (IsWordOf c.args.lot.now.words) (sym c.of.ensures)
         (c.requires.at.1 c.sleeper_at-sleeper.result.lock),
-    needs_by (IsUp g.C.Clock.tells c.args.limit) c.args.lot.now c.args.words c.args.place
+    needs_by (TimeIsUp g.C.Clock.tells c.args.limit) c.args.lot.now c.args.words c.args.place
         act.TheVariants.Sleep c.args.token.now c.args.section.now c.requires.at c.requires.act,
   );
   queued = c.requires.queued;
@@ -29,22 +29,22 @@ sleep-requires g c = record {
 
 pub returns : goal.returns
 returns g c =
-    let awoke = subst (λ (w : Word). Awoke (IsUp g.C.Clock.tells c.args.limit) w.kind
+    let awoke = subst (λ (w : Word). Awoke (TimeIsUp g.C.Clock.tells c.args.limit) w.kind
     (word_index w.number w.kind) c.sleeper_at-sleeper.result
     (stage_of c.args.token.now c.args.section.now) c.sleep.result (stage_of c.sleep.new.token
     c.sleep.new.section)) c.of.ensures c.sleep.ensures.awoke in
-    let became = subst (λ (s : Sleeper). Awoke (IsUp g.C.Clock.tells c.args.limit)
+    let became = subst (λ (s : Sleeper). Awoke (TimeIsUp g.C.Clock.tells c.args.limit)
     (kind_in c.args.words s.lock) (at_in c.args.words s.lock) s (stage_of c.args.token.now
     c.args.section.now) c.sleep.result (stage_of c.sleep.new.token c.sleep.new.section))
     c.sleeper_at-sleeper.ensures awoke in
     record {
-      turned = turned_by (IsUp g.C.Clock.tells c.args.limit) c.args.lot.now c.args.words c.args.place
+      turned = turned_by (TimeIsUp g.C.Clock.tells c.args.limit) c.args.lot.now c.args.words c.args.place
           c.args.token.now c.sleep.new.token c.args.section.now c.sleep.new.section act.TheVariants.Sleep
           c.sleep.result c.requires.act refl c.requires.at
           c.sleep.ensures.own.0 c.sleep.ensures.own.1 became c.sleep.ensures.own.2 c.sleep.ensures.queues
           c.sleep.ensures.told;
       queues = c.sleep.ensures.queues;
-      queued = slept_on (IsUp g.C.Clock.tells c.args.limit) c.args.lot.now c.args.words c.args.place
+      queued = slept_on (TimeIsUp g.C.Clock.tells c.args.limit) c.args.lot.now c.args.words c.args.place
           c.args.token.now c.sleep.new.token c.args.section.now c.sleep.new.section c.sleep.result
           c.args.queue.now c.sleep.new.queue c.requires.at c.requires.act became c.sleep.ensures.own.0.1
           c.sleep.ensures.place c.requires.queued;

@@ -1,5 +1,5 @@
 use Rattle.std.proofs.Common.{sym, subst}
-use Rattle.core_clocks.specs.Clocks.{IsUp}
+use Rattle.core_clocks.specs.Clocks.{TimeIsUp}
 use Rattle.core_words.specs.Indices.{word_index}
 use Rattle.core_words.specs.Steps.{MayStep}
 use Rattle.core_words.specs.declared.words.Word.{Word}
@@ -12,13 +12,13 @@ pub word-requires-clause-may : goal.word-requires-clause-may
 word-requires-clause-may g c =
     subst (λ (w : Word). MayStep w.kind (word_index w.number w.kind) c.args.op
     (view_of c.args.token.now).owns) (sym c.of.ensures)
-    (needs_by (IsUp g.C.Clock.tells c.args._limit) c.args.lot.now c.args.words c.requires.0
+    (needs_by (TimeIsUp g.C.Clock.tells c.args._limit) c.args.lot.now c.args.words c.requires.0
     (act.TheVariants.Word c.args.lock c.args.op) c.args.token.now c.args._section.now c.requires.1
     c.requires.2)
 
 pub returns : goal.returns
 returns g c = λ p at is.
-    word_turned (IsUp g.C.Clock.tells c.args._limit) c.args.lot.now c.args.words p c.args.token.now
+    word_turned (TimeIsUp g.C.Clock.tells c.args._limit) c.args.lot.now c.args.words p c.args.token.now
     c.word.new.token c.args._section.now c.args.lock c.args.op c.word.result c.of.result c.of.ensures is
     at c.word.ensures.own.0 c.word.ensures.stepped c.word.ensures.own.1 c.word.ensures.coded
     c.word.ensures.untold

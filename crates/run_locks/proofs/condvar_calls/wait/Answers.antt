@@ -1,5 +1,5 @@
 use Rattle.std.proofs.Common.{ℕ, None, refl, subst, sym}
-use Rattle.core_clocks.specs.Clocks.{IsUp}
+use Rattle.core_clocks.specs.Clocks.{TimeIsUp}
 use Rattle.steps_condvar.specs.declared.wait.WaitAt.TheVariants as wait
 use Rattle.run_base.specs.Courses.{Courses, trail_of}
 use Rattle.run_base.specs.Telling.{owns_of}
@@ -12,7 +12,7 @@ use Rattle.run_locks.proofs.condvar_calls.wait.Goals as goal
 
 pub wait_course-requires : goal.wait_course-requires
 wait_course-requires g c = let own = c.requires.own in
-    subst (λ (pair : Pair). IsAtPlace (IsUp g.C.Clock.tells c.args.limit) c.args.lot.now pair.words
+    subst (λ (pair : Pair). IsAtPlace (TimeIsUp g.C.Clock.tells c.args.limit) c.args.lot.now pair.words
     (wait_at pair.condvar pair.mutex c.args.timed wait.Enter) c.args.token.now None)
     (sym c.pair_of.ensures) (
       own.0.0,
@@ -23,13 +23,13 @@ wait_course-requires g c = let own = c.requires.own in
     )
 
 pub returns-clause-own : goal.returns-clause-own
-returns-clause-own g c = (subst (λ (pair : Pair). HasEnded (IsUp g.C.Clock.tells c.args.limit) c.args.lot.now
+returns-clause-own g c = (subst (λ (pair : Pair). HasEnded (TimeIsUp g.C.Clock.tells c.args.limit) c.args.lot.now
     pair.words (wait_at pair.condvar pair.mutex c.args.timed wait.Enter) c.wait_course.result
     c.args.token.now None c.wait_course.new.token) c.pair_of.ensures c.wait_course.ensures).0
 
 pub returns-clause-path : goal.returns-clause-path
 returns-clause-path g c = let own = c.requires.own in
-    let ended = (subst (λ (pair : Pair). HasEnded (IsUp g.C.Clock.tells c.args.limit) c.args.lot.now
+    let ended = (subst (λ (pair : Pair). HasEnded (TimeIsUp g.C.Clock.tells c.args.limit) c.args.lot.now
     pair.words (wait_at pair.condvar pair.mutex c.args.timed wait.Enter) c.wait_course.result
     c.args.token.now None c.wait_course.new.token) c.pair_of.ensures c.wait_course.ensures) in
     subst (λ (at : ℕ → ℕ). Courses at c.args.token.now.number (wait_begin c.args.condvar.number
@@ -38,7 +38,7 @@ returns-clause-path g c = let own = c.requires.own in
     own.4 own.2 own.0.2) ended.2
 
 pub returns-clause-over : goal.returns-clause-over
-returns-clause-over g c = (subst (λ (pair : Pair). HasEnded (IsUp g.C.Clock.tells c.args.limit) c.args.lot.now
+returns-clause-over g c = (subst (λ (pair : Pair). HasEnded (TimeIsUp g.C.Clock.tells c.args.limit) c.args.lot.now
     pair.words (wait_at pair.condvar pair.mutex c.args.timed wait.Enter) c.wait_course.result
     c.args.token.now None c.wait_course.new.token) c.pair_of.ensures c.wait_course.ensures).1
     (owns_of c.args.token.now) (c.requires.owned, (refl, refl))

@@ -1,6 +1,6 @@
 use Rattle.std.proofs.Common.{rules, ◌≡◌, subst, MatchResult, Err}
 use Rattle.std.specs.declared.result.Result.{Result}
-use Rattle.core_clocks.specs.Clocks.{IsUp}
+use Rattle.core_clocks.specs.Clocks.{TimeIsUp}
 use Rattle.spec_locks.specs.declared.outcomes.Answer.{Answer}
 use Rattle.run_locks.specs.Halves.{HasBegunRwLock, HasEndedRwLock}
 use Rattle.run_locks.specs.declared.rwlock_calls.Rest.{Rest}
@@ -14,7 +14,7 @@ call_slow-requires-clause-begun g c = let is : c.call_fast.result ≡ Err (GoesO
       c.requires.right.0,
       c.requires.right.1,
       subst (λ (r : Result Answer Rest). MatchResult r
-          (λ answer. HasEndedRwLock (IsUp g.C.Clock.tells c.args.limit.now) c.args.word.now
+          (λ answer. HasEndedRwLock (TimeIsUp g.C.Clock.tells c.args.limit.now) c.args.word.now
           c.args.settings.now.admission c.args.purpose answer c.args.token.now c.call_fast.new.token)
           (λ rest. HasBegunRwLock c.args.word.now c.args.settings.now.admission c.args.purpose rest
           c.args.token.now c.call_fast.new.token)) is c.call_fast.ensures.over,
@@ -27,7 +27,7 @@ missed-requires-clause-begun g c = let is : c.call_fast.result
       c.requires.right.0,
       c.requires.right.1,
       subst (λ (r : Result Answer Rest). MatchResult r
-          (λ answer. HasEndedRwLock (IsUp g.C.Clock.tells c.args.limit.now) c.args.word.now
+          (λ answer. HasEndedRwLock (TimeIsUp g.C.Clock.tells c.args.limit.now) c.args.word.now
           c.args.settings.now.admission c.args.purpose answer c.args.token.now c.call_fast.new.token)
           (λ rest. HasBegunRwLock c.args.word.now c.args.settings.now.admission c.args.purpose rest
           c.args.token.now c.call_fast.new.token)) is c.call_fast.ensures.over,

@@ -1,5 +1,5 @@
 use Rattle.std.proofs.Common.{rules, ◌≡◌, ℕ, List, None, refl, ap, sym, subst}
-use Rattle.core_clocks.specs.Clocks.{IsUp}
+use Rattle.core_clocks.specs.Clocks.{TimeIsUp}
 use Rattle.core_base.specs.declared.ops.Op.{Op}
 use Rattle.core_base.specs.declared.ops.Op.TheVariants.{Exchange}
 use Rattle.spec_locks.specs.declared.outcomes.Answer.{Answer}
@@ -33,7 +33,7 @@ returns-in-Ends-clause-over g c = let ends : course_of c.args.settings.now.admis
     let start = started c.args.word.now c.requires.own.2 c.args.purpose c.opening.result c.word-seen.result
     c.args.token.now c.word-seen.new.token c.opening.ensures c.word-seen.ensures.stepped
     c.word-seen.ensures.own.1 c.word-seen.ensures.coded in
-    let on = ended_on (IsUp g.C.Clock.tells c.args._limit.now) c.args.word.now.number
+    let on = ended_on (TimeIsUp g.C.Clock.tells c.args._limit.now) c.args.word.now.number
     c.args.settings.now.admission in (
       c.word-seen.ensures.own.0.1,
       path_ended c.args.word.now.number c.args.settings.now.admission c.args.purpose c.word-seen.result
@@ -68,9 +68,9 @@ word_again-found-requires-clause-may g c = let goes : course_of c.args.settings.
     c.word-seen.result ≡ Takes = search rules in
     word_may_take c.args.word.now c.requires.own.2 c.args.settings.now.admission c.args.purpose
     c.word-seen.result goes (Exchange c.word-seen.result c.taken-to.result)
-    (ap (Exchange c.word-seen.result) c.taken-to.ensures) (IsUp g.C.Clock.tells c.args._limit.now)
+    (ap (Exchange c.word-seen.result) c.taken-to.ensures) (TimeIsUp g.C.Clock.tells c.args._limit.now)
     c.requires.right.0 c.word-seen.new.token
-    (rest_fits (IsUp g.C.Clock.tells c.args._limit.now) c.args.word.now c.requires.own.2
+    (rest_fits (TimeIsUp g.C.Clock.tells c.args._limit.now) c.args.word.now c.requires.own.2
     c.args.settings.now.admission c.requires.own.4 c.args.purpose c.opening.result c.word-seen.result
     c.args.token.now c.word-seen.new.token c.opening.ensures c.word-seen.ensures.stepped
     c.word-seen.ensures.own.1 c.word-seen.ensures.coded (takes_at c.args.word.now.number
@@ -81,9 +81,9 @@ pub returns-then-found-seen-clause-over : goal.returns-then-found-seen-clause-ov
 returns-then-found-seen-clause-over g c = let goes : course_of c.args.settings.now.admission c.args.purpose
     c.word-seen.result ≡ Takes = search rules in
     let found : c.word_again-found.result ≡ c.word-seen.result = search rules in
-    let up = IsUp g.C.Clock.tells c.args._limit.now in let exchange = Exchange c.word-seen.result
+    let up = TimeIsUp g.C.Clock.tells c.args._limit.now in let exchange = Exchange c.word-seen.result
     c.taken-to.result in let by = ap (Exchange c.word-seen.result) c.taken-to.ensures in
-    subst (λ (answer : Answer). HasEndedRwLock (IsUp g.C.Clock.tells c.args._limit.now) c.args.word.now
+    subst (λ (answer : Answer). HasEndedRwLock (TimeIsUp g.C.Clock.tells c.args._limit.now) c.args.word.now
     c.args.settings.now.admission c.args.purpose answer c.args.token.now c.word_again-found.new.token)
     (sym c.answer_with.ensures)
     (ended_after up c.args.word.now c.requires.own.2 c.args.settings.now.admission c.requires.own.4

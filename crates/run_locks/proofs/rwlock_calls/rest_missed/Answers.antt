@@ -1,7 +1,7 @@
 use Rattle.std.proofs.Common.{rules, ◌≡◌, ◌∙◌, Option, None, Some, List, ap, inl, inr, refl, sym, subst, ℕ}
 use Rattle.std.proofs.Common.{false}
 use Rattle.steps_base.specs.declared.acts.Reply.TheVariants.{Value}
-use Rattle.core_clocks.specs.Clocks.{IsUp}
+use Rattle.core_clocks.specs.Clocks.{TimeIsUp}
 use Rattle.spec_locks.specs.declared.outcomes.Answer.{Answer}
 use Rattle.lot_steps.specs.Steps.{next_act, next_place}
 use Rattle.lot_steps.specs.declared.places.Place.{Place}
@@ -39,13 +39,13 @@ run_out-requires-clause-fits g c = let next : c.advance-next.result.0 ≡ next_p
     (Value c.args.found) = search rules in
     let none : answer_of (next_act (rwlock_deciding c.args.word.now.number c.args.admission.now
     c.args.purpose.now c.args.expected) (Value c.args.found)) ≡ None = search rules in
-    let reached = subst (λ (o : Option Answer). ReachedBy (IsUp g.C.Clock.tells c.args.limit.now)
+    let reached = subst (λ (o : Option Answer). ReachedBy (TimeIsUp g.C.Clock.tells c.args.limit.now)
     c.requires.reached.0 (of_rwlock c.args.word.now.number c.args.admission.now c.args.purpose.now)
     (next_place (rwlock_deciding c.args.word.now.number c.args.admission.now c.args.purpose.now
     c.args.expected) (Value c.args.found)) o (stage_of c.args.token.now None)) none c.requires.reached.1
     in (
       c.requires.reached.0,
-      subst (λ (p : Place). Fits (IsUp g.C.Clock.tells c.args.limit.now)
+      subst (λ (p : Place). Fits (TimeIsUp g.C.Clock.tells c.args.limit.now)
           c.requires.reached.0 p (stage_of c.args.token.now None)) (sym next) reached.0,
     )
 
@@ -64,7 +64,7 @@ returns-in-Some-clause-over g c =
     let some : answer_of (next_act (rwlock_deciding c.args.word.now.number c.args.admission.now
     c.args.purpose.now c.args.expected) (Value c.args.found)) ≡ Some c.in-Some.answer = search rules in
     λ (base : List Ownership) reached. subst (λ (o : Option Answer). ReachedBy
-    (IsUp g.C.Clock.tells c.args.limit.now) base (of_rwlock c.args.word.now.number c.args.admission.now
+    (TimeIsUp g.C.Clock.tells c.args.limit.now) base (of_rwlock c.args.word.now.number c.args.admission.now
     c.args.purpose.now) (next_place (rwlock_deciding c.args.word.now.number c.args.admission.now
     c.args.purpose.now c.args.expected) (Value c.args.found)) o (stage_of c.args.token.now None)) some
     reached
@@ -88,13 +88,13 @@ returns-in-None-clause-over g c = let next : c.advance-next.result.0 ≡ next_pl
     let none : answer_of (next_act (rwlock_deciding c.args.word.now.number c.args.admission.now
     c.args.purpose.now c.args.expected) (Value c.args.found)) ≡ None = search rules in
     λ (base : List Ownership) reached. let goes =
-    subst (λ (o : Option Answer). ReachedBy (IsUp g.C.Clock.tells c.args.limit.now) base
+    subst (λ (o : Option Answer). ReachedBy (TimeIsUp g.C.Clock.tells c.args.limit.now) base
     (of_rwlock c.args.word.now.number c.args.admission.now c.args.purpose.now)
     (next_place (rwlock_deciding c.args.word.now.number c.args.admission.now c.args.purpose.now
     c.args.expected) (Value c.args.found)) o (stage_of c.args.token.now None)) none reached in
-    subst (λ (aim : CallPurpose). IsOver (IsUp g.C.Clock.tells c.args.limit.now) base aim c.run_out.result
+    subst (λ (aim : CallPurpose). IsOver (TimeIsUp g.C.Clock.tells c.args.limit.now) base aim c.run_out.result
     (stage_of c.run_out.new.token None)) (ap call_purpose next ∙ goes.1)
-    (c.run_out.ensures.over base (subst (λ (p : Place). Fits (IsUp g.C.Clock.tells c.args.limit.now) base p
+    (c.run_out.ensures.over base (subst (λ (p : Place). Fits (TimeIsUp g.C.Clock.tells c.args.limit.now) base p
     (stage_of c.args.token.now None)) (sym next) goes.0))
 
 pub run_out-requires-clause-unqueued : goal.run_out-requires-clause-unqueued

@@ -1,6 +1,6 @@
 use Rattle.std.proofs.Common.{rules, ◌≡◌, None, List, sym, subst, ℕ, false}
 use Rattle.steps_base.specs.declared.acts.Reply.TheVariants.{Value}
-use Rattle.core_clocks.specs.Clocks.{IsUp}
+use Rattle.core_clocks.specs.Clocks.{TimeIsUp}
 use Rattle.lot_steps.specs.Steps.{next_place}
 use Rattle.lot_steps.specs.declared.places.Place.{Place}
 use Rattle.core_words.specs.declared.owners.Ownership.{Ownership}
@@ -28,7 +28,7 @@ run_out-requires-clause-fits g c = let start : c.place_after-start.result
     ≡ next_place (rwlock_begin c.args.word.now.number c.args.admission.now c.args.purpose.now)
     (Value c.args.seen) = search rules in (
       c.requires.fits.0,
-      subst (λ (p : Place). Fits (IsUp g.C.Clock.tells c.args.limit.now) c.requires.fits.0 p
+      subst (λ (p : Place). Fits (TimeIsUp g.C.Clock.tells c.args.limit.now) c.requires.fits.0 p
           (stage_of c.args.token.now None)) (sym start) c.requires.fits.1,
     )
 
@@ -48,9 +48,9 @@ pub returns-clause-over : goal.returns-clause-over
 returns-clause-over g c = λ (base : List Ownership) fits. let start : c.place_after-start.result
     ≡ next_place (rwlock_begin c.args.word.now.number c.args.admission.now c.args.purpose.now)
     (Value c.args.seen) = search rules in
-    subst (λ (p : Place). IsOver (IsUp g.C.Clock.tells c.args.limit.now) base (call_purpose p)
+    subst (λ (p : Place). IsOver (TimeIsUp g.C.Clock.tells c.args.limit.now) base (call_purpose p)
     c.run_out.result (stage_of c.run_out.new.token None)) start
-    (c.run_out.ensures.over base (subst (λ (p : Place). Fits (IsUp g.C.Clock.tells c.args.limit.now) base p
+    (c.run_out.ensures.over base (subst (λ (p : Place). Fits (TimeIsUp g.C.Clock.tells c.args.limit.now) base p
     (stage_of c.args.token.now None)) (sym start) fits))
 
 pub run_out-requires-clause-unqueued : goal.run_out-requires-clause-unqueued

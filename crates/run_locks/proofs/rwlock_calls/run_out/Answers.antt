@@ -1,5 +1,5 @@
 use Rattle.std.proofs.Common.{◌≡◌, ◌∙◌, None, subst, sym}
-use Rattle.core_clocks.specs.Clocks.{IsUp}
+use Rattle.core_clocks.specs.Clocks.{TimeIsUp}
 use Rattle.core_words.specs.declared.words.WordKind.TheVariants.{RwLock, Once, Condvar}
 use Rattle.run_base.specs.Fitting.{AreWordsAfter, IsStopped, call_purpose}
 use Rattle.run_base.specs.Stages.{stage_of}
@@ -18,7 +18,7 @@ not_condvar e = cc
 
 pub unreachable-requires : goal.unreachable-requires
 unreachable-requires g c = let base = c.requires.fits.0 in
-    let stopped = subst (λ (stop : Stop). IsStopped (IsUp g.C.Clock.tells c.args.limit) c.requires.fits.0
+    let stopped = subst (λ (stop : Stop). IsStopped (TimeIsUp g.C.Clock.tells c.args.limit) c.requires.fits.0
     (call_purpose c.args.start) stop (stage_of c.run.new.token None)) c.in-Paused.is
     (c.run.ensures.stopped base c.requires.fits.1) in
     let words = subst (λ (words : Words). AreWordsAfter (Paused c.in-Paused.place c.in-Paused.state)
@@ -26,6 +26,6 @@ unreachable-requires g c = let base = c.requires.fits.0 in
     (subst (λ (stop : Stop). AreWordsAfter stop (kind_in c.alone-words.result) (at_in c.alone-words.result))
     c.in-Paused.is c.run.ensures.words) in
     let other : c.args.word.kind ≡ RwLock = c.requires.kind in
-    never_closes (IsUp g.C.Clock.tells c.args.limit) base (call_purpose c.args.start) c.in-Paused.place
+    never_closes (TimeIsUp g.C.Clock.tells c.args.limit) base (call_purpose c.args.start) c.in-Paused.place
     c.in-Paused.state (stage_of c.run.new.token None) c.args.word (λ is. not_once (sym other ∙ is))
     (λ is. not_condvar (sym other ∙ is)) words stopped

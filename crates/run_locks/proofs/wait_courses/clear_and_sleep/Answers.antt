@@ -1,5 +1,5 @@
 use Rattle.std.proofs.Common.{◌≡◌, Bool, true, false, refl, ap, rules, sym, ◌∙◌}
-use Rattle.core_clocks.specs.Clocks.{IsUp}
+use Rattle.core_clocks.specs.Clocks.{TimeIsUp}
 use Rattle.steps_base.specs.declared.acts.Reply.TheVariants.{Value}
 use Rattle.steps_mutex.specs.declared.unlock.UnlockAt.TheVariants as unlock
 use Rattle.run_locks.specs.CondvarCourses.{releases_at, wait_at}
@@ -10,7 +10,7 @@ use Rattle.run_locks.proofs.wait_courses.clear_and_sleep.Goals as goal
 pub turn_word-requires : goal.turn_word-requires
 turn_word-requires g c = let pair = c.args.pair in let at = wait_at pair.condvar pair.mutex c.args.timed in
     let none : c.args.none_left ≡ true = search rules in
-    let here = begins (IsUp g.C.Clock.tells c.args.limit) c.args.lot.now pair.words
+    let here = begins (TimeIsUp g.C.Clock.tells c.args.limit) c.args.lot.now pair.words
     (at (releases_at (taken_on c.args.any c.args.none_left))) c.args.token.now c.args.section
     c.requires.at in
     let there = named here (ap (λ (b : Bool). at (releases_at (taken_on c.args.any b))) none) in
@@ -20,7 +20,7 @@ pub wake_and_sleep-requires-clause-at : goal.wake_and_sleep-requires-clause-at
 wake_and_sleep-requires-clause-at g c = let pair = c.args.pair in let at =
     wait_at pair.condvar pair.mutex c.args.timed in
     let none : c.args.none_left ≡ true = search rules in
-    let here = begins (IsUp g.C.Clock.tells c.args.limit) c.args.lot.now pair.words
+    let here = begins (TimeIsUp g.C.Clock.tells c.args.limit) c.args.lot.now pair.words
     (at (releases_at (taken_on c.args.any c.args.none_left))) c.args.token.now c.args.section
     c.requires.at in
     let there = named here (ap (λ (b : Bool). at (releases_at (taken_on c.args.any b))) none) in
@@ -33,7 +33,7 @@ pub wake_and_sleep-requires-clause-queued : goal.wake_and_sleep-requires-clause-
 wake_and_sleep-requires-clause-queued g c = let pair = c.args.pair in let at =
     wait_at pair.condvar pair.mutex c.args.timed in
     let none : c.args.none_left ≡ true = search rules in
-    let here = begins (IsUp g.C.Clock.tells c.args.limit) c.args.lot.now pair.words
+    let here = begins (TimeIsUp g.C.Clock.tells c.args.limit) c.args.lot.now pair.words
     (at (releases_at (taken_on c.args.any c.args.none_left))) c.args.token.now c.args.section
     c.requires.at in
     let there = named here (ap (λ (b : Bool). at (releases_at (taken_on c.args.any b))) none) in
@@ -46,7 +46,7 @@ pub returns-then-none_left : goal.returns-then-none_left
 returns-then-none_left g c = let pair = c.args.pair in let at = wait_at pair.condvar pair.mutex c.args.timed
     in
     let none : c.args.none_left ≡ true = search rules in
-    let here = begins (IsUp g.C.Clock.tells c.args.limit) c.args.lot.now pair.words
+    let here = begins (TimeIsUp g.C.Clock.tells c.args.limit) c.args.lot.now pair.words
     (at (releases_at (taken_on c.args.any c.args.none_left))) c.args.token.now c.args.section
     c.requires.at in
     let there = named here (ap (λ (b : Bool). at (releases_at (taken_on c.args.any b))) none) in
@@ -59,7 +59,7 @@ pub wake_and_sleep-requires-2-clause-at : goal.wake_and_sleep-requires-2-clause-
 wake_and_sleep-requires-2-clause-at g c = let pair = c.args.pair in let at =
     wait_at pair.condvar pair.mutex c.args.timed in
     let some : c.args.none_left ≡ false = search rules in
-    let here = begins (IsUp g.C.Clock.tells c.args.limit) c.args.lot.now pair.words
+    let here = begins (TimeIsUp g.C.Clock.tells c.args.limit) c.args.lot.now pair.words
     (at (releases_at (taken_on c.args.any c.args.none_left))) c.args.token.now c.args.section
     c.requires.at in
     let there = named here (ap (λ (b : Bool). at (releases_at (taken_on c.args.any b))) some) in
@@ -69,7 +69,7 @@ pub wake_and_sleep-requires-2-clause-queued : goal.wake_and_sleep-requires-2-cla
 wake_and_sleep-requires-2-clause-queued g c = let pair = c.args.pair in let at =
     wait_at pair.condvar pair.mutex c.args.timed in
     let some : c.args.none_left ≡ false = search rules in
-    let here = begins (IsUp g.C.Clock.tells c.args.limit) c.args.lot.now pair.words
+    let here = begins (TimeIsUp g.C.Clock.tells c.args.limit) c.args.lot.now pair.words
     (at (releases_at (taken_on c.args.any c.args.none_left))) c.args.token.now c.args.section
     c.requires.at in
     let there = named here (ap (λ (b : Bool). at (releases_at (taken_on c.args.any b))) some) in
@@ -78,7 +78,7 @@ wake_and_sleep-requires-2-clause-queued g c = let pair = c.args.pair in let at =
 pub returns : goal.returns
 returns g c = let pair = c.args.pair in let at = wait_at pair.condvar pair.mutex c.args.timed in
     let some : c.args.none_left ≡ false = search rules in
-    let here = begins (IsUp g.C.Clock.tells c.args.limit) c.args.lot.now pair.words
+    let here = begins (TimeIsUp g.C.Clock.tells c.args.limit) c.args.lot.now pair.words
     (at (releases_at (taken_on c.args.any c.args.none_left))) c.args.token.now c.args.section
     c.requires.at in
     let there = named here (ap (λ (b : Bool). at (releases_at (taken_on c.args.any b))) some) in

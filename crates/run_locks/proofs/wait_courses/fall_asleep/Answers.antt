@@ -1,5 +1,5 @@
 use Rattle.std.proofs.Common.{◌≡◌, true, None, refl, sym, ap, ◌∙◌, subst, rules}
-use Rattle.core_clocks.specs.Clocks.{IsUp}
+use Rattle.core_clocks.specs.Clocks.{TimeIsUp}
 use Rattle.core_base.specs.declared.notes.Note.TheVariants.{Normal}
 use Rattle.steps_base.specs.declared.acts.Reply.TheVariants.{Woken}
 use Rattle.steps_condvar.specs.declared.wait.WaiterFate.TheVariants.{Listed}
@@ -17,7 +17,7 @@ use Rattle.run_locks.proofs.wait_courses.fall_asleep.Goals as goal
 
 pub lock_again-requires : goal.lock_again-requires
 lock_again-requires g c = let pair = c.args.pair in let at = wait_at pair.condvar pair.mutex c.args.timed
-    in let up = IsUp g.C.Clock.tells c.args.limit in
+    in let up = TimeIsUp g.C.Clock.tells c.args.limit in
     let here = begins up c.args.lot.now pair.words (at (wait.Asleep Listed)) c.args.token.now c.args.section
     c.requires.at in
     let turned = subst (λ (p : Place). HasTurned up c.args.lot.now pair.words p c.turn_sleep-reply.result
@@ -34,7 +34,7 @@ lock_again-requires g c = let pair = c.args.pair in let at = wait_at pair.condva
 
 pub returns-then-matches : goal.returns-then-matches
 returns-then-matches g c = let pair = c.args.pair in let at = wait_at pair.condvar pair.mutex c.args.timed
-    in let up = IsUp g.C.Clock.tells c.args.limit in
+    in let up = TimeIsUp g.C.Clock.tells c.args.limit in
     let here = begins up c.args.lot.now pair.words (at (wait.Asleep Listed)) c.args.token.now c.args.section
     c.requires.at in
     let turned = subst (λ (p : Place). HasTurned up c.args.lot.now pair.words p c.turn_sleep-reply.result
@@ -51,7 +51,7 @@ returns-then-matches g c = let pair = c.args.pair in let at = wait_at pair.condv
 
 pub rest-requires-clause-at : goal.rest-requires-clause-at
 rest-requires-clause-at g c = let pair = c.args.pair in let at = wait_at pair.condvar pair.mutex c.args.timed
-    in let up = IsUp g.C.Clock.tells c.args.limit in
+    in let up = TimeIsUp g.C.Clock.tells c.args.limit in
     let here = begins up c.args.lot.now pair.words (at (wait.Asleep Listed)) c.args.token.now c.args.section
     c.requires.at in
     let turned = subst (λ (p : Place). HasTurned up c.args.lot.now pair.words p c.turn_sleep-reply.result
@@ -75,7 +75,7 @@ rest-requires-clause-call g c =
 
 pub returns : goal.returns
 returns g c = let pair = c.args.pair in let at = wait_at pair.condvar pair.mutex c.args.timed in let up =
-    IsUp g.C.Clock.tells c.args.limit in
+    TimeIsUp g.C.Clock.tells c.args.limit in
     let here = begins up c.args.lot.now pair.words (at (wait.Asleep Listed)) c.args.token.now c.args.section
     c.requires.at in
     let turned = subst (λ (p : Place). HasTurned up c.args.lot.now pair.words p c.turn_sleep-reply.result

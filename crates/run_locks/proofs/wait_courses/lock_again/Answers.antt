@@ -1,5 +1,5 @@
 use Rattle.std.proofs.Common.{ℕ, ◌≡◌, Some, refl, sym, ap, subst}
-use Rattle.core_clocks.specs.Clocks.{IsUp}
+use Rattle.core_clocks.specs.Clocks.{TimeIsUp}
 use Rattle.steps_base.specs.declared.acts.Reply.TheVariants.{Value}
 use Rattle.steps_mutex.specs.declared.lock.LockAt.TheVariants as lock
 use Rattle.lot_steps.specs.Steps.{next_act}
@@ -11,7 +11,7 @@ use Rattle.run_locks.proofs.wait_courses.lock_again.Goals as goal
 
 pub returns-then-seen-eq0 : goal.returns-then-seen-eq0
 returns-then-seen-eq0 g c = let pair = c.args.pair in let at = wait_at pair.condvar pair.mutex c.args.timed in
-    let here = begins (IsUp g.C.Clock.tells c.args.limit) c.args.lot.now pair.words (at (locks_at lock.First))
+    let here = begins (TimeIsUp g.C.Clock.tells c.args.limit) c.args.lot.now pair.words (at (locks_at lock.First))
     c.args.token.now c.args.section c.requires in
     over here (Value c.turn_word-seen.result) c.turn_word-seen.new.token c.args.section
     c.turn_word-seen.ensures refl c.notified_answer.result
@@ -20,7 +20,7 @@ returns-then-seen-eq0 g c = let pair = c.args.pair in let at = wait_at pair.cond
 
 pub lock_seen-requires : goal.lock_seen-requires
 lock_seen-requires g c = let pair = c.args.pair in let at = wait_at pair.condvar pair.mutex c.args.timed in
-    let here = begins (IsUp g.C.Clock.tells c.args.limit) c.args.lot.now pair.words (at (locks_at lock.First))
+    let here = begins (TimeIsUp g.C.Clock.tells c.args.limit) c.args.lot.now pair.words (at (locks_at lock.First))
     c.args.token.now c.args.section c.requires in
     let looked = comes here (Value c.turn_word-seen.result) c.turn_word-seen.new.token c.args.section
     c.turn_word-seen.ensures refl (at (locks_at lock.Load))
@@ -29,7 +29,7 @@ lock_seen-requires g c = let pair = c.args.pair in let at = wait_at pair.condvar
 
 pub returns : goal.returns
 returns g c = let pair = c.args.pair in let at = wait_at pair.condvar pair.mutex c.args.timed in
-    let here = begins (IsUp g.C.Clock.tells c.args.limit) c.args.lot.now pair.words (at (locks_at lock.First))
+    let here = begins (TimeIsUp g.C.Clock.tells c.args.limit) c.args.lot.now pair.words (at (locks_at lock.First))
     c.args.token.now c.args.section c.requires in
     let looked = comes here (Value c.turn_word-seen.result) c.turn_word-seen.new.token c.args.section
     c.turn_word-seen.ensures refl (at (locks_at lock.Load))

@@ -1,5 +1,5 @@
 use Rattle.std.proofs.Common.{◌≡◌, ◌≢◌, ◌+◌, Some, refl, sym, ap, ◌∙◌, rules}
-use Rattle.core_clocks.specs.Clocks.{IsUp}
+use Rattle.core_clocks.specs.Clocks.{TimeIsUp}
 use Rattle.core_base.specs.declared.ops.Op.TheVariants.{Exchange}
 use Rattle.steps_base.specs.declared.acts.Act.TheVariants.{Word}
 use Rattle.steps_base.specs.declared.acts.Reply.TheVariants.{Value}
@@ -21,7 +21,7 @@ turn_word-found-requires g c = let pair = c.args.pair in let at = wait_at pair.c
     in
     let p = at (locks_at (lock.Decide c.args.seen)) in
     let is : act_of p ≡ Word pair.mutex (Exchange c.args.seen (c.args.seen + 1)) = rw c.requires.free refl in
-    let here = begins (IsUp g.C.Clock.tells c.args.limit) c.args.lot.now pair.words p c.args.token.now
+    let here = begins (TimeIsUp g.C.Clock.tells c.args.limit) c.args.lot.now pair.words p c.args.token.now
     c.args.section c.requires.at in
     may_do here is
 
@@ -30,7 +30,7 @@ returns-then-found-seen g c = let pair = c.args.pair in let at = wait_at pair.co
     in
     let p = at (locks_at (lock.Decide c.args.seen)) in
     let is : act_of p ≡ Word pair.mutex (Exchange c.args.seen (c.args.seen + 1)) = rw c.requires.free refl in
-    let here = begins (IsUp g.C.Clock.tells c.args.limit) c.args.lot.now pair.words p c.args.token.now
+    let here = begins (TimeIsUp g.C.Clock.tells c.args.limit) c.args.lot.now pair.words p c.args.token.now
     c.args.section c.requires.at in
     let same : c.turn_word-found.result ≡ c.args.seen = search rules in
     over here (Value c.turn_word-found.result) c.turn_word-found.new.token c.args.section
@@ -43,7 +43,7 @@ rest-requires-clause-at g c = let pair = c.args.pair in let at = wait_at pair.co
     in
     let p = at (locks_at (lock.Decide c.args.seen)) in
     let is : act_of p ≡ Word pair.mutex (Exchange c.args.seen (c.args.seen + 1)) = rw c.requires.free refl in
-    let here = begins (IsUp g.C.Clock.tells c.args.limit) c.args.lot.now pair.words p c.args.token.now
+    let here = begins (TimeIsUp g.C.Clock.tells c.args.limit) c.args.lot.now pair.words p c.args.token.now
     c.args.section c.requires.at in
     let found = c.turn_word-found.result in let changed : c.turn_word-found.result ≢ c.args.seen =
     search rules in
@@ -61,7 +61,7 @@ pub returns : goal.returns
 returns g c = let pair = c.args.pair in let at = wait_at pair.condvar pair.mutex c.args.timed in
     let p = at (locks_at (lock.Decide c.args.seen)) in
     let is : act_of p ≡ Word pair.mutex (Exchange c.args.seen (c.args.seen + 1)) = rw c.requires.free refl in
-    let here = begins (IsUp g.C.Clock.tells c.args.limit) c.args.lot.now pair.words p c.args.token.now
+    let here = begins (TimeIsUp g.C.Clock.tells c.args.limit) c.args.lot.now pair.words p c.args.token.now
     c.args.section c.requires.at in
     let found = c.turn_word-found.result in let changed : c.turn_word-found.result ≢ c.args.seen =
     search rules in

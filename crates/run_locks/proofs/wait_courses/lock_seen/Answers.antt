@@ -1,5 +1,5 @@
 use Rattle.std.proofs.Common.{refl, sym, ap, ◌∙◌}
-use Rattle.core_clocks.specs.Clocks.{IsUp}
+use Rattle.core_clocks.specs.Clocks.{TimeIsUp}
 use Rattle.steps_base.specs.declared.acts.Reply.TheVariants.{Value}
 use Rattle.steps_mutex.specs.MutexSteps.{is_locked}
 use Rattle.steps_mutex.specs.declared.lock.LockAt.TheVariants as lock
@@ -13,7 +13,7 @@ use Rattle.run_locks.proofs.wait_courses.lock_seen.Goals as goal
 pub rest-requires-clause-at : goal.rest-requires-clause-at
 rest-requires-clause-at g c = let pair = c.args.pair in let at = wait_at pair.condvar pair.mutex c.args.timed
     in let seen = c.turn_word-seen.result in
-    let here = begins (IsUp g.C.Clock.tells c.args.limit) c.args.lot.now pair.words (at (locks_at lock.Load))
+    let here = begins (TimeIsUp g.C.Clock.tells c.args.limit) c.args.lot.now pair.words (at (locks_at lock.Load))
     c.args.token.now c.args.section c.requires in
     let looked = comes here (Value seen) c.turn_word-seen.new.token c.args.section c.turn_word-seen.ensures
     refl (at (locks_at (lock.Decide seen)))
@@ -24,7 +24,7 @@ rest-requires-clause-at g c = let pair = c.args.pair in let at = wait_at pair.co
 pub returns-then-is_locked : goal.returns-then-is_locked
 returns-then-is_locked g c = let pair = c.args.pair in let at = wait_at pair.condvar pair.mutex c.args.timed
     in let seen = c.turn_word-seen.result in
-    let here = begins (IsUp g.C.Clock.tells c.args.limit) c.args.lot.now pair.words (at (locks_at lock.Load))
+    let here = begins (TimeIsUp g.C.Clock.tells c.args.limit) c.args.lot.now pair.words (at (locks_at lock.Load))
     c.args.token.now c.args.section c.requires in
     let looked = comes here (Value seen) c.turn_word-seen.new.token c.args.section c.turn_word-seen.ensures
     refl (at (locks_at (lock.Decide seen)))
@@ -35,7 +35,7 @@ returns-then-is_locked g c = let pair = c.args.pair in let at = wait_at pair.con
 pub lock_free-requires-clause-at : goal.lock_free-requires-clause-at
 lock_free-requires-clause-at g c = let pair = c.args.pair in let at = wait_at pair.condvar pair.mutex
     c.args.timed in let seen = c.turn_word-seen.result in
-    let here = begins (IsUp g.C.Clock.tells c.args.limit) c.args.lot.now pair.words (at (locks_at lock.Load))
+    let here = begins (TimeIsUp g.C.Clock.tells c.args.limit) c.args.lot.now pair.words (at (locks_at lock.Load))
     c.args.token.now c.args.section c.requires in
     let looked = comes here (Value seen) c.turn_word-seen.new.token c.args.section c.turn_word-seen.ensures
     refl (at (locks_at (lock.Decide seen)))
@@ -45,7 +45,7 @@ lock_free-requires-clause-at g c = let pair = c.args.pair in let at = wait_at pa
 pub returns : goal.returns
 returns g c = let pair = c.args.pair in let at = wait_at pair.condvar pair.mutex c.args.timed in let seen =
     c.turn_word-seen.result in
-    let here = begins (IsUp g.C.Clock.tells c.args.limit) c.args.lot.now pair.words (at (locks_at lock.Load))
+    let here = begins (TimeIsUp g.C.Clock.tells c.args.limit) c.args.lot.now pair.words (at (locks_at lock.Load))
     c.args.token.now c.args.section c.requires in
     let looked = comes here (Value seen) c.turn_word-seen.new.token c.args.section c.turn_word-seen.ensures
     refl (at (locks_at (lock.Decide seen)))

@@ -1,5 +1,5 @@
 use Rattle.std.proofs.Common.{◌≡◌, true, false, refl, rules, sym, ◌∙◌}
-use Rattle.core_clocks.specs.Clocks.{IsUp}
+use Rattle.core_clocks.specs.Clocks.{TimeIsUp}
 use Rattle.steps_base.specs.declared.acts.Reply.TheVariants.{Value}
 use Rattle.steps_condvar.specs.declared.wait.WaiterFate.TheVariants.{Listed}
 use Rattle.steps_condvar.specs.declared.wait.WaitAt.TheVariants as wait
@@ -14,7 +14,7 @@ pub fall_asleep-requires-clause-at : goal.fall_asleep-requires-clause-at
 fall_asleep-requires-clause-at g c = let pair = c.args.pair in let at = wait_at pair.condvar pair.mutex
     c.args.timed in let seen = c.turn_word-seen.result in
     let alone : is_parked c.turn_word-seen.result ≡ false = search rules in
-    let here = begins (IsUp g.C.Clock.tells c.args.limit) c.args.lot.now pair.words
+    let here = begins (TimeIsUp g.C.Clock.tells c.args.limit) c.args.lot.now pair.words
     (at (releases_at unlock.Subtract)) c.args.token.now c.args.section c.requires.at in
     let released = comes here (Value seen) c.turn_word-seen.new.token c.args.section c.turn_word-seen.ensures
     refl (at (wait.Asleep Listed))
@@ -25,7 +25,7 @@ pub fall_asleep-requires-clause-queued : goal.fall_asleep-requires-clause-queued
 fall_asleep-requires-clause-queued g c = let pair = c.args.pair in let at =
     wait_at pair.condvar pair.mutex c.args.timed in let seen = c.turn_word-seen.result in
     let alone : is_parked c.turn_word-seen.result ≡ false = search rules in
-    let here = begins (IsUp g.C.Clock.tells c.args.limit) c.args.lot.now pair.words
+    let here = begins (TimeIsUp g.C.Clock.tells c.args.limit) c.args.lot.now pair.words
     (at (releases_at unlock.Subtract)) c.args.token.now c.args.section c.requires.at in
     let released = comes here (Value seen) c.turn_word-seen.new.token c.args.section c.turn_word-seen.ensures
     refl (at (wait.Asleep Listed))
@@ -36,7 +36,7 @@ pub returns-then-not-is_parked : goal.returns-then-not-is_parked
 returns-then-not-is_parked g c = let pair = c.args.pair in let at = wait_at pair.condvar pair.mutex
     c.args.timed in let seen = c.turn_word-seen.result in
     let alone : is_parked c.turn_word-seen.result ≡ false = search rules in
-    let here = begins (IsUp g.C.Clock.tells c.args.limit) c.args.lot.now pair.words
+    let here = begins (TimeIsUp g.C.Clock.tells c.args.limit) c.args.lot.now pair.words
     (at (releases_at unlock.Subtract)) c.args.token.now c.args.section c.requires.at in
     let released = comes here (Value seen) c.turn_word-seen.new.token c.args.section c.turn_word-seen.ensures
     refl (at (wait.Asleep Listed))
@@ -47,7 +47,7 @@ pub wake_first_and_sleep-requires-clause-at : goal.wake_first_and_sleep-requires
 wake_first_and_sleep-requires-clause-at g c = let pair = c.args.pair in let at =
     wait_at pair.condvar pair.mutex c.args.timed in let seen = c.turn_word-seen.result in
     let parked : is_parked c.turn_word-seen.result ≡ true = search rules in
-    let here = begins (IsUp g.C.Clock.tells c.args.limit) c.args.lot.now pair.words
+    let here = begins (TimeIsUp g.C.Clock.tells c.args.limit) c.args.lot.now pair.words
     (at (releases_at unlock.Subtract)) c.args.token.now c.args.section c.requires.at in
     let released = comes here (Value seen) c.turn_word-seen.new.token c.args.section c.turn_word-seen.ensures
     refl (at (releases_at unlock.Enter))
@@ -58,7 +58,7 @@ pub wake_first_and_sleep-requires-clause-queued : goal.wake_first_and_sleep-requ
 wake_first_and_sleep-requires-clause-queued g c = let pair = c.args.pair in let at =
     wait_at pair.condvar pair.mutex c.args.timed in let seen = c.turn_word-seen.result in
     let parked : is_parked c.turn_word-seen.result ≡ true = search rules in
-    let here = begins (IsUp g.C.Clock.tells c.args.limit) c.args.lot.now pair.words
+    let here = begins (TimeIsUp g.C.Clock.tells c.args.limit) c.args.lot.now pair.words
     (at (releases_at unlock.Subtract)) c.args.token.now c.args.section c.requires.at in
     let released = comes here (Value seen) c.turn_word-seen.new.token c.args.section c.turn_word-seen.ensures
     refl (at (releases_at unlock.Enter))
@@ -69,7 +69,7 @@ pub returns : goal.returns
 returns g c = let pair = c.args.pair in let at = wait_at pair.condvar pair.mutex c.args.timed in let seen =
     c.turn_word-seen.result in
     let parked : is_parked c.turn_word-seen.result ≡ true = search rules in
-    let here = begins (IsUp g.C.Clock.tells c.args.limit) c.args.lot.now pair.words
+    let here = begins (TimeIsUp g.C.Clock.tells c.args.limit) c.args.lot.now pair.words
     (at (releases_at unlock.Subtract)) c.args.token.now c.args.section c.requires.at in
     let released = comes here (Value seen) c.turn_word-seen.new.token c.args.section c.turn_word-seen.ensures
     refl (at (releases_at unlock.Enter))

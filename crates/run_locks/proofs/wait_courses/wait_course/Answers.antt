@@ -1,5 +1,5 @@
 use Rattle.std.proofs.Common.{ℕ, ◌≡◌, true, false, None, refl, sym, ap, ◌∙◌, rules}
-use Rattle.core_clocks.specs.Clocks.{IsUp}
+use Rattle.core_clocks.specs.Clocks.{TimeIsUp}
 use Rattle.core_base.specs.declared.ops.Op.TheVariants.{Exchange}
 use Rattle.core_base.specs.declared.wants.Want.TheVariants.{Wait}
 use Rattle.steps_base.specs.declared.acts.Act.TheVariants.{Stand, Word}
@@ -25,7 +25,7 @@ turn_enter-requires g c = (
 
 pub turn_word-seen-requires : goal.turn_word-seen-requires
 turn_word-seen-requires g c = let pair = c.args.pair in let at = wait_at pair.condvar pair.mutex c.args.timed
-    in let up = IsUp g.C.Clock.tells c.args.limit in
+    in let up = TimeIsUp g.C.Clock.tells c.args.limit in
     let entered = comes (begins up c.args.lot.now pair.words (at wait.Enter) c.args.token.now None c.requires)
     Done c.turn_enter.new.token c.turn_enter.new.section
     c.turn_enter.ensures (enters_one c.main_key-key.ensures) (at wait.Show) (refl, refl) in
@@ -33,7 +33,7 @@ turn_word-seen-requires g c = let pair = c.args.pair in let at = wait_at pair.co
 
 pub rest-requires-clause-at : goal.rest-requires-clause-at
 rest-requires-clause-at g c = let pair = c.args.pair in let at = wait_at pair.condvar pair.mutex c.args.timed
-    in let up = IsUp g.C.Clock.tells c.args.limit in
+    in let up = TimeIsUp g.C.Clock.tells c.args.limit in
     let entered = comes (begins up c.args.lot.now pair.words (at wait.Enter) c.args.token.now None c.requires)
     Done c.turn_enter.new.token c.turn_enter.new.section
     c.turn_enter.ensures (enters_one c.main_key-key.ensures) (at wait.Show) (refl, refl) in
@@ -47,7 +47,7 @@ rest-requires-clause-at g c = let pair = c.args.pair in let at = wait_at pair.co
 
 pub returns-then-not-may_show : goal.returns-then-not-may_show
 returns-then-not-may_show g c = let pair = c.args.pair in let at = wait_at pair.condvar pair.mutex
-    c.args.timed in let up = IsUp g.C.Clock.tells c.args.limit in
+    c.args.timed in let up = TimeIsUp g.C.Clock.tells c.args.limit in
     let entered = comes (begins up c.args.lot.now pair.words (at wait.Enter) c.args.token.now None c.requires)
     Done c.turn_enter.new.token c.turn_enter.new.section
     c.turn_enter.ensures (enters_one c.main_key-key.ensures) (at wait.Show) (refl, refl) in
@@ -61,7 +61,7 @@ returns-then-not-may_show g c = let pair = c.args.pair in let at = wait_at pair.
 
 pub turn_stand-queue-requires : goal.turn_stand-queue-requires
 turn_stand-queue-requires g c = let pair = c.args.pair in let at = wait_at pair.condvar pair.mutex
-    c.args.timed in let up = IsUp g.C.Clock.tells c.args.limit in
+    c.args.timed in let up = TimeIsUp g.C.Clock.tells c.args.limit in
     let entered = comes (begins up c.args.lot.now pair.words (at wait.Enter) c.args.token.now None c.requires)
     Done c.turn_enter.new.token c.turn_enter.new.section
     c.turn_enter.ensures (enters_one c.main_key-key.ensures) (at wait.Show) (refl, refl) in
@@ -75,7 +75,7 @@ turn_stand-queue-requires g c = let pair = c.args.pair in let at = wait_at pair.
 
 pub turn_leave-requires : goal.turn_leave-requires
 turn_leave-requires g c = let pair = c.args.pair in let at = wait_at pair.condvar pair.mutex c.args.timed
-    in let up = IsUp g.C.Clock.tells c.args.limit in
+    in let up = TimeIsUp g.C.Clock.tells c.args.limit in
     let entered = comes (begins up c.args.lot.now pair.words (at wait.Enter) c.args.token.now None c.requires)
     Done c.turn_enter.new.token c.turn_enter.new.section
     c.turn_enter.ensures (enters_one c.main_key-key.ensures) (at wait.Show) (refl, refl) in
@@ -92,7 +92,7 @@ turn_leave-requires g c = let pair = c.args.pair in let at = wait_at pair.condva
 
 pub release-requires-clause-at : goal.release-requires-clause-at
 release-requires-clause-at g c = let pair = c.args.pair in let at = wait_at pair.condvar pair.mutex
-    c.args.timed in let up = IsUp g.C.Clock.tells c.args.limit in
+    c.args.timed in let up = TimeIsUp g.C.Clock.tells c.args.limit in
     let entered = comes (begins up c.args.lot.now pair.words (at wait.Enter) c.args.token.now None c.requires)
     Done c.turn_enter.new.token c.turn_enter.new.section
     c.turn_enter.ensures (enters_one c.main_key-key.ensures) (at wait.Show) (refl, refl) in
@@ -111,7 +111,7 @@ release-requires-clause-at g c = let pair = c.args.pair in let at = wait_at pair
 
 pub release-requires-clause-queued : goal.release-requires-clause-queued
 release-requires-clause-queued g c = let pair = c.args.pair in let at = wait_at pair.condvar pair.mutex
-    c.args.timed in let up = IsUp g.C.Clock.tells c.args.limit in
+    c.args.timed in let up = TimeIsUp g.C.Clock.tells c.args.limit in
     let entered = comes (begins up c.args.lot.now pair.words (at wait.Enter) c.args.token.now None c.requires)
     Done c.turn_enter.new.token c.turn_enter.new.section
     c.turn_enter.ensures (enters_one c.main_key-key.ensures) (at wait.Show) (refl, refl) in
@@ -130,7 +130,7 @@ release-requires-clause-queued g c = let pair = c.args.pair in let at = wait_at 
 
 pub returns : goal.returns
 returns g c = let pair = c.args.pair in let at = wait_at pair.condvar pair.mutex c.args.timed in let up =
-    IsUp g.C.Clock.tells c.args.limit in
+    TimeIsUp g.C.Clock.tells c.args.limit in
     let entered = comes (begins up c.args.lot.now pair.words (at wait.Enter) c.args.token.now None c.requires)
     Done c.turn_enter.new.token c.turn_enter.new.section
     c.turn_enter.ensures (enters_one c.main_key-key.ensures) (at wait.Show) (refl, refl) in

@@ -1,5 +1,5 @@
 use Rattle.std.proofs.Common.{refl, sym, ◌∙◌}
-use Rattle.core_clocks.specs.Clocks.{IsUp}
+use Rattle.core_clocks.specs.Clocks.{TimeIsUp}
 use Rattle.steps_base.specs.declared.acts.Reply.TheVariants.{Done}
 use Rattle.steps_condvar.specs.declared.wait.WaiterFate.TheVariants.{Listed}
 use Rattle.steps_condvar.specs.declared.wait.WaitAt.TheVariants as wait
@@ -10,14 +10,14 @@ use Rattle.run_locks.proofs.wait_courses.wake_and_sleep.Goals as goal
 
 pub turn_leave-requires : goal.turn_leave-requires
 turn_leave-requires g c = let pair = c.args.pair in let at = wait_at pair.condvar pair.mutex c.args.timed in
-    let here = begins (IsUp g.C.Clock.tells c.args.limit) c.args.lot.now pair.words
+    let here = begins (TimeIsUp g.C.Clock.tells c.args.limit) c.args.lot.now pair.words
     (at (releases_at (unlock.Leave c.args.any))) c.args.token.now c.args.section c.requires.at in
     may_do here (leaves_one c.main_key.ensures c.taken-wakes.ensures)
 
 pub fall_asleep-requires-clause-at : goal.fall_asleep-requires-clause-at
 fall_asleep-requires-clause-at g c = let pair = c.args.pair in let at = wait_at pair.condvar pair.mutex
     c.args.timed in
-    let here = begins (IsUp g.C.Clock.tells c.args.limit) c.args.lot.now pair.words
+    let here = begins (TimeIsUp g.C.Clock.tells c.args.limit) c.args.lot.now pair.words
     (at (releases_at (unlock.Leave c.args.any))) c.args.token.now c.args.section c.requires.at in
     let left = comes here Done c.turn_leave.new.token c.turn_leave.new.section c.turn_leave.ensures
     (leaves_one c.main_key.ensures c.taken-wakes.ensures) (at (wait.Asleep Listed)) (refl, refl) in
@@ -26,7 +26,7 @@ fall_asleep-requires-clause-at g c = let pair = c.args.pair in let at = wait_at 
 pub fall_asleep-requires-clause-queued : goal.fall_asleep-requires-clause-queued
 fall_asleep-requires-clause-queued g c = let pair = c.args.pair in let at =
     wait_at pair.condvar pair.mutex c.args.timed in
-    let here = begins (IsUp g.C.Clock.tells c.args.limit) c.args.lot.now pair.words
+    let here = begins (TimeIsUp g.C.Clock.tells c.args.limit) c.args.lot.now pair.words
     (at (releases_at (unlock.Leave c.args.any))) c.args.token.now c.args.section c.requires.at in
     let left = comes here Done c.turn_leave.new.token c.turn_leave.new.section c.turn_leave.ensures
     (leaves_one c.main_key.ensures c.taken-wakes.ensures) (at (wait.Asleep Listed)) (refl, refl) in
@@ -34,7 +34,7 @@ fall_asleep-requires-clause-queued g c = let pair = c.args.pair in let at =
 
 pub returns : goal.returns
 returns g c = let pair = c.args.pair in let at = wait_at pair.condvar pair.mutex c.args.timed in
-    let here = begins (IsUp g.C.Clock.tells c.args.limit) c.args.lot.now pair.words
+    let here = begins (TimeIsUp g.C.Clock.tells c.args.limit) c.args.lot.now pair.words
     (at (releases_at (unlock.Leave c.args.any))) c.args.token.now c.args.section c.requires.at in
     let left = comes here Done c.turn_leave.new.token c.turn_leave.new.section c.turn_leave.ensures
     (leaves_one c.main_key.ensures c.taken-wakes.ensures) (at (wait.Asleep Listed)) (refl, refl) in

@@ -1,5 +1,5 @@
 use Rattle.std.proofs.Common.{refl, sym, ◌∙◌}
-use Rattle.core_clocks.specs.Clocks.{IsUp}
+use Rattle.core_clocks.specs.Clocks.{TimeIsUp}
 use Rattle.steps_base.specs.declared.acts.Reply.TheVariants.{Done, Took}
 use Rattle.steps_mutex.specs.declared.unlock.UnlockAt.TheVariants as unlock
 use Rattle.run_locks.specs.CondvarCourses.{releases_at, wait_at}
@@ -10,14 +10,14 @@ use Rattle.run_locks.proofs.wait_courses.wake_first_and_sleep.Goals as goal
 
 pub turn_enter-requires : goal.turn_enter-requires
 turn_enter-requires g c = let pair = c.args.pair in let at = wait_at pair.condvar pair.mutex c.args.timed in
-    let here = begins (IsUp g.C.Clock.tells c.args.limit) c.args.lot.now pair.words
+    let here = begins (TimeIsUp g.C.Clock.tells c.args.limit) c.args.lot.now pair.words
     (at (releases_at unlock.Enter)) c.args.token.now c.args.section c.requires.at in
     may_do here (enters_one c.main_key-key.ensures)
 
 pub turn_take_first-any-requires : goal.turn_take_first-any-requires
 turn_take_first-any-requires g c = let pair = c.args.pair in let at = wait_at pair.condvar pair.mutex
     c.args.timed in
-    let here = begins (IsUp g.C.Clock.tells c.args.limit) c.args.lot.now pair.words
+    let here = begins (TimeIsUp g.C.Clock.tells c.args.limit) c.args.lot.now pair.words
     (at (releases_at unlock.Enter)) c.args.token.now c.args.section c.requires.at in
     let entered = comes here Done c.turn_enter.new.token c.turn_enter.new.section c.turn_enter.ensures
     (enters_one c.main_key-key.ensures)
@@ -27,7 +27,7 @@ turn_take_first-any-requires g c = let pair = c.args.pair in let at = wait_at pa
 pub clear_and_sleep-requires-clause-at : goal.clear_and_sleep-requires-clause-at
 clear_and_sleep-requires-clause-at g c = let pair = c.args.pair in let at =
     wait_at pair.condvar pair.mutex c.args.timed in
-    let here = begins (IsUp g.C.Clock.tells c.args.limit) c.args.lot.now pair.words
+    let here = begins (TimeIsUp g.C.Clock.tells c.args.limit) c.args.lot.now pair.words
     (at (releases_at unlock.Enter)) c.args.token.now c.args.section c.requires.at in
     let entered = comes here Done c.turn_enter.new.token c.turn_enter.new.section c.turn_enter.ensures
     (enters_one c.main_key-key.ensures)
@@ -42,7 +42,7 @@ clear_and_sleep-requires-clause-at g c = let pair = c.args.pair in let at =
 pub clear_and_sleep-requires-clause-queued : goal.clear_and_sleep-requires-clause-queued
 clear_and_sleep-requires-clause-queued g c = let pair = c.args.pair in let at =
     wait_at pair.condvar pair.mutex c.args.timed in
-    let here = begins (IsUp g.C.Clock.tells c.args.limit) c.args.lot.now pair.words
+    let here = begins (TimeIsUp g.C.Clock.tells c.args.limit) c.args.lot.now pair.words
     (at (releases_at unlock.Enter)) c.args.token.now c.args.section c.requires.at in
     let entered = comes here Done c.turn_enter.new.token c.turn_enter.new.section c.turn_enter.ensures
     (enters_one c.main_key-key.ensures)
@@ -56,7 +56,7 @@ clear_and_sleep-requires-clause-queued g c = let pair = c.args.pair in let at =
 
 pub returns : goal.returns
 returns g c = let pair = c.args.pair in let at = wait_at pair.condvar pair.mutex c.args.timed in
-    let here = begins (IsUp g.C.Clock.tells c.args.limit) c.args.lot.now pair.words
+    let here = begins (TimeIsUp g.C.Clock.tells c.args.limit) c.args.lot.now pair.words
     (at (releases_at unlock.Enter)) c.args.token.now c.args.section c.requires.at in
     let entered = comes here Done c.turn_enter.new.token c.turn_enter.new.section c.turn_enter.ensures
     (enters_one c.main_key-key.ensures)

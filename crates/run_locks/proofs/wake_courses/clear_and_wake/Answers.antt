@@ -1,5 +1,5 @@
 use Rattle.std.proofs.Common.{◌≡◌, Bool, true, false, refl, ap, rules}
-use Rattle.core_clocks.specs.Clocks.{IsUp}
+use Rattle.core_clocks.specs.Clocks.{TimeIsUp}
 use Rattle.steps_base.specs.declared.acts.Reply.TheVariants.{Value}
 use Rattle.steps_rwlock.specs.declared.release.WakeAt.TheVariants as waking
 use Rattle.run_base.proofs.Coming.{begins, comes, may_do, named}
@@ -9,7 +9,7 @@ use Rattle.run_locks.proofs.wake_courses.clear_and_wake.Goals as goal
 pub turn_word-requires : goal.turn_word-requires
 turn_word-requires g c =
     let at = wakes_at c.args.lock c.args.admission c.args.purpose in
-    let up = IsUp g.C.Clock.tells c.args.limit in
+    let up = TimeIsUp g.C.Clock.tells c.args.limit in
     let lot = c.args.lot.now in let words = c.args.words in
     let here = begins up lot words (at (left_on c.args.any c.args.none_left)) c.args.token.now c.args.section
     c.requires in
@@ -21,7 +21,7 @@ turn_word-requires g c =
 pub leave_and_wake-requires : goal.leave_and_wake-requires
 leave_and_wake-requires g c =
     let at = wakes_at c.args.lock c.args.admission c.args.purpose in
-    let up = IsUp g.C.Clock.tells c.args.limit in
+    let up = TimeIsUp g.C.Clock.tells c.args.limit in
     let lot = c.args.lot.now in let words = c.args.words in
     let here = begins up lot words (at (left_on c.args.any c.args.none_left)) c.args.token.now c.args.section
     c.requires in
@@ -35,7 +35,7 @@ leave_and_wake-requires g c =
 pub returns-then-none_left : goal.returns-then-none_left
 returns-then-none_left g c =
     let at = wakes_at c.args.lock c.args.admission c.args.purpose in
-    let up = IsUp g.C.Clock.tells c.args.limit in
+    let up = TimeIsUp g.C.Clock.tells c.args.limit in
     let lot = c.args.lot.now in let words = c.args.words in
     let here = begins up lot words (at (left_on c.args.any c.args.none_left)) c.args.token.now c.args.section
     c.requires in
@@ -49,7 +49,7 @@ returns-then-none_left g c =
 pub leave_and_wake-requires-2 : goal.leave_and_wake-requires-2
 leave_and_wake-requires-2 g c =
     let at = wakes_at c.args.lock c.args.admission c.args.purpose in
-    let up = IsUp g.C.Clock.tells c.args.limit in
+    let up = TimeIsUp g.C.Clock.tells c.args.limit in
     let lot = c.args.lot.now in let words = c.args.words in
     let here = begins up lot words (at (left_on c.args.any c.args.none_left)) c.args.token.now c.args.section
     c.requires in
@@ -61,7 +61,7 @@ leave_and_wake-requires-2 g c =
 pub returns : goal.returns
 returns g c =
     let at = wakes_at c.args.lock c.args.admission c.args.purpose in
-    let up = IsUp g.C.Clock.tells c.args.limit in
+    let up = TimeIsUp g.C.Clock.tells c.args.limit in
     let lot = c.args.lot.now in let words = c.args.words in
     let here = begins up lot words (at (left_on c.args.any c.args.none_left)) c.args.token.now c.args.section
     c.requires in

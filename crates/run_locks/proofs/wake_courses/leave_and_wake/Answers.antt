@@ -1,5 +1,5 @@
 use Rattle.std.proofs.Common.{Some, refl, sym, ap}
-use Rattle.core_clocks.specs.Clocks.{IsUp}
+use Rattle.core_clocks.specs.Clocks.{TimeIsUp}
 use Rattle.steps_base.specs.declared.acts.Reply.TheVariants.{Done}
 use Rattle.steps_rwlock.specs.RwLockSteps.{ends_with}
 use Rattle.steps_rwlock.specs.declared.release.WakeAt.TheVariants as waking
@@ -10,7 +10,7 @@ use Rattle.run_locks.proofs.wake_courses.leave_and_wake.Goals as goal
 pub turn_leave-requires : goal.turn_leave-requires
 turn_leave-requires g c =
     let at = wakes_at c.args.lock c.args._admission c.args.purpose in
-    let up = IsUp g.C.Clock.tells c.args.limit in
+    let up = TimeIsUp g.C.Clock.tells c.args.limit in
     let lot = c.args.lot.now in let words = c.args.words in
     let here = begins up lot words (at (waking.Leave c.args.any)) c.args.token.now c.args.section c.requires
     in
@@ -20,7 +20,7 @@ turn_leave-requires g c =
 pub end-requires : goal.end-requires
 end-requires g c =
     let at = wakes_at c.args.lock c.args._admission c.args.purpose in
-    let up = IsUp g.C.Clock.tells c.args.limit in
+    let up = TimeIsUp g.C.Clock.tells c.args.limit in
     let lot = c.args.lot.now in let words = c.args.words in
     let here = begins up lot words (at (waking.Leave c.args.any)) c.args.token.now c.args.section c.requires
     in
@@ -32,7 +32,7 @@ end-requires g c =
 pub returns : goal.returns
 returns g c =
     let at = wakes_at c.args.lock c.args._admission c.args.purpose in
-    let up = IsUp g.C.Clock.tells c.args.limit in
+    let up = TimeIsUp g.C.Clock.tells c.args.limit in
     let lot = c.args.lot.now in let words = c.args.words in
     let here = begins up lot words (at (waking.Leave c.args.any)) c.args.token.now c.args.section c.requires
     in

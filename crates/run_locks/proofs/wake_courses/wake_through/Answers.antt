@@ -1,5 +1,5 @@
 use Rattle.std.proofs.Common.{Bool, None, refl, sym, ap}
-use Rattle.core_clocks.specs.Clocks.{IsUp}
+use Rattle.core_clocks.specs.Clocks.{TimeIsUp}
 use Rattle.steps_base.specs.Acts.{any_picked}
 use Rattle.steps_base.specs.declared.acts.Reply.TheVariants.{Done, Picked}
 use Rattle.steps_rwlock.specs.declared.release.WakeAt.TheVariants as waking
@@ -11,7 +11,7 @@ use Rattle.run_locks.proofs.wake_courses.wake_through.Goals as goal
 pub turn_enter-requires : goal.turn_enter-requires
 turn_enter-requires g c =
     let at = wakes_at c.args.lock c.args.admission c.args.purpose in
-    let up = IsUp g.C.Clock.tells c.args.limit in
+    let up = TimeIsUp g.C.Clock.tells c.args.limit in
     let lot = c.args.lot.now in let words = c.args.words in
     let here = begins up lot words (at waking.Enter) c.args.token.now None c.requires in
     may_do here (enters_one c.main_key-key.ensures)
@@ -19,7 +19,7 @@ turn_enter-requires g c =
 pub turn_take_wanted-sharers-requires : goal.turn_take_wanted-sharers-requires
 turn_take_wanted-sharers-requires g c =
     let at = wakes_at c.args.lock c.args.admission c.args.purpose in
-    let up = IsUp g.C.Clock.tells c.args.limit in
+    let up = TimeIsUp g.C.Clock.tells c.args.limit in
     let lot = c.args.lot.now in let words = c.args.words in
     let here = begins up lot words (at waking.Enter) c.args.token.now None c.requires in
     let entered = comes here Done c.turn_enter.new.token c.turn_enter.new.section c.turn_enter.ensures
@@ -30,7 +30,7 @@ turn_take_wanted-sharers-requires g c =
 pub clear_and_wake-requires : goal.clear_and_wake-requires
 clear_and_wake-requires g c =
     let at = wakes_at c.args.lock c.args.admission c.args.purpose in
-    let up = IsUp g.C.Clock.tells c.args.limit in
+    let up = TimeIsUp g.C.Clock.tells c.args.limit in
     let lot = c.args.lot.now in let words = c.args.words in
     let here = begins up lot words (at waking.Enter) c.args.token.now None c.requires in
     let entered = comes here Done c.turn_enter.new.token c.turn_enter.new.section c.turn_enter.ensures
@@ -49,7 +49,7 @@ clear_and_wake-requires g c =
 pub returns : goal.returns
 returns g c =
     let at = wakes_at c.args.lock c.args.admission c.args.purpose in
-    let up = IsUp g.C.Clock.tells c.args.limit in
+    let up = TimeIsUp g.C.Clock.tells c.args.limit in
     let lot = c.args.lot.now in let words = c.args.words in
     let here = begins up lot words (at waking.Enter) c.args.token.now None c.requires in
     let entered = comes here Done c.turn_enter.new.token c.turn_enter.new.section c.turn_enter.ensures

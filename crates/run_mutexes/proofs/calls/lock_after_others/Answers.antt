@@ -2,7 +2,7 @@ use Rattle.std.proofs.Common.{ℕ, ◌∙◌, None, ap, refl, subst}
 use Rattle.spec_locks.specs.declared.calls.MutexCall.TheVariants.{Lock}
 use Rattle.steps_mutex.specs.declared.lock.Entry.TheVariants as entry
 use Rattle.steps_mutex.specs.declared.lock.LockAt.TheVariants as lock
-use Rattle.core_clocks.specs.Clocks.{IsUp}
+use Rattle.core_clocks.specs.Clocks.{TimeIsUp}
 use Rattle.run_base.specs.MutexFitting.{IsMutexOver, to_enter}
 use Rattle.run_base.specs.Stages.{stage_of}
 use Rattle.run_base.specs.Telling.{owns_of}
@@ -27,7 +27,7 @@ returns-clause-path g c = λ before same saw untold. let n = c.args.word.number 
 
 pub returns-clause-over : goal.returns-clause-over
 returns-clause-over g c =
-    subst (λ (k : ℕ). IsMutexOver (IsUp g.C.Clock.tells c.args.limit) k (owns_of c.args.token.now)
+    subst (λ (k : ℕ). IsMutexOver (TimeIsUp g.C.Clock.tells c.args.limit) k (owns_of c.args.token.now)
     (to_enter entry.Lock) c.lock_course.result (stage_of c.lock_course.new.token None))
     c.number-mutex.ensures (c.lock_course.ensures.1 (owns_of c.args.token.now) (refl, refl))
 

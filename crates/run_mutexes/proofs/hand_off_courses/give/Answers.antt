@@ -1,5 +1,5 @@
 use Rattle.std.proofs.Common.{ℕ, ◌≡◌, true, refl, sym, ap}
-use Rattle.core_clocks.specs.Clocks.{IsUp}
+use Rattle.core_clocks.specs.Clocks.{TimeIsUp}
 use Rattle.core_base.specs.declared.ops.Op.TheVariants.{Store}
 use Rattle.spec_locks.specs.declared.outcomes.Answer.TheVariants.{Ok}
 use Rattle.steps_base.specs.declared.acts.Act.TheVariants.{HandOver}
@@ -13,7 +13,7 @@ use Rattle.run_mutexes.proofs.hand_off_courses.give.Goals as goal
 pub turn_hand_over-requires : goal.turn_hand_over-requires
 turn_hand_over-requires g c =
     let at = hands_at c.args.mutex in
-    let up = IsUp g.C.Clock.tells c.args.limit in
+    let up = TimeIsUp g.C.Clock.tells c.args.limit in
     let lot = c.args.lot.now in let words = c.args.words in
     let here = begins up lot words (at (hand_off.Store true c.args.none_left)) c.args.token.now c.args.section
     c.requires in
@@ -25,7 +25,7 @@ turn_hand_over-requires g c =
 pub turn_leave-requires : goal.turn_leave-requires
 turn_leave-requires g c =
     let at = hands_at c.args.mutex in
-    let up = IsUp g.C.Clock.tells c.args.limit in
+    let up = TimeIsUp g.C.Clock.tells c.args.limit in
     let lot = c.args.lot.now in let words = c.args.words in
     let here = begins up lot words (at (hand_off.Store true c.args.none_left)) c.args.token.now c.args.section
     c.requires in
@@ -39,7 +39,7 @@ turn_leave-requires g c =
 pub end-requires : goal.end-requires
 end-requires g c =
     let at = hands_at c.args.mutex in
-    let up = IsUp g.C.Clock.tells c.args.limit in
+    let up = TimeIsUp g.C.Clock.tells c.args.limit in
     let lot = c.args.lot.now in let words = c.args.words in
     let here = begins up lot words (at (hand_off.Store true c.args.none_left)) c.args.token.now c.args.section
     c.requires in
@@ -56,7 +56,7 @@ end-requires g c =
 pub returns : goal.returns
 returns g c =
     let at = hands_at c.args.mutex in
-    let up = IsUp g.C.Clock.tells c.args.limit in
+    let up = TimeIsUp g.C.Clock.tells c.args.limit in
     let lot = c.args.lot.now in let words = c.args.words in
     let here = begins up lot words (at (hand_off.Store true c.args.none_left)) c.args.token.now c.args.section
     c.requires in

@@ -1,6 +1,6 @@
 use Rattle.std.proofs.Common.{◌≡◌, Bool, true, false, None, refl, sym, ap, ◌∙◌, rules, subst}
 use Rattle.std.proofs.lemmas.Bool.{false≢true}
-use Rattle.core_clocks.specs.Clocks.{IsUp}
+use Rattle.core_clocks.specs.Clocks.{TimeIsUp}
 use Rattle.steps_base.specs.declared.acts.Reply.TheVariants.{Done, Took}
 use Rattle.steps_mutex.specs.declared.hand_off.HandOffAt.TheVariants as hand_off
 use Rattle.run_base.specs.Queued.{is_queued}
@@ -12,7 +12,7 @@ use Rattle.run_mutexes.proofs.hand_off_courses.hand_over_through.Goals as goal
 pub turn_enter-requires : goal.turn_enter-requires
 turn_enter-requires g c =
     let at = hands_at c.args.mutex in
-    let up = IsUp g.C.Clock.tells c.args.limit in
+    let up = TimeIsUp g.C.Clock.tells c.args.limit in
     let lot = c.args.lot.now in let words = c.args.words in
     let here = begins up lot words (at hand_off.Enter) c.args.token.now None c.requires in
     may_do here (enters_one c.main_key-key.ensures)
@@ -20,7 +20,7 @@ turn_enter-requires g c =
 pub turn_take_first-any-requires : goal.turn_take_first-any-requires
 turn_take_first-any-requires g c =
     let at = hands_at c.args.mutex in
-    let up = IsUp g.C.Clock.tells c.args.limit in
+    let up = TimeIsUp g.C.Clock.tells c.args.limit in
     let lot = c.args.lot.now in let words = c.args.words in
     let here = begins up lot words (at hand_off.Enter) c.args.token.now None c.requires in
     let entered = comes here Done c.turn_enter.new.token c.turn_enter.new.section c.turn_enter.ensures
@@ -30,7 +30,7 @@ turn_take_first-any-requires g c =
 pub give-requires : goal.give-requires
 give-requires g c =
     let at = hands_at c.args.mutex in
-    let up = IsUp g.C.Clock.tells c.args.limit in
+    let up = TimeIsUp g.C.Clock.tells c.args.limit in
     let lot = c.args.lot.now in let words = c.args.words in
     let here = begins up lot words (at hand_off.Enter) c.args.token.now None c.requires in
     let entered = comes here Done c.turn_enter.new.token c.turn_enter.new.section c.turn_enter.ensures
@@ -47,7 +47,7 @@ give-requires g c =
 pub returns-then-any : goal.returns-then-any
 returns-then-any g c =
     let at = hands_at c.args.mutex in
-    let up = IsUp g.C.Clock.tells c.args.limit in
+    let up = TimeIsUp g.C.Clock.tells c.args.limit in
     let lot = c.args.lot.now in let words = c.args.words in
     let here = begins up lot words (at hand_off.Enter) c.args.token.now None c.requires in
     let entered = comes here Done c.turn_enter.new.token c.turn_enter.new.section c.turn_enter.ensures
@@ -64,7 +64,7 @@ returns-then-any g c =
 pub rest-requires-clause-at : goal.rest-requires-clause-at
 rest-requires-clause-at g c =
     let at = hands_at c.args.mutex in
-    let up = IsUp g.C.Clock.tells c.args.limit in
+    let up = TimeIsUp g.C.Clock.tells c.args.limit in
     let lot = c.args.lot.now in let words = c.args.words in
     let here = begins up lot words (at hand_off.Enter) c.args.token.now None c.requires in
     let entered = comes here Done c.turn_enter.new.token c.turn_enter.new.section c.turn_enter.ensures
@@ -88,7 +88,7 @@ rest-requires-clause-queued g c =
 pub returns : goal.returns
 returns g c =
     let at = hands_at c.args.mutex in
-    let up = IsUp g.C.Clock.tells c.args.limit in
+    let up = TimeIsUp g.C.Clock.tells c.args.limit in
     let lot = c.args.lot.now in let words = c.args.words in
     let here = begins up lot words (at hand_off.Enter) c.args.token.now None c.requires in
     let entered = comes here Done c.turn_enter.new.token c.turn_enter.new.section c.turn_enter.ensures

@@ -1,5 +1,5 @@
 use Rattle.std.proofs.Common.{◌≡◌, true, None, Some, refl, sym, ap, ◌∙◌, subst, rules}
-use Rattle.core_clocks.specs.Clocks.{IsUp}
+use Rattle.core_clocks.specs.Clocks.{TimeIsUp}
 use Rattle.core_base.specs.declared.notes.Note.TheVariants.{HandOff}
 use Rattle.steps_base.specs.declared.acts.Reply.TheVariants.{Done, Woken}
 use Rattle.steps_mutex.specs.MutexSteps.{entered}
@@ -16,7 +16,7 @@ use Rattle.run_mutexes.proofs.LockGoing.{sleeps_on, stays_of}
 use Rattle.run_mutexes.proofs.lock_courses.fall_asleep.Goals as goal
 
 pub turn_sleep-reply-requires-clause-at : goal.turn_sleep-reply-requires-clause-at
-turn_sleep-reply-requires-clause-at g c = let up = IsUp g.C.Clock.tells c.args.limit in
+turn_sleep-reply-requires-clause-at g c = let up = TimeIsUp g.C.Clock.tells c.args.limit in
     (named (begins up c.args.lot.now c.args.words (locks_at c.args.mutex c.args.entry lock.Asleep)
     c.args.token.now c.args.section c.requires.at) (sym c.locks-place.ensures)).at
 
@@ -26,7 +26,7 @@ turn_sleep-reply-requires-clause-queued g c = c.requires.queued
 pub end-requires : goal.end-requires
 end-requires g c =
     let at = locks_at c.args.mutex c.args.entry in
-    let up = IsUp g.C.Clock.tells c.args.limit in
+    let up = TimeIsUp g.C.Clock.tells c.args.limit in
     let lot = c.args.lot.now in let words = c.args.words in let reply = c.turn_sleep-reply.result in
     let new = c.turn_sleep-reply.new.token in let now = c.turn_sleep-reply.new.section in
     let here = begins up lot words (at lock.Asleep) c.args.token.now c.args.section c.requires.at in
@@ -45,7 +45,7 @@ end-requires g c =
 pub returns-then-matches : goal.returns-then-matches
 returns-then-matches g c =
     let at = locks_at c.args.mutex c.args.entry in
-    let up = IsUp g.C.Clock.tells c.args.limit in
+    let up = TimeIsUp g.C.Clock.tells c.args.limit in
     let lot = c.args.lot.now in let words = c.args.words in let reply = c.turn_sleep-reply.result in
     let new = c.turn_sleep-reply.new.token in let now = c.turn_sleep-reply.new.section in
     let here = begins up lot words (at lock.Asleep) c.args.token.now c.args.section c.requires.at in
@@ -65,7 +65,7 @@ returns-then-matches g c =
 pub rest-requires-clause-at : goal.rest-requires-clause-at
 rest-requires-clause-at g c =
     let at = locks_at c.args.mutex c.args.entry in
-    let up = IsUp g.C.Clock.tells c.args.limit in
+    let up = TimeIsUp g.C.Clock.tells c.args.limit in
     let lot = c.args.lot.now in let words = c.args.words in let reply = c.turn_sleep-reply.result in
     let new = c.turn_sleep-reply.new.token in let now = c.turn_sleep-reply.new.section in
     let here = begins up lot words (at lock.Asleep) c.args.token.now c.args.section c.requires.at in
@@ -90,7 +90,7 @@ rest-requires-clause-queued g c = λ queued. c.turn_sleep-reply.ensures.queued
 pub returns : goal.returns
 returns g c =
     let at = locks_at c.args.mutex c.args.entry in
-    let up = IsUp g.C.Clock.tells c.args.limit in
+    let up = TimeIsUp g.C.Clock.tells c.args.limit in
     let lot = c.args.lot.now in let words = c.args.words in let reply = c.turn_sleep-reply.result in
     let new = c.turn_sleep-reply.new.token in let now = c.turn_sleep-reply.new.section in
     let here = begins up lot words (at lock.Asleep) c.args.token.now c.args.section c.requires.at in

@@ -1,6 +1,6 @@
 use Rattle.std.proofs.Common.{ℕ, ◌≡◌, None, refl, sym, ap, ◌∙◌, rules, subst}
 use Rattle.std.proofs.lemmas.Bool.{false≢true}
-use Rattle.core_clocks.specs.Clocks.{IsUp}
+use Rattle.core_clocks.specs.Clocks.{TimeIsUp}
 use Rattle.steps_base.specs.declared.acts.Reply.TheVariants.{Value}
 use Rattle.steps_mutex.specs.MutexSteps.{is_locked}
 use Rattle.steps_mutex.specs.declared.lock.LockAt.TheVariants as lock
@@ -11,13 +11,13 @@ use Rattle.run_mutexes.proofs.LockGoing.{looks_on}
 use Rattle.run_mutexes.proofs.lock_courses.lock_course.Goals as goal
 
 pub turn_word-seen-requires : goal.turn_word-seen-requires
-turn_word-seen-requires g c = may_do (begins (IsUp g.C.Clock.tells c.args.limit) c.args.lot.now c.args.words
+turn_word-seen-requires g c = may_do (begins (TimeIsUp g.C.Clock.tells c.args.limit) c.args.lot.now c.args.words
     (locks_at c.args.mutex c.args.entry lock.Load) c.args.token.now None c.requires) refl
 
 pub park-requires : goal.park-requires
 park-requires g c =
     let at = locks_at c.args.mutex c.args.entry in
-    let up = IsUp g.C.Clock.tells c.args.limit in
+    let up = TimeIsUp g.C.Clock.tells c.args.limit in
     let lot = c.args.lot.now in let words = c.args.words in let seen = c.turn_word-seen.result in
     let here = begins up lot words (at lock.Load) c.args.token.now None c.requires in
     let looked = comes here (Value seen) c.turn_word-seen.new.token None c.turn_word-seen.ensures refl
@@ -29,7 +29,7 @@ park-requires g c =
 pub returns-then-seen : goal.returns-then-seen
 returns-then-seen g c =
     let at = locks_at c.args.mutex c.args.entry in
-    let up = IsUp g.C.Clock.tells c.args.limit in
+    let up = TimeIsUp g.C.Clock.tells c.args.limit in
     let lot = c.args.lot.now in let words = c.args.words in let seen = c.turn_word-seen.result in
     let here = begins up lot words (at lock.Load) c.args.token.now None c.requires in
     let looked = comes here (Value seen) c.turn_word-seen.new.token None c.turn_word-seen.ensures refl
@@ -41,7 +41,7 @@ returns-then-seen g c =
 pub rest-requires-clause-at : goal.rest-requires-clause-at
 rest-requires-clause-at g c =
     let at = locks_at c.args.mutex c.args.entry in
-    let up = IsUp g.C.Clock.tells c.args.limit in
+    let up = TimeIsUp g.C.Clock.tells c.args.limit in
     let lot = c.args.lot.now in let words = c.args.words in let seen = c.turn_word-seen.result in
     let here = begins up lot words (at lock.Load) c.args.token.now None c.requires in
     let looked = comes here (Value seen) c.turn_word-seen.new.token None c.turn_word-seen.ensures refl
@@ -59,7 +59,7 @@ rest-requires-clause-queued g c =
 pub returns : goal.returns
 returns g c =
     let at = locks_at c.args.mutex c.args.entry in
-    let up = IsUp g.C.Clock.tells c.args.limit in
+    let up = TimeIsUp g.C.Clock.tells c.args.limit in
     let lot = c.args.lot.now in let words = c.args.words in let seen = c.turn_word-seen.result in
     let here = begins up lot words (at lock.Load) c.args.token.now None c.requires in
     let looked = comes here (Value seen) c.turn_word-seen.new.token None c.turn_word-seen.ensures refl

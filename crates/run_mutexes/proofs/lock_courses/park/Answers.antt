@@ -1,6 +1,6 @@
 use Rattle.std.proofs.Common.{◌≡◌, true, false, None, refl, sym, ap, ◌∙◌, rules, subst, ℕ}
 use Rattle.std.proofs.lemmas.Bool.{false≢true}
-use Rattle.core_clocks.specs.Clocks.{IsUp}
+use Rattle.core_clocks.specs.Clocks.{TimeIsUp}
 use Rattle.steps_base.specs.declared.acts.Reply.TheVariants.{Done, Parked}
 use Rattle.steps_mutex.specs.declared.lock.LockAt.TheVariants as lock
 use Rattle.lot_steps.specs.Steps.{next_act, next_place}
@@ -14,7 +14,7 @@ use Rattle.run_mutexes.proofs.lock_courses.park.Goals as goal
 pub turn_enter-requires : goal.turn_enter-requires
 turn_enter-requires g c =
     let at = locks_at c.args.mutex c.args.entry in
-    let up = IsUp g.C.Clock.tells c.args.limit in
+    let up = TimeIsUp g.C.Clock.tells c.args.limit in
     let lot = c.args.lot.now in let words = c.args.words in
     let here = begins up lot words (at (lock.Decide 3)) c.args.token.now None c.requires in
     may_do here (enters_one c.main_key-key.ensures)
@@ -22,7 +22,7 @@ turn_enter-requires g c =
 pub turn_park-parked-requires : goal.turn_park-parked-requires
 turn_park-parked-requires g c =
     let at = locks_at c.args.mutex c.args.entry in
-    let up = IsUp g.C.Clock.tells c.args.limit in
+    let up = TimeIsUp g.C.Clock.tells c.args.limit in
     let lot = c.args.lot.now in let words = c.args.words in
     let here = begins up lot words (at (lock.Decide 3)) c.args.token.now None c.requires in
     let entered = comes here Done c.turn_enter.new.token c.turn_enter.new.section c.turn_enter.ensures
@@ -32,7 +32,7 @@ turn_park-parked-requires g c =
 pub turn_leave-requires : goal.turn_leave-requires
 turn_leave-requires g c =
     let at = locks_at c.args.mutex c.args.entry in
-    let up = IsUp g.C.Clock.tells c.args.limit in
+    let up = TimeIsUp g.C.Clock.tells c.args.limit in
     let lot = c.args.lot.now in let words = c.args.words in
     let here = begins up lot words (at (lock.Decide 3)) c.args.token.now None c.requires in
     let entered = comes here Done c.turn_enter.new.token c.turn_enter.new.section c.turn_enter.ensures
@@ -46,7 +46,7 @@ turn_leave-requires g c =
 pub fall_asleep-requires-clause-at : goal.fall_asleep-requires-clause-at
 fall_asleep-requires-clause-at g c =
     let at = locks_at c.args.mutex c.args.entry in
-    let up = IsUp g.C.Clock.tells c.args.limit in
+    let up = TimeIsUp g.C.Clock.tells c.args.limit in
     let lot = c.args.lot.now in let words = c.args.words in
     let here = begins up lot words (at (lock.Decide 3)) c.args.token.now None c.requires in
     let entered = comes here Done c.turn_enter.new.token c.turn_enter.new.section c.turn_enter.ensures
@@ -67,7 +67,7 @@ fall_asleep-requires-clause-at g c =
 pub fall_asleep-requires-clause-queued : goal.fall_asleep-requires-clause-queued
 fall_asleep-requires-clause-queued g c =
     let at = locks_at c.args.mutex c.args.entry in
-    let up = IsUp g.C.Clock.tells c.args.limit in
+    let up = TimeIsUp g.C.Clock.tells c.args.limit in
     let lot = c.args.lot.now in let words = c.args.words in
     let here = begins up lot words (at (lock.Decide 3)) c.args.token.now None c.requires in
     let entered = comes here Done c.turn_enter.new.token c.turn_enter.new.section c.turn_enter.ensures
@@ -89,7 +89,7 @@ fall_asleep-requires-clause-queued g c =
 pub returns-then-parked : goal.returns-then-parked
 returns-then-parked g c =
     let at = locks_at c.args.mutex c.args.entry in
-    let up = IsUp g.C.Clock.tells c.args.limit in
+    let up = TimeIsUp g.C.Clock.tells c.args.limit in
     let lot = c.args.lot.now in let words = c.args.words in
     let here = begins up lot words (at (lock.Decide 3)) c.args.token.now None c.requires in
     let entered = comes here Done c.turn_enter.new.token c.turn_enter.new.section c.turn_enter.ensures
@@ -110,7 +110,7 @@ returns-then-parked g c =
 pub rest-requires-clause-at : goal.rest-requires-clause-at
 rest-requires-clause-at g c =
     let at = locks_at c.args.mutex c.args.entry in
-    let up = IsUp g.C.Clock.tells c.args.limit in
+    let up = TimeIsUp g.C.Clock.tells c.args.limit in
     let lot = c.args.lot.now in let words = c.args.words in
     let here = begins up lot words (at (lock.Decide 3)) c.args.token.now None c.requires in
     let entered = comes here Done c.turn_enter.new.token c.turn_enter.new.section c.turn_enter.ensures
@@ -138,7 +138,7 @@ rest-requires-clause-queued g c =
 pub returns : goal.returns
 returns g c =
     let at = locks_at c.args.mutex c.args.entry in
-    let up = IsUp g.C.Clock.tells c.args.limit in
+    let up = TimeIsUp g.C.Clock.tells c.args.limit in
     let lot = c.args.lot.now in let words = c.args.words in
     let here = begins up lot words (at (lock.Decide 3)) c.args.token.now None c.requires in
     let entered = comes here Done c.turn_enter.new.token c.turn_enter.new.section c.turn_enter.ensures

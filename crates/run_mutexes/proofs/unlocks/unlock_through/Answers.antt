@@ -1,7 +1,7 @@
 use Rattle.std.proofs.Common.{ℕ, None, refl, sym, ap}
 use Rattle.steps_base.specs.declared.acts.Act.TheVariants.{Enter, Take}
 use Rattle.steps_base.specs.declared.acts.Reply.TheVariants.{Done, Took}
-use Rattle.steps_base.specs.declared.acts.Whom.TheVariants.{First}
+use Rattle.steps_base.specs.declared.acts.TakeWhich.TheVariants.{First}
 use Rattle.core_base.specs.declared.keys.Keys.TheVariants.{One}
 use Rattle.spec_locks.specs.declared.outcomes.Answer.TheVariants.{Ok}
 use Rattle.run_base.proofs.TurnsOn.{turn_leads, turn_then}

@@ -1,7 +1,7 @@
 //! A waiter that another thread moves to a queue in which it doesn't wait.
 ghost use Rattle.std.specs.Prelude.{◌≡◌};
 ghost use Rattle.parking_lot_core.specs.Tokens.{IsTokenOf};
-ghost use Rattle.parking_lot.specs.Names.{lot_of};
+ghost use Rattle.parking_lot.specs.LotOf.{lot_of};
 
 use super::super::check_eq;
 use super::super::fair::{is_waited_for, wait_until};

@@ -1,7 +1,7 @@
 //! Raw mutexes whose waiters may give up.
 ghost use Rattle.std.specs.Prelude.{IfSome};
 ghost use Rattle.parking_lot_core.specs.Tokens.{IsTokenOf};
-ghost use Rattle.parking_lot.specs.Names.{lot_of};
+ghost use Rattle.parking_lot.specs.LotOf.{lot_of};
 
 use super::super::fair::wait_until;
 use super::super::{check, check_eq};

@@ -1,12 +1,12 @@
 //! Threads that meet at one semaphore.
 ghost use Rattle.std.specs.Prelude.{◌≡◌, ◌≤◌};
-ghost use Rattle.run_signals.specs.SemaphoreUsers.{IsTicketOf, IsTokenOf, lot_of};
+ghost use Rattle.run_once_and_semaphores.specs.SemaphoreUsers.{IsTicketOf, IsTokenOf, lot_of};
 
 use super::super::meets::come_to_wait;
 use super::super::{check_eq, seats};
 use super::semaphore_of;
 use parking_lot_core::{ParkingLot, TickClock, Ticket, Token};
-use run_signals::Semaphore;
+use run_once_and_semaphores::Semaphore;
 use std::alloc::Global;
 use std::process::Abort;
 use std::sync::Wait;

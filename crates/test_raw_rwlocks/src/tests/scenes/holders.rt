@@ -1,7 +1,7 @@
 //! Threads that hold a lock until others wait for it, and let them in.
 ghost use Rattle.std.specs.Prelude.{◌≡◌};
 ghost use Rattle.parking_lot_core.specs.Tokens.{IsTokenOf};
-ghost use Rattle.parking_lot.specs.Names.{IsExclusiveOf, IsSharedOf, IsUpgradableOf};
+ghost use Rattle.parking_lot.specs.LotOf.{IsExclusiveOf, IsSharedOf, IsUpgradableOf};
 ghost use Rattle.test_any_rwlock.specs.AnyLocks.{lot_of, word_of};
 
 use super::super::fixtures::{AnyRwLock, comes_to, queue_up};

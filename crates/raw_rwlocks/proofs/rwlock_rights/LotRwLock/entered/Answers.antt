@@ -1,6 +1,6 @@
 use Rattle.std.proofs.Common.{◌≡◌, None, true, ap, ◌∙◌, sym, subst, refl}
 use Rattle.std.specs.Arc.{arc_value}
-use Rattle.core_clocks.specs.Clocks.{IsUp}
+use Rattle.core_clocks.specs.Clocks.{TimeIsUp}
 use Rattle.core_base.specs.declared.wants.Want.{Want}
 use Rattle.spec_locks.specs.declared.outcomes.Answer.{Answer}
 use Rattle.steps_rwlock.specs.declared.purposes.RwLockPurpose.TheVariants.{Enter}
@@ -25,7 +25,7 @@ pub split-requires-clause-held : goal.split-requires-clause-held
 split-requires-clause-held g c = let n = c.args.self.now.word.number in let ended = c.requires.ended
     in let owns = (view_of ended.0).owns in
     let over = ended.1.2 owns (begins_entering n c.args.access c.args._patience owns) in
-    let right = (entered_right (IsUp g.C.Clock.tells c.args._limit.now) n owns
+    let right = (entered_right (TimeIsUp g.C.Clock.tells c.args._limit.now) n owns
     c.args.self.now.settings.admission c.args.access c.args._patience c.args.answer
     (stage_of c.args.token.now None) over c.in-Ok.is).1 in
     subst (λ (w : Want). has (owning (rwlock_at c.args.self.now.word.number) (owner_for w))
@@ -36,7 +36,7 @@ pub returns-in-Ok-clause-entered : goal.returns-in-Ok-clause-entered
 returns-in-Ok-clause-entered g c = λ before ended. let n = c.args.self.now.word.number in let owns =
     (view_of before).owns in
     let over = ended.2 owns (begins_entering n c.args.access c.args._patience owns) in
-    let right = entered_right (IsUp g.C.Clock.tells c.args._limit.now) n owns
+    let right = entered_right (TimeIsUp g.C.Clock.tells c.args._limit.now) n owns
     c.args.self.now.settings.admission c.args.access c.args._patience c.args.answer
     (stage_of c.args.token.now None) over c.in-Ok.is in
     let left = subst (λ (w : Want). IsBeside c.args.self.now.word.number (view_of before).owns
@@ -67,7 +67,7 @@ pub returns-in-No-clause-entered : goal.returns-in-No-clause-entered
 returns-in-No-clause-entered g c = λ before ended. let n = c.args.self.now.word.number in let owns =
     (view_of before).owns in
     let over = ended.2 owns (begins_entering n c.args.access c.args._patience owns) in
-    let gave_up = gave_up_may (IsUp g.C.Clock.tells c.args._limit.now) n owns
+    let gave_up = gave_up_may (TimeIsUp g.C.Clock.tells c.args._limit.now) n owns
     c.args.self.now.settings.admission c.args.access c.args._patience c.args.answer
     (stage_of c.args.token.now None) over c.in-No.is in (
       (ended.0, gave_up.1),
@@ -78,7 +78,7 @@ returns-in-No-clause-entered g c = λ before ended. let n = c.args.self.now.word
       gave_up.0,
       tt,
       tt,
-      gave_up_left (IsUp g.C.Clock.tells c.args._limit.now) n owns c.args.self.now.settings.admission
+      gave_up_left (TimeIsUp g.C.Clock.tells c.args._limit.now) n owns c.args.self.now.settings.admission
           c.args.access c.args._patience c.args.answer (stage_of c.args.token.now None) over c.in-No.is,
     )
 
@@ -86,7 +86,7 @@ pub returns-in_default-clause-entered : goal.returns-in_default-clause-entered
 returns-in_default-clause-entered g c = λ before ended. let n = c.args.self.now.word.number in let owns =
     (view_of before).owns in
     let over = ended.2 owns (begins_entering n c.args.access c.args._patience owns) in
-    let full = found_full (IsUp g.C.Clock.tells c.args._limit.now) n owns c.args.self.now.settings.admission
+    let full = found_full (TimeIsUp g.C.Clock.tells c.args._limit.now) n owns c.args.self.now.settings.admission
     c.args.access c.args._patience c.args.answer (stage_of c.args.token.now None) over c.in_default.not-Ok
     c.in_default.not-Yes c.in_default.not-No in
     let walks = subst (λ (answer : Answer). HasWalkedRwLock c.args.self.now.word.number

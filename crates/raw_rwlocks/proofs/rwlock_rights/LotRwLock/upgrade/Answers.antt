@@ -1,5 +1,5 @@
 use Rattle.std.proofs.Common.{rules, List, Option, ap, ◌∙◌, sym, subst, refl, None}
-use Rattle.core_clocks.specs.Clocks.{IsUp}
+use Rattle.core_clocks.specs.Clocks.{TimeIsUp}
 use Rattle.steps_rwlock.specs.declared.purposes.RwLockPurpose.TheVariants.{Upgrade}
 use Rattle.spec_locks.specs.declared.outcomes.Answer.{Answer}
 use Rattle.spec_locks.specs.declared.outcomes.Answer.TheVariants.{No}
@@ -30,7 +30,7 @@ split-requires-clause-held g c = let n = c.args.self.now.word.number in let owns
       ap (λ (v : View). v.owns) c.join.ensures.joined,
     )) in
     has_right n owners.Upgradable owns (view_of c.call-answer.new.token).owns
-    (fell_back (IsUp g.C.Clock.tells c.args.limit.now) n owns c.args.self.now.settings.admission
+    (fell_back (TimeIsUp g.C.Clock.tells c.args.limit.now) n owns c.args.self.now.settings.admission
     c.args.patience c.call-answer.result (stage_of c.call-answer.new.token None) over c.in-No.is).1
 
 pub split-requires-in_default : goal.split-requires-in_default
@@ -48,7 +48,7 @@ split-requires-in_default g c = let n = c.args.self.now.word.number in let owns 
       lot = search rules;
       own = search rules;
       held = has_right n owners.Exclusive owns (view_of c.call-answer.new.token).owns
-          (upgraded (IsUp g.C.Clock.tells c.args.limit.now) n owns c.args.self.now.settings.admission
+          (upgraded (TimeIsUp g.C.Clock.tells c.args.limit.now) n owns c.args.self.now.settings.admission
           c.args.patience c.call-answer.result (stage_of c.call-answer.new.token None) over
           c.in_default.not-No).1;
     }
@@ -64,7 +64,7 @@ returns-in-No-clause-token g c = let n = c.args.self.now.word.number in let owns
       (λ settled. refl),
       ap (λ (v : View). v.owns) c.join.ensures.joined,
     )) in
-    let right = (fell_back (IsUp g.C.Clock.tells c.args.limit.now) n owns c.args.self.now.settings.admission
+    let right = (fell_back (TimeIsUp g.C.Clock.tells c.args.limit.now) n owns c.args.self.now.settings.admission
     c.args.patience c.call-answer.result (stage_of c.call-answer.new.token None) over c.in-No.is).1 in (
       search rules,
       (
@@ -96,7 +96,7 @@ returns-in-No-clause-late g c = let n = c.args.self.now.word.number in let owns 
       (λ settled. refl),
       ap (λ (v : View). v.owns) c.join.ensures.joined,
     )) in
-    (fell_back (IsUp g.C.Clock.tells c.args.limit.now) n owns c.args.self.now.settings.admission
+    (fell_back (TimeIsUp g.C.Clock.tells c.args.limit.now) n owns c.args.self.now.settings.admission
     c.args.patience c.call-answer.result (stage_of c.call-answer.new.token None) over c.in-No.is).0
 
 pub returns-in-No-clause-left : goal.returns-in-No-clause-left
@@ -113,7 +113,7 @@ returns-in-No-clause-left g c = let n = c.args.self.now.word.number in let owns 
     let left = subst (λ (last : Option SectionRecord). LeftBy c.args.self.now.word.number
     c.args.self.now.settings.admission (Upgrade c.args.patience) last
     (view_of c.call-answer.new.token).steps) (sym c.split.ensures.own.1)
-    (fell_back_left (IsUp g.C.Clock.tells c.args.limit.now) n owns c.args.self.now.settings.admission
+    (fell_back_left (TimeIsUp g.C.Clock.tells c.args.limit.now) n owns c.args.self.now.settings.admission
     c.args.patience c.call-answer.result (stage_of c.call-answer.new.token None) over c.in-No.is) in
     subst (λ (steps : List WordStep). LeftBy c.args.self.now.word.number c.args.self.now.settings.admission
     (Upgrade c.args.patience) (last_of c.split.new.token) steps)
@@ -129,7 +129,7 @@ returns-in_default g c = let n = c.args.self.now.word.number in let owns = (view
       (λ settled. refl),
       ap (λ (v : View). v.owns) c.join.ensures.joined,
     )) in
-    let right = upgraded (IsUp g.C.Clock.tells c.args.limit.now) n owns c.args.self.now.settings.admission
+    let right = upgraded (TimeIsUp g.C.Clock.tells c.args.limit.now) n owns c.args.self.now.settings.admission
     c.args.patience c.call-answer.result (stage_of c.call-answer.new.token None) over c.in_default.not-No
     in record {
       token = (

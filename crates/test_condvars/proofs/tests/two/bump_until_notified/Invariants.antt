@@ -1,5 +1,5 @@
 use Rattle.std.proofs.Common.{◌≡◌}
-use Rattle.parking_lot.specs.Names.{IsTokenOf, lock_of, lot_of}
+use Rattle.parking_lot.specs.LotOf.{IsTokenOf, lock_of, lot_of}
 use Rattle.test_condvars.proofs.tests.two.bump_until_notified.Given as goal
 
 abbrev pub invariant-loop : goal.invariant-loop

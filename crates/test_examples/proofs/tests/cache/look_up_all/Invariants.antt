@@ -1,4 +1,4 @@
-use Rattle.parking_lot.specs.Names.{IsTokenOf, lot_of_rwlock}
+use Rattle.parking_lot.specs.LotOf.{IsTokenOf, lot_of_rwlock}
 use Rattle.test_examples.proofs.tests.cache.look_up_all.Given as goal
 
 abbrev pub invariant-loop-net : goal.invariant-loop-net

@@ -1,4 +1,4 @@
-use Rattle.parking_lot.specs.Names.{IsTokenOf, lot_of}
+use Rattle.parking_lot.specs.LotOf.{IsTokenOf, lot_of}
 use Rattle.test_examples.proofs.tests.workers.work.Given as goal
 
 abbrev pub invariant-loop : goal.invariant-loop

@@ -1,5 +1,5 @@
 use Rattle.std.proofs.Common.{◌≡◌, ◌+◌}
-use Rattle.parking_lot.specs.Names.{lot_of, thread_of}
+use Rattle.parking_lot.specs.LotOf.{lot_of, thread_of}
 use Rattle.parking_lot_core.specs.Tokens.{IsTokenOf}
 use Rattle.test_mapped.proofs.tests.reentrant.add_while_held.Given as goal
 

@@ -1,4 +1,4 @@
-use Rattle.run_signals.specs.OnceUsers.{IsTokenOf, lot_of}
+use Rattle.run_once_and_semaphores.specs.OnceUsers.{IsTokenOf, lot_of}
 use Rattle.test_onces.proofs.tests.scripts.plays.Given as goal
 
 abbrev pub invariant-loop-number : goal.invariant-loop-number

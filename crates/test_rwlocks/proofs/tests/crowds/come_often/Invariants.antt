@@ -1,4 +1,4 @@
-use Rattle.parking_lot.specs.Names.{lot_of_rwlock}
+use Rattle.parking_lot.specs.LotOf.{lot_of_rwlock}
 use Rattle.parking_lot_core.specs.Tokens.{IsTokenOf}
 use Rattle.test_rwlocks.proofs.tests.crowds.come_often.Given as goal
 

@@ -1,5 +1,0 @@
-use Rattle.lot_looks.proofs.Runs.{no_miss_is_needed}
-use Rattle.lot_looks.proofs.laws.no_missed_exchange_is_needed.Goals as goal
-
-pub returns : goal.returns
-returns c = no_miss_is_needed
