@@ -2,8 +2,8 @@
 use crate::arguments::Arguments;
 use core_queues::BucketQueues;
 use lock_explore::{Failure, Policy, Summary, Tally, json};
-use picture_html::draw_page;
 use lot_picture::{Span, record_schedule};
+use picture_html::draw_page;
 use picture_svg::{Drawing, draw};
 use std::io::{BufWriter, ErrorKind, Write};
 use std::{fs, io};

@@ -1,7 +1,6 @@
 //! Reader-writer locks that keep a value, over any raw lock.
 #![tactic(auto)]
 
-mod timed;
 mod fair;
 pub mod guards;
 pub mod held;
@@ -11,6 +10,7 @@ pub mod rights;
 pub mod rwlock;
 pub mod showing;
 pub mod shows;
+mod timed;
 mod visits;
 
 pub use guards::{RwLockReadGuard, RwLockUpgradableReadGuard, RwLockWriteGuard};

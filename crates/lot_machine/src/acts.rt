@@ -23,7 +23,7 @@ use crate::locks::{Lock, is_full};
 use crate::machine::Machine;
 use crate::shares::{give_shares, nobody_shares, owners_of_successor, set_share_in};
 use core_base::{Key, Keys, LockPicker, Queues, Requeue, Want};
-use lot_steps::{Act, Check, Op, Owners, Reply, Wakes, TakeWhich};
+use lot_steps::{Act, Check, Op, Owners, Reply, TakeWhich, Wakes};
 use steps_base::takes_effect;
 
 /// Lists the waiters under a key.
@@ -234,7 +234,9 @@ impl<Q: Queues + Drop> Machine<Q> {
     {
         match whom {
             TakeWhich::First => self.take_first(thread, key),
-            TakeWhich::Picked { start, recursive } => self.take_picked(thread, key, start, recursive),
+            TakeWhich::Picked { start, recursive } => self.take_picked(
+                thread, key, start, recursive,
+            ),
             TakeWhich::All => self.take_all(thread, key),
         }
     }

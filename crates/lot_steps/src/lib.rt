@@ -9,6 +9,6 @@ pub mod places;
 pub use places::{Place, advance, has_right};
 pub use spec_locks::{Answer, Call, Kind, MutexCall, OnceState, Outcome, Step, Turn};
 pub use steps_base::{
-    Act, Check, Fallback, Next, Op, Owner, Owners, Pending, Phase, Reply, Wakes, TakeWhich,
+    Act, Check, Fallback, Next, Op, Owner, Owners, Pending, Phase, Reply, TakeWhich, Wakes,
 };
 pub use steps_mutex::{Entry, HandOffAt, LockAt, MutexPlace, UnlockAt};

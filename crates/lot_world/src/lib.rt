@@ -16,7 +16,7 @@ pub use draining::schedule;
 pub use lot_machine::{Debt, DebtBook, Debts, Lock, OwnersOf, Parts, QueueOf};
 pub use lot_steps::{
     Act, Check, Entry, Fallback, HandOffAt, LockAt, MutexPlace, Next, Op, Owner, Owners, Pending,
-    Phase, Place, Reply, UnlockAt, Wakes, TakeWhich, advance, has_right,
+    Phase, Place, Reply, TakeWhich, UnlockAt, Wakes, advance, has_right,
 };
 pub use spec_locks::{Answer, Call, Kind, MutexCall, OnceState, Outcome, Step, Turn};
 pub use world::{MOST_LOCKS, MOST_THREADS, SOLO_STEPS, Stopped, World};

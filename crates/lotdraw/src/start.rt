@@ -5,11 +5,11 @@ ghost use Rattle.lotdraw.specs.Endings.{is_malformed, is_silent};
 
 use crate::options::{Form, Options, Refused};
 use core_base::Queues;
-use picture_html::draw_page;
 use lot_picture::{Failure, Recording, Span, record_schedule};
 use lot_replay::status::{BROKEN, DONE, MALFORMED, NO_MEMORY};
-use picture_svg::{Drawing, draw};
 use lot_text::{Page, print_malformed, print_no_memory, send_all};
+use picture_html::draw_page;
+use picture_svg::{Drawing, draw};
 use std::alloc::{AllocError, Global};
 use std::io;
 use std::io::{BufRead, ErrorKind, Write};

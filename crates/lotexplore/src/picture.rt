@@ -2,8 +2,8 @@
 use core_queues::BucketQueues;
 use lot_findings::Finding;
 use lot_output::record_turns;
-use picture_html::draw_page;
 use lot_picture::{Recording, Span, record_schedule};
+use picture_html::draw_page;
 use picture_svg::{Drawing, draw};
 use std::io::{BufWriter, ErrorKind, Write};
 use std::{fs, io};

@@ -20,7 +20,9 @@ pub use raw_mutexes::{
 pub use raw_rwlocks::{
     RawExclusiveGuard, RawRwLock, RawRwLockRecursive, RawSharedGuard, RawUpgradableGuard,
 };
-pub use run_once_and_semaphores::{Once, OnceCell, OnceFault, OnceShown, OnceState, Permit, Semaphore};
+pub use run_once_and_semaphores::{
+    Once, OnceCell, OnceFault, OnceShown, OnceState, Permit, Semaphore,
+};
 pub use spec_locks::{
     Access, Answer, Call, CondvarCall, Downgrade, Kind, MutexCall, OnceCall, Patience, RwLockCall,
     SemaphoreCall,

@@ -1,8 +1,8 @@
 //! What a thread is to a lock, in words: to which threads it owes a wake-up, and what it waits for.
 
 use lot_picture::{Deed, Effect, Event, Lane, LockRow, Recording};
-use picture_svg::put_text;
 use lot_world::{Kind, Owner};
+use picture_svg::put_text;
 use std::io;
 use std::io::Write;
 

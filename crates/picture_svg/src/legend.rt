@@ -4,8 +4,8 @@ use crate::arrows::{arrow_of, draw_lying};
 use crate::looks::{Look, look_of_deed, look_of_right};
 use crate::shapes::{Area, put_letter, put_marker, put_rect};
 use lot_picture::{Cell, Deed, Effect, Recording};
-use picture_layout::layout::{MARGIN, Pixels};
 use lot_world::Owner;
+use picture_layout::layout::{MARGIN, Pixels};
 use std::io;
 use std::io::Write;
 

@@ -40,7 +40,7 @@ ghost use Rattle.run_base.specs.Stages.{entered_now, ActNeeds, Became};
 use crate::sleepers::{Sleeper, sleeper_at};
 use crate::taking::{requeue, take_all, take_first, take_picked, tell_wants};
 use crate::words::Words;
-use lot_steps::{Act, Check, Place, Reply, Wakes, TakeWhich};
+use lot_steps::{Act, Check, Place, Reply, TakeWhich, Wakes};
 use parking_lot_core::{
     Clock, Key, Keys, Note, Op, ParkingLot, QueuePlace, Section, Slept, Token, Want, Word,
 };

@@ -6,6 +6,6 @@ pub mod acts;
 pub mod bits;
 pub mod owners;
 
-pub use acts::{Act, Check, Next, Reply, Wakes, TakeWhich, takes_effect};
+pub use acts::{Act, Check, Next, Reply, TakeWhich, Wakes, takes_effect};
 pub use core_base::Op;
 pub use owners::{Fallback, Owner, Owners, Pending, Phase};

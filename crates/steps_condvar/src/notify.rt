@@ -20,7 +20,7 @@ ghost use Rattle.steps_condvar.specs.CondvarSteps.{next_notify, move_act, notify
 use crate::places::shows;
 use core_base::{Keys, Note, Op, Requeue, main_key};
 use spec_locks::Answer;
-use steps_base::{Act, Next, Reply, Wakes, TakeWhich};
+use steps_base::{Act, Next, Reply, TakeWhich, Wakes};
 use steps_mutex::places::{LOCKED, PARKED, is_locked};
 
 /// Where a thread stands that notifies.

@@ -13,7 +13,7 @@ ghost use Rattle.steps_mutex.specs.MutexSteps.{hand_off_act};
 use crate::places::{LOCKED, MutexPlace, PARKED};
 use core_base::{Keys, Note, Op, main_key};
 use spec_locks::Answer;
-use steps_base::{Act, Next, Reply, Wakes, TakeWhich};
+use steps_base::{Act, Next, Reply, TakeWhich, Wakes};
 
 /// Where an owner stands that saw `PARKED` in `unlock_fair` or `bump`.
 #[derive(Clone, Copy, PartialEq, Eq)]

@@ -13,7 +13,7 @@ ghost use Rattle.steps_mutex.specs.MutexSteps.{next_unlock, unlock_act};
 use crate::places::{LOCKED, NOT_PARKED, is_parked};
 use core_base::{Keys, Note, Op, main_key};
 use spec_locks::Answer;
-use steps_base::{Act, Next, Reply, Wakes, TakeWhich};
+use steps_base::{Act, Next, Reply, TakeWhich, Wakes};
 
 /// Where a thread stands in `unlock`.
 #[derive(Clone, Copy, PartialEq, Eq)]

@@ -16,7 +16,7 @@ use crate::places::{DONE, POISONED};
 use core_base::{Keys, Note, Op, main_key};
 use spec_locks::{Answer, OnceState};
 use steps_base::bits::{is_marked, is_poisoned};
-use steps_base::{Act, Next, Phase, Reply, Wakes, TakeWhich};
+use steps_base::{Act, Next, Phase, Reply, TakeWhich, Wakes};
 
 /// Where a thread stands that runs its closure, or ends its run.
 #[derive(Clone, Copy, PartialEq, Eq)]

@@ -21,7 +21,7 @@ use crate::purposes::{RwLockPurpose, entered};
 use core_base::{Keys, Line, Note, Want};
 use spec_locks::{Access, Answer};
 use steps_base::bits::{count_in, has_aside, has_parked};
-use steps_base::{Act, Next, Reply, Wakes, TakeWhich};
+use steps_base::{Act, Next, Reply, TakeWhich, Wakes};
 
 #[derive(Clone, Copy, PartialEq, Eq)]
 pub enum WakeAt {

@@ -21,7 +21,7 @@ use crate::places::{RwLockCallPlace, enters_again};
 use core_base::{Keys, Note, Op, Want, main_key};
 use spec_locks::{Access, Answer};
 use steps_base::bits::{count_in, has_parked};
-use steps_base::{Act, Next, Reply, Wakes, TakeWhich};
+use steps_base::{Act, Next, Reply, TakeWhich, Wakes};
 use steps_rwlock::Admission;
 use steps_rwlock::places::{PARKED, READER, UPGRADABLE, WRITER};
 use steps_rwlock::purposes::token;

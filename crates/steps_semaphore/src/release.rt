@@ -14,7 +14,7 @@ use crate::places::{NOT_PARKED, ONE_FREE};
 use core_base::{Keys, Note, Op, main_key};
 use spec_locks::Answer;
 use steps_base::bits::has_parked;
-use steps_base::{Act, Next, Reply, Wakes, TakeWhich};
+use steps_base::{Act, Next, Reply, TakeWhich, Wakes};
 
 /// Where a thread stands that gives a permit back.
 #[derive(Clone, Copy, PartialEq, Eq)]
