@@ -20,7 +20,7 @@ pub fn print_schedule(rt: &HostRuntime, channel: &Channel, moves: &[usize]) -> i
     if !is_fit(channel) {
         return Ok(());
     }
-    let Ok(run) = follow_behaviour::<ListQueues, _>(rt.alloc(), channel, moves) else {
+    let Ok(Some(run)) = follow_behaviour::<ListQueues, _>(rt.alloc(), channel, moves) else {
         return println!(rt; "memory was refused for the schedule");
     };
     let Some(names) = names() else {

@@ -4,6 +4,7 @@ use Rattle.spec_locks.specs.declared.calls.Turn.TheVariants as turn
 use Rattle.spec_locks.specs.declared.calls.Step.{Step}
 use Rattle.lot_machine.specs.Machine.{opening, after_steps}
 use Rattle.state_search.specs.Rules.{Leads}
+use Rattle.lot_scene.specs.Following.{Follows}
 use Rattle.lot_scene.specs.Stages.{step_of, is_own}
 use Rattle.lot_behaviour.specs.declared.behaviour.Act.{Act}
 use Rattle.lot_behaviour.specs.declared.behaviour.Act.TheVariants as act
@@ -39,8 +40,12 @@ listed (Some step) = step ∷ []
 abbrev pub steps_taken : {S : Type 0} → Conduct S → SceneState S → ℕ → List Step
 steps_taken c s k = listed (step_taken c s k)
 
--- where the moves are possible, they lead to this state, and these steps lead a new world to its world
+-- The moves are possible one after another and lead to this state. These are their steps, in order, which lead a
+-- new world to its world.
 abbrev pub Replays : {S : Type 0} → Conduct S → List ℕ → SceneState S → List Step → Type 0
-Replays {S} c moves end steps =
-    (t : SceneState S) → Leads (rules_of_conduct c) (scene_start c) moves t
-    → (end ≡ t) × (after_steps (opening c.kinds c.threads) steps ≡ t.world)
+Replays {S} c moves end steps = Follows (rules_of_conduct c) (steps_taken c) (scene_start c) moves end steps
+    × (after_steps (opening c.kinds c.threads) steps ≡ end.world)
+
+-- one of the moves is not possible
+abbrev pub LeadsNowhere : {S : Type 0} → Conduct S → List ℕ → Type 0
+LeadsNowhere {S} c moves = (t : SceneState S) → Leads (rules_of_conduct c) (scene_start c) moves t → ⊥

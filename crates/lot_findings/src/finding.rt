@@ -59,9 +59,12 @@ impl<'a> Finding<'a> {
         if !program.is_fit() {
             return Err(NoRoom);
         }
-        let run = follow::<ListQueues>(alloc, program, walk.moves())?;
+        // A walk's moves are possible.
+        let Some(steps) = follow::<ListQueues>(alloc, program, walk.moves())? else {
+            return Err(NoRoom);
+        };
         let mut world = new_world(alloc, program)?;
-        for step in run.steps.iter() {
+        for step in steps.iter() {
             world.step(*step);
         }
         Ok(Finding {
@@ -69,7 +72,7 @@ impl<'a> Finding<'a> {
             wrong,
             lap: None,
             walk,
-            steps: run.steps,
+            steps,
             world,
         })
     }
