@@ -13,6 +13,7 @@ mod report;
 mod schedule;
 mod script;
 mod search;
+mod silent;
 mod summary;
 mod waits;
 
