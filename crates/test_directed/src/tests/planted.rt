@@ -56,7 +56,7 @@ fn a_lot_whose_tokens_never_ask_is_noticed(rt: HostRuntime) -> Result<(), Fail> 
         move |rt: &HostRuntime, director: &Arc<Director>| { unasked(rt, alloc, director) },
     )?;
     check_eq(&rt, found.fine.runs, 100);
-    check_eq(&rt, found.silent, vec![in alloc; 0, 1]?);
+    check_eq(&rt, found.silent.as_slice(), [0usize, 1].as_slice());
     Ok(())
 }
 
@@ -71,6 +71,6 @@ fn a_lot_whose_tokens_ask_is_not(rt: HostRuntime) -> Result<(), Fail> {
         move |rt: &HostRuntime, director: &Arc<Director>| { crosswise(rt, alloc, director) },
     )?;
     check_eq(&rt, found.deadlocks.runs > 0, true);
-    check_eq(&rt, found.silent, Vec::new(alloc));
+    check_eq(&rt, found.silent.is_empty(), true);
     Ok(())
 }

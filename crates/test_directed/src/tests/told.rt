@@ -1,38 +1,36 @@
 //! How a run is told.
 use super::{check_eq, crosswise, search_of};
-use lock_explore::{Failure, explore, script_from, script_text};
+use lock_explore::{Summary, explore, script_from, script_text};
 use parking_lot::Director;
 use std::alloc::{AllocError, Global};
-use std::process::Abort;
 use std::sync::{Arc, Wait};
 use std::test::Fail;
 use std::thread::Threads;
 
-// The run in which each of two threads has a mutex that the other waits for.
-fn deadlocked<R: Threads + Wait + Abort + Copy + Send + Sync + 'static>(
+// Searches the run in which each of two threads has a mutex that the other waits for.
+fn deadlock<R: Threads + Wait + Copy + Send + Sync + 'static>(
     rt: &R,
     alloc: Global,
-) -> Result<Failure, AllocError> {
+) -> Result<Summary, AllocError> {
     let runs = search_of(alloc, vec![in alloc; 1, 0, 1, 0]?);
-    let found = explore(rt, alloc, &runs, move |rt: &R, director: &Arc<Director>| {
+    explore(rt, alloc, &runs, move |rt: &R, director: &Arc<Director>| {
         crosswise(rt, alloc, director)
-    })?;
-    match found.failure {
-        Some(failure) => Ok(failure),
-        None => panic!(rt; "no deadlock"),
-    }
+    })
 }
 
 #[test]
 fn who_waits_for_what_of_whom(rt: HostRuntime) -> Result<(), Fail> {
     let alloc = rt.alloc();
-    let failure = deadlocked(&rt, alloc)?;
+    let found = deadlock(&rt, alloc)?;
+    let Some(failure) = &found.failure else {
+        panic!(rt; "no deadlock");
+    };
     check_eq(
         &rt,
         failure.verdict(alloc)?.as_str(),
         "deadlock after 4 turns",
     );
-    let waits = failure.waits(alloc)?.join("\n")?;
+    let waits = failure.waits(alloc)?.join(alloc, "\n")?;
     check_eq(
         &rt,
         waits.as_str(),
@@ -46,14 +44,14 @@ fn who_waits_for_what_of_whom(rt: HostRuntime) -> Result<(), Fail> {
 #[test]
 fn a_run_is_a_schedule_of_the_simulator(rt: HostRuntime) -> Result<(), Fail> {
     let alloc = rt.alloc();
-    let failure = deadlocked(&rt, alloc)?;
-    let lines = failure
-        .schedule(alloc)?
-        .unwrap_or(Vec::new(alloc))
-        .join("\n")?;
+    let found = deadlock(&rt, alloc)?;
+    let Some(failure) = &found.failure else {
+        panic!(rt; "no deadlock");
+    };
+    let lines = failure.schedule(alloc)?.unwrap_or(Vec::new(alloc));
     check_eq(
         &rt,
-        lines.as_str(),
+        lines.join(alloc, "\n")?.as_str(),
         "threads 2\nlock w0 mutex\nlock w1 mutex\n1 do lock w1\n0 do lock w0\n1 do lock w0\n\
          0 do lock w1\nshow",
     );
