@@ -17,10 +17,12 @@ mod silent;
 mod summary;
 mod waits;
 
-pub use core_director::{Choice, Course, Deed, Director, Ending, Grain, Log, Member, Policy, Turn};
+pub use core_director::{
+    CallName, Choice, Course, Deed, Director, Ending, Grain, Log, Member, Policy, Turn,
+};
 pub use failure::Failure;
 pub use report::json;
-pub use runs::{DirectorHandle, explore};
+pub use runs::explore;
 pub use script::{script_from, script_text};
 pub use search::Search;
 pub use summary::{Summary, Tally};

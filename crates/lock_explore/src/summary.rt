@@ -95,7 +95,7 @@ impl Summary {
         match ending {
             Ending::Fine => self.fine.add(seed),
             Ending::Deadlock => self.deadlocks.add(seed),
-            Ending::Failed(_) => self.failed.add(seed),
+            Ending::Failed => self.failed.add(seed),
             Ending::TooLong => self.too_long.add(seed),
             Ending::Stuck(_) => self.stuck.add(seed),
             Ending::Strayed => self.strayed.add(seed),

@@ -47,8 +47,11 @@ fn a_program_that_returns_an_error_has_failed(rt: HostRuntime) -> Result<(), Fai
         },
     )?;
     check_eq(&rt, (found.failed.runs, found.failed.first), (3, Some(0)));
-    let ending = found.failure.as_ref().map(|failure| failure.ending);
-    check_eq(&rt, ending, Some(Ending::Failed("no word left in the lot")));
+    let Some(failure) = &found.failure else {
+        panic!(rt; "no failure");
+    };
+    check_eq(&rt, failure.ending, Ending::Failed);
+    check_eq(&rt, failure.log.fault.as_str(), "no word left in the lot");
     Ok(())
 }
 
