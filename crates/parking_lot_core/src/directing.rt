@@ -2,7 +2,8 @@
 //!
 //! A directed token is never armed (`Expected`), and so each step of its thread comes to `pass` and waits
 //! for its turn there. A lot without a director pays for that at its looks alone, which ask whether the
-//! token is armed. A raw lock names its call as it begins (`begins`), or in its slow half (`renames`). Deeds come by reference: an enum by value would be a local of each fast half.
+//! token is armed. A raw lock names its call as it begins (`begins`), or in its slow half (`renames`).
+//! Deeds come by reference: an enum by value would be a local of each fast half.
 ghost use Rattle.std.specs.Prelude.{◌≡◌, None};
 
 use crate::lot::ParkingLot;
