@@ -149,12 +149,15 @@ impl ParkingLot {
     // Notes that a word was drawn.
     pub(crate) fn drew(&self, word: Word) {
         let sort = match word.kind() {
-            WordKind::Mutex => Sort::Named("mutex"),
-            WordKind::RwLock => Sort::Named("rwlock"),
-            WordKind::Condvar => Sort::Named("condvar"),
-            WordKind::Once => Sort::Named("once"),
-            WordKind::Count => Sort::Named("count"),
-            WordKind::Semaphore { permits } => Sort::Limited("semaphore", permits),
+            WordKind::Mutex => Sort::Mutex,
+            WordKind::RwLock => Sort::RwLock {
+                recursive: false,
+                readers: None,
+            },
+            WordKind::Condvar => Sort::Condvar,
+            WordKind::Once => Sort::Once,
+            WordKind::Count => Sort::Count,
+            WordKind::Semaphore { permits } => Sort::Semaphore { permits },
         };
         self.declares(word, sort);
     }

@@ -34,7 +34,7 @@ ghost use Rattle.run_locks.specs.Halves.{HasBegunRwLock, HasEndedRwLock};
 use core_base::{main_key, second_key};
 use core_words::LotWords;
 use parking_lot_core::{
-    Clock, Deed, Fault, Held, Key, Op, ParkingLot, Sort, Token, Want, Word, WordKind,
+    CallName, Clock, Deed, Fault, Held, Key, Op, ParkingLot, Sort, Token, Want, Word, WordKind,
 };
 use run_base::driver::FOR_EVER;
 use run_locks::rwlock_calls::{Rest, call, call_fast, call_slow, missed};
@@ -99,8 +99,8 @@ impl LotRwLock {
             return Err(Fault::NoMemory);
         };
         let word = lot.new_word(token, WordKind::RwLock)?;
-        let sort = if recursive { "recursive" } else { "rwlock" };
-        lot.declares(word, Sort::Limited(sort, limit));
+        let readers = Some(limit);
+        lot.declares(word, Sort::RwLock { recursive, readers });
         let settings = Settings::new(Admission { recursive, limit });
         Ok(LotRwLock {
             lot,
@@ -316,7 +316,7 @@ impl LotRwLock {
             (answer_by result) token.old token.new }
     {
         let lot: &ParkingLot = &self.lot;
-        lot.begins(token, &Deed::Call("try_write"), self.word);
+        lot.begins(token, &Deed::Call(CallName::TryWrite), self.word);
         let seen = lot.word_again(token, self.word, ENTER);
         if seen == 0 {
             return Some(self.split(lot, token, Want::Exclusive));

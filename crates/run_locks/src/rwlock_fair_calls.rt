@@ -21,7 +21,7 @@ ghost use Rattle.run_base.specs.Telling.{owns_of};
 
 use crate::rwlock_calls::run_out;
 use lot_steps::{Next, Place, Reply};
-use parking_lot_core::{Deed, Op, ParkingLot, Token, Word};
+use parking_lot_core::{CallName, Deed, Op, ParkingLot, Token, Word};
 use run_base::driver::NO_LIMIT;
 use spec_locks::{Access, Answer};
 use std::sync::Wait;
@@ -45,9 +45,9 @@ const HAND_OVER: &RwLockCallPlace = &RwLockCallPlace::HandOver {
 #[inline(always)]
 fn bump_name(access: Access) -> &'static Deed {
     match access {
-        Access::Shared => &Deed::Call("bump_shared"),
-        Access::Upgradable => &Deed::Call("bump_upgradable"),
-        Access::Exclusive => &Deed::Call("bump_exclusive"),
+        Access::Shared => &Deed::Call(CallName::BumpShared),
+        Access::Upgradable => &Deed::Call(CallName::BumpUpgradable),
+        Access::Exclusive => &Deed::Call(CallName::BumpExclusive),
     }
 }
 
@@ -104,7 +104,7 @@ pub fn release_exclusive<R: Wait>(
         → IsBeside word.now.number base (owns_of token.new) }
     ensures record { ReleasesFairly word.now.number admission.now Exclusive token.old token.new }
 {
-    lot.begins(token, &Deed::Call("unlock_exclusive_fair"), *word);
+    lot.begins(token, &Deed::Call(CallName::UnlockExclusiveFair), *word);
     let seen = lot.word_again(token, *word, LEAVE_ALONE);
     if seen != WRITER {
         rest(rt, lot, token, word, admission, HAND_OVER);
@@ -131,7 +131,7 @@ pub fn release_upgradable<R: Wait>(
         → IsBeside word.now.number base (owns_of token.new) }
     ensures record { ReleasesFairly word.now.number admission.now Upgradable token.old token.new }
 {
-    lot.begins(token, &Deed::Call("unlock_upgradable_fair"), *word);
+    lot.begins(token, &Deed::Call(CallName::UnlockUpgradableFair), *word);
     let at = RwLockCallPlace::HandOver {
         access: Access::Upgradable,
         bumps: false,

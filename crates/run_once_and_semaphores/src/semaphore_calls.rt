@@ -23,7 +23,7 @@ ghost use Rattle.run_once_and_semaphores.specs.SemaphoreCalls.{deciding, try_pla
 
 use core_words::laws::{semaphore_may_step, semaphore_trades};
 use lot_steps::Place;
-use parking_lot_core::{Clock, Deed, Op, ParkingLot, Token, Word};
+use parking_lot_core::{CallName, Clock, Deed, Op, ParkingLot, Token, Word};
 use run_base::driver::{NO_LIMIT, Stop, run};
 use run_base::words::Words;
 use spec_locks::Answer;
@@ -75,7 +75,7 @@ pub(crate) fn give(lot: &ParkingLot, token: &mut Token, word: Word) -> u64
 {
     semaphore_may_step();
     semaphore_trades();
-    lot.begins(token, &Deed::Call("release"), word);
+    lot.begins(token, &Deed::Call(CallName::Release), word);
     lot.word_again(token, word, Op::Add(2))
 }
 
@@ -144,7 +144,7 @@ pub(crate) fn acquire_slow<R: Wait, C: Clock>(
         (to_acquire timed) result (stage_of token.new None) }
 {
     if timed {
-        lot.renames(token, &Deed::Call("acquire_timed"));
+        lot.renames(token, &Deed::Call(CallName::AcquireTimed));
     }
     let start = SemaphorePlace::Acquire {
         timed,
