@@ -29,7 +29,7 @@ pub use core_words::{Held, OpenHeld, Owner, Right, Word, WordKind};
 pub use directing::TurnClock;
 pub use lot::ParkingLot;
 pub use places::QueuePlace;
-pub use sections::Section;
+pub use sections::{Section, WrongToken};
 pub use sleep::Slept;
 pub use step_counts::StepCount;
 pub use team::DEFAULT_WORDS;
