@@ -55,6 +55,25 @@ fn eat_in_time<R: Wait>(
     eats
 }
 
+// Locks both, in the order of the thread's number where the program has its bug.
+fn dine_in_time<R: Wait>(
+    rt: &R,
+    clock: &TurnClock,
+    left: &Mutex<u32>,
+    right: &Mutex<u32>,
+    token: &mut Token,
+    version: Version,
+) -> bool
+    requires left { IsTokenOf (lot_of left.now) token.old }
+    requires right { lot_of right.now ≡ lot_of left.now }
+{
+    if token.number() == 0 || version == Version::Cured {
+        eat_in_time(rt, clock, left, right, token)
+    } else {
+        eat_in_time(rt, clock, right, left, token)
+    }
+}
+
 /// Two threads lock two mutexes, the second up to a deadline. Wrong: each in its own order, and both may
 /// give up.
 pub fn timed<R: Threads + Wait + Sync>(
@@ -69,13 +88,7 @@ pub fn timed<R: Threads + Wait + Sync>(
     let right = Mutex::new(team.lot(), &mut token, 0u32)?;
     let eats = team.run(
         rt,
-        &|token: &mut Token| -> bool {
-            if token.number() == 0 || version == Version::Cured {
-                eat_in_time(rt, &clock, &left, &right, token)
-            } else {
-                eat_in_time(rt, &clock, &right, &left, token)
-            }
-        },
+        &|token: &mut Token| dine_in_time(rt, &clock, &left, &right, token, version),
     )?;
     director.check(eats.iter().any(|one| *one), "one of the threads eats");
     Ok(())
@@ -91,6 +104,17 @@ fn await_flag<R: Wait>(rt: &R, flag: &Mutex<u32>, token: &mut Token)
     }
 }
 
+// Thread 0 sets the flag, and the other waits for it.
+fn set_or_await<R: Wait>(rt: &R, flag: &Mutex<u32>, token: &mut Token)
+    requires { IsTokenOf (lot_of flag.now) token.old }
+{
+    if token.number() == 0 {
+        flag.with(rt, token, |flag: &mut u32| *flag = 1);
+    } else {
+        await_flag(rt, flag, token);
+    }
+}
+
 /// A thread tries until the other has set a flag. There is no bug, but that it spins.
 pub fn spin<R: Threads + Wait + Sync>(
     rt: &R,
@@ -100,17 +124,23 @@ pub fn spin<R: Threads + Wait + Sync>(
 ) -> Result<(), Fault> {
     let (team, mut token) = Team::directed(alloc, 2, director)?;
     let flag = Mutex::new(team.lot(), &mut token, 0u32)?;
-    team.run(
-        rt,
-        &|token: &mut Token| {
-            if token.number() == 0 {
-                flag.with(rt, token, |flag: &mut u32| *flag = 1);
-            } else {
-                await_flag(rt, &flag, token);
-            }
-        },
-    )?;
+    team.run(rt, &|token: &mut Token| set_or_await(rt, &flag, token))?;
     Ok(())
+}
+
+fn count_and_meet<R: Wait>(
+    rt: &R,
+    total: &Mutex<u32>,
+    barrier: &Barrier,
+    token: &mut Token,
+    version: Version,
+)
+    requires { IsTokenOf (lot_of total.now) token.old }
+{
+    total.with(rt, token, |total: &mut u32| *total = total.wrapping_add(1));
+    if version == Version::Wrong {
+        barrier.wait(rt);
+    }
 }
 
 /// Two threads meet at a barrier. Wrong: it is none of the lot's, and a thread that waits there keeps its
@@ -126,12 +156,7 @@ pub fn meeting<R: Threads + Wait + Sync>(
     let barrier = Barrier::new(2);
     team.run(
         rt,
-        &|token: &mut Token| {
-            total.with(rt, token, |total: &mut u32| *total = total.wrapping_add(1));
-            if version == Version::Wrong {
-                barrier.wait(rt);
-            }
-        },
+        &|token: &mut Token| count_and_meet(rt, &total, &barrier, token, version),
     )?;
     Ok(())
 }

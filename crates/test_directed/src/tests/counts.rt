@@ -1,5 +1,6 @@
 //! How many schedules there are. Two threads of n calls each that meet nowhere have (2n)! / n! n! of them;
 //! by at most one interruption 2n, and by none 2.
+ghost use Rattle.std.specs.Prelude.{◌≡◌};
 ghost use Rattle.parking_lot.specs.LotOf.{IsTokenOf, lot_of};
 
 use super::{check_eq, search_by};
@@ -18,6 +19,18 @@ fn lock_own<R: Wait>(rt: &R, own: &Mutex<u32>, token: &mut Token)
     guard.unlock(rt, token);
 }
 
+// Locks the thread's own mutex once, or twice.
+fn lock_some<R: Wait>(rt: &R, left: &Mutex<u32>, right: &Mutex<u32>, token: &mut Token, twice: bool)
+    requires left { IsTokenOf (lot_of left.now) token.old }
+    requires right { lot_of right.now ≡ lot_of left.now }
+{
+    let own = if token.number() == 0 { left } else { right };
+    lock_own(rt, own, token);
+    if twice {
+        lock_own(rt, own, token);
+    }
+}
+
 // Two threads with two calls each, or with four.
 fn apart<R: Threads + Wait + Sync>(
     rt: &R,
@@ -30,13 +43,7 @@ fn apart<R: Threads + Wait + Sync>(
     let right = Mutex::new(team.lot(), &mut token, 0u32)?;
     team.run(
         rt,
-        &|token: &mut Token| {
-            let own = if token.number() == 0 { &left } else { &right };
-            lock_own(rt, own, token);
-            if twice {
-                lock_own(rt, own, token);
-            }
-        },
+        &|token: &mut Token| lock_some(rt, &left, &right, token, twice),
     )?;
     Ok(())
 }
