@@ -21,7 +21,7 @@ ghost use Rattle.run_once_and_semaphores.specs.OnceCalls.{MeetsOnce};
 
 use lot_steps::{Place, Reply, advance};
 use parking_lot_core::{CallName, Clock, Deed, Op, ParkingLot, Token, Word};
-use run_base::driver::{NO_LIMIT, Stop, answer_of, run};
+use run_base::driver::{NO_LIMIT, Stop, answer_of, first_step, run};
 use run_base::words::Words;
 use spec_locks::{Answer, OnceCall, OnceState};
 use std::sync::Wait;
@@ -177,8 +177,8 @@ pub(crate) fn close<R: Wait>(
         (without (owning (once_at word.number) Runner) (owns_of token.old))
         (owns_of token.new) }
 {
-    lot.begins(token, end_name(succeeded), word);
-    let seen = lot.word_again(token, word, Op::Swap(word_after(succeeded)));
+    let op = Op::Swap(word_after(succeeded));
+    let seen = first_step(lot, token, end_name(succeeded), word, op);
     if is_marked(seen) {
         wake(rt, lot, token, word, forced, succeeded);
     }
