@@ -204,10 +204,14 @@ impl Director {
     }
 
     /// Ends the run as a failed one, where this does not hold.
-    pub fn check(&self, holds: bool, what: &'static str) {
-        if !holds {
-            self.end(Ending::Failed(what));
+    pub fn check(&self, holds: bool, what: &str) {
+        if holds {
+            return;
         }
+        if let Some(mut plan) = self.plan() {
+            plan.fail(what);
+        }
+        self.end(Ending::Failed);
     }
 
     /// Waits for the end of the run, or until no thread has asked for a turn for so long.

@@ -6,6 +6,7 @@
 //! before all threads are there, and which of them came last is not asked.
 #![tactic(auto)]
 
+mod calls;
 mod chooser;
 mod course;
 mod crew;
@@ -16,6 +17,7 @@ mod plan;
 mod random;
 mod turns;
 
+pub use calls::CallName;
 pub use course::{Course, Grain, Policy};
 pub use crew::{Member, Status};
 pub use director::{Director, MOST_THREADS};

@@ -15,10 +15,23 @@ pub struct Choice {
 /// The sort of a lock that was drawn, as a schedule declares it.
 #[derive(Clone, Copy, Debug, PartialEq, Eq)]
 pub enum Sort {
-    /// A sort that its name tells.
-    Named(&'static str),
-    /// A sort with a number after its name: readers at most, or permits.
-    Limited(&'static str, u64),
+    Mutex,
+    FairMutex,
+    /// The count of a reentrant mutex, which no schedule has.
+    Count,
+    RwLock {
+        /// Whether readers may join while a writer waits.
+        recursive: bool,
+        /// The readers at most. None where no limit was set.
+        readers: Option<u64>,
+    },
+    Condvar,
+    Once,
+    /// A `Once` that was made done, which no schedule has.
+    DoneOnce,
+    Semaphore {
+        permits: u64,
+    },
 }
 
 /// A word that was drawn, of a lock of this sort.
@@ -35,6 +48,8 @@ pub struct Log {
     pub choices: Vec<Choice>,
     pub words: Vec<NewWord>,
     pub ending: Option<Ending>,
+    /// What is wrong, where the run failed.
+    pub fault: String,
     // Memory was refused, and something is missing.
     pub(crate) lost: bool,
 }
@@ -47,6 +62,7 @@ impl Drop for Log {
             choices: _choices,
             words: _words,
             ending: _ending,
+            fault: _fault,
             lost: _lost,
         } = self;
     }
@@ -59,6 +75,7 @@ impl Log {
             choices: Vec::new(alloc),
             words: Vec::new(alloc),
             ending: None,
+            fault: String::new(alloc),
             lost: false,
         }
     }
@@ -88,6 +105,16 @@ impl Log {
         }
     }
 
+    /// Notes that something is wrong, where the run is not at its end yet.
+    pub(crate) fn fail(&mut self, what: &str) {
+        if self.ending.is_none() {
+            self.ending = Some(Ending::Failed);
+            if self.fault.push_str(what).is_err() {
+                self.lost = true;
+            }
+        }
+    }
+
     /// Returns a copy.
     ///
     /// # Errors
@@ -102,6 +129,7 @@ impl Log {
             choices: self.choices.clone()?,
             words: self.words.clone()?,
             ending: self.ending,
+            fault: self.fault.clone()?,
             lost: false,
         })
     }

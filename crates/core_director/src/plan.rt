@@ -92,6 +92,10 @@ impl Plan {
         self.log.end(ending);
     }
 
+    pub(crate) fn fail(&mut self, what: &str) {
+        self.log.fail(what);
+    }
+
     /// Gives the last turn another deed, where it is the thread's.
     pub(crate) fn rename(&mut self, thread: usize, deed: Deed) {
         if let Some(turn) = self.log.turns.last_mut() {

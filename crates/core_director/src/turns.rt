@@ -1,4 +1,5 @@
 //! Turns of threads, and the endings of a run.
+use crate::calls::CallName;
 
 /// What a thread does in its turn.
 #[derive(Clone, Copy, Debug, PartialEq, Eq)]
@@ -6,7 +7,7 @@ pub enum Deed {
     /// It begins its part of the program.
     Begin,
     /// It makes a call, of this name.
-    Call(&'static str),
+    Call(CallName),
     /// It looks at a lock.
     Look,
     /// It takes one step on a word.
@@ -56,8 +57,8 @@ pub enum Ending {
     Fine,
     /// All threads that are left sleep.
     Deadlock,
-    /// The program says that something is wrong.
-    Failed(&'static str),
+    /// The program says that something is wrong (`Log::fault`).
+    Failed,
     /// The run took more turns than it may.
     TooLong,
     /// No thread took a turn for so long a time. The thread that has the turn, if there is one, waits

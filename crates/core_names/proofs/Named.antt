@@ -210,3 +210,16 @@ module _ (words family : ℕ) (s : State PermitSlot View) (o : LotRule words fam
       dite (ℕ_discrete (n / 4294967296) (thread + 1))
       (λ e. (e, omega (arith, some', cond_same (n / 4294967296) (thread + 1) (n % 4294967296) e)))
       (λ ne. absurd (omega (arith, some', cond_other (n / 4294967296) (thread + 1) (n % 4294967296) ne)))
+
+-- a share in a view names the thread that its count names
+pub share_names : (words family : ℕ) (s : State PermitSlot View) (o : LotRule words family s) (thread
+    number id : ℕ) (v : View) (at : get_elem? s.views id ≡ some v) (below : number < words)
+    → 1 ≤ shared_as thread (word_index number Count) v.shares
+    → get_or s.words (word_index number Count) 0 / 4294967296 ≡ thread + 1
+share_names words family s o thread number id v at below one =
+    let i : ℕ = word_index number Count in let n : ℕ = get_or s.words i 0 in
+    let is = o.counts number below in
+    let mine = term_le (λ (u : View). shared_as thread i u.shares) s.views id v at in
+    let some' : 0 < if_names thread n (n % 4294967296) = omega (arith, one, mine, is.shares thread) in
+    dite (ℕ_discrete (n / 4294967296) (thread + 1)) (λ e. e)
+    (λ ne. absurd (omega (arith, some', cond_other (n / 4294967296) (thread + 1) (n % 4294967296) ne)))

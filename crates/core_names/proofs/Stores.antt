@@ -1,5 +1,5 @@
 -- A count is stored by the thread that it is to name, and looked at.
-use Rattle.std.proofs.Common.{◌≡◌, ◌≢◌, ◌⊎◌, ⊎_elim, inl, inr, ℕ, ◌+◌, ◌/◌, ◌%◌, ◌<◌, List}
+use Rattle.std.proofs.Common.{◌≡◌, ◌≢◌, ◌⊎◌, ⊎_elim, inl, inr, ℕ, ◌+◌, ◌/◌, ◌%◌, ◌<◌, ◌≤◌, List}
 use Rattle.std.proofs.Common.{[], ◌∷◌, get_or, set, cond, eqb, sym, refl, ap, ◌∙◌, subst, arith}
 use mathlib.Core.Logic.{dite}
 use mathlib.Core.Option.{some, none}
@@ -23,9 +23,9 @@ use Rattle.core_words.proofs.Keeps.{agreed, steps_more, turned}
 use Rattle.core_words.proofs.Stepping.{silent, steps}
 use Rattle.core_words.proofs.Totals.{total-set, cond_same, cond_other}
 use Rattle.core_words.proofs.Trades.{total-without, zero_either}
-use Rattle.core_names.specs.Shares.{SaysAt, counting, looks_named, rest_of, sees_own, sharing, stores_less}
-use Rattle.core_names.specs.Shares.{stores_more}
-use Rattle.core_names.proofs.Named.{named_says, says_no_other, says_own, shared_names}
+use Rattle.core_names.specs.Shares.{SaysAt, counting, looks_named, looks_own, rest_of, sees_own, sees_two}
+use Rattle.core_names.specs.Shares.{sharing, stores_less, stores_more}
+use Rattle.core_names.proofs.Named.{named_says, says_no_other, says_own, share_names, shared_names}
 
 -- any thread may load a count
 count_load : (at : ℕ) (owns : List Ownership) → MayStep Count at Load owns
@@ -292,5 +292,50 @@ see_allowed words family slots id me thread number rest below own shares s o wid
         t.1,
         named_says words family s o
             thread number id me.0 at below own t.0,
+      ),
+    )
+
+-- a look by a share, as a step
+pub look_own_allowed : (words family slots id : ℕ) (me : Me PermitSlot View) (thread number : ℕ) (rest :
+    List Counting) → number < words → me.0.naming ≡ Thread thread → me.1 ≡ slots_of family me.0.out →
+    me.0.shares ≡ sharing (word_index number Count) thread ∷ rest
+    → let i = word_index number Count in Allows (LotRule words family) slots id me i (λ n. n) (looks_own
+    family thread (step slots i 0 0 none) me)
+look_own_allowed words family slots id me thread number rest below own held shares s o wide at fits = let i :
+    ℕ = word_index number Count in
+    let t = steps words family slots id me number Count Load below held (count_load i me.0.owns) s o wide
+    at fits in
+    let n = shared_names words family s o thread number id me.0 at below own rest shares in
+    (t.0, t.1, t.2, t.3, (t.4, n.0, n.1, named_says words family s o thread number id me.0 at below own n.0))
+
+-- a look by the shares of two threads
+pub two_allowed : (words family slots id : ℕ) (me : Me PermitSlot View) (one other number : ℕ) → number <
+    words → me.0.shares ≡ sharing (word_index number Count) other ∷ sharing (word_index number Count) one ∷
+    []
+    → let i = word_index number Count in Allows (LotRule words family) slots id me i (λ n. n) (sees_two one
+    other (step slots i 0 0 none) me)
+two_allowed words family slots id me one other number below shares s o wide at fits = let i : ℕ =
+    word_index number Count in
+    let has_one : 1 ≤ shared_as one i me.0.shares = omega (
+      arith,
+      ap (shared_as one i) shares,
+      share_here one other i (sharing i one ∷ []),
+      share_here one one i [],
+      cond_same one one 1 refl,
+    ) in
+    let has_other : 1 ≤ shared_as other i me.0.shares = omega (
+      arith,
+      ap (shared_as other i) shares,
+      share_here other other i (sharing i one ∷ []),
+      cond_same other other 1 refl,
+    ) in (
+      me.0,
+      keeps,
+      tt,
+      silent words family s o i id me.0 at,
+      (
+        refl,
+        share_names words family s o one number id me.0 at below has_one,
+        share_names words family s o other number id me.0 at below has_other,
       ),
     )

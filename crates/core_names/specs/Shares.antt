@@ -88,6 +88,16 @@ abbrev pub sees_own : ℕ → Play PermitSlot
 sees_own thread st me found after = (after ≡ me) × (found / 4294967296 ≡ thread + 1)
     × (0 < found % 4294967296) × SaysAt st.word found me.0
 
+-- a load finds this thread named, as one step, with one share at least
+abbrev pub looks_own : ℕ → ℕ → Play PermitSlot
+looks_own family thread st me found after = TakesStep family st.word Load me found after
+    × (found / 4294967296 ≡ thread + 1) × (0 < found % 4294967296) × SaysAt st.word found me.0
+
+-- a load that is no step finds two threads named, each by a share that is there
+abbrev pub sees_two : ℕ → ℕ → Play PermitSlot
+sees_two one other st me found after = (after ≡ me) × (found / 4294967296 ≡ one + 1)
+    × (found / 4294967296 ≡ other + 1)
+
 -- a thread that says what the count is stores another, and says that from then on
 abbrev pub counting : ℕ → ℕ → ℕ → List Counting → View → View
 counting at said left shares v = with_these v (one_more_step v at (Store left) said)

@@ -3,7 +3,7 @@
 //! A token's own view has no number, so that no step on another word has to keep it. A step on a count
 //! is the name's, which passes it on to the token's list. A store on a count brings a share or takes
 //! one, so the calls here alone store counts.
-ghost use Rattle.std.specs.Prelude.{◌≡◌, ◌⊎◌, ℕ, List, ◌+◌, ◌/◌, ◌%◌, ◌<◌, [], ◌∷◌};
+ghost use Rattle.std.specs.Prelude.{◌≡◌, ◌≢◌, ◌⊎◌, ℕ, List, ◌+◌, ◌/◌, ◌%◌, ◌<◌, [], ◌∷◌};
 ghost use Rattle.core_base.specs.declared.ops.Op.TheVariants.{Load, Store};
 ghost use Rattle.core_words.specs.Codes.{IsCountCode};
 ghost use Rattle.core_words.specs.Indices.{word_index};
@@ -16,8 +16,8 @@ ghost use Rattle.core_words.specs.declared.words.WordKind.TheVariants.{Count, Mu
 ghost use Rattle.core_names.specs.Shares.{counting, rest_of, sharing, steps_alone, without_steps};
 
 use crate::plays::{
-    CountPick, Draws, GivesShare, LooksNamed, PassesSteps, SeesOwn, StoresLess, StoresMore,
-    TakesShare,
+    CountPick, Draws, GivesShare, LooksNamed, LooksOwn, PassesSteps, SeesOwn, SeesTwo, StoresLess,
+    StoresMore, TakesShare,
 };
 use core_parts::seats::{join_seat, split_seat};
 use core_parts::{Permit, PermitSlot, Permits};
@@ -173,6 +173,58 @@ impl Name {
         words
             .seats()
             .load::<SeesOwn<C>>(&mut self.seat, count.index())
+    }
+
+    /// Takes a share in, and looks at its count, by one load as a step of the thread's seat. The count
+    /// names the thread, which says it, with one share at least.
+    #[inline]
+    pub fn look_by_share(
+        &mut self,
+        words: &LotWords,
+        seat: &mut Seat,
+        thread: usize,
+        count: Word,
+        share: CountShare,
+    ) -> u64
+        requires own { IsNameOf words.now thread self.old × IsSeatOf words.now seat.old
+            × IsWordOf words.now count × (count.kind ≡ Count) }
+        requires share { IsShareOf words.now count.number share × (thread_named share ≡ thread) }
+        ensures own { IsNameOf words.now thread self.new × IsSeatOf words.now seat.new }
+        ensures stepped { shown seat.new.me.0
+            ≡ stepping seat.old.me.0 (count_at count.number) Load result }
+        ensures shares { shares_of self.new
+            ≡ sharing (count_at count.number) thread ∷ shares_of self.old }
+        ensures named { (result / 4294967296 ≡ thread + 1) × (0 < result % 4294967296)
+            × Says count.number result self.new }
+    {
+        self.take_share(words, thread, count, share);
+        let seen = self.look_own_picked::<Brand, Brand>(words, thread, count);
+        self.pass_steps(words, seat);
+        seen
+    }
+
+    #[inline]
+    fn look_own_picked<C: CountPick, P: PermitPick>(
+        &mut self,
+        words: &LotWords,
+        thread: usize,
+        count: Word,
+    ) -> u64
+        requires pick { (C.thread ≡ thread) × (P.family ≡ words.now.table.shared.key.1.family) }
+        requires own { IsNameOf words.now thread self.old × IsWordOf words.now count
+            × (count.kind ≡ Count) }
+        requires share { (rest : List Counting)
+            × (shares_of self.old ≡ sharing (count_at count.number) thread ∷ rest) }
+        ensures stepped { (self.new.seat.table_id ≡ words.now.table.shared.table_id)
+            × (self.new.seat.me
+            ≡ (stepping self.old.seat.me.0 (count_at count.number) Load result, [])) }
+        ensures named { (result / 4294967296 ≡ thread + 1) × (0 < result % 4294967296)
+            × Says count.number result self.old }
+    {
+        let _thread = thread;
+        words
+            .seats()
+            .load::<LooksOwn<C, P>>(&mut self.seat, count.index())
     }
 
     /// Gives a share that the name has. It reads no word.
@@ -363,5 +415,55 @@ impl Name {
         let opened = words.split_open(&mut self.seat, mutex);
         words.put_back_permit(&mut self.seat);
         opened
+    }
+}
+
+impl CountShare {
+    ghost use Rattle.core_names.specs.Names.{IsShareOf, count_at, thread_named};
+
+    // Takes another share of the same count in.
+    #[inline]
+    fn take_share(&mut self, words: &LotWords, count: Word, other: CountShare)
+        requires own { IsShareOf words.now count.number self.old }
+        requires other { IsShareOf words.now count.number other }
+        ensures own { self.new.seat.table_id ≡ words.now.table.shared.table_id }
+        ensures shares { self.new.seat.me.0.shares
+            ≡ sharing (count_at count.number) (thread_named other)
+            ∷ sharing (count_at count.number) (thread_named self.old) ∷ [] }
+    {
+        let _count = count;
+        let CountShare { seat } = other;
+        join_seat::<PermitSlot, View, (usize, Permits), OwnershipRule, TakesShare>(
+            words.seats(),
+            &mut self.seat,
+            seat,
+        );
+    }
+
+    #[inline]
+    fn see_two<C: CountPick, D: CountPick>(&mut self, words: &LotWords, count: Word) -> u64
+        requires own { (self.old.seat.table_id ≡ words.now.table.shared.table_id)
+            × IsWordOf words.now count × (count.kind ≡ Count) }
+        requires shares { self.old.seat.me.0.shares ≡ sharing (count_at count.number) D.thread
+            ∷ sharing (count_at count.number) C.thread ∷ [] }
+        ensures named { (result / 4294967296 ≡ C.thread + 1) × (result / 4294967296 ≡ D.thread + 1) }
+    {
+        words
+            .seats()
+            .load::<SeesTwo<C, D>>(&mut self.seat, count.index())
+    }
+
+    /// Two shares of one count that name two threads exclude each other: nobody ever has both, so this
+    /// can't be called.
+    pub fn has_two_threads(self, words: &LotWords, count: Word, other: CountShare) -> !
+        requires word { IsWordOf words.now count × (count.kind ≡ Count) }
+        requires shares { IsShareOf words.now count.number self
+            × IsShareOf words.now count.number other }
+        requires differ { thread_named self ≢ thread_named other }
+    {
+        let mut both = self;
+        both.take_share(words, count, other);
+        both.see_two::<Brand, Brand>(words, count);
+        unreachable!()
     }
 }

@@ -1,9 +1,9 @@
 //! What a name's steps and looks tell, and how it is split and joined.
 ghost use Rattle.std.specs.Prelude.{ℕ, ◌+◌};
 ghost use Rattle.core_words.specs.Views.{blank};
-ghost use Rattle.core_names.specs.Shares.{named, namer_from, share_view, sees_own, looks_named, stores_less};
-ghost use Rattle.core_names.specs.Shares.{stores_more, takes_shares, without_first_share, without_steps};
-ghost use Rattle.core_names.specs.Shares.{steps_alone};
+ghost use Rattle.core_names.specs.Shares.{named, namer_from, share_view, sees_own, looks_named, looks_own, sees_two};
+ghost use Rattle.core_names.specs.Shares.{stores_less, stores_more, takes_shares, without_first_share};
+ghost use Rattle.core_names.specs.Shares.{without_steps, steps_alone};
 
 use atomic_table::{Join, Play, Split};
 use core_parts::PermitSlot;
@@ -45,6 +45,24 @@ pub struct SeesOwn<C: CountPick> {
 
 impl<C: CountPick> Play<PermitSlot, View> for SeesOwn<C> {
     ghost then = { sees_own C.thread };
+}
+
+/// A load of a count of which a name has a share, as a step.
+pub struct LooksOwn<C: CountPick, P: PermitPick> {
+    pick: PhantomData<(C, P)>,
+}
+
+impl<C: CountPick, P: PermitPick> Play<PermitSlot, View> for LooksOwn<C, P> {
+    ghost then = { looks_own P.family C.thread };
+}
+
+/// A load of a count by two shares, which is no step. Each thread that has one is named.
+pub struct SeesTwo<C: CountPick, D: CountPick> {
+    pick: PhantomData<(C, D)>,
+}
+
+impl<C: CountPick, D: CountPick> Play<PermitSlot, View> for SeesTwo<C, D> {
+    ghost then = { sees_two C.thread D.thread };
 }
 
 /// A store that counts once more.

@@ -93,15 +93,21 @@ fn command<'a>(alloc: Global) -> Result<Command<'a>, Error> {
     with_choices(alloc, command)
 }
 
-// The arguments that say which schedules are run.
+// Refuses an argument beside each of others.
+fn without<'a>(arg: Arg<'a>, others: &'static [&'static str]) -> Result<Arg<'a>, Error> {
+    let mut arg = arg;
+    for other in others {
+        arg = arg.conflicts_with(*other)?;
+    }
+    Ok(arg)
+}
+
+// The arguments that say how threads are chosen.
 fn with_choices<'a>(alloc: Global, command: Command<'a>) -> Result<Command<'a>, Error> {
-    let mut replay = Arg::new(alloc, "replay")
+    let replay = Arg::new(alloc, "replay")
         .long("replay")
         .value_name("THREADS")
         .help("Runs one schedule: the threads that have the turns, as 0:3,1,0:2");
-    for other in NOT_WITH_REPLAY.as_slice() {
-        replay = replay.conflicts_with(other)?;
-    }
     let command = command
         .arg(
             Arg::new(alloc, "policy")
@@ -119,19 +125,18 @@ fn with_choices<'a>(alloc: Global, command: Command<'a>) -> Result<Command<'a>, 
                 .default_value("call")
                 .help("Chooses before each call, or before each step"),
         )?
+        .arg(without(replay, NOT_WITH_REPLAY.as_slice())?)?;
+    with_numbers(alloc, command)
+}
+
+// The arguments that are numbers.
+fn with_numbers<'a>(alloc: Global, command: Command<'a>) -> Result<Command<'a>, Error> {
+    let length = "Of pct: the turns of a run; 0: of the longest so far";
+    let preemptions = "Of all: interrupts threads at most N times a run";
+    let command = command
         .arg(number(alloc, "depth", "3", "Of pct: lowers a priority N - 1 times"))?
-        .arg(number(
-            alloc,
-            "length",
-            "0",
-            "Of pct: the turns of a run; 0: of the longest so far",
-        ))?
-        .arg(number(
-            alloc,
-            "preemptions",
-            "2",
-            "Of all: interrupts threads at most N times a run",
-        ))?
+        .arg(number(alloc, "length", "0", length))?
+        .arg(number(alloc, "preemptions", "2", preemptions))?
         .arg(number(alloc, "seed", "0", "The seed of the first run"))?
         .arg(number(alloc, "runs", "1000", "Runs the program at most N times"))?
         .arg(number(alloc, "turns", "10000", "Ends a run after N turns"))?
@@ -140,8 +145,7 @@ fn with_choices<'a>(alloc: Global, command: Command<'a>) -> Result<Command<'a>, 
             "patience",
             "10",
             "Ends a run that has stood still for N seconds",
-        ))?
-        .arg(replay)?;
+        ))?;
     Ok(command)
 }
 

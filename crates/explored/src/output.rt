@@ -42,6 +42,9 @@ fn print_summary(rt: &HostRuntime, arguments: &Arguments<'_>, summary: &Summary)
             "no thread has asked for a turn: a team takes turns that is made by Team::directed"
         )?;
     }
+    for thread in &summary.silent {
+        println!(rt; "thread {thread} has made no call in a turn: its calls are not directed")?;
+    }
     match arguments.search.policy {
         Policy::Exhaustive { preemptions } if summary.is_complete => {
             println!(rt; "these are all schedules with at most {preemptions} preemptions")

@@ -2,7 +2,7 @@
 //!
 //! The value is a plain field, in no place: guards only read it. `GetThreadId` has the raw mutex as its
 //! parameter, and its contract ties its answer to the token's number, by which threads are told apart.
-ghost use Rattle.std.specs.Prelude.{◌≡◌, ◌+◌, Err, IfOk, IfSome, IsOk, MatchOption, MatchResult};
+ghost use Rattle.std.specs.Prelude.{◌≡◌, ◌≢◌, ◌+◌, Err, IfOk, IfSome, IsOk, MatchOption, MatchResult};
 ghost use Rattle.std.specs.Arc.{arc_value};
 ghost use Rattle.lock_raw.specs.Answers.{IsRefusal};
 ghost use Rattle.lock_raw.specs.Counts.{CountedAgain, CountedLess, CountedMore, CountedOut, CountedOutAlone};
@@ -236,6 +236,27 @@ impl<R: RawMutexCounted, G, T> ReentrantMutexGuard<'_, R, G, T> {
         if let Some(guard) = mutex.raw.count_off(token, &mutex.count, share) {
             mutex.raw.unlock(rt, token, guard);
         }
+    }
+}
+
+impl<'a, R: RawMutexCounted, G, T> ReentrantMutexGuard<'a, R, G, T> {
+    /// Guards of one mutex that two threads took exclude each other: nobody ever has both, so this
+    /// can't be called.
+    pub fn has_two_owners(self, other: ReentrantMutexGuard<'a, R, G, T>) -> !
+        requires mutex { other.mutex.now ≡ self.mutex.now }
+        requires differ { R.thread_of self.share ≢ R.thread_of other.share }
+    {
+        let ReentrantMutexGuard {
+            mutex,
+            share,
+            here: _,
+        } = self;
+        let ReentrantMutexGuard {
+            mutex: _,
+            share: another,
+            here: _,
+        } = other;
+        mutex.raw.has_two_owners(&mutex.count, share, another)
     }
 }
 

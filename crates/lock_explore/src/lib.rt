@@ -6,20 +6,23 @@
 //! what the simulated locks have.
 #![tactic(auto)]
 
-mod explore;
 mod failure;
 mod judge;
 mod report;
+mod runs;
 mod schedule;
 mod script;
 mod search;
+mod silent;
 mod summary;
 mod waits;
 
-pub use core_director::{Choice, Course, Deed, Director, Ending, Grain, Log, Member, Policy, Turn};
-pub use explore::explore;
+pub use core_director::{
+    CallName, Choice, Course, Deed, Director, Ending, Grain, Log, Member, Policy, Turn,
+};
 pub use failure::Failure;
 pub use report::json;
+pub use runs::explore;
 pub use script::{script_from, script_text};
 pub use search::Search;
 pub use summary::{Summary, Tally};

@@ -37,6 +37,8 @@ struct Report {
     longest: u64,
     complete: bool,
     endings: Vec<EndingReport>,
+    /// The threads that have made no call in a turn.
+    silent: Vec<usize>,
     failure: Option<FailureReport>,
 }
 
@@ -76,6 +78,7 @@ pub fn json(alloc: Global, summary: &Summary) -> Result<String, AllocError> {
         longest: summary.longest,
         complete: summary.is_complete,
         endings,
+        silent: summary.silent.clone()?,
         failure,
     };
     match serde_json::to_string(alloc, &report) {

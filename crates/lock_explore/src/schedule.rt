@@ -1,7 +1,7 @@
 //! A run as a schedule of the simulator.
 
 use crate::failure::Failure;
-use core_director::{Deed, Grain, Log, Sort, Turn};
+use core_director::{CallName, Deed, Grain, Log, Sort, Turn};
 use std::alloc::{AllocError, Global};
 
 // The sort of a word: as it was declared last.
@@ -15,25 +15,29 @@ fn sort_of(log: &Log, number: usize) -> Option<Sort> {
     sort
 }
 
-// Whether a schedule has such a lock. The count of a reentrant mutex is none, and is left out.
-fn is_known(sort: Sort) -> bool {
-    match sort {
-        Sort::Named(name) => name != "completed",
-        Sort::Limited(..) => true,
-    }
-}
-
 // The readers of a lock without a limit of its own.
 const MOST_READERS: u64 = 1152921504606846974;
 
-fn declaration(alloc: Global, number: usize, sort: Sort) -> Result<Option<String>, AllocError> {
-    match sort {
-        Sort::Named("count") => Ok(None),
-        Sort::Named(name) | Sort::Limited(name, MOST_READERS) => {
-            Ok(Some(format!(in alloc; "lock w{number} {name}")?))
+// What a schedule declares a lock to be, if it can.
+fn sort_name(alloc: Global, sort: Sort) -> Result<Option<String>, AllocError> {
+    let name = match sort {
+        Sort::Mutex => "mutex",
+        Sort::FairMutex => "fair",
+        Sort::Condvar => "condvar",
+        Sort::Once => "once",
+        Sort::Semaphore { permits } => return Ok(Some(format!(in alloc; "semaphore {permits}")?)),
+        Sort::RwLock { recursive, readers } => {
+            let name = if recursive { "recursive" } else { "rwlock" };
+            match readers {
+                Some(limit) if limit != MOST_READERS => {
+                    return Ok(Some(format!(in alloc; "{name} {limit}")?));
+                }
+                _ => name,
+            }
         }
-        Sort::Limited(name, limit) => Ok(Some(format!(in alloc; "lock w{number} {name} {limit}")?)),
-    }
+        Sort::Count | Sort::DoneOnce => return Ok(None),
+    };
+    Ok(Some(String::from_str(alloc, name)?))
 }
 
 // Adds the lines of a turn.
@@ -44,20 +48,22 @@ fn add_turn(alloc: Global, lines: &mut Vec<String>, turn: Turn) -> Result<(), Al
         word,
         beside,
     } = turn;
+    let name = match deed {
+        Deed::Call(call) => call.as_str(),
+        _ => "",
+    };
     match deed {
-        Deed::Call(end) if end == "ok" || end == "err" => {
-            lines.push(format!(in alloc; "{thread} {end}")?)?;
+        Deed::Call(CallName::Ok | CallName::Err) => {
+            lines.push(format!(in alloc; "{thread} {name}")?)?;
         }
-        // The end of a run for which others wait.
-        Deed::Call(end) if end.ends_with(", solo") => {
-            let first = end.split(',').next().unwrap_or(end);
-            lines.push(format!(in alloc; "{thread} {first}")?)?;
+        Deed::Call(CallName::OkWaking | CallName::ErrWaking) => {
+            lines.push(format!(in alloc; "{thread} {name}")?)?;
             lines.push(format!(in alloc; "{thread} solo")?)?;
         }
-        Deed::Call(call) if beside != word => {
-            lines.push(format!(in alloc; "{thread} do {call} w{word} w{beside}")?)?;
+        Deed::Call(_) if beside != word => {
+            lines.push(format!(in alloc; "{thread} do {name} w{word} w{beside}")?)?;
         }
-        Deed::Call(call) => lines.push(format!(in alloc; "{thread} do {call} w{word}")?)?,
+        Deed::Call(_) => lines.push(format!(in alloc; "{thread} do {name} w{word}")?)?,
         Deed::Wake => lines.push(format!(in alloc; "{thread} solo")?)?,
         Deed::Late | Deed::LateAtOnce => {
             lines.push(format!(in alloc; "{thread} late")?)?;
@@ -69,7 +75,8 @@ fn add_turn(alloc: Global, lines: &mut Vec<String>, turn: Turn) -> Result<(), Al
     Ok(())
 }
 
-// The last declaration of each word, in order.
+// The last declaration of each word, in order. None where a schedule has no such lock. The count of a
+// reentrant mutex is left out.
 fn declarations(alloc: Global, log: &Log) -> Result<Option<Vec<String>>, AllocError> {
     let mut lines = Vec::new(alloc);
     let mut before = None;
@@ -79,11 +86,11 @@ fn declarations(alloc: Global, log: &Log) -> Result<Option<Vec<String>>, AllocEr
         }
         before = Some(word.number);
         let sort = sort_of(log, word.number).unwrap_or(word.sort);
-        if !is_known(sort) {
+        if sort == Sort::DoneOnce {
             return Ok(None);
         }
-        if let Some(line) = declaration(alloc, word.number, sort)? {
-            lines.push(line)?;
+        if let Some(name) = sort_name(alloc, sort)? {
+            lines.push(format!(in alloc; "lock w{} {name}", word.number)?)?;
         }
     }
     Ok(Some(lines))

@@ -1,7 +1,9 @@
 //! What came of the runs.
 
 use crate::failure::Failure;
-use core_director::Ending;
+use crate::silent::silent_threads;
+use core_director::{Director, Ending};
+use std::alloc::{AllocError, Global};
 
 /// How many runs had an ending, and the seed of the first of them.
 #[derive(Clone, Copy, Debug, PartialEq, Eq)]
@@ -41,6 +43,9 @@ pub struct Summary {
     pub is_complete: bool,
     /// The first run that went wrong.
     pub failure: Option<Failure>,
+    /// The threads that have come to their ends in each run, and have made no call in a turn. Their
+    /// calls are not directed.
+    pub silent: Vec<usize>,
 }
 
 // The drop is written, and not derived, so that it is proved here alone.
@@ -58,12 +63,13 @@ impl Drop for Summary {
             strayed: _strayed,
             is_complete: _is_complete,
             failure: _failure,
+            silent: _silent,
         } = self;
     }
 }
 
 impl Summary {
-    pub(crate) fn new() -> Summary {
+    pub(crate) fn new(alloc: Global) -> Summary {
         Summary {
             runs: 0,
             turns: 0,
@@ -76,6 +82,7 @@ impl Summary {
             strayed: Tally::NONE,
             is_complete: false,
             failure: None,
+            silent: Vec::new(alloc),
         }
     }
 
@@ -88,11 +95,31 @@ impl Summary {
         match ending {
             Ending::Fine => self.fine.add(seed),
             Ending::Deadlock => self.deadlocks.add(seed),
-            Ending::Failed(_) => self.failed.add(seed),
+            Ending::Failed => self.failed.add(seed),
             Ending::TooLong => self.too_long.add(seed),
             Ending::Stuck(_) => self.stuck.add(seed),
             Ending::Strayed => self.strayed.add(seed),
         }
+    }
+
+    /// Notes which threads have made no call in a turn, of those that made none in each run before. The
+    /// run is counted already.
+    pub(crate) fn note_silent(
+        &mut self,
+        alloc: Global,
+        director: &Director,
+    ) -> Result<(), AllocError> {
+        if self.runs > 1 && self.silent.is_empty() {
+            return Ok(());
+        }
+        let mut still = Vec::new(alloc);
+        for thread in silent_threads(alloc, director)? {
+            if self.runs == 1 || self.silent.contains(&thread) {
+                still.push(thread)?;
+            }
+        }
+        self.silent = still;
+        Ok(())
     }
 
     /// Returns how many runs went wrong.

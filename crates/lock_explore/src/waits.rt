@@ -54,11 +54,13 @@ fn deed_of(alloc: Global, member: &Member) -> Result<String, AllocError> {
     match (member.status, member.next.deed, member.call) {
         (Status::Absent, _, _) => String::from_str(alloc, " has not come"),
         (Status::Asleep, _, Some(call)) => match call.deed {
-            Deed::Call(name) => format!(in alloc; " sleeps in {name} of w{}", call.word),
+            Deed::Call(name) => {
+                format!(in alloc; " sleeps in {} of w{}", name.as_str(), call.word)
+            }
             _ => format!(in alloc; " sleeps"),
         },
         (Status::Asleep, _, None) => format!(in alloc; " sleeps at w{word}"),
-        (_, Deed::Call(name), _) => format!(in alloc; " is about to {name} w{word}"),
+        (_, Deed::Call(name), _) => format!(in alloc; " is about to {} w{word}", name.as_str()),
         (_, Deed::Wake, _) => format!(in alloc; " is woken at w{word}"),
         (_, Deed::Begin, _) => String::from_str(alloc, " has called nothing"),
         (_, deed, _) => format!(in alloc; " is at w{word}: {deed:?}"),
@@ -133,7 +135,9 @@ impl Failure {
         match self.ending {
             Ending::Fine => String::from_str(alloc, "fine"),
             Ending::Deadlock => format!(in alloc; "deadlock after {turns} turns"),
-            Ending::Failed(what) => format!(in alloc; "failed after {turns} turns: {what}"),
+            Ending::Failed => {
+                format!(in alloc; "failed after {turns} turns: {}", self.log.fault)
+            }
             Ending::TooLong => format!(in alloc; "too long: {turns} turns"),
             Ending::Stuck(Some(thread)) => {
                 format!(in alloc;

@@ -1,5 +1,5 @@
 //! Raw mutexes that their owners may lock again.
-ghost use Rattle.std.specs.Prelude.{◌≡◌, ℕ, ◌+◌, IfErr, IfOk, IfSome, MatchOption, MatchResult};
+ghost use Rattle.std.specs.Prelude.{◌≡◌, ◌≢◌, ℕ, ◌+◌, IfErr, IfOk, IfSome, MatchOption, MatchResult};
 ghost use Rattle.std.specs.Arc.{arc_value};
 ghost use Rattle.lock_raw.specs.Answers.{IsRefusal};
 ghost use Rattle.lock_raw.specs.Counts.{CountedAgain, CountedLess, CountedMore, CountedOut, CountedOutAlone};
@@ -186,4 +186,11 @@ pub trait RawMutexCounted: RawMutex {
             (λ share. is_share_of self.now share
             × SawMore (saw_count self.now) token.old token.new) }
         ensures named { IfErr result (λ kept. thread_of kept ≡ thread_of share) };
+
+    /// Shares of one mutex that name two threads exclude each other: nobody ever has both, so this
+    /// can't be called.
+    fn has_two_owners(&self, count: &Self::Count, one: Self::Share, other: Self::Share) -> !
+        requires count { is_count_of self.now count.now }
+        requires shares { is_share_of self.now one × is_share_of self.now other }
+        requires differ { thread_of one ≢ thread_of other };
 }

@@ -5,7 +5,7 @@ ghost use Rattle.spec_locks.specs.Kinds.{fits};
 use crate::failure::Failure;
 use crate::shown::lock_lines;
 use core_base::{Fault, Queues};
-use lot_replay::state::{ReplayStage, State};
+use lot_replay::state::{SessionStage, State};
 use lot_text::{Command, Name, meaning};
 use lot_world::{Kind, MOST_LOCKS, MOST_THREADS, World};
 use std::alloc::Global;
@@ -46,10 +46,10 @@ impl Before {
 }
 
 // Returns whether a thread is in no call at a stage.
-fn was_idle<Q: Queues + Drop>(stage: ReplayStage<'_, Q>, thread: usize) -> bool {
+fn was_idle<Q: Queues + Drop>(stage: SessionStage<'_, Q>, thread: usize) -> bool {
     match stage {
-        ReplayStage::Running { names: _, world } => is_idle(world, thread),
-        ReplayStage::Nothing | ReplayStage::Declaring { .. } => true,
+        SessionStage::Running { names: _, world } => is_idle(world, thread),
+        SessionStage::Nothing | SessionStage::Declaring { .. } => true,
     }
 }
 
@@ -61,16 +61,16 @@ pub(crate) fn is_idle<Q: Queues + Drop>(world: &World<Q>, thread: usize) -> bool
 /// Returns the lines of the locks at a stage.
 pub(crate) fn lines_at<Q: Queues + Drop>(
     alloc: Global,
-    stage: ReplayStage<'_, Q>,
+    stage: SessionStage<'_, Q>,
 ) -> Result<Vec<u8>, Fault> {
     match stage {
-        ReplayStage::Nothing => Ok(Vec::new(alloc)),
-        ReplayStage::Declaring {
+        SessionStage::Nothing => Ok(Vec::new(alloc)),
+        SessionStage::Declaring {
             threads,
             names,
             kinds,
         } => first_lines::<Q>(alloc, threads, names, kinds),
-        ReplayStage::Running { names, world } => lock_lines(alloc, names, world),
+        SessionStage::Running { names, world } => lock_lines(alloc, names, world),
     }
 }
 

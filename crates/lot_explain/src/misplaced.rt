@@ -1,6 +1,6 @@
 //! Why a line with a meaning may not stand where it does.
 use core_base::Queues;
-use lot_replay::state::ReplayStage;
+use lot_replay::state::SessionStage;
 use lot_text::Name;
 use lot_text::grammar::{Command, NamedCall, NamedTurn};
 use lot_world::{Kind, MOST_LOCKS, World};
@@ -32,10 +32,10 @@ pub enum StageCause {
 }
 
 /// Returns why a line with this meaning, which a replay refuses, may not stand at a stage.
-pub fn stage_cause<Q: Queues + Drop>(stage: ReplayStage<'_, Q>, command: Command) -> StageCause {
+pub fn stage_cause<Q: Queues + Drop>(stage: SessionStage<'_, Q>, command: Command) -> StageCause {
     match stage {
-        ReplayStage::Nothing => first_cause(command),
-        ReplayStage::Declaring {
+        SessionStage::Nothing => first_cause(command),
+        SessionStage::Declaring {
             threads,
             names,
             kinds,
@@ -47,7 +47,7 @@ pub fn stage_cause<Q: Queues + Drop>(stage: ReplayStage<'_, Q>, command: Command
             }
             Command::Threads(_) | Command::Show | Command::Drain => StageCause::ThreadsAgain,
         },
-        ReplayStage::Running { names, world } => match command {
+        SessionStage::Running { names, world } => match command {
             Command::Lock { .. } => StageCause::LockLate,
             Command::Turn { thread: _, turn } => {
                 let on_condvar = is_condvar_of(names, world, &turn);

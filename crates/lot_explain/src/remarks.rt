@@ -7,7 +7,7 @@ use crate::obstacles::{DrainObstacle, Obstacle, drain_obstacle, obstacle_of};
 use crate::shown::write_changes;
 use core_base::Queues;
 use lot_replay::actions::Action;
-use lot_replay::state::{ReplayStage, State};
+use lot_replay::state::{SessionStage, State};
 use lot_text::{Command, NamedTurn, meaning};
 use lot_world::{Step, Turn, World};
 use std::alloc::Global;
@@ -37,7 +37,7 @@ pub(crate) fn of_long(alloc: Global, number: u64) -> Result<Vec<u8>, Failure> {
 /// Says of a line that was refused why.
 pub(crate) fn of_refused<Q: Queues + Drop>(
     alloc: Global,
-    stage: ReplayStage<'_, Q>,
+    stage: SessionStage<'_, Q>,
     number: u64,
     line: &[u8],
 ) -> Result<Vec<u8>, Failure> {
@@ -104,11 +104,11 @@ fn hindrance_of<Q: Queues + Drop>(
         return Hindrance::Nothing;
     };
     match state.stage() {
-        ReplayStage::Running { names: _, world } => {
+        SessionStage::Running { names: _, world } => {
             let turn = last_turn(was_idle, world, thread, action);
             Hindrance::NotNow(obstacle_of(world, Step { thread, turn }))
         }
-        ReplayStage::Nothing | ReplayStage::Declaring { .. } => Hindrance::Nothing,
+        SessionStage::Nothing | SessionStage::Declaring { .. } => Hindrance::Nothing,
     }
 }
 
@@ -133,8 +133,8 @@ fn drain_hindrance<Q: Queues + Drop>(state: &State<Q>, answer: &[u8]) -> Hindran
         return Hindrance::Nothing;
     }
     match state.stage() {
-        ReplayStage::Running { names: _, world } => Hindrance::Refused(drain_obstacle(world)),
-        ReplayStage::Nothing | ReplayStage::Declaring { .. } => Hindrance::Nothing,
+        SessionStage::Running { names: _, world } => Hindrance::Refused(drain_obstacle(world)),
+        SessionStage::Nothing | SessionStage::Declaring { .. } => Hindrance::Nothing,
     }
 }
 

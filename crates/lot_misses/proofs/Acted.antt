@@ -1,6 +1,6 @@
 -- An act does to a state the same, whether or not threads have looked for their exchanges.
-use Rattle.std.proofs.Common.{ℕ, zero, suc, Bool, true, false, Option, Some, None, if◌then◌else◌, ◌≡◌, inl, inr}
-use Rattle.std.proofs.Common.{List, [], ◌∷◌, length, map, set, get_or, refl, sym, ◌∙◌, ap, subst}
+use Rattle.std.proofs.Common.{ℕ, zero, suc, Bool, true, false, Option, Some, None, if◌then◌else◌, ◌≡◌, inl}
+use Rattle.std.proofs.Common.{inr, List, [], ◌∷◌, length, map, set, get_or, refl, sym, ◌∙◌, ap, subst}
 use Rattle.std.proofs.Common.{get_or-set_other, get_or-set_same}
 use Rattle.std.specs.Prelude.{replicate}
 use Rattle.std.specs.List.{filter}
@@ -144,7 +144,8 @@ pub kept_length : (k : ℕ → Bool) (ps : List Place) → length (kept_all k ps
 kept_length k [] = refl
 kept_length k (p ∷ ps) = ap suc (kept_length (λ u. k (suc u)) ps)
 
-pub kept_at : (k : ℕ → Bool) (ps : List Place) (u : ℕ) → get_or (kept_all k ps) u Idle ≡ kept (k u) (get_or ps u Idle)
+pub kept_at : (k : ℕ → Bool) (ps : List Place) (u : ℕ)
+    → get_or (kept_all k ps) u Idle ≡ kept (k u) (get_or ps u Idle)
 kept_at k [] u = sym (free_kept (k u) Idle refl)
 kept_at k (p ∷ ps) zero = refl
 kept_at k (p ∷ ps) (suc u) = kept_at (λ v. k (suc v)) ps u
@@ -163,7 +164,8 @@ kept_none k none (p ∷ ps) = ap (λ b. kept b p ∷ kept_all (λ u. k (suc u)) 
 
 -- where each thread stands at the same place
 pub kept_same : (k j : ℕ → Bool) (ps : List Place)
-    → ((u : ℕ) → kept (k u) (get_or ps u Idle) ≡ kept (j u) (get_or ps u Idle)) → kept_all k ps ≡ kept_all j ps
+    → ((u : ℕ) → kept (k u) (get_or ps u Idle) ≡ kept (j u) (get_or ps u Idle))
+    → kept_all k ps ≡ kept_all j ps
 kept_same k j [] same = refl
 kept_same k j (p ∷ ps) same = ap (λ q. q ∷ kept_all (λ u. k (suc u)) ps) (same 0)
     ∙ ap (λ qs. kept (j 0) p ∷ qs) (kept_same (λ u. k (suc u)) (λ u. j (suc u)) ps (λ u. same (suc u)))

@@ -46,8 +46,7 @@ use Rattle.steps_rwlock.specs.declared.release.WakeAt.{WakeAt}
 use Rattle.steps_rwlock.specs.declared.release.WakeAt.TheVariants as waking
 use Rattle.steps_rwlock.specs.RwLockProfiles.{gone_to}
 use Rattle.steps_rwlock.specs.RwLockSteps.{act_at, decided, decided_act, exchange, give_op, park_act, plus}
-use Rattle.steps_rwlock.specs.RwLockSteps.{rollback_op}
-use Rattle.steps_rwlock.specs.RwLockSteps.{wake_act}
+use Rattle.steps_rwlock.specs.RwLockSteps.{rollback_op, wake_act}
 use Rattle.steps_rwlock_fair.specs.declared.hand_over.HandOverAt.{HandOverAt}
 use Rattle.steps_rwlock_fair.specs.declared.hand_over.HandOverAt.TheVariants as handing
 use Rattle.steps_rwlock_fair.specs.declared.handed.HandedAt.TheVariants as handed
@@ -63,10 +62,10 @@ use Rattle.steps_condvar.specs.CondvarCalls.{IsReached}
 use Rattle.steps_condvar.specs.CondvarSteps.{condvar_act, in_lock, move_act}
 use Rattle.lot_steps.specs.declared.places.Place.TheVariants.{Idle, Mutex, RwLock, Once, Condvar, Semaphore}
 use Rattle.lot_steps.specs.Steps.{in_condvar, in_mutex, in_once, in_rwlock, in_semaphore}
-use Rattle.lot_misses.specs.Looks.{EachExchangeIsKnown, call_looked, call_tries, condvar_looked, condvar_tries}
-use Rattle.lot_misses.specs.Looks.{is_exchange, mutex_looked, mutex_tries, once_looked}
-use Rattle.lot_misses.specs.Looks.{once_looked_by}
-use Rattle.lot_misses.specs.Looks.{rwlock_looked, rwlock_looked_by, rwlock_tries, semaphore_looked}
+use Rattle.lot_misses.specs.Looks.{EachExchangeIsKnown, call_looked, call_tries, condvar_looked}
+use Rattle.lot_misses.specs.Looks.{condvar_tries, is_exchange, mutex_looked, mutex_tries, once_looked}
+use Rattle.lot_misses.specs.Looks.{once_looked_by, rwlock_looked, rwlock_looked_by, rwlock_tries}
+use Rattle.lot_misses.specs.Looks.{semaphore_looked}
 
 -- if this act is an exchange, a look comes before it, or it is a try
 abbrev Known : {A : Type 0} → Act → Option A → Bool → Type 0

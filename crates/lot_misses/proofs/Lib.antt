@@ -12,4 +12,5 @@ pub mod Acted
 pub mod Turns
 pub mod World
 pub mod Spins
+pub mod Steps
 pub mod Runs

@@ -1,6 +1,6 @@
 -- A load leads to no try: where it leads to an exchange, the thread has looked for that.
-use Rattle.std.proofs.Common.{ℕ, Bool, true, false, Option, Some, None, if◌then◌else◌, ◌==◌, ◌&&◌, not, ◌≡◌, ◌⊎◌}
-use Rattle.std.proofs.Common.{inl, inr, refl, is_some, sym, ◌∙◌, ap, subst, ◌+◌, ◌-◌, ◌*◌}
+use Rattle.std.proofs.Common.{ℕ, Bool, true, false, Option, Some, None, if◌then◌else◌, ◌==◌, ◌&&◌, not, ◌≡◌}
+use Rattle.std.proofs.Common.{◌⊎◌, inl, inr, refl, is_some, sym, ◌∙◌, ap, subst, ◌+◌, ◌-◌, ◌*◌}
 use Rattle.core_base.specs.declared.keys.Keys.TheVariants as keys
 use Rattle.core_base.specs.declared.keys.Line.{Line}
 use Rattle.core_base.specs.declared.keys.Line.TheVariants as lines
@@ -46,8 +46,9 @@ use Rattle.steps_rwlock.specs.declared.release.WakeAt.{WakeAt}
 use Rattle.steps_rwlock.specs.declared.release.WakeAt.TheVariants as waking
 use Rattle.steps_rwlock.specs.RwLockCalls.{StandsAt}
 use Rattle.steps_rwlock.specs.RwLockProfiles.{gone_to}
-use Rattle.steps_rwlock.specs.RwLockSteps.{act_at, decided, decided_act, entered, exchange, give_op, looked_by, next_at}
-use Rattle.steps_rwlock.specs.RwLockSteps.{park_act, patience_at, plus, rollback_op, stays, wake_act}
+use Rattle.steps_rwlock.specs.RwLockSteps.{act_at, decided, decided_act, entered, exchange, give_op}
+use Rattle.steps_rwlock.specs.RwLockSteps.{looked_by, next_at, park_act, patience_at, plus, rollback_op}
+use Rattle.steps_rwlock.specs.RwLockSteps.{stays, wake_act}
 use Rattle.steps_rwlock_fair.specs.declared.hand_over.HandOverAt.{HandOverAt}
 use Rattle.steps_rwlock_fair.specs.declared.hand_over.HandOverAt.TheVariants as handing
 use Rattle.steps_rwlock_fair.specs.declared.hand_over.Taken.{Taken}
@@ -56,25 +57,28 @@ use Rattle.steps_rwlock_fair.specs.declared.places.RwLockCallPlace.{RwLockCallPl
 use Rattle.steps_rwlock_fair.specs.declared.places.RwLockCallPlace.TheVariants as call
 use Rattle.steps_rwlock_fair.specs.FairCalls.{CallStands, HandsOverAt}
 use Rattle.steps_rwlock_fair.specs.FairProfiles.{in_call}
-use Rattle.steps_rwlock_fair.specs.FairSteps.{bump_next, call_act, call_next, gives_up_at, gives_way, hand_over_act}
-use Rattle.steps_rwlock_fair.specs.FairSteps.{hand_over_next, has_room, parked_as, plain_next, with_taken, word_without}
+use Rattle.steps_rwlock_fair.specs.FairSteps.{bump_next, call_act, call_next, gives_up_at, gives_way}
+use Rattle.steps_rwlock_fair.specs.FairSteps.{hand_over_act, hand_over_next, has_room, parked_as, plain_next}
+use Rattle.steps_rwlock_fair.specs.FairSteps.{with_taken, word_without}
 use Rattle.steps_condvar.specs.declared.places.CondvarPlace.{CondvarPlace}
 use Rattle.steps_condvar.specs.declared.places.CondvarPlace.TheVariants as condvar
 use Rattle.steps_condvar.specs.declared.notify.NotifyAt.{NotifyAt}
 use Rattle.steps_condvar.specs.declared.notify.NotifyAt.TheVariants as notify
 use Rattle.steps_condvar.specs.declared.wait.WaitAt.TheVariants as wait
 use Rattle.steps_condvar.specs.CondvarCalls.{IsReached}
-use Rattle.steps_condvar.specs.CondvarSteps.{condvar_act, condvar_next, in_lock, in_notify, in_wait, mutex_shown, next_notify, notified}
-use Rattle.steps_condvar.specs.CondvarSteps.{relocked}
+use Rattle.steps_condvar.specs.CondvarSteps.{condvar_act, condvar_next, in_lock, in_notify, in_wait}
+use Rattle.steps_condvar.specs.CondvarSteps.{mutex_shown, next_notify, notified, relocked}
 use Rattle.lot_steps.specs.declared.places.Place.{Place}
 use Rattle.lot_steps.specs.declared.places.Place.TheVariants.{Idle, Mutex, RwLock, Once, Condvar, Semaphore}
-use Rattle.lot_steps.specs.Steps.{act_of, condvar_goes, in_condvar, in_mutex, in_once, in_rwlock, in_semaphore, mutex_goes}
-use Rattle.lot_steps.specs.Steps.{next_place, once_goes, rwlock_goes, semaphore_goes}
+use Rattle.lot_steps.specs.Steps.{act_of, condvar_goes, in_condvar, in_mutex, in_once, in_rwlock}
+use Rattle.lot_steps.specs.Steps.{in_semaphore, mutex_goes, next_place, once_goes, rwlock_goes}
+use Rattle.lot_steps.specs.Steps.{semaphore_goes}
 use Rattle.lot_machine.specs.Machine.{State}
 use Rattle.lot_laws.specs.SitesOf.{FitsItsLock}
-use Rattle.lot_misses.specs.Looks.{MayBeAt, call_looked, call_tries, condvar_looked, condvar_tries, has_decided, is_exchange, is_load}
-use Rattle.lot_misses.specs.Looks.{leads_to_exchange, looked_from, mutex_looked, mutex_tries, once_looked, rwlock_looked}
-use Rattle.lot_misses.specs.Looks.{rwlock_looked_by, rwlock_tries, semaphore_looked, tries_word}
+use Rattle.lot_misses.specs.Looks.{MayBeAt, call_looked, call_tries, condvar_looked, condvar_tries}
+use Rattle.lot_misses.specs.Looks.{has_decided, is_exchange, is_load, leads_to_exchange, looked_from}
+use Rattle.lot_misses.specs.Looks.{mutex_looked, mutex_tries, once_looked, rwlock_looked, rwlock_looked_by}
+use Rattle.lot_misses.specs.Looks.{rwlock_tries, semaphore_looked, tries_word}
 use Rattle.lot_misses.proofs.Exchanges.{each_is_known}
 use Rattle.lot_misses.proofs.Onces.{GoesOn}
 use Rattle.lot_misses.proofs.Places.{IsSane}
@@ -187,7 +191,8 @@ module _ (l : ℕ) (a : Admission) where
   counts seen false = refl
 
   -- only an entry or an upgrade loads the word
-  stands_load : (q : RwLockPurpose) (again : Bool) → StandsAt q again at.Load → (n : Next RwLockPlace) → EndsNone q n
+  stands_load : (q : RwLockPurpose) (again : Bool) → StandsAt q again at.Load → (n : Next RwLockPlace)
+      → EndsNone q n
   stands_load (purpose.Release access.Shared) again s n = absurd s
   stands_load (purpose.Release access.Upgradable) again s n = absurd s
   stands_load (purpose.Release access.Exclusive) again s n = absurd s
@@ -195,7 +200,8 @@ module _ (l : ℕ) (a : Admission) where
   stands_load (purpose.Downgrade d) again s n = tt
   stands_load (purpose.Upgrade how) again s n = tt
 
-  stands_look : (q : RwLockPurpose) (again : Bool) → StandsAt q again at.Look → (n : Next RwLockPlace) → EndsNone q n
+  stands_look : (q : RwLockPurpose) (again : Bool) → StandsAt q again at.Look → (n : Next RwLockPlace)
+      → EndsNone q n
   stands_look (purpose.Release access.Shared) again s n = absurd s
   stands_look (purpose.Release access.Upgradable) again s n = absurd s
   stands_look (purpose.Release access.Exclusive) again s n = absurd s
@@ -215,7 +221,8 @@ module _ (l : ℕ) (a : Admission) where
   look_then : (p : RwLockPlace) (v : ℕ) → rwlock_then (next_at a p at.Look (Value v)) ≡ false
   look_then p v = by_count (count_in v == 0)
     where
-      by_count : (b : Bool) → rwlock_then (if b then End (entered (patience_at p)) else stays p (at.Count v)) ≡ false
+      by_count : (b : Bool)
+          → rwlock_then (if b then End (entered (patience_at p)) else stays p (at.Count v)) ≡ false
       by_count true = refl
       by_count false = refl
 
@@ -266,7 +273,8 @@ module _ (l : ℕ) (a : Admission) where
   hands_loads access.Upgradable b handing.Load v s h = by_parked (has_parked v)
     where
       by_parked : (c : Bool)
-          → call_then (At (call.HandOver access.Upgradable b (if c then handing.Enter else handing.Free v))) ≡ false
+          → call_then (At (call.HandOver access.Upgradable b (if c then handing.Enter else handing.Free v)))
+          ≡ false
       by_parked true = refl
       by_parked false = refl
   hands_loads access.Upgradable b (handing.Look k) v s h = refl
@@ -288,7 +296,8 @@ module _ (l : ℕ) (a : Admission) where
       → call_then (call_next a c (Value v)) ≡ false
   call_loads (call.Plain p) v s h = plain_then (next_at a p p.at (Value v)) (place_loads p p.at v s.place h).0
   call_loads (call.Bump p) v s h =
-      let two = place_loads p p.at v s.0.place h in bump_then p.purpose (next_at a p p.at (Value v)) two.1 two.0
+      let two = place_loads p p.at v s.0.place h in bump_then p.purpose
+      (next_at a p p.at (Value v)) two.1 two.0
   call_loads (call.PeekQueue x) v s h = glance_loads x (gives_way a x v)
   call_loads (call.HandOver x b to) v s h = hands_loads x b to v s h
   call_loads (call.Handed x how b (handed.Asleep by alone)) v s h = absurd cc
@@ -398,14 +407,16 @@ leads_none p seen tries may none = by_exchange (is_exchange (act_of (next_place 
     by_decided true = refl
     by_decided false = refl
 
-    by_exchange : (b : Bool) → is_exchange (act_of (next_place p (Value seen))) ≡ b → leads_to_exchange p seen ≡ false
+    by_exchange : (b : Bool) → is_exchange (act_of (next_place p (Value seen))) ≡ b
+        → leads_to_exchange p seen ≡ false
     by_exchange true e = absurd (never e)
     by_exchange false e = ap (λ b. not (has_decided p) && b) e ∙ by_decided (has_decided p)
 
 -- ---------------------------------------------------------------- another look
 
 -- where a look leads that is taken in place of an exchange
-mutex_again : (p q : MutexPlace) → mutex_looked p ≡ Some q → (v : ℕ) → mutex_then (mutex_next q (Value v)) ≡ false
+mutex_again : (p q : MutexPlace) → mutex_looked p ≡ Some q → (v : ℕ)
+    → mutex_then (mutex_next q (Value v)) ≡ false
 mutex_again (mutex.Lock e r (lock.Decide seen)) q is v = decides (is_locked seen) (seen == 1) is
   where
     again : Some (mutex.Lock e r lock.Load) ≡ Some q → mutex_then (mutex_next q (Value v)) ≡ false
@@ -463,9 +474,11 @@ module _ (l : ℕ) (a : Admission) where
     at_again b p (at.Decide seen) s is = by_decision (decided a p seen) is
       where
         by_decision : (x : Decision) → in_call b (gone_to p (rwlock_looked_by x)) ≡ Some d → Goal
-        by_decision decisions.Take is = goes_again b p at.Load is (load_then l a (record p { at = at.Load }) v)
+        by_decision decisions.Take is =
+            goes_again b p at.Load is (load_then l a (record p { at = at.Load }) v)
             (decides_none seen p.purpose p.retries s _)
-        by_decision decisions.Mark is = goes_again b p at.Load is (load_then l a (record p { at = at.Load }) v)
+        by_decision decisions.Mark is =
+            goes_again b p at.Load is (load_then l a (record p { at = at.Load }) v)
             (decides_none seen p.purpose p.retries s _)
         by_decision decisions.Park is = none_again b p is
         by_decision (decisions.Refuse answer) is = none_again b p is
@@ -482,7 +495,8 @@ module _ (l : ℕ) (a : Admission) where
     look_again access.Upgradable b k here = subst (λ c. call_then (call_next a c (Value v)) ≡ false) here refl
     look_again access.Exclusive b k here = subst (λ c. call_then (call_next a c (Value v)) ≡ false) here refl
 
-    hands_again : (x : Access) (b : Bool) (to : HandOverAt) → call_looked a (call.HandOver x b to) ≡ Some d → Goal
+    hands_again : (x : Access) (b : Bool) (to : HandOverAt) → call_looked a (call.HandOver x b to) ≡ Some d
+        → Goal
     hands_again access.Shared b (handing.Free seen) is = absurd cc
     hands_again access.Exclusive b (handing.Free seen) is = absurd cc
     hands_again access.Upgradable b (handing.Free seen) is =
@@ -557,10 +571,12 @@ no_try_again w (Condvar l p) q v fits is = by_place (condvar_looked p) refl is
         (condvar_at l (condvar_next x (Value v)) (condvar_again p x v e))
 no_try_again w (Semaphore l p) q v fits is = by_place (semaphore_looked p) is
   where
-    by_place : (o : Option SemaphorePlace) → in_semaphore l o ≡ Some q → tries_word (next_place q (Value v)) ≡ false
+    by_place : (o : Option SemaphorePlace) → in_semaphore l o ≡ Some q
+        → tries_word (next_place q (Value v)) ≡ false
     by_place None is = absurd cc
     by_place (Some x) is = let here : Semaphore l x ≡ q = cc in
-        subst (λ y. tries_word (next_place y (Value v)) ≡ false) here (semaphore_at l (semaphore_next x (Value v)))
+        subst (λ y. tries_word (next_place y (Value v)) ≡ false) here
+        (semaphore_at l (semaphore_next x (Value v)))
 
 -- ---------------------------------------------------------------- where a thread has decided
 
@@ -574,7 +590,8 @@ undecided (Once l (once.Look c again (look.Decide seen))) k sane load =
     by_course course.Runs goes h = absurd cc
     by_course course.Marks goes h = absurd cc
     by_course course.Parks goes h = absurd cc
-undecided (Semaphore l (semaphore.Try (tries.Decide seen))) k sane load = absurd (not_both _ cut (ap is_load load))
+undecided (Semaphore l (semaphore.Try (tries.Decide seen))) k sane load =
+    absurd (not_both _ cut (ap is_load load))
   where
     cut : is_load (act_of (Semaphore l (semaphore.Try (tries.Decide seen)))) ≡ false
     cut = ap (λ b. is_load (if b then act.Word l (op.Exchange seen (seen - 2)) else act.Word l op.Load)) sane

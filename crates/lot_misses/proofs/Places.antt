@@ -34,8 +34,9 @@ use Rattle.lot_misses.specs.Looks.{semaphore_looked}
 use Rattle.lot_misses.proofs.Condvars.{IsSaneCondvar, condvar_looks_right, condvar_table}
 use Rattle.lot_misses.proofs.Mutexes.{mutex_looks_right, mutex_table}
 use Rattle.lot_misses.proofs.Onces.{IsSaneOnce, once_looks_right, once_table}
-use Rattle.lot_misses.proofs.Rows.{FitsReply, HasLooked, HasLookedBy, HasNotLooked, IsNoValue, IsOfWord, Looks}
-use Rattle.lot_misses.proofs.Rows.{LooksRight, Misses, Precedes, SaneThen, Table, exchange_by, looked_then}
+use Rattle.lot_misses.proofs.Rows.{FitsReply, HasLooked, HasLookedBy, HasNotLooked, IsNoValue, IsOfWord}
+use Rattle.lot_misses.proofs.Rows.{Looks, LooksRight, Misses, Precedes, SaneThen, Table, exchange_by}
+use Rattle.lot_misses.proofs.Rows.{looked_then}
 use Rattle.lot_misses.proofs.RwLockCalls.{IsSaneCall, call_looks_right, call_table}
 use Rattle.lot_misses.proofs.Semaphores.{IsSaneSemaphore, semaphore_looks_right, semaphore_table}
 

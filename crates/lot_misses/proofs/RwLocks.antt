@@ -38,8 +38,8 @@ use Rattle.steps_rwlock.specs.RwLockProfiles.{gone_to, rwlock_profile}
 use Rattle.steps_rwlock.proofs.RwLockStands.{decides_to_park}
 use Rattle.lot_machine.proofs.Acted.{Befalls}
 use Rattle.lot_misses.specs.Looks.{rwlock_looked, rwlock_looked_by}
-use Rattle.lot_misses.proofs.Rows.{FitsReply, HasLooked, HasLookedBy, HasNotLooked, IsNoValue, IsOfWord, Looks}
-use Rattle.lot_misses.proofs.Rows.{LooksRight, Misses, Precedes, SaneThen, Table, looked_then, never}
+use Rattle.lot_misses.proofs.Rows.{FitsReply, HasLooked, HasLookedBy, HasNotLooked, IsNoValue, IsOfWord}
+use Rattle.lot_misses.proofs.Rows.{Looks, LooksRight, Misses, Precedes, SaneThen, Table, looked_then, never}
 
 -- a decision is of a word, and a pending writer has seen readers
 abbrev pub IsSaneAt : RwLockAt → Type 0

@@ -1,7 +1,7 @@
 -- A turn of one thread, taken where no thread has looked for its exchange: it looks when it exchanges, and so
 -- never misses.
-use Rattle.std.proofs.Common.{ℕ, zero, suc, arith, Bool, true, false, Option, Some, None, ◌==◌, ◌||◌, ◌&&◌, not}
-use Rattle.std.proofs.Common.{nat_lt, ◌≡◌, ◌<◌, ◌⊎◌, inl, inr, List, [], ◌∷◌, length, map, set, get_or}
+use Rattle.std.proofs.Common.{ℕ, zero, suc, arith, Bool, true, false, Option, Some, None, ◌==◌, ◌||◌, ◌&&◌}
+use Rattle.std.proofs.Common.{not, nat_lt, ◌≡◌, ◌<◌, ◌⊎◌, inl, inr, List, [], ◌∷◌, length, map, set, get_or}
 use Rattle.std.proofs.Common.{refl, sym, ◌∙◌, ap, subst, eqb-true, get_or-set_same, length-set}
 use Rattle.std.specs.Prelude.{replicate}
 use Rattle.std.proofs.Math.ListN.{get_or-map}
@@ -37,17 +37,18 @@ use Rattle.lot_steps.specs.declared.places.Place.TheVariants.{Idle, Mutex, RwLoc
 use Rattle.lot_steps.specs.Steps.{act_of, condvar_does, condvar_goes, is_idle, mutex_does, mutex_goes}
 use Rattle.lot_steps.specs.Steps.{next_act, next_place, once_does, once_goes, owners_after, rwlock_does}
 use Rattle.lot_steps.specs.Steps.{rwlock_goes, semaphore_does, semaphore_goes, shares_after, taker, wants}
-use Rattle.lot_machine.specs.Machine.{State, after, can_do, filled_at, go_of, go_outcome}
-use Rattle.lot_machine.specs.Machine.{going_outcome, hand_over_told, held, held_by, is_possible, kind_at}
-use Rattle.lot_machine.specs.Machine.{owners_at, place_after_telling, place_at, put, reply_to, share_at}
-use Rattle.lot_machine.specs.Machine.{shares_at, shares_with, state_after_act, state_after_go}
-use Rattle.lot_machine.specs.Machine.{state_after_going, state_after_hand_over, state_after_hand_over_by}
-use Rattle.lot_machine.specs.Machine.{state_after_operation, state_after_telling, state_after_turn}
-use Rattle.lot_machine.specs.Machine.{step_outcome, turn_outcome, unlocked, with_word, word_at}
+use Rattle.lot_machine.specs.Machine.{State, after, can_do, filled_at, go_of, go_outcome, going_outcome}
+use Rattle.lot_machine.specs.Machine.{hand_over_told, held, held_by, is_possible, kind_at, owners_at}
+use Rattle.lot_machine.specs.Machine.{place_after_telling, place_at, put, reply_to, share_at, shares_at}
+use Rattle.lot_machine.specs.Machine.{shares_with, state_after_act, state_after_go, state_after_going}
+use Rattle.lot_machine.specs.Machine.{state_after_hand_over, state_after_hand_over_by, state_after_operation}
+use Rattle.lot_machine.specs.Machine.{state_after_telling, state_after_turn, step_outcome, turn_outcome}
+use Rattle.lot_machine.specs.Machine.{unlocked, with_word, word_at}
 use Rattle.lot_misses.specs.Looks.{finds_another, has_decided, is_exchange, leads_to_exchange, looked_from}
 use Rattle.lot_misses.specs.Looks.{looks, looks_by, misses, or_here}
-use Rattle.lot_misses.proofs.Acted.{AllSane, acted_sane, acted_so, before, free_kept, given_so, helds_so, kept}
-use Rattle.lot_misses.proofs.Acted.{kept_length, operation_so, place_so, put_so, set_sane, shares_so, successor_so}
+use Rattle.lot_misses.proofs.Acted.{AllSane, acted_sane, acted_so, before, free_kept, given_so, helds_so}
+use Rattle.lot_misses.proofs.Acted.{kept, kept_length, operation_so, place_so, put_so, set_sane, shares_so}
+use Rattle.lot_misses.proofs.Acted.{successor_so}
 use Rattle.lot_misses.proofs.Places.{GoesBy, GoesByLook, IsLook, IsSane, goes_so}
 use Rattle.lot_misses.proofs.Rows.{exchange_by}
 use Rattle.lot_machine.proofs.Shape.{performed_counts}
@@ -160,8 +161,8 @@ pub record Waits (b z : State) (told : Outcome) : Type 0 where
   pub same : b ≡ z
   pub goes_on : told ≡ outcome.Step
 
--- One step leads the other run there, and tells its thread the same. It is no look. But for a thread that stays as
--- it is, it doesn't miss.
+-- One step leads the other run there, and tells its thread the same. It is no look. But for a thread that stays
+-- as it is, it doesn't miss.
 pub record One (stays : Bool) (b z : State) (told : Outcome) (s : Step) : Type 0 where
   pub possible : is_possible b s ≡ true
   pub hit : stays ≡ false → misses b s ≡ false
@@ -242,7 +243,8 @@ look_goes k w t q l off all noted there is free load sane plain leads = by_lead 
 
     by_lead : (looked_from (next_place q (Value (word_at w l))) ≡ None) ⊎ IsLook q (word_at w l)
         → Comes (k t) (before k w) (before k (state_after_go w t)) t (go_outcome w t)
-    by_lead (inl none) = inr (inl (one_turn (k t) (before k w) (before k (state_after_go w t)) (go_outcome w t)
+    by_lead (inl none) =
+        inr (inl (one_turn (k t) (before k w) (before k (state_after_go w t)) (go_outcome w t)
         (go_of t) (go_possible (before k w) t (there_so k w t there) (rw (here, load) refl))
         (λ e. rw (here, free) refl)
         (ap (λ p. looks_by (before k w) p (act_of p)) here ∙ ap (looks_by (before k w) q) load ∙ plain none)
@@ -296,8 +298,10 @@ module _ (k : ℕ → Bool) (w : State) (t : ℕ) (p q : Place) (off : k t ≡ f
   pub looks_again : IsSane (next_place q (Value v))
       → (looked_from (next_place q (Value v)) ≡ None → leads_to_exchange q v ≡ false)
       → Comes (k t) (before k w) (before k (state_after_go (put w t q) t)) t (go_outcome (put w t q) t)
-  looks_again sane plain = moved (k t) (before k w) (before k (put w t q)) (before k (state_after_go (put w t q) t))
-      (before k (state_after_go (put w t q) t)) t (go_outcome (put w t q) t) (go_outcome (put w t q) t) back refl refl
+  looks_again sane plain =
+      moved (k t) (before k w) (before k (put w t q)) (before k (state_after_go (put w t q) t))
+      (before k (state_after_go (put w t q) t)) t (go_outcome (put w t q) t)
+      (go_outcome (put w t q) t) back refl refl
       (look_goes k (put w t q) t q h.lock off (set_sane k w.places t q all (λ e. h.sound)) noted
       (rw (length-set w.places t q) there) (there_now w t q there) h.unlooked h.load sane plain (h.leads v))
 
@@ -511,7 +515,8 @@ module _ (k : ℕ → Bool) (w : State) (t : ℕ) (p q : Place) (off : k t ≡ f
         ∙ ap (λ y. put (put (before k V) t p) t (next_place y (Value v))) x_owns
         ∙ put_put (before k V) t p (next_place p (Value v))
         ∙ ap (put (before k V) t) (sym (free_kept (k t) (next_place p (Value v)) hit_none))
-        ∙ put_so k V (acted_sane k w all t p (exchange_by h.hands h.lock h.from h.to)) t (next_place p (Value v))
+        ∙ put_so k V (acted_sane k w all t p (exchange_by h.hands h.lock h.from h.to)) t
+        (next_place p (Value v))
         ∙ ap (before k) (sym (ap (state_after_going w t) is
         ∙ ap (λ a. put (state_after_act w t p a) t (next_place (place_at (state_after_act w t p a) t)
         (reply_to w t a))) h.exchange
@@ -551,7 +556,8 @@ module _ (k : ℕ → Bool) (w : State) (t : ℕ) (p q : Place) (off : k t ≡ f
 
     -- it has not decided where it looks
     is_look : has_decided q ≡ false → looks (before k w) (go_of t) ≡ true
-    is_look undecided = ap (λ y. looks_by (before k w) y (act_of y)) here ∙ ap (looks_by (before k w) q) h.load
+    is_look undecided = ap (λ y. looks_by (before k w) y (act_of y)) here
+        ∙ ap (looks_by (before k w) q) h.load
         ∙ ap (λ y. not (has_decided q) && is_exchange (act_of y)) sees_now
         ∙ ap (λ d. not d && is_exchange (act_of p)) undecided ∙ ap is_exchange h.exchange
         ∙ by_hands_exchange h.hands

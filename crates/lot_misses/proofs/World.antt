@@ -24,9 +24,9 @@ use Rattle.lot_steps.specs.Steps.{act_of, in_condvar, in_mutex, in_once, in_rwlo
 use Rattle.lot_steps.specs.Steps.{next_place}
 use Rattle.spec_locks.specs.declared.outcomes.Outcome.{Outcome}
 use Rattle.lot_machine.proofs.Shape.{performed_counts}
-use Rattle.lot_machine.specs.Machine.{State, after, is_possible, can_do, filled_at, go_of, go_outcome, going_outcome, place_at}
-use Rattle.lot_machine.specs.Machine.{put, reply_to, state_after_act, state_after_go, state_after_going}
-use Rattle.lot_machine.specs.Machine.{word_at}
+use Rattle.lot_machine.specs.Machine.{State, after, is_possible, can_do, filled_at, go_of, go_outcome}
+use Rattle.lot_machine.specs.Machine.{going_outcome, place_at, put, reply_to, state_after_act, state_after_go}
+use Rattle.lot_machine.specs.Machine.{state_after_going, word_at}
 use Rattle.lot_machine.proofs.Closures.{IsOwn, call_own}
 use Rattle.lot_laws.specs.SitesOf.{FitsItsLock, IsInductive, IsWorld, rules_in, site_of}
 use Rattle.lot_laws.proofs.alone.RwLock.{word_small}
@@ -35,16 +35,16 @@ use Rattle.lot_laws.proofs.calls.OwnPlace.{stays_there}
 use Rattle.lot_laws.proofs.condvar.OwnStand.{IsStill, own_place}
 use Rattle.lot_laws.proofs.machine.Parts.{IsOfTwo, fits_two, single_or_two}
 use Rattle.lot_laws.proofs.sites.OneStep.{fills_by, noted}
-use Rattle.lot_misses.specs.Looks.{MayBeAt, call_looked, condvar_looked, is_load, leads_to_exchange, looked_from, looks_by}
-use Rattle.lot_misses.specs.Looks.{misses, mutex_looked, once_looked, semaphore_looked}
-use Rattle.lot_misses.proofs.Acted.{AllSane, acted_sane, acted_so, before, can_so, free_kept, kept, place_so, put_so}
-use Rattle.lot_misses.proofs.Acted.{reply_so, set_sane}
+use Rattle.lot_misses.specs.Looks.{MayBeAt, call_looked, condvar_looked, is_load, leads_to_exchange}
+use Rattle.lot_misses.specs.Looks.{looked_from, looks_by, misses, mutex_looked, once_looked, semaphore_looked}
+use Rattle.lot_misses.proofs.Acted.{AllSane, acted_sane, acted_so, before, can_so, free_kept, kept, place_so}
+use Rattle.lot_misses.proofs.Acted.{put_so, reply_so, set_sane}
 use Rattle.lot_misses.proofs.Loads.{leads_none, may_be, no_try, no_try_again, undecided}
 use Rattle.lot_misses.proofs.Places.{GoesBy, GoesByLook, GoesByNoLook, IsLook, IsSane, Tells, goes_so}
 use Rattle.lot_misses.proofs.Places.{stays_sane}
 use Rattle.lot_misses.proofs.Rows.{IsNoValue, IsOfWord, exchange_by}
-use Rattle.lot_misses.proofs.Turns.{AllNoted, Comes, One, go_possible, here_so, hits_so, look_goes, looks_again, misses_so}
-use Rattle.lot_misses.proofs.Turns.{one_turn, there_so, went_by_word}
+use Rattle.lot_misses.proofs.Turns.{AllNoted, Comes, One, go_possible, here_so, hits_so, look_goes}
+use Rattle.lot_misses.proofs.Turns.{looks_again, misses_so, one_turn, there_so, went_by_word}
 
 -- ---------------------------------------------------------------- what a world says
 
@@ -186,8 +186,10 @@ module _ (w : State) (h : IsWorld w) (t : ℕ) (there : t < length w.places) whe
 
 -- from a place where its thread stands in both runs, to another
 module _ (k : ℕ → Bool) (w : State) (t : ℕ) (p o : Place) (all : AllSane k w.places) (is : place_at w t ≡ p)
-    (here : kept (k t) p ≡ p) (own : place_at (state_after_act w t p (act_of p)) t ≡ o) (here_then : kept (k t) o ≡ o)
-    (next : kept (k t) (next_place o (reply_to w t (act_of p))) ≡ next_place o (reply_to w t (act_of p))) where
+    (here : kept (k t) p ≡ p) (own : place_at (state_after_act w t p (act_of p)) t ≡ o)
+    (here_then : kept (k t) o ≡ o)
+    (next : kept (k t) (next_place o (reply_to w t (act_of p)))
+    ≡ next_place o (reply_to w t (act_of p))) where
   abbrev V : State
   V = state_after_act w t p (act_of p)
 
@@ -219,7 +221,8 @@ module _ (k : ℕ → Bool) (w : State) (t : ℕ) (p o : Place) (all : AllSane k
       ∙ ap (λ x. outcome_of (next_act x r)) V_place
       ∙ sym (ap (going_outcome w t) is ∙ ap (λ x. outcome_of (next_act x r)) own)
 
-  pub plain_possible : t < length w.places → can_do w (act_of p) ≡ true → is_possible (before k w) (go_of t) ≡ true
+  pub plain_possible : t < length w.places → can_do w (act_of p) ≡ true
+      → is_possible (before k w) (go_of t) ≡ true
   plain_possible there can = go_possible (before k w) t (there_so k w t there)
       (rw (plain_here, can_so k w (act_of p), can) refl)
 
@@ -278,7 +281,8 @@ module _ (k : ℕ → Bool) (w : State) (all : AllSane k w.places) (t : ℕ) (th
 
 -- ---------------------------------------------------------------- go
 
-module _ (k : ℕ → Bool) (w : State) (h : IsWorld w) (all : AllSane k w.places) (t : ℕ) (there : t < length w.places)
+module _ (k : ℕ → Bool) (w : State) (h : IsWorld w) (all : AllSane k w.places) (t : ℕ)
+    (there : t < length w.places)
     (off : k t ≡ false) where
   abbrev here : Place
   here = place_at w t
@@ -312,7 +316,8 @@ module _ (k : ℕ → Bool) (w : State) (h : IsWorld w) (all : AllSane k w.place
     where
       place : place_at (after w (go_of t)) t ≡ next_place then_own told
       place = rw (go_possible w t there can) (get_or-set_same
-          (state_after_act w t (place_at w t) (act_of (place_at w t))).places t (next_place then_own told) Idle
+          (state_after_act w t (place_at w t) (act_of (place_at w t))).places t
+          (next_place then_own told) Idle
           (rw (performed_counts w t (place_at w t) (act_of (place_at w t))).0 there))
 
   -- the thread of the turn has not looked
@@ -326,7 +331,8 @@ module _ (k : ℕ → Bool) (w : State) (h : IsWorld w) (all : AllSane k w.place
     -- where it goes by a load, it stands as it did
     load_then : (l : ℕ) → act_of (place_at w t) ≡ act.Word l Load
         → next_place then_own told ≡ next_place (place_at w t) (Value (word_at w l))
-    load_then l load = ap (λ x. next_place (place_at (state_after_act w t (place_at w t) x) t) (reply_to w t x)) load
+    load_then l load = ap
+        (λ x. next_place (place_at (state_after_act w t (place_at w t) x) t) (reply_to w t x)) load
 
     none_alone : (l : ℕ) → act_of (place_at w t) ≡ act.Word l Load
         → looked_from (next_place (place_at w t) (Value (word_at w l))) ≡ None
@@ -336,9 +342,11 @@ module _ (k : ℕ → Bool) (w : State) (h : IsWorld w) (all : AllSane k w.place
         (subst MayBeAt (load_then l load) (next_fits can)) none
 
     plainly : looked_from (next_place then_own told) ≡ None → To (state_after_go w t) (go_outcome w t)
-    plainly none = inr (inl (one_turn (k t) (before k w) (before k (state_after_go w t)) (go_outcome w t) (go_of t)
+    plainly none = inr (inl
+        (one_turn (k t) (before k w) (before k (state_after_go w t)) (go_outcome w t) (go_of t)
         (plain_possible k w t (place_at w t) then_own all refl (free_kept (k t) (place_at w t) free) refl
-        (free_kept (k t) then_own (own_stays.none free)) (free_kept (k t) (next_place then_own told) none) there can)
+        (free_kept (k t) then_own (own_stays.none free))
+        (free_kept (k t) (next_place then_own told) none) there can)
         (λ e. rw (plain_at, free) refl)
         (ap (λ q. looks_by (before k w) q (act_of q)) plain_at
         ∙ alone_by (before k w) (place_at w t) (act_of (place_at w t))
@@ -387,7 +395,8 @@ module _ (k : ℕ → Bool) (w : State) (h : IsWorld w) (all : AllSane k w.place
         → looked_from (next_place q (Value (word_at w by_look.lock))) ≡ None
         → leads_to_exchange q (word_at w by_look.lock) ≡ false
     plain may none = leads_none q (word_at w by_look.lock)
-        (no_try_again w (place_at w t) q (word_at w by_look.lock) (h.inductive.stands.calls t) looked) may none
+        (no_try_again w (place_at w t) q (word_at w by_look.lock)
+        (h.inductive.stands.calls t) looked) may none
 
     value_told : (b : Bool) → reply_to w t (exchange_by b by_look.lock by_look.from by_look.to)
         ≡ Value (word_at w by_look.lock)
@@ -405,21 +414,25 @@ module _ (k : ℕ → Bool) (w : State) (h : IsWorld w) (all : AllSane k w.place
     pub goes_by_look : can_do w (act_of (place_at w t)) ≡ true → To (state_after_go w t) (go_outcome w t)
     goes_by_look can = by_word (word_at w by_look.lock == by_look.from) refl
       where
-        by_word : (b : Bool) → (word_at w by_look.lock == by_look.from) ≡ b → To (state_after_go w t) (go_outcome w t)
+        by_word : (b : Bool) → (word_at w by_look.lock == by_look.from) ≡ b
+            → To (state_after_go w t) (go_outcome w t)
         by_word true same = hits_so k w t (place_at w t) q off all (all_noted w h) there refl looked by_look
             here_sane (own_stays.same q looked) same (undecided q by_look.lock by_look.sound by_look.load)
-        by_word false other = misses_so k w t (place_at w t) q off all (all_noted w h) there refl looked by_look
+        by_word false other =
+            misses_so k w t (place_at w t) q off all (all_noted w h) there refl looked by_look
             other looked_sane (plain (subst MayBeAt (missed_then other) (next_fits can)))
 
     pub looks_anew : MayBeAt (next_place q (Value (word_at w by_look.lock)))
         → To (state_after_go (put w t q) t) (go_outcome (put w t q) t)
-    looks_anew may = looks_again k w t (place_at w t) q off all (all_noted w h) there refl looked by_look looked_sane
+    looks_anew may = looks_again k w t (place_at w t) q off all
+        (all_noted w h) there refl looked by_look looked_sane
         (plain may)
 
   pub goes_so_far : can_do w (act_of (place_at w t)) ≡ true → To (state_after_go w t) (go_outcome w t)
   goes_so_far can = by_place (looked_from (place_at w t)) refl
     where
-      by_place : (o : Option Place) → looked_from (place_at w t) ≡ o → To (state_after_go w t) (go_outcome w t)
+      by_place : (o : Option Place) → looked_from (place_at w t) ≡ o
+          → To (state_after_go w t) (go_outcome w t)
       by_place None free = goes_freely free can
       by_place (Some q) looked = goes_by_look q looked can
 

@@ -4,8 +4,8 @@ use Rattle.spec_locks.specs.declared.kinds.Kind.{Kind}
 use Rattle.lot_machine.specs.Machine.{State, opening}
 use Rattle.core_base.specs.declared.queues.Queues.{Ghosts}
 use Rattle.lot_replay.specs.declared.session.Session.{Session}
-use Rattle.lot_replay.specs.declared.state.ReplayStage.{ReplayStage}
-use Rattle.lot_replay.specs.declared.state.ReplayStage.TheVariants.{Nothing, Declaring, Running}
+use Rattle.lot_replay.specs.declared.state.SessionStage.{SessionStage}
+use Rattle.lot_replay.specs.declared.state.SessionStage.TheVariants.{Nothing, Declaring, Running}
 use Rattle.lot_replay.specs.Stages.{ReplayStage, nothing, declaring, running}
 
 abbrev pub stage_with : ℕ → List (List ℕ) → List Kind → Option State → ReplayStage
@@ -28,7 +28,7 @@ abbrev pub session_world : {Q : Type 0} {queues : Ghosts Q} → Session Q queues
 session_world s = world_with s.threads s.kinds.items s.world
 
 -- the stage that is looked at
-abbrev pub stage_shown : {Q : Type 0} → ReplayStage Q → ReplayStage
+abbrev pub stage_shown : {Q : Type 0} → SessionStage Q → ReplayStage
 stage_shown Nothing = nothing
 stage_shown (Declaring threads names kinds) = declaring threads names.now kinds.now
 stage_shown (Running names world) = running names.now world.now

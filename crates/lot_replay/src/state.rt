@@ -34,7 +34,7 @@ pub enum Refusal {
 
 /// The stage to which the lines of a replay have led, to be looked at.
 #[derive(Clone, Copy, Drop)]
-pub enum ReplayStage<'a, Q: Queues + Drop> {
+pub enum SessionStage<'a, Q: Queues + Drop> {
     /// The threads are not there yet.
     Nothing,
     /// Locks of these names and kinds are declared, and no line has taken a turn.
@@ -74,16 +74,16 @@ impl<Q: Queues + Drop> State<Q> {
     }
 
     /// Returns the stage, to be looked at.
-    pub fn stage(&self) -> ReplayStage<'_, Q>
+    pub fn stage(&self) -> SessionStage<'_, Q>
         ensures { replay_stage_of self.now.session ≡ stage_shown result }
     {
         let Some(session) = &self.session else {
-            return ReplayStage::Nothing;
+            return SessionStage::Nothing;
         };
         let names = session.names.as_slice();
         match &session.world {
-            Some(world) => ReplayStage::Running { names, world },
-            None => ReplayStage::Declaring {
+            Some(world) => SessionStage::Running { names, world },
+            None => SessionStage::Declaring {
                 threads: session.threads,
                 names,
                 kinds: session.kinds.as_slice(),

@@ -12,7 +12,7 @@ pub use lot_world;
 pub use parking_lot_core::{
     Clock, Did, Director, Fault, Key, Keys, Note, Op, ParkingLot, QueuePlace, Requeue, Right,
     Section, SectionRecord, Slept, SystemClock, TickClock, Ticket, Token, TurnClock, WakeNote,
-    Want, Word, WordKind, to_deadline,
+    Want, Word, WordKind, WrongToken, to_deadline,
 };
 pub use raw_mutexes::{
     OpenGuard, RawCondvar, RawFairMutex, RawGuard, RawMutex, RawShare, RawThreadId,

@@ -4,6 +4,7 @@ use Rattle.core_words.specs.RightsOf.{IsRightOf, IsFor}
 use Rattle.core_words.specs.declared.rights.Right.{Right}
 use Rattle.core_words.specs.declared.words.Word.{Word}
 use Rattle.core_base.specs.Lines.{queued_under}
+use Rattle.core_clocks.specs.Clocks.{HasPassed}
 use Rattle.core_base.specs.declared.wants.Want.{Want}
 use Rattle.core_base.specs.declared.keys.Keys.TheVariants.{One}
 use Rattle.parking_lot_core.specs.Places.{IsPlaceOf}
@@ -11,6 +12,8 @@ use Rattle.parking_lot_core.specs.Sections.{IsUntouched, told_in, waiting_in}
 use Rattle.parking_lot_core.specs.Tokens.{count_of}
 use Rattle.parking_lot_core.specs.declared.lot.ParkingLot.{ParkingLot}
 use Rattle.parking_lot_core.specs.declared.sections.Section.{Section}
+use Rattle.parking_lot_core.specs.declared.sleep.Nap.{Nap}
+use Rattle.parking_lot_core.specs.declared.sleep.Nap.TheVariants as naps
 use Rattle.parking_lot_core.specs.declared.sleep.Slept.{Slept}
 use Rattle.parking_lot_core.specs.declared.sleep.Slept.TheVariants.{Woken, Handed, Late}
 use Rattle.parking_lot_core.specs.declared.tokens.Token.{Token}
@@ -27,6 +30,13 @@ GivesUpAt lot token section key =
     (section.lot.now ≡ lot) × (section.keys ≡ One key) × IsUntouched section
     × (queued_under token.number (waiting_in section) ≡ Some key) × (section.thread ≡ token.number)
     × (told_in section ≡ []) × (section.since ≡ count_of token)
+
+-- a thread gives up where its clock has passed the deadline
+abbrev pub IsNap : ParkingLot → Token → (ℕ → Type 0) → ℕ → Nap → Type 0
+IsNap _ _ _ _ naps.Paused = Unit {0}
+IsNap lot token tells deadline (naps.Late section key) =
+    GivesUpAt lot token section key × HasPassed tells deadline
+IsNap _ _ _ _ naps.Taken = Unit {0}
 
 -- a sleeper is late, and has its place still
 abbrev pub IsLate : ParkingLot → Token → Slept → Type 0

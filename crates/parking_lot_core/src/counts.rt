@@ -1,7 +1,7 @@
 //! Mutexes that their owners lock again: how often is counted on the word after each.
 #![tactic(auto, unfolding(crate::specs::Tokens::view_of))]
 
-ghost use Rattle.std.specs.Prelude.{◌≡◌, ℕ, List, ◌+◌, ◌-◌, ◌/◌, ◌%◌, ◌<◌, ◌∷◌, None};
+ghost use Rattle.std.specs.Prelude.{◌≡◌, ◌≢◌, ℕ, List, ◌+◌, ◌-◌, ◌/◌, ◌%◌, ◌<◌, ◌∷◌, None};
 ghost use Rattle.core_base.specs.declared.ops.Op.TheVariants.{Load, Store};
 ghost use Rattle.core_names.specs.Names.{IsShareOf, Says, count_at, shares_of, thread_named};
 ghost use Rattle.core_names.specs.Shares.{sharing};
@@ -58,6 +58,38 @@ impl ParkingLot {
     {
         self.forget_section(token, &Deed::Look, count.index());
         token.name.see(&self.words, token.number, count, share)
+    }
+
+    /// Takes a share of the thread in, and looks at the count by one step: it names the thread, which
+    /// says it.
+    #[inline]
+    pub fn look_by_share(&self, token: &mut Token, count: Word, share: CountShare) -> u64
+        requires own { IsTokenOf self.now token.old × IsWordOf self.now.words count
+            × (count.kind ≡ Count) }
+        requires share { IsShareOf self.now.words count.number share
+            × (thread_named share ≡ token.old.number) }
+        ensures own { IsSameThread self.now token.old token.new × (last_of token.new ≡ None) }
+        ensures stepped { view_of token.new
+            ≡ stepping (view_of token.old) (count_at count.number) Load result }
+        ensures named { Names token.old.number result × (0 < result % 4294967296)
+            × Says count.number result token.new.name }
+        ensures shares { HasShare token.old.number count.number token.new.name }
+    {
+        self.forget_section(token, &Deed::Look, count.index());
+        token
+            .name
+            .look_by_share(&self.words, &mut token.seat, token.number, count, share)
+    }
+
+    /// Shares of one count that name two threads exclude each other: nobody ever has both, so this
+    /// can't be called.
+    pub fn has_two_owners(&self, count: Word, one: CountShare, other: CountShare) -> !
+        requires word { IsWordOf self.now.words count × (count.kind ≡ Count) }
+        requires shares { IsShareOf self.now.words count.number one
+            × IsShareOf self.now.words count.number other }
+        requires differ { thread_named one ≢ thread_named other }
+    {
+        one.has_two_threads(&self.words, count, other)
     }
 
     /// Gives a share of the thread back, which is no step.

@@ -2,12 +2,14 @@
 //!
 //! A directed token is never armed (`Expected`), and so each step of its thread comes to `pass` and waits
 //! for its turn there. A lot without a director pays for that at its looks alone, which ask whether the
-//! token is armed. A raw lock names its call as it begins (`begins`), or in its slow half (`renames`). Deeds come by reference: an enum by value would be a local of each fast half.
+//! token is armed. A raw lock names its call as it begins (`begins`), or in its slow half (`renames`). Deeds
+//! come by reference: an enum by value would be a local of each fast half.
 ghost use Rattle.std.specs.Prelude.{◌≡◌, None};
 
 use crate::lot::ParkingLot;
 use crate::tokens::Token;
-use core_base::{Clock, Fault, Keys};
+use core_base::{Fault, Keys};
+use core_clocks::Clock;
 use core_director::{Deed, Director, NewWord, Sort, Turn};
 use core_words::{Word, WordKind};
 use std::sync::{Arc, Wait};
@@ -147,12 +149,15 @@ impl ParkingLot {
     // Notes that a word was drawn.
     pub(crate) fn drew(&self, word: Word) {
         let sort = match word.kind() {
-            WordKind::Mutex => Sort::Named("mutex"),
-            WordKind::RwLock => Sort::Named("rwlock"),
-            WordKind::Condvar => Sort::Named("condvar"),
-            WordKind::Once => Sort::Named("once"),
-            WordKind::Count => Sort::Named("count"),
-            WordKind::Semaphore { permits } => Sort::Limited("semaphore", permits),
+            WordKind::Mutex => Sort::Mutex,
+            WordKind::RwLock => Sort::RwLock {
+                recursive: false,
+                readers: None,
+            },
+            WordKind::Condvar => Sort::Condvar,
+            WordKind::Once => Sort::Once,
+            WordKind::Count => Sort::Count,
+            WordKind::Semaphore { permits } => Sort::Semaphore { permits },
         };
         self.declares(word, sort);
     }
@@ -189,8 +194,8 @@ impl ParkingLot {
         }
     }
 
-    // Pauses a thread in a timed sleep. A directed one lets others run, and where it has its turn
-    // before it is woken, time passes.
+    // Parks a thread in a timed sleep. A directed one lets others run, and where it has its turn before
+    // it is woken, time passes by the director's clock, and nobody waits for it.
     pub(crate) fn pause<R: Wait, C: Clock>(
         &self,
         rt: &R,
@@ -201,14 +206,17 @@ impl ParkingLot {
     )
         requires { IsTokenOf self.now token.now }
     {
-        if let Some(director) = &self.director {
-            director.turn_asleep(rt, Turn::at(token.number, Deed::Nap, word.number()));
-            if self.records.is_marked(token.number) {
-                director.rename(token.number, Deed::Wake);
-                return;
+        match &self.director {
+            Some(director) if director.is_active() => {
+                director.turn_asleep(rt, Turn::at(token.number, Deed::Nap, word.number()));
+                if self.records.is_marked(token.number) {
+                    director.rename(token.number, Deed::Wake);
+                } else {
+                    director.pass_time(left);
+                }
             }
+            _ => clock.park(rt, &token.parker, left),
         }
-        clock.pause(left);
     }
 
     // Notes that a thread gives up a timed sleep.

@@ -36,9 +36,8 @@ const TRIES: u32 = 40;
 
 const PAUSE: u32 = 12;
 
-// A lock keeps what its type tells alone, so a fact about its lot is tested, and so is whose section
-// is left. The tests never fail.
-pub(crate) fn hang_forever<R: Wait>(rt: &R) -> ! {
+// A lock keeps what its type tells alone, so a fact about its lot is tested. The test never fails.
+fn hang_forever<R: Wait>(rt: &R) -> ! {
     for _ in rt.forever() {}
     unreachable!()
 }

@@ -22,14 +22,14 @@ pub mod words;
 
 pub use core_base::{Fault, Key, Keys, Note, Op, Requeue, Waiter, Want};
 pub use core_clocks::{Clock, SystemClock, TickClock, to_deadline};
-pub use core_director::{Deed, Director, Sort};
+pub use core_director::{CallName, Deed, Director, Sort};
 pub use core_names::{CountShare, Name};
 pub use core_parts::Permit;
 pub use core_words::{Held, OpenHeld, Owner, Right, Word, WordKind};
 pub use directing::TurnClock;
 pub use lot::ParkingLot;
 pub use places::QueuePlace;
-pub use sections::Section;
+pub use sections::{Section, WrongToken};
 pub use sleep::Slept;
 pub use step_counts::StepCount;
 pub use team::DEFAULT_WORDS;

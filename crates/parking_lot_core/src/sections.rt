@@ -6,12 +6,11 @@
 //! `Did` keeps the key of a take, since a section of two keys may take under either.
 //!
 //! The type of a lock says nothing of two locks together, so a section tests what is left, and the
-//! tests never fail: that the bucket is the one asked for, that the number of seats is the lot's, that
-//! each waiter of two buckets is in one of them alone, and that the token that leaves is the one that
-//! entered. A section of two buckets turns to the bucket of the key under which it takes, by a swap of
-//! its guards.
+//! tests never fail: that the bucket is the one asked for, that the number of seats is the lot's, and
+//! that each waiter of two buckets is in one of them alone. A section of two buckets turns to the bucket
+//! of the key under which it takes, by a swap of its guards.
 ghost use Rattle.std.specs.Prelude.{◌≡◌, ◌≢◌, ◌<◌, ◌≤◌, ◌+◌, ◌++◌, ◌∷◌, ◌==◌, not, [], Some, Contains};
-ghost use Rattle.std.specs.Prelude.{MatchOption, length, slice_index, take, true};
+ghost use Rattle.std.specs.Prelude.{IfErr, IfOk, IsOk, ◌↔◌, MatchOption, length, slice_index, take, true};
 ghost use Rattle.std.specs.List.{filter};
 ghost use Rattle.std.specs.Sync.Mutex.{mutex_guard_value};
 ghost use Rattle.core_base.specs.Lines.{waiter, line, lines, without, without_first, without_key, first_of};
@@ -28,7 +27,6 @@ ghost use Rattle.parking_lot_core.specs.declared.tokens.Did.TheVariants.{Nothing
 ghost use Rattle.parking_lot_core.specs.declared.tokens.Did.TheVariants.{TakePicked};
 ghost use Rattle.parking_lot_core.specs.declared.tellings.Telling.TheVariants.{Counted, Left, Stood, Took};
 
-use crate::enter::hang_forever;
 use crate::expected::Expected;
 use crate::lot::ParkingLot;
 use crate::places::QueuePlace;
@@ -74,6 +72,10 @@ pub struct Section<'a> {
     ghost each_wants: { length (mutex_guard_value first).wants.items
         ≡ length (mutex_guard_value first).taken.items },
 }
+
+/// A thread left a section with a token that had not entered it.
+#[derive(Clone, Copy, Debug, PartialEq, Eq)]
+pub struct WrongToken;
 
 fn first_of_keys(keys: Keys) -> Key
     ensures { result ≡ first_key keys }
@@ -479,23 +481,27 @@ impl<'a> Section<'a> {
     }
 
     /// Leaves, with the token that entered. The threads that the section took get the note and are
-    /// woken, and the token keeps the record of the section and of the visit. With another token the
-    /// threads are woken, and the call never returns.
+    /// woken, and the token keeps the record of the section and of the visit.
+    ///
+    /// # Errors
+    ///
+    /// `WrongToken`, with another token, which keeps no record. The threads are woken then, too.
     #[tactic(auto, unfolding(crate::specs::Tokens::view_of))]
-    pub fn leave<R: Wait>(self, rt: &R, token: &mut Token, note: Note)
+    pub fn leave<R: Wait>(self, rt: &R, token: &mut Token, note: Note) -> Result<(), WrongToken>
         requires own { IsTokenOf self.lot.now token.old }
         requires note { MayNote note (taken_in self) (rightless_in self) }
         ensures own { IsSameThread self.entry.lot.now token.old token.new
             × (view_of token.new ≡ view_of token.old) × (out_of token.new ≡ out_of token.old) }
-        ensures thread { self.entry.thread ≡ token.old.number }
-        ensures told { told_of token.new ≡ told_of token.old
-            ++ (told_in self.entry ++ visit_of self.entry (count_of token.old) note ∷ []) }
-        ensures recorded { last_of token.new
+        ensures thread { IsOk result ↔ self.entry.thread ≡ token.old.number }
+        ensures wrong { IfErr result (λ _. token.new ≡ token.old) }
+        ensures told { IfOk result (λ _. told_of token.new ≡ told_of token.old
+            ++ (told_in self.entry ++ visit_of self.entry (count_of token.old) note ∷ [])) }
+        ensures recorded { IfOk result (λ _. last_of token.new
             ≡ Some (record {
               key = first_key self.entry.keys;
               did = self.entry.did;
               number = length (taken_in self.entry) + moved_in self.entry;
-            }) }
+            })) }
     {
         let Section {
             lot,
@@ -515,10 +521,10 @@ impl<'a> Section<'a> {
         if let Some(woken) = woken {
             lot.wake_tied(rt, woken, taken, note);
         }
-        if thread != token.number {
-            hang_forever(rt)
-        }
         lot.leaves();
+        if thread != token.number {
+            return Err(WrongToken);
+        }
         token.record = SectionRecord {
             key: first_of_keys(keys),
             did,
@@ -534,5 +540,6 @@ impl<'a> Section<'a> {
             note,
         };
         visited.tell(&mut token.told);
+        Ok(())
     }
 }

@@ -46,6 +46,16 @@ pub enum Slept<'a> {
     Late(Section<'a>, Key, QueuePlace<'a>),
 }
 
+// How a look at a deadline ended.
+enum Nap<'a> {
+    // The thread slept a while.
+    Paused,
+    // Its time is up. It is inside the section of the key where it stands.
+    Late(Section<'a>, Key),
+    // Its time is up, and it was taken before.
+    Taken,
+}
+
 impl WakeRecord {
     ghost use Rattle.parking_lot_core.specs.Sleeps.{HasTold};
 
@@ -66,7 +76,7 @@ impl ParkingLot {
     ghost use Rattle.parking_lot_core.specs.Places.{IsPlaceOf};
     ghost use Rattle.parking_lot_core.specs.Tokens.{IsTokenOf, IsSameThread, count_of, last_of, told_of};
     ghost use Rattle.parking_lot_core.specs.Tokens.{view_of};
-    ghost use Rattle.parking_lot_core.specs.Sleeps.{GivesUpAt, IsWoken, IsSlept, WasLate};
+    ghost use Rattle.parking_lot_core.specs.Sleeps.{GivesUpAt, IsNap, IsWoken, IsSlept, WasLate};
 
     // Waits a while, or until the thread may have been told something.
     fn spin(&self, thread: usize)
@@ -122,6 +132,33 @@ impl ParkingLot {
         unreachable!()
     }
 
+    // Sleeps once by a clock, up to a deadline. A thread whose time is up leaves the queue, unless it was
+    // taken meanwhile.
+    fn nap<'a, R: Wait, C: Clock>(
+        &'a self,
+        rt: &R,
+        token: &Token,
+        word: Word,
+        clock: &C,
+        deadline: u64,
+    ) -> Nap<'a>
+        requires { IsTokenOf self.now token.now }
+        ensures { IsNap self.now token.now (C.tells clock.now) deadline result }
+    {
+        let now = clock.now();
+        if now < deadline {
+            self.pause(rt, token, word, clock, deadline - now);
+            return Nap::Paused;
+        }
+        match self.give_up(rt, token) {
+            Some((section, key)) => {
+                self.is_late(token);
+                Nap::Late(section, key)
+            }
+            None => Nap::Taken,
+        }
+    }
+
     /// Sleeps until the thread is woken, or up to a deadline on a clock. A thread sleeps only in its
     /// place in a queue.
     ///
@@ -157,19 +194,12 @@ impl ParkingLot {
             }
             match limit {
                 None => self.park(rt, token, word),
-                Some((clock, deadline)) => {
-                    let now = clock.now();
-                    if now < deadline {
-                        self.pause(rt, token, word, clock, deadline - now);
-                    } else {
-                        if let Some((section, key)) = self.give_up(rt, token) {
-                            self.is_late(token);
-                            return Slept::Late(section, key, place);
-                        }
-                        // The thread that took this one is about to wake it.
-                        limit = None;
-                    }
-                }
+                Some((clock, deadline)) => match self.nap(rt, token, word, clock, deadline) {
+                    Nap::Paused => {}
+                    Nap::Late(section, key) => return Slept::Late(section, key, place),
+                    // The thread that took this one is about to wake it.
+                    Nap::Taken => limit = None,
+                },
             }
         }
         unreachable!()

@@ -21,7 +21,7 @@ ghost use Rattle.parking_lot_core.specs.Tokens.{IsTokenOf, IsSameThread, view_of
 use crate::lot::ParkingLot;
 use crate::tokens::Token;
 use core_base::{Fault, Op, Want};
-use core_director::Deed;
+use core_director::{CallName, Deed};
 use core_parts::Permit;
 use core_words::laws::{condvar_may_step, count_may_step};
 use core_words::{Held, OpenHeld, Owner, Right, Word, WordKind};
@@ -125,7 +125,7 @@ impl ParkingLot {
             (view_of token.old) }
         ensures shown { ShowsBeside self.now.words.count condvar.number result }
     {
-        self.forget_section(token, &Deed::Call("notify_one"), condvar.index());
+        self.forget_section(token, &Deed::Call(CallName::NotifyOne), condvar.index());
         self.words.look_shown(&mut token.seat, condvar)
     }
 
@@ -348,7 +348,7 @@ impl ParkingLot {
             // The token is asked again: what it expects is kept nowhere past the step.
             Err(seen) if token.is_armed() => Err(seen),
             Err(_) => {
-                self.pass(token, &Deed::Call("lock"), word.index());
+                self.pass(token, &Deed::Call(CallName::Lock), word.index());
                 self.words.enter_open(&mut token.seat, word, 0)
             }
         }
@@ -369,7 +369,7 @@ impl ParkingLot {
         ensures opened { MatchOption result.1 (result.0 % 2 ≢ 0) (λ taken. (result.0 % 2 ≡ 0)
             × IsOpenOf self.now.words word taken.0 × (taken.1.id ≡ permit_of self.now.words word)) }
     {
-        self.forget_section(token, &Deed::Call("try_lock"), word.index());
+        self.forget_section(token, &Deed::Call(CallName::TryLock), word.index());
         self.words.try_enter_open(&mut token.seat, word)
     }
 
@@ -392,7 +392,7 @@ impl ParkingLot {
         match words.leave_open(&mut token.seat, word, opened, permit, locked) {
             Ok(seen) => seen,
             Err((opened, permit)) => {
-                self.pass(token, &Deed::Call("unlock"), word.index());
+                self.pass(token, &Deed::Call(CallName::Unlock), word.index());
                 match words.leave_open(&mut token.seat, word, opened, permit, 1) {
                     Ok(seen) => seen,
                     Err(_) => unreachable!(),
@@ -425,7 +425,7 @@ impl ParkingLot {
         match words.leave_open_alone(&mut token.seat, word, opened, permit, locked) {
             Ok(seen) => seen,
             Err((opened, permit)) => {
-                self.pass(token, &Deed::Call("unlock_fair"), word.index());
+                self.pass(token, &Deed::Call(CallName::UnlockFair), word.index());
                 match words.leave_open_alone(&mut token.seat, word, opened, permit, 1) {
                     Ok(seen) => seen,
                     Err(_) => unreachable!(),

@@ -144,13 +144,18 @@ impl RawMutexCounted for RawMutex {
     ) -> Result<RawGuard, RawShare> {
         let lot: &ParkingLot = &self.lot;
         let RawShare { share } = share;
-        lot.see_count(token, *count, share);
-        let seen = lot.look_count(token, *count);
+        let seen = lot.look_by_share(token, *count, share);
         if seen % ONE_THREAD != 1 {
             let share = lot.give_share(token, *count);
             return Err(RawShare { share });
         }
         let (opened, permit) = lot.count_out(token, self.word, *count, seen);
         Ok(RawGuard { opened, permit })
+    }
+
+    fn has_two_owners(&self, count: &Word, one: RawShare, other: RawShare) -> ! {
+        let lot: &ParkingLot = &self.lot;
+        let (RawShare { share }, RawShare { share: another }) = (one, other);
+        lot.has_two_owners(*count, share, another)
     }
 }

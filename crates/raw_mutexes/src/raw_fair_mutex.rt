@@ -96,7 +96,7 @@ impl lock_raw::RawMutex for RawFairMutex {
 
     fn new(lot: &Arc<ParkingLot>, token: &mut Token) -> Result<RawFairMutex, Fault> {
         let raw = <RawMutex as lock_raw::RawMutex>::new(lot, token)?;
-        lot.declares(raw.word, Sort::Named("fair"));
+        lot.declares(raw.word, Sort::FairMutex);
         Ok(RawFairMutex { raw })
     }
 

@@ -30,8 +30,10 @@ ghost use Rattle.run_base.specs.Telling.{owns_of, steps_of};
 
 use crate::guards::{OpenGuard, RawGuard};
 use core_base::main_key;
-use parking_lot_core::{Clock, Deed, Fault, Key, Op, ParkingLot, Permit, Token, Word, WordKind};
-use run_base::driver::{NO_LIMIT, step};
+use parking_lot_core::{
+    CallName, Clock, Deed, Fault, Key, Op, ParkingLot, Permit, Token, Word, WordKind,
+};
+use run_base::driver::{NO_LIMIT, first_mutex_step, step};
 use run_base::limits::limit_in;
 use run_mutexes::calls::call_slow;
 use run_mutexes::unlocks::unlock_slow;
@@ -241,7 +243,7 @@ impl RawMutex {
         ensures late { IfNone result (TimeIsUp C.tells limit.entry) }
     {
         let lot: &ParkingLot = &self.lot;
-        lot.renames(token, &Deed::Call("lock_timed"));
+        lot.renames(token, &Deed::Call(CallName::LockTimed));
         let answer = call_slow(rt, lot, token, self.word, limit, MutexCall::LockTimed, seen);
         if matches!(answer, Answer::No) {
             return None;
@@ -330,8 +332,8 @@ impl lock_raw::RawMutex for RawMutex {
 
     #[inline]
     fn is_locked(&self, token: &mut Token) -> bool {
-        self.lot.begins(token, &Deed::Look, self.word);
-        is_locked(self.lot.word_again(token, self.word, Op::Load))
+        let seen = first_mutex_step(&self.lot, token, &Deed::Look, self.word, Op::Load);
+        is_locked(seen)
     }
 
     #[inline]
@@ -402,8 +404,8 @@ impl lock_raw::RawMutexFair for RawMutex {
 
     #[inline]
     fn bump<R: Wait>(&self, rt: &R, token: &mut Token, guard: RawGuard) -> RawGuard {
-        self.lot.begins(token, &Deed::Call("bump"), self.word);
-        let seen = self.lot.word_again(token, self.word, Op::Load);
+        let name = &Deed::Call(CallName::Bump);
+        let seen = first_mutex_step(&self.lot, token, name, self.word, Op::Load);
         if !is_parked(seen) {
             return guard;
         }

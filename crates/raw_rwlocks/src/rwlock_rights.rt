@@ -34,9 +34,9 @@ ghost use Rattle.run_locks.specs.Halves.{HasBegunRwLock, HasEndedRwLock};
 use core_base::{main_key, second_key};
 use core_words::LotWords;
 use parking_lot_core::{
-    Clock, Deed, Fault, Held, Key, Op, ParkingLot, Sort, Token, Want, Word, WordKind,
+    CallName, Clock, Deed, Fault, Held, Key, Op, ParkingLot, Sort, Token, Want, Word, WordKind,
 };
-use run_base::driver::FOR_EVER;
+use run_base::driver::{FOR_EVER, first_step};
 use run_locks::rwlock_calls::{Rest, call, call_fast, call_slow, missed};
 use run_locks::rwlock_courses::{Settings, greater, lesser};
 use run_locks::rwlock_fair_calls::{bump, release_exclusive, release_upgradable};
@@ -99,8 +99,8 @@ impl LotRwLock {
             return Err(Fault::NoMemory);
         };
         let word = lot.new_word(token, WordKind::RwLock)?;
-        let sort = if recursive { "recursive" } else { "rwlock" };
-        lot.declares(word, Sort::Limited(sort, limit));
+        let readers = Some(limit);
+        lot.declares(word, Sort::RwLock { recursive, readers });
         let settings = Settings::new(Admission { recursive, limit });
         Ok(LotRwLock {
             lot,
@@ -316,8 +316,8 @@ impl LotRwLock {
             (answer_by result) token.old token.new }
     {
         let lot: &ParkingLot = &self.lot;
-        lot.begins(token, &Deed::Call("try_write"), self.word);
-        let seen = lot.word_again(token, self.word, ENTER);
+        let name = &Deed::Call(CallName::TryWrite);
+        let seen = first_step(lot, token, name, self.word, ENTER);
         if seen == 0 {
             return Some(self.split(lot, token, Want::Exclusive));
         }
@@ -563,8 +563,7 @@ impl LotRwLock {
         ensures coded { CodesWith RwLock (rwlock_at (word_in self.now).number) result
             (owns_of token.old) }
     {
-        self.lot.begins(token, &Deed::Look, self.word);
-        self.lot.word_again(token, self.word, Op::Load)
+        first_step(&self.lot, token, &Deed::Look, self.word, Op::Load)
     }
 
     // A step of a thread that had both rights would find a word that says so, and there is none.

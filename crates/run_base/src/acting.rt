@@ -5,7 +5,8 @@
 //! left. A waiter that is handed the mutex ends at once: its hand-off and its `Accept` touch no word,
 //! so the driver does nothing for them. A sleeper learns its note alone, so `Asleep` goes on by `Woken`
 //! too.
-ghost use Rattle.std.specs.Prelude.{◌≡◌, ◌++◌, ◌∷◌, ◌==◌, ℕ, [], None, Some, false, length, true, MatchBool};
+ghost use Rattle.std.specs.Prelude.{◌≡◌, ◌+◌, ◌++◌, ◌∷◌, ◌==◌, ℕ, [], None, Some, false, length, true};
+ghost use Rattle.std.specs.Prelude.{MatchBool};
 ghost use Rattle.core_clocks.specs.Clocks.{TimeIsUp};
 ghost use Rattle.core_base.specs.Lines.{queued_under, waiter, line, lines, without};
 ghost use Rattle.steps_base.specs.declared.acts.Act.TheVariants.{Sleep};
@@ -18,8 +19,9 @@ ghost use Rattle.lot_steps.specs.Steps.{HasKeys};
 ghost use Rattle.core_words.specs.Lots.{IsWordOf};
 ghost use Rattle.core_words.specs.Indices.{word_index};
 ghost use Rattle.core_words.specs.Steps.{MayStep, CodesWith, after_step};
-ghost use Rattle.parking_lot_core.specs.Keys.{AreKeys};
-ghost use Rattle.parking_lot_core.specs.Sections.{told_in, waiting_in};
+ghost use Rattle.parking_lot_core.specs.Keys.{AreKeys, first_key};
+ghost use Rattle.parking_lot_core.specs.Sections.{MayNote, moved_in, rightless_in, taken_in, told_in};
+ghost use Rattle.parking_lot_core.specs.Sections.{visit_of, waiting_in};
 ghost use Rattle.parking_lot_core.specs.Tokens.{IsTokenOf, IsSameThread, count_of, view_of, last_of, told_of};
 ghost use Rattle.run_base.specs.Fitting.{sleeper_at};
 ghost use Rattle.run_base.specs.Paths.{closure_of, step};
@@ -207,6 +209,26 @@ pub fn end(section: Option<Section>)
     }
 }
 
+// A section is left with the token that entered it.
+fn leave_section<R: Wait>(rt: &R, token: &mut Token, inside: Section, note: Note)
+    requires own { IsTokenOf inside.lot.now token.old }
+    requires note { MayNote note (taken_in inside) (rightless_in inside) }
+    ensures own { IsSameThread inside.entry.lot.now token.old token.new
+        × (view_of token.new ≡ view_of token.old) }
+    ensures told { told_of token.new ≡ told_of token.old
+        ++ (told_in inside.entry ++ visit_of inside.entry (count_of token.old) note ∷ []) }
+    ensures recorded { last_of token.new ≡ Some (record {
+      key = first_key inside.entry.keys;
+      did = inside.entry.did;
+      number = length (taken_in inside.entry) + moved_in inside.entry;
+    }) }
+{
+    match inside.leave(rt, token, note) {
+        Ok(()) => {}
+        Err(_) => for _ in rt.forever() {},
+    }
+}
+
 pub(crate) fn leave<R: Wait>(
     rt: &R,
     lot: &ParkingLot,
@@ -224,7 +246,7 @@ pub(crate) fn leave<R: Wait>(
         ++ visited (visit_within section.old) (count_of token.old) note) }
 {
     match section.take() {
-        Some(inside) => inside.leave(rt, token, note),
+        Some(inside) => leave_section(rt, token, inside, note),
         None => unreachable!(),
     }
 }
@@ -324,7 +346,7 @@ fn awake_late<'a, R: Wait>(
     }
     // Somebody moved the thread to a queue where it does not wait. It leaves that, and tries again.
     inside.remove(place);
-    inside.leave(rt, token, Note::Normal);
+    leave_section(rt, token, inside, Note::Normal);
     Reply::Woken(Note::Normal)
 }
 

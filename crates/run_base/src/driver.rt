@@ -7,6 +7,8 @@ ghost use Rattle.std.specs.Prelude.{◌≡◌, ◌++◌, List, None, IsTrue, IsF
 ghost use Rattle.core_clocks.specs.Clocks.{TimeIsUp};
 ghost use Rattle.lot_steps.specs.Steps.{act_of, next_place};
 ghost use Rattle.steps_base.specs.declared.acts.Reply.TheVariants.{Value};
+ghost use Rattle.core_words.specs.Indices.{word_index};
+ghost use Rattle.core_words.specs.Lots.{IsWordOf};
 ghost use Rattle.core_words.specs.Steps.{MayStep, CodesWith, after_step};
 ghost use Rattle.core_words.specs.declared.owners.Ownership.{Ownership};
 ghost use Rattle.core_words.specs.declared.views.WordStep.{WordStep};
@@ -27,7 +29,7 @@ use crate::acting::{end, perform};
 use crate::words::Words;
 use lot_steps::{Act, MutexPlace, Place, Reply};
 use parking_lot_core::pauses::{SHORT_PAUSE, pause};
-use parking_lot_core::{Clock, Op, ParkingLot, QueuePlace, Section, Token, Word};
+use parking_lot_core::{Clock, Deed, Op, ParkingLot, QueuePlace, Section, Token, Word};
 use spec_locks::{Answer, MutexCall, OnceState};
 use std::sync::Wait;
 
@@ -99,6 +101,49 @@ pub fn step(lot: &ParkingLot, token: &mut Token, word: Word, op: Op) -> u64
     ensures coded { CodesWith Mutex (mutex_at word.number) result (view_of token.old).owns }
 {
     lot.word(token, word, op)
+}
+
+/// Takes the first step of a call, which a director is told by this name: else it does what
+/// `ParkingLot::word` does.
+#[inline(always)]
+pub fn first_step(
+    lot: &ParkingLot,
+    token: &mut Token,
+    deed: &'static Deed,
+    word: Word,
+    op: Op,
+) -> u64
+    requires own { IsTokenOf lot.now token.old × IsWordOf lot.now.words word }
+    requires may { MayStep word.kind (word_index word.number word.kind) op (view_of token.old).owns }
+    ensures own { IsSameThread lot.now token.old token.new × (last_of token.new ≡ None) }
+    ensures untold { told_of token.new ≡ told_of token.old }
+    ensures stepped { view_of token.new
+        ≡ after_step word.kind (word_index word.number word.kind) op result (view_of token.old) }
+    ensures coded { CodesWith word.kind (word_index word.number word.kind) result
+        (view_of token.old).owns }
+{
+    lot.begins(token, deed, word);
+    lot.word_again(token, word, op)
+}
+
+/// Takes the first step of a call on the word of a mutex, by its name.
+#[inline(always)]
+pub fn first_mutex_step(
+    lot: &ParkingLot,
+    token: &mut Token,
+    deed: &'static Deed,
+    word: Word,
+    op: Op,
+) -> u64
+    requires own { MeetAt lot.now token.old word }
+    requires may { MayStep Mutex (mutex_at word.number) op (view_of token.old).owns }
+    ensures own { IsSameThread lot.now token.old token.new × (last_of token.new ≡ None) }
+    ensures untold { told_of token.new ≡ told_of token.old }
+    ensures stepped { view_of token.new
+        ≡ after_step Mutex (mutex_at word.number) op result (view_of token.old) }
+    ensures coded { CodesWith Mutex (mutex_at word.number) result (view_of token.old).owns }
+{
+    first_step(lot, token, deed, word, op)
 }
 
 // Each load takes the word's cache line from its owner, and slows it. A thread therefore pauses

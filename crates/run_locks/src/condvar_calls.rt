@@ -16,7 +16,7 @@ ghost use Rattle.run_locks.specs.CondvarCalls.{NotifiesBy, TellsMoved};
 use crate::condvar_courses::Pair;
 use crate::notify_courses::notify_through;
 use crate::wait_courses::wait_course;
-use parking_lot_core::{Clock, Deed, ParkingLot, Token, Word};
+use parking_lot_core::{CallName, Clock, Deed, ParkingLot, Token, Word};
 use run_base::words::Words;
 use spec_locks::Answer;
 use std::sync::Wait;
@@ -55,9 +55,9 @@ pub fn wait<R: Wait, C: Clock>(
         (stage_of token.new None) }
 {
     let deed = if timed {
-        &Deed::Call("wait_timed")
+        &Deed::Call(CallName::WaitTimed)
     } else {
-        &Deed::Call("wait")
+        &Deed::Call(CallName::Wait)
     };
     lot.turn_to_wait(rt, token, deed, condvar, mutex);
     wait_course(rt, lot, token, pair_of(condvar, mutex), limit, timed)
@@ -125,7 +125,7 @@ pub fn notify_slow<R: Wait>(
 {
     let mutex = lot.mutex_shown(token, condvar, seen);
     if all {
-        lot.renames(token, &Deed::Call("notify_all"));
+        lot.renames(token, &Deed::Call(CallName::NotifyAll));
     }
     notify_shown(rt, lot, token, condvar, mutex, all)
 }

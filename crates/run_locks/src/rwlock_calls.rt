@@ -34,7 +34,7 @@ use core_base::Line;
 use lot_steps::{Place, Reply, advance};
 use parking_lot_core::pauses::{SHORT_PAUSE, pause};
 use parking_lot_core::{Clock, Op, ParkingLot, Token, Word};
-use run_base::driver::{Stop, answer_of, run};
+use run_base::driver::{Stop, answer_of, first_step, run};
 use run_base::words::Words;
 use spec_locks::{Access, Answer, Downgrade, Patience};
 use std::sync::Wait;
@@ -354,8 +354,7 @@ pub fn call_fast<C: Clock>(
         token.old token.new)
         (λ rest. HasBegunRwLock word.now settings.now.admission purpose rest token.old token.new) }
 {
-    lot.begins(token, call_name(purpose), *word);
-    let seen = lot.word_again(token, *word, opening(purpose));
+    let seen = first_step(lot, token, call_name(purpose), *word, opening(purpose));
     match course_of(*settings, purpose, seen) {
         Course::Ends(answer) => Ok(answer),
         Course::GoesOn => Err(Rest::GoesOn(seen)),

@@ -21,8 +21,8 @@ ghost use Rattle.run_base.specs.Telling.{owns_of};
 
 use crate::rwlock_calls::run_out;
 use lot_steps::{Next, Place, Reply};
-use parking_lot_core::{Deed, Op, ParkingLot, Token, Word};
-use run_base::driver::NO_LIMIT;
+use parking_lot_core::{CallName, Deed, Op, ParkingLot, Token, Word};
+use run_base::driver::{NO_LIMIT, first_step};
 use spec_locks::{Access, Answer};
 use std::sync::Wait;
 use steps_rwlock::Admission;
@@ -45,9 +45,9 @@ const HAND_OVER: &RwLockCallPlace = &RwLockCallPlace::HandOver {
 #[inline(always)]
 fn bump_name(access: Access) -> &'static Deed {
     match access {
-        Access::Shared => &Deed::Call("bump_shared"),
-        Access::Upgradable => &Deed::Call("bump_upgradable"),
-        Access::Exclusive => &Deed::Call("bump_exclusive"),
+        Access::Shared => &Deed::Call(CallName::BumpShared),
+        Access::Upgradable => &Deed::Call(CallName::BumpUpgradable),
+        Access::Exclusive => &Deed::Call(CallName::BumpExclusive),
     }
 }
 
@@ -104,8 +104,8 @@ pub fn release_exclusive<R: Wait>(
         → IsBeside word.now.number base (owns_of token.new) }
     ensures record { ReleasesFairly word.now.number admission.now Exclusive token.old token.new }
 {
-    lot.begins(token, &Deed::Call("unlock_exclusive_fair"), *word);
-    let seen = lot.word_again(token, *word, LEAVE_ALONE);
+    let name = &Deed::Call(CallName::UnlockExclusiveFair);
+    let seen = first_step(lot, token, name, *word, LEAVE_ALONE);
     if seen != WRITER {
         rest(rt, lot, token, word, admission, HAND_OVER);
     }
@@ -131,7 +131,14 @@ pub fn release_upgradable<R: Wait>(
         → IsBeside word.now.number base (owns_of token.new) }
     ensures record { ReleasesFairly word.now.number admission.now Upgradable token.old token.new }
 {
-    lot.begins(token, &Deed::Call("unlock_upgradable_fair"), *word);
+    // The call begins with no step on the word.
+    lot.turn_to_wait(
+        rt,
+        token,
+        &Deed::Call(CallName::UnlockUpgradableFair),
+        *word,
+        *word,
+    );
     let at = RwLockCallPlace::HandOver {
         access: Access::Upgradable,
         bumps: false,
@@ -162,8 +169,7 @@ pub fn bump<R: Wait>(
         → Answers ⊥ word.now.number base admission.now (Enter access Patient) result
         (stage_of token.new None) }
 {
-    lot.begins(token, bump_name(access), *word);
-    let seen = lot.word_again(token, *word, Op::Load);
+    let seen = first_step(lot, token, bump_name(access), *word, Op::Load);
     match RwLockCallPlace::PeekQueue(access).next(*admission, Reply::Value(seen)) {
         Next::End(answer) => answer,
         Next::At(at) => rest(rt, lot, token, word, admission, &at),

@@ -142,7 +142,7 @@ impl Once {
             return false;
         }
         let _running = self.lot.word(token, self.word, Op::Swap(DONE));
-        self.lot.declares(self.word, Sort::Named("completed"));
+        self.lot.declares(self.word, Sort::DoneOnce);
         true
     }
 

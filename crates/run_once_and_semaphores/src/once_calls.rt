@@ -20,8 +20,8 @@ ghost use Rattle.run_once_and_semaphores.specs.OnceCalls.{EndedAndWoke, EndsRun,
 ghost use Rattle.run_once_and_semaphores.specs.OnceCalls.{MeetsOnce};
 
 use lot_steps::{Place, Reply, advance};
-use parking_lot_core::{Clock, Deed, Op, ParkingLot, Token, Word};
-use run_base::driver::{NO_LIMIT, Stop, answer_of, run};
+use parking_lot_core::{CallName, Clock, Deed, Op, ParkingLot, Token, Word};
+use run_base::driver::{NO_LIMIT, Stop, answer_of, first_step, run};
 use run_base::words::Words;
 use spec_locks::{Answer, OnceCall, OnceState};
 use std::sync::Wait;
@@ -31,11 +31,11 @@ use steps_once::{DONE, OncePlace, POISONED, RunAt};
 // Returns what a schedule names a call.
 fn call_name(call: OnceCall) -> &'static Deed {
     match call {
-        OnceCall::CallOnce { forced: false } => &Deed::Call("call_once"),
-        OnceCall::CallOnce { forced: true } => &Deed::Call("call_once_force"),
-        OnceCall::Wait { forced: false } => &Deed::Call("wait"),
-        OnceCall::Wait { forced: true } => &Deed::Call("wait_force"),
-        OnceCall::WaitTimed => &Deed::Call("wait_timed"),
+        OnceCall::CallOnce { forced: false } => &Deed::Call(CallName::CallOnce),
+        OnceCall::CallOnce { forced: true } => &Deed::Call(CallName::CallOnceForce),
+        OnceCall::Wait { forced: false } => &Deed::Call(CallName::Wait),
+        OnceCall::Wait { forced: true } => &Deed::Call(CallName::WaitForce),
+        OnceCall::WaitTimed => &Deed::Call(CallName::WaitTimed),
     }
 }
 
@@ -43,18 +43,18 @@ fn call_name(call: OnceCall) -> &'static Deed {
 #[inline(always)]
 fn end_name(succeeded: bool) -> &'static Deed {
     if succeeded {
-        &Deed::Call("ok")
+        &Deed::Call(CallName::Ok)
     } else {
-        &Deed::Call("err")
+        &Deed::Call(CallName::Err)
     }
 }
 
 // Returns the name of the end of a run for which others wait: a schedule has two lines for it.
 fn waking_end_name(succeeded: bool) -> &'static Deed {
     if succeeded {
-        &Deed::Call("ok, solo")
+        &Deed::Call(CallName::OkWaking)
     } else {
-        &Deed::Call("err, solo")
+        &Deed::Call(CallName::ErrWaking)
     }
 }
 
@@ -177,8 +177,8 @@ pub(crate) fn close<R: Wait>(
         (without (owning (once_at word.number) Runner) (owns_of token.old))
         (owns_of token.new) }
 {
-    lot.begins(token, end_name(succeeded), word);
-    let seen = lot.word_again(token, word, Op::Swap(word_after(succeeded)));
+    let op = Op::Swap(word_after(succeeded));
+    let seen = first_step(lot, token, end_name(succeeded), word, op);
     if is_marked(seen) {
         wake(rt, lot, token, word, forced, succeeded);
     }

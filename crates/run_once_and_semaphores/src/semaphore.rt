@@ -29,7 +29,7 @@ ghost use Rattle.run_once_and_semaphores.specs.SemaphoreCalls.{StaysAs, permit_a
 
 use crate::semaphore_calls::{acquire_slow, give, give_all, look, take, try_slow, wake_first};
 use core_base::main_key;
-use parking_lot_core::{Clock, Deed, Fault, Held, Key, ParkingLot, Token, Want, Word};
+use parking_lot_core::{CallName, Clock, Deed, Fault, Held, Key, ParkingLot, Token, Want, Word};
 use run_base::driver::FOR_EVER;
 use run_base::limits::limit_in;
 use spec_locks::Answer;
@@ -166,7 +166,7 @@ impl Semaphore {
         ensures late { IfNone result ((timed ≡ true) × TimeIsUp C.tells limit.now) }
     {
         let lot: &ParkingLot = &self.lot;
-        let seen = look(lot, token, &Deed::Call("acquire"), self.word);
+        let seen = look(lot, token, &Deed::Call(CallName::Acquire), self.word);
         if free_permits(seen) == 0 {
             return self.wait_after(rt, token, limit, timed, seen);
         }
@@ -229,7 +229,7 @@ impl Semaphore {
         ensures none { IfNone result (SawNoneFree (number_of self.now) (steps_of token.new)) }
     {
         let lot: &ParkingLot = &self.lot;
-        let seen = look(lot, token, &Deed::Call("try_acquire"), self.word);
+        let seen = look(lot, token, &Deed::Call(CallName::TryAcquire), self.word);
         if free_permits(seen) == 0 {
             return None;
         }

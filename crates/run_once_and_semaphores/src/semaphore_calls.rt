@@ -23,8 +23,8 @@ ghost use Rattle.run_once_and_semaphores.specs.SemaphoreCalls.{deciding, try_pla
 
 use core_words::laws::{semaphore_may_step, semaphore_trades};
 use lot_steps::Place;
-use parking_lot_core::{Clock, Deed, Op, ParkingLot, Token, Word};
-use run_base::driver::{NO_LIMIT, Stop, run};
+use parking_lot_core::{CallName, Clock, Deed, Op, ParkingLot, Token, Word};
+use run_base::driver::{NO_LIMIT, Stop, first_step, run};
 use run_base::words::Words;
 use spec_locks::Answer;
 use std::sync::Wait;
@@ -38,8 +38,7 @@ pub(crate) fn look(lot: &ParkingLot, token: &mut Token, deed: &'static Deed, wor
     ensures looked { HasLooked word.number result token.old token.new }
 {
     semaphore_may_step();
-    lot.begins(token, deed, word);
-    lot.word_again(token, word, Op::Load)
+    first_step(lot, token, deed, word, Op::Load)
 }
 
 /// Makes the exchange that takes a permit, after a look that saw one free. Returns what it found:
@@ -75,8 +74,8 @@ pub(crate) fn give(lot: &ParkingLot, token: &mut Token, word: Word) -> u64
 {
     semaphore_may_step();
     semaphore_trades();
-    lot.begins(token, &Deed::Call("release"), word);
-    lot.word_again(token, word, Op::Add(2))
+    let name = &Deed::Call(CallName::Release);
+    first_step(lot, token, name, word, Op::Add(2))
 }
 
 /// The addition that gives all permits of a new semaphore, which its thread holds.
@@ -144,7 +143,7 @@ pub(crate) fn acquire_slow<R: Wait, C: Clock>(
         (to_acquire timed) result (stage_of token.new None) }
 {
     if timed {
-        lot.renames(token, &Deed::Call("acquire_timed"));
+        lot.renames(token, &Deed::Call(CallName::AcquireTimed));
     }
     let start = SemaphorePlace::Acquire {
         timed,

@@ -2,6 +2,7 @@
 mod alone;
 mod many;
 mod queues;
+mod races;
 mod rooms;
 mod two;
 

@@ -40,7 +40,7 @@ pub fn line_up<'a, R: Wait>(
 {
     let mut section = lot.enter(rt, token, Keys::One(key));
     let place = section.append(key, token.number(), want);
-    section.leave(rt, token, Note::Normal);
+    section.leave(rt, token, Note::Normal).unwrap();
     place
 }
 

@@ -179,7 +179,7 @@ fn in_section<R: Wait>(
 {
     let mut section = lot.enter(rt, token, Keys::One(key));
     let taken = perform(&mut section, key, task);
-    section.leave(rt, token, Note::Normal);
+    section.leave(rt, token, Note::Normal).unwrap();
     taken
 }
 

@@ -38,9 +38,7 @@ pub fn lazy<R: Threads + Wait + Sync>(
     let made = AtomicU32::new(0);
     team.run(
         rt,
-        &|token: &mut Token| {
-            want(rt, &setup, &made, token, version);
-        },
+        &|token: &mut Token| want(rt, &setup, &made, token, version),
     )?;
     director.check(made.load(SeqCst) == 1, "the value is made once");
     Ok(())

@@ -23,16 +23,16 @@ fn change<R: Wait>(
     requires notified { lot_of_condvar notified.now ≡ lot_of jobs.now }
     ensures { IsTokenOf (lot_of jobs.now) token.new }
 {
-    let mut guard = jobs.lock(rt, token);
-    for _ in rt.forever() {
-        if (*guard == 0) == brings {
-            break;
-        }
-        guard = match awaited.wait(rt, token, guard) {
-            Ok(guard) => guard,
-            Err((_, guard)) => guard,
-        };
-    }
+    let guard = jobs.lock(rt, token);
+    let mut guard = match awaited.wait_while(
+        rt,
+        token,
+        guard,
+        |jobs: &mut u32| (*jobs == 0) != brings,
+    ) {
+        Ok(guard) => guard,
+        Err((_, guard)) => guard,
+    };
     *guard = if brings { 1 } else { 0 };
     notified.notify_one(rt, token);
     guard.unlock(rt, token);

@@ -22,6 +22,26 @@ fn read<R: Wait>(rt: &R, lock: &RwLock<u32>, token: &mut Token, version: Version
     one.unlock(rt, token);
 }
 
+fn write<R: Wait>(rt: &R, lock: &RwLock<u32>, token: &mut Token)
+    requires { IsTokenOf (lot_of_rwlock lock.now) token.old }
+    ensures { IsTokenOf (lot_of_rwlock lock.now) token.new }
+{
+    let mut guard = lock.write(rt, token);
+    *guard = 1;
+    guard.unlock(rt, token);
+}
+
+// Thread 0 reads, and the other writes.
+fn read_or_write<R: Wait>(rt: &R, lock: &RwLock<u32>, token: &mut Token, version: Version)
+    requires { IsTokenOf (lot_of_rwlock lock.now) token.old }
+{
+    if token.number() == 0 {
+        read(rt, lock, token, version);
+    } else {
+        write(rt, lock, token);
+    }
+}
+
 pub fn readers<R: Threads + Wait + Sync>(
     rt: &R,
     alloc: Global,
@@ -32,15 +52,7 @@ pub fn readers<R: Threads + Wait + Sync>(
     let lock = RwLock::new(team.lot(), &mut token, 0u32)?;
     team.run(
         rt,
-        &|token: &mut Token| {
-            if token.number() == 0 {
-                read(rt, &lock, token, version);
-            } else {
-                let mut guard = lock.write(rt, token);
-                *guard = 1;
-                guard.unlock(rt, token);
-            }
-        },
+        &|token: &mut Token| read_or_write(rt, &lock, token, version),
     )?;
     Ok(())
 }

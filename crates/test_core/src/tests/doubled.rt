@@ -20,7 +20,7 @@ fn put<R: Wait>(rt: &R, lot: &ParkingLot, token: &mut Token, key: Key, thread: u
 {
     let mut section = lot.enter(rt, token, Keys::One(key));
     section.append(key, thread, Want::Exclusive);
-    section.leave(rt, token, Note::Normal);
+    section.leave(rt, token, Note::Normal).unwrap();
 }
 
 #[test]
@@ -44,5 +44,5 @@ fn a_thread_in_two_buckets_leaves_the_older(rt: HostRuntime) {
     let section = lot.enter(&rt, &mut token, Keys::Two(KEY, OTHER));
     check_eq(&rt, section.key_of(1), Some(OTHER));
     check_eq(&rt, section.count(KEY), 0);
-    section.leave(&rt, &mut token, Note::Normal);
+    section.leave(&rt, &mut token, Note::Normal).unwrap();
 }

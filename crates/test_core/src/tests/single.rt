@@ -231,7 +231,7 @@ fn line_up_twice<R: Wait>(
     let first = stand_under(&mut section, 6);
     let second = stand_under(&mut section, 7);
     let (before, alone) = taken_alone(&mut section, 7);
-    section.leave(rt, token, Note::Normal);
+    section.leave(rt, token, Note::Normal).unwrap();
     ([first, second], before, alone)
 }
 
@@ -266,7 +266,7 @@ fn pick_of_three<R: Wait>(rt: &R, lot: &ParkingLot, token: &mut Token) -> (bool,
     append_three(&mut section, 6, (2, 1, 0), SHARED_OR_NOT);
     section.take_picked(6, None, false);
     let seen = first_two(&section);
-    section.leave(rt, token, Note::Normal);
+    section.leave(rt, token, Note::Normal).unwrap();
     seen
 }
 
@@ -304,7 +304,7 @@ fn requeue_three<R: Wait>(
     let answer = section.requeue(6, to, op);
     let taken = section.taken().first().copied();
     let standing = [section.count(6), section.count(to)];
-    section.leave(rt, token, Note::Normal);
+    section.leave(rt, token, Note::Normal).unwrap();
     (answer, taken, standing)
 }
 
@@ -350,7 +350,7 @@ fn forgets<R: Wait + Abort>(rt: &R, lot: &ParkingLot, token: &mut Token, word: W
 {
     let mut section = lot.enter(rt, token, Keys::One(0));
     let taken = section.take_first(0);
-    section.leave(rt, token, Note::Normal);
+    section.leave(rt, token, Note::Normal).unwrap();
     check_eq(rt, taken, None);
     let record = SectionRecord {
         key: 0,

@@ -46,11 +46,11 @@ impl Door {
     {
         let mut section = self.lot.enter(rt, token, Keys::One(self.key));
         if self.open.load(SeqCst) {
-            section.leave(rt, token, Note::Normal);
+            section.leave(rt, token, Note::Normal).unwrap();
             return None;
         }
         let place = section.append(self.key, token.number(), Want::Wait);
-        section.leave(rt, token, Note::Normal);
+        section.leave(rt, token, Note::Normal).unwrap();
         Some(place)
     }
 
@@ -81,7 +81,7 @@ impl Door {
         let mut section = self.lot.enter(rt, token, Keys::One(self.key));
         self.open.store(true, SeqCst);
         section.take_all(self.key);
-        section.leave(rt, token, Note::Normal);
+        section.leave(rt, token, Note::Normal).unwrap();
     }
 }
 

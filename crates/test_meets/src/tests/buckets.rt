@@ -64,7 +64,7 @@ fn stay<R: Wait>(
     let section = lot.enter(rt, &mut token, Keys::One(key));
     inside.store(true, SeqCst);
     let told = is_told(left);
-    section.leave(rt, &mut token, Note::Normal);
+    section.leave(rt, &mut token, Note::Normal).unwrap();
     drop(token.leave());
     told
 }
@@ -122,7 +122,7 @@ fn shift<R: Wait>(rt: &R, lot: &ParkingLot, token: &mut Token, back: bool)
     } else {
         section.requeue(KEY, OTHER, Requeue::All);
     }
-    section.leave(rt, token, Note::Normal);
+    section.leave(rt, token, Note::Normal).unwrap();
 }
 
 // Moves each thread that lines up to another key, back and there again, and may take the first. How

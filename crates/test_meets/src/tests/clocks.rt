@@ -44,7 +44,7 @@ pub fn told_until<'a, R: Wait, C: Clock>(
         Slept::Late(mut section, key, place) => {
             let stood = section.key_of(token.number());
             section.remove(place);
-            section.leave(rt, token, Note::Normal);
+            section.leave(rt, token, Note::Normal).unwrap();
             Err((key, stood))
         }
         Slept::Handed(right) => {
@@ -178,7 +178,7 @@ fn take_once_asked<R: Wait>(rt: &R, lot: &ParkingLot, ticket: Ticket, flags: &Fl
     flags.inside.store(true, SeqCst);
     let told = is_told(&flags.asked);
     section.take_first(KEY);
-    section.leave(rt, &mut token, Note::Normal);
+    section.leave(rt, &mut token, Note::Normal).unwrap();
     drop(token.leave());
     stands && told
 }
@@ -235,7 +235,7 @@ fn move_once_asked<R: Wait>(rt: &R, lot: &ParkingLot, ticket: Ticket, flags: &Fl
     let told = is_told(&flags.asked);
     delay(TURNS);
     let (_, moved) = section.requeue(KEY, FURTHER, Requeue::All);
-    section.leave(rt, &mut token, Note::Normal);
+    section.leave(rt, &mut token, Note::Normal).unwrap();
     drop(token.leave());
     stands && told && moved == 1
 }

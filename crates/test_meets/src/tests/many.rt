@@ -69,11 +69,11 @@ fn take_all<'a, R: Wait>(
     for thread in 0..threads {
         stand(lot, &mut section, &mut places, thread);
     }
-    section.leave(rt, token, Note::Normal);
+    section.leave(rt, token, Note::Normal).unwrap();
     let queued = lot.queued(rt, token, KEY);
     let mut section = lot.enter(rt, token, Keys::One(KEY));
     section.take_all(KEY);
-    section.leave(rt, token, Note::Normal);
+    section.leave(rt, token, Note::Normal).unwrap();
     (queued, places)
 }
 

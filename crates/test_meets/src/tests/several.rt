@@ -119,7 +119,7 @@ fn take_three<'a, R: Wait>(
     let mut section = lot.enter(rt, token, Keys::One(KEY));
     let places = append_three(&mut section, KEY, (1, 2, 3), ALL_SHARED);
     let note = take_together(rt, lot, token, &mut section, way, &mut given);
-    section.leave(rt, token, note);
+    section.leave(rt, token, note).unwrap();
     (given, places)
 }
 

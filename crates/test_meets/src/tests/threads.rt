@@ -46,11 +46,11 @@ pub fn try_hand_over<R: Wait>(
         Some(thread) => {
             section.give(rt, thread, right);
             delay(turns);
-            section.leave(rt, token, Note::HandOff);
+            section.leave(rt, token, Note::HandOff).unwrap();
             None
         }
         None => {
-            section.leave(rt, token, Note::Normal);
+            section.leave(rt, token, Note::Normal).unwrap();
             Some(right)
         }
     }

@@ -29,7 +29,7 @@ returns-in-None-clause-told g c = let me = c.args.token.now.number in
 
 pub returns-clause-told : goal.returns-clause-told
 returns-clause-told g c = left_late c.args.token.now.number c.args.token.now c.args.inside c.args.key
-    c.requires.late c.requires.untold.0 c.requires.untold.1 c.leave.new.token c.remove.new.self
+    c.requires.late c.requires.untold.0 c.requires.untold.1 c.leave_section.new.token c.remove.new.self
     c.args.section.now c.requires.own.1 c.remove.ensures.same.0.1 c.remove.ensures.same.0.3
     (c.remove.ensures.told ∙ ap (λ (n : ℕ). told_in c.args.inside ++ Left n ∷ []) c.requires.place.1)
-    (ap (λ (v : View). v.steps) c.leave.ensures.own.1) c.leave.ensures.told
+    (ap (λ (v : View). v.steps) c.leave_section.ensures.own.1) c.leave_section.ensures.told

@@ -52,7 +52,7 @@ fn move_away<R: Wait>(rt: &R, lot: &ParkingLot, mutex: &RawMutex, token: &mut To
 {
     let mut section = lot.enter(rt, token, Keys::Two(mutex.key(), ELSEWHERE));
     section.requeue(mutex.key(), ELSEWHERE, Requeue::One);
-    section.leave(rt, token, Note::Normal);
+    section.leave(rt, token, Note::Normal).unwrap();
 }
 
 // Lets the mutex go once its waiter stands elsewhere, and the waiter's time be up then. Whether the

@@ -12,5 +12,5 @@ pub returns-in-Some-take_note-clause-late : goal.returns-in-Some-take_note-claus
 returns-in-Some-take_note-clause-late g c = λ late. absurd (woken_not_late c.args.self.now c.args.word
     c.args.want c.in-Some-take_note.told c.in-Some-take_note.ensures late)
 
-pub returns-in-Some-give_up-clause-slept : goal.returns-in-Some-give_up-clause-slept
-returns-in-Some-give_up-clause-slept g c = (c.in-Some-give_up.ensures, c.requires.queued)
+pub returns-in-Late-clause-slept : goal.returns-in-Late-clause-slept
+returns-in-Late-clause-slept g c = (c.in-Late.ensures.0, c.requires.queued)

@@ -7,8 +7,8 @@ use Rattle.raw_mutexes.proofs.counting.RawMutexRawMutexCounted.count_off_only.Go
 
 pub returns-clause-guard : goal.returns-clause-guard
 returns-clause-guard c = let mutex = c.args.self.now in let n = mutex.word.number in let old =
-    c.args.token.now in let looked = c.look_count-seen.new.token in let new = c.count_out-opened.new.token in
-    let seen = c.look_count-seen.result in
+    c.args.token.now in let looked = c.look_by_share-seen.new.token in let new = c.count_out-opened.new.token in
+    let seen = c.look_by_share-seen.result in
     let guard : IsGuardOf (lot_of mutex) mutex.word record {
       opened = c.count_out-opened.result.0;
       permit = c.count_out-opened.result.1;
