@@ -32,6 +32,22 @@ fn pair_of(condvar: Word, mutex: Word) -> Pair
     }
 }
 
+// Returns what a schedule names a wait.
+fn wait_name(timed: bool) -> &'static Deed {
+    if timed {
+        &Deed::Call(CallName::WaitTimed)
+    } else {
+        &Deed::Call(CallName::Wait)
+    }
+}
+
+// A notification of all begins by the name of one of the first.
+fn rename(lot: &ParkingLot, token: &Token, all: bool) {
+    if all {
+        lot.renames(token, &Deed::Call(CallName::NotifyAll));
+    }
+}
+
 /// Releases a mutex, which the thread owns, and locks it again once the thread is notified, or
 /// where its time is up in a timed wait. It answers with the mutex: that another one is shown, and
 /// this one was not released; that the thread was notified; or that its time was up before.
@@ -54,12 +70,7 @@ pub fn wait<R: Wait, C: Clock>(
         (owns_of token.old) result
         (stage_of token.new None) }
 {
-    let deed = if timed {
-        &Deed::Call(CallName::WaitTimed)
-    } else {
-        &Deed::Call(CallName::Wait)
-    };
-    lot.turn_to_wait(rt, token, deed, condvar, mutex);
+    lot.turn_to_wait(rt, token, wait_name(timed), condvar, mutex);
     wait_course(rt, lot, token, pair_of(condvar, mutex), limit, timed)
 }
 
@@ -124,8 +135,6 @@ pub fn notify_slow<R: Wait>(
     ensures record { TellsMoved condvar.number all seen result token.old token.new }
 {
     let mutex = lot.mutex_shown(token, condvar, seen);
-    if all {
-        lot.renames(token, &Deed::Call(CallName::NotifyAll));
-    }
+    rename(lot, token, all);
     notify_shown(rt, lot, token, condvar, mutex, all)
 }

@@ -30,6 +30,13 @@ use spec_locks::Answer;
 use std::sync::Wait;
 use steps_semaphore::{AcquireAt, ReleaseAt, SemaphorePlace, TryAt};
 
+// A timed call begins by the name of one without a limit.
+fn rename(lot: &ParkingLot, token: &Token, timed: bool) {
+    if timed {
+        lot.renames(token, &Deed::Call(CallName::AcquireTimed));
+    }
+}
+
 /// Takes one load of the word, with which each call begins that wants a permit.
 #[inline(always)]
 pub(crate) fn look(lot: &ParkingLot, token: &mut Token, deed: &'static Deed, word: Word) -> u64
@@ -142,9 +149,7 @@ pub(crate) fn acquire_slow<R: Wait, C: Clock>(
     ensures over { IsSemaphoreOver (TimeIsUp C.tells limit.entry) word.number (owns_of token.old)
         (to_acquire timed) result (stage_of token.new None) }
 {
-    if timed {
-        lot.renames(token, &Deed::Call(CallName::AcquireTimed));
-    }
+    rename(lot, token, timed);
     let start = SemaphorePlace::Acquire {
         timed,
         retries: false,
