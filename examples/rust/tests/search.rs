@@ -45,7 +45,7 @@ fn one_order_of_forks_goes_well() {
         .unwrap();
     assert_eq!(
         verdict,
-        Verdict::Nothing("nothing found: 1255 states by turns; no schedule of single steps goes wrong\n".to_string())
+        Verdict::Nothing("nothing found: 785 states by turns; no schedule of single steps goes wrong\n".to_string())
     );
 }
 

@@ -33,7 +33,7 @@ const PROGRAMS: &[Grained] = &[
                thread 1\nlock b\nlock c\nunlock c\nunlock b\n\
                thread 2\nlock a\nlock c\nunlock c\nunlock a\n",
         calls: Found::Nothing(152),
-        turns: Found::Nothing(1255),
+        turns: Found::Nothing(785),
         steps: Found::Nothing(8200),
     },
     Grained {
@@ -58,7 +58,7 @@ const PROGRAMS: &[Grained] = &[
                thread 0\nlock m\nwhile ready = 0\nwait c m\nend\nunlock m\n\
                thread 1\nlock m\nset ready 1\nnotify_one c\nunlock m\n",
         calls: Found::Nothing(23),
-        turns: Found::Nothing(139),
+        turns: Found::Nothing(120),
         steps: Found::Nothing(314),
     },
     // One condition variable for two conditions, with the wrong notification and with the right one.
@@ -69,7 +69,7 @@ const PROGRAMS: &[Grained] = &[
                thread 1 2\nlock m\nwhile full = 0\nwait c m\nend\n\
                set full 0\nnotify_one c\nunlock m\nfinally full = 0\n",
         calls: Found::Deadlock(24),
-        turns: Found::Deadlock(48),
+        turns: Found::Deadlock(46),
         steps: Found::Deadlock(72),
     },
     Grained {
@@ -79,7 +79,7 @@ const PROGRAMS: &[Grained] = &[
                thread 1 2\nlock m\nwhile full = 0\nwait c m\nend\n\
                set full 0\nnotify_all c\nunlock m\nfinally full = 0\n",
         calls: Found::Nothing(566),
-        turns: Found::Nothing(11671),
+        turns: Found::Nothing(10198),
         steps: Found::Nothing(44202),
     },
     // Two upgrades, of which one at a time is upgradable.
@@ -110,14 +110,14 @@ const PROGRAMS: &[Grained] = &[
                thread 0\nlock g\nlock a\nlock b\nunlock b\nunlock a\nunlock g\n\
                thread 1\nlock g\nlock b\nlock a\nunlock a\nunlock b\nunlock g\n",
         calls: Found::Nothing(36),
-        turns: Found::Nothing(101),
+        turns: Found::Nothing(81),
         steps: Found::Nothing(342),
     },
     // Two orders with deadlines.
     Grained {
         text: TIMED,
         calls: Found::Nothing(58),
-        turns: Found::Nothing(232),
+        turns: Found::Nothing(186),
         steps: Found::Nothing(673),
     },
     // Readers that pass a pending writer for ever are no deadlock.
@@ -125,7 +125,7 @@ const PROGRAMS: &[Grained] = &[
         text: "threads 3\nlock r recursive\nthread 0 1\nloop\nread r\nunlock_shared r\nend\n\
                thread 2\nwrite r\nunlock_exclusive r\n",
         calls: Found::Nothing(81),
-        turns: Found::Nothing(583),
+        turns: Found::Nothing(487),
         steps: Found::Nothing(4626),
     },
     // A reader's try fails while a timed writer has given up and not gone yet.
@@ -168,7 +168,7 @@ const PROGRAMS: &[Grained] = &[
                thread 1\nlock_timed f\nif yes\nunlock f\nend\n\
                if no\ntry_lock f\nif yes\nlock a\nunlock a\nunlock f\nend\nend\n",
         calls: Found::Nothing(65),
-        turns: Found::Deadlock(21),
+        turns: Found::Deadlock(20),
         steps: Found::Deadlock(39),
     },
 ];
