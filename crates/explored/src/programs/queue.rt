@@ -38,6 +38,44 @@ fn change<R: Wait>(
     guard.unlock(rt, token);
 }
 
+// Thread 0 brings two jobs, and the others take one each.
+fn bring_or_take<R: Wait>(
+    rt: &R,
+    jobs: &Mutex<u32>,
+    filled: &Condvar,
+    emptied: &Condvar,
+    token: &mut Token,
+)
+    requires token { IsTokenOf (lot_of jobs.now) token.old }
+    requires filled { lot_of_condvar filled.now ≡ lot_of jobs.now }
+    requires emptied { lot_of_condvar emptied.now ≡ lot_of jobs.now }
+{
+    if token.number() == 0 {
+        change(rt, jobs, emptied, filled, token, true);
+        change(rt, jobs, emptied, filled, token, true);
+    } else {
+        change(rt, jobs, filled, emptied, token, false);
+    }
+}
+
+fn pass_on<R: Wait>(
+    rt: &R,
+    jobs: &Mutex<u32>,
+    filled: &Condvar,
+    other: &Condvar,
+    token: &mut Token,
+    version: Version,
+)
+    requires token { IsTokenOf (lot_of jobs.now) token.old }
+    requires filled { lot_of_condvar filled.now ≡ lot_of jobs.now }
+    requires other { lot_of_condvar other.now ≡ lot_of jobs.now }
+{
+    match version {
+        Version::Wrong => bring_or_take(rt, jobs, filled, filled, token),
+        Version::Cured => bring_or_take(rt, jobs, filled, other, token),
+    }
+}
+
 pub fn queue<R: Threads + Wait + Sync>(
     rt: &R,
     alloc: Global,
@@ -48,20 +86,9 @@ pub fn queue<R: Threads + Wait + Sync>(
     let jobs = Mutex::new(team.lot(), &mut token, 0u32)?;
     let filled = Condvar::new(team.lot(), &mut token)?;
     let other = Condvar::new(team.lot(), &mut token)?;
-    let emptied = match version {
-        Version::Wrong => &filled,
-        Version::Cured => &other,
-    };
     team.run(
         rt,
-        &|token: &mut Token| {
-            if token.number() == 0 {
-                change(rt, &jobs, emptied, &filled, token, true);
-                change(rt, &jobs, emptied, &filled, token, true);
-            } else {
-                change(rt, &jobs, &filled, emptied, token, false);
-            }
-        },
+        &|token: &mut Token| pass_on(rt, &jobs, &filled, &other, token, version),
     )?;
     Ok(())
 }

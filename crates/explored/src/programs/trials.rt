@@ -1,5 +1,5 @@
 //! Programs that try the search itself.
-ghost use Rattle.std.specs.Prelude.{◌≡◌};
+ghost use Rattle.std.specs.Prelude.{◌≡◌, ◌≤◌, ◌^◌};
 ghost use Rattle.parking_lot.specs.LotOf.{IsTokenOf, lot_of, lot_of_semaphore};
 
 use crate::programs::Version;
@@ -18,6 +18,16 @@ fn take_two<R: Wait>(rt: &R, permits: &Semaphore, token: &mut Token)
     one.release(rt, token);
 }
 
+// How many permits there are.
+fn number_of_permits(version: Version) -> u64
+    ensures { (1 ≤ result) × (result ≤ 2 ^ 62) }
+{
+    match version {
+        Version::Wrong => 2,
+        Version::Cured => 3,
+    }
+}
+
 /// Two threads take two permits of two each, one after the other. Wrong: neither gives one back before.
 pub fn permits<R: Threads + Wait + Sync>(
     rt: &R,
@@ -26,8 +36,7 @@ pub fn permits<R: Threads + Wait + Sync>(
     version: Version,
 ) -> Result<(), Fault> {
     let (team, mut token) = Team::directed(alloc, 2, director)?;
-    let number = if version == Version::Cured { 3 } else { 2 };
-    let permits = Semaphore::new(team.lot(), &mut token, number)?;
+    let permits = Semaphore::new(team.lot(), &mut token, number_of_permits(version))?;
     team.run(rt, &|token: &mut Token| take_two(rt, &permits, token))?;
     Ok(())
 }

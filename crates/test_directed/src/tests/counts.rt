@@ -19,15 +19,24 @@ fn lock_own<R: Wait>(rt: &R, own: &Mutex<u32>, token: &mut Token)
     guard.unlock(rt, token);
 }
 
+fn lock_often<R: Wait>(rt: &R, own: &Mutex<u32>, token: &mut Token, twice: bool)
+    requires { IsTokenOf (lot_of own.now) token.old }
+{
+    lock_own(rt, own, token);
+    if twice {
+        lock_own(rt, own, token);
+    }
+}
+
 // Locks the thread's own mutex once, or twice.
 fn lock_some<R: Wait>(rt: &R, left: &Mutex<u32>, right: &Mutex<u32>, token: &mut Token, twice: bool)
     requires left { IsTokenOf (lot_of left.now) token.old }
     requires right { lot_of right.now ≡ lot_of left.now }
 {
-    let own = if token.number() == 0 { left } else { right };
-    lock_own(rt, own, token);
-    if twice {
-        lock_own(rt, own, token);
+    if token.number() == 0 {
+        lock_often(rt, left, token, twice);
+    } else {
+        lock_often(rt, right, token, twice);
     }
 }
 

@@ -32,21 +32,32 @@ fn row_of_one<A: Abort>(rt: &A, alloc: Global) -> KeyedLocks<u64, Anything>
     }
 }
 
-// Holds the value for so long that another thread which wants it parks, and gives it back.
-fn hold<R: Wait>(rt: &R, row: &KeyedLocks<u64, Anything>, out: &AtomicBool)
+// What two threads tell each other: that the value is out, and that the other is about to take it.
+#[derive(Drop)]
+struct Flags {
+    out: AtomicBool,
+    asks: AtomicBool,
+}
+
+// Holds the value until another thread wants it and has had time to park, and gives it back. Returns
+// whether that thread came.
+fn hold<R: Wait>(rt: &R, row: &KeyedLocks<u64, Anything>, flags: &Flags) -> bool
     requires { 0 < row.now.count }
 {
     let (value, held) = row.take(rt, 0);
-    out.store(true, SeqCst);
+    flags.out.store(true, SeqCst);
+    let told = is_told(&flags.asks);
     delay(TURNS);
     row.give_back(value, held);
+    told
 }
 
 // Takes the value once it is out. Returns whether it was.
-fn take_later<R: Wait>(rt: &R, row: &KeyedLocks<u64, Anything>, out: &AtomicBool) -> bool
+fn take_later<R: Wait>(rt: &R, row: &KeyedLocks<u64, Anything>, flags: &Flags) -> bool
     requires { 0 < row.now.count }
 {
-    let told = is_told(out);
+    let told = is_told(&flags.out);
+    flags.asks.store(true, SeqCst);
     let (value, held) = row.take(rt, 0);
     row.give_back(value, held);
     told
@@ -55,12 +66,15 @@ fn take_later<R: Wait>(rt: &R, row: &KeyedLocks<u64, Anything>, out: &AtomicBool
 #[test]
 fn who_gives_a_value_back_wakes_who_parks_for_it(rt: HostRuntime) {
     let row = row_of_one(&rt, rt.alloc());
-    let out = AtomicBool::new(false);
-    let (row, out) = (&row, &out);
-    let ((), told) = join(
+    let flags = Flags {
+        out: AtomicBool::new(false),
+        asks: AtomicBool::new(false),
+    };
+    let (row, flags) = (&row, &flags);
+    let (came, told) = join(
         &rt,
-        move || hold(&rt, row, out),
-        move || take_later(&rt, row, out),
+        move || hold(&rt, row, flags),
+        move || take_later(&rt, row, flags),
     );
-    check(&rt, told);
+    check(&rt, came && told);
 }
