@@ -6,4 +6,4 @@ use Rattle.test_meets.proofs.tests.many.take_all.Given as goal
 
 abbrev pub invariant-loop-thread : goal.invariant-loop-thread
 invariant-loop-thread g l = (l.section.lot.now ≡ l.lot) × (l.section.keys ≡ One 0) × IsUntouched l.section
-    × All (IsInLot l.lot) l.places.items
+    × (l.section.thread ≡ l.token.number) × All (IsInLot l.lot) l.places.items
