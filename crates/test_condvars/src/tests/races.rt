@@ -31,7 +31,7 @@ struct Meeting {
     ghost together: { lot_of_condvar condvar ≡ lot_of mutex },
 }
 
-fn meeting<A: Abort>(rt: &A, alloc: Global) -> (Meeting, Vec<Ticket>)
+fn new_meeting<A: Abort>(rt: &A, alloc: Global) -> (Meeting, Vec<Ticket>)
     ensures { All (IsTicketOf (lot_of result.0.mutex)) result.1.items }
 {
     let (lot, mut token, others) = seats(rt, alloc, 4);
@@ -127,7 +127,7 @@ fn meet<R: Threads + Wait + Sync>(rt: &R, meeting: &Meeting, tickets: Vec<Ticket
 
 #[test]
 fn a_notification_beside_an_unlock_is_not_lost(rt: HostRuntime) {
-    let (meeting, tickets) = meeting(&rt, rt.alloc());
+    let (meeting, tickets) = new_meeting(&rt, rt.alloc());
     let woken = meet(&rt, &meeting, tickets);
     check(&rt, woken == ROUNDS);
 }
