@@ -114,7 +114,7 @@ impl<R: RawMutex, T> Mutex<R, T> {
     }
 
     /// Takes the mutex where nobody has it.
-    #[inline]
+    #[inline(always)]
     pub fn try_lock(&self, token: &mut R::Token) -> Option<MutexGuard<'_, R, T>>
         requires { R.is_token_of (R.lot_of self.now) token.old }
         ensures token { R.is_token_of (R.lot_of self.now) token.new × R.keeps_rights token.old token.new }

@@ -101,7 +101,7 @@ impl<'a, R: RawRwLockUpgrade, T> Held<Upgrading<'a, R, T>, Seen<'a, T>> {
 
     /// Turns the right into that of a thread that has the lock alone: further readers are kept out,
     /// and the others are waited for.
-    #[inline]
+    #[inline(always)]
     pub fn upgrade<W: Wait>(self, rt: &W, token: &mut R::Token) -> RwLockWriteGuard<'a, R, T>
         requires { R.is_token_of (R.lot_of (lock_of self)) token.old }
         ensures token { R.is_token_of (R.lot_of (lock_of self.entry)) token.new
@@ -212,7 +212,7 @@ impl<'a, R: RawRwLockUpgradeTimed, T> Held<Upgrading<'a, R, T>, Seen<'a, T>> {
 
 impl<'a, R: RawRwLockUpgradeDowngrade, T> Held<Upgrading<'a, R, T>, Seen<'a, T>> {
     /// Goes on as a reader, and wakes the threads that this lets in.
-    #[inline]
+    #[inline(always)]
     pub fn downgrade<W: Wait>(self, rt: &W, token: &mut R::Token) -> RwLockReadGuard<'a, R, T>
         requires { R.is_token_of (R.lot_of (lock_of self)) token.old }
         ensures token { R.is_token_of (R.lot_of (lock_of self.entry)) token.new
@@ -295,7 +295,7 @@ impl<'a, R: RawRwLockUpgrade, T> Held<Writing<'a, R, T>, Open<'a, T>> {
 
 impl<'a, R: RawRwLockDowngrade, T> Held<Writing<'a, R, T>, Open<'a, T>> {
     /// Goes on as a reader, and wakes the threads that this lets in.
-    #[inline]
+    #[inline(always)]
     pub fn downgrade<W: Wait>(self, rt: &W, token: &mut R::Token) -> RwLockReadGuard<'a, R, T>
         requires { R.is_token_of (R.lot_of (lock_of self)) token.old }
         ensures token { R.is_token_of (R.lot_of (lock_of self.entry)) token.new

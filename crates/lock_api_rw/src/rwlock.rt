@@ -187,7 +187,7 @@ impl<R: RawRwLock, T> RwLock<R, T> {
     }
 
     /// Waits until nobody has the lock, and takes it.
-    #[inline]
+    #[inline(always)]
     pub fn write<W: Wait>(&self, rt: &W, token: &mut R::Token) -> RwLockWriteGuard<'_, R, T>
         requires { R.is_token_of (R.lot_of self.now) token.old }
         ensures token { R.is_token_of (R.lot_of self.now) token.new × R.keeps_rights token.old token.new }

@@ -14,7 +14,6 @@ ghost use Rattle.parking_lot_core.specs.Tokens.{IsTokenOf, IsSameThread, view_of
 
 use crate::lot::ParkingLot;
 use crate::tokens::Token;
-use core_director::Deed;
 use core_names::CountShare;
 use core_parts::Permit;
 use core_words::{OpenHeld, Word};
@@ -36,7 +35,7 @@ impl ParkingLot {
             → (result ≡ said) × Says count.number said token.new.name }
         ensures shares { shares_of token.new.name ≡ shares_of token.old.name }
     {
-        self.forget_section(token, &Deed::Look, count.index());
+        token.forget();
         token
             .name
             .look(&self.words, &mut token.seat, token.number, count)
@@ -56,7 +55,7 @@ impl ParkingLot {
             × Says count.number result token.new.name }
         ensures shares { HasShare token.old.number count.number token.new.name }
     {
-        self.forget_section(token, &Deed::Look, count.index());
+        token.forget();
         token.name.see(&self.words, token.number, count, share)
     }
 
@@ -75,7 +74,7 @@ impl ParkingLot {
             × Says count.number result token.new.name }
         ensures shares { HasShare token.old.number count.number token.new.name }
     {
-        self.forget_section(token, &Deed::Look, count.index());
+        token.forget();
         token
             .name
             .look_by_share(&self.words, &mut token.seat, token.number, count, share)
@@ -158,7 +157,7 @@ impl ParkingLot {
         ensures share { IsShareOf self.now.words count.number result
             × (thread_named result ≡ token.old.number) }
     {
-        self.forget_section(token, &Deed::Step, count.index());
+        token.forget();
         token
             .name
             .keep(&self.words, token.number, mutex, opened, permit);

@@ -88,6 +88,36 @@ impl ParkingLot {
         }
     }
 
+    /// Forgets the last section, as the thread begins a call. Returns whether it may step at once: a
+    /// directed thread waits for its turn first (`turn_to_begin`). A fast half asks, and leaves all to
+    /// its slow half where it may not: a function that waits costs its callers a test after each call.
+    #[inline]
+    #[tactic(auto, unfolding(crate::specs::Tokens::view_of))]
+    pub fn may_begin(&self, token: &mut Token) -> bool
+        requires { IsTokenOf self.now token.old }
+        ensures own { IsSameThread self.now token.old token.new × (last_of token.new ≡ None) }
+        ensures untold { told_of token.new ≡ told_of token.old }
+        ensures view { view_of token.new ≡ view_of token.old }
+        ensures out { out_of token.new ≡ out_of token.old }
+    {
+        token.is_armed() || token.may_step()
+    }
+
+    /// Waits for the turn to begin a call, by the word that a schedule has for it.
+    #[cold]
+    #[inline(never)]
+    pub fn turn_to_begin<R: Wait>(
+        &self,
+        rt: &R,
+        token: &Token,
+        deed: &'static Deed,
+        word: Word,
+    ) {
+        if let Some(director) = &self.director {
+            director.turn_asleep(rt, Turn::at(token.number, *deed, word.number()));
+        }
+    }
+
     /// Begins a call, by the word that a schedule has for it: forgets the last section, and waits for
     /// the thread's turn where it is directed. The call's first step then asks no more
     /// (`word_again`).

@@ -202,6 +202,20 @@ impl Token {
         self.expected.recorded
     }
 
+    // Forgets the last section. It writes only where one is told: a locked instruction waits until
+    // every write before it is done.
+    #[inline]
+    pub(crate) fn forget(&mut self)
+        ensures same { (self.new.seat ≡ self.old.seat) × (self.new.name ≡ self.old.name)
+            × (self.new.number ≡ self.old.number) }
+        ensures forgotten { last_of self.new ≡ None }
+        ensures untold { told_of self.new ≡ told_of self.old }
+    {
+        if !self.is_armed() {
+            self.clear_record();
+        }
+    }
+
     // Out of the way, so that a step which has nothing to forget takes no jump.
     #[cold]
     #[inline(never)]
@@ -212,6 +226,20 @@ impl Token {
         ensures untold { told_of self.new ≡ told_of self.old }
     {
         self.expected = Expected::at_rest(self.expected.directed);
+    }
+
+    // Clears the record. Returns whether the thread may step then: a directed one waits for its turn
+    // first.
+    #[cold]
+    #[inline(never)]
+    pub(crate) fn may_step(&mut self) -> bool
+        ensures same { (self.new.seat ≡ self.old.seat) × (self.new.name ≡ self.old.name)
+            × (self.new.number ≡ self.old.number) }
+        ensures forgotten { last_of self.new ≡ None }
+        ensures untold { told_of self.new ≡ told_of self.old }
+    {
+        self.expected = Expected::at_rest(self.expected.directed);
+        !self.expected.directed
     }
 
     /// Returns the record of the section that the thread left last. None once it has stepped on a

@@ -125,7 +125,6 @@ impl ParkingLot {
             (view_of token.old) }
         ensures shown { ShowsBeside self.now.words.count condvar.number result }
     {
-        self.forget_section(token, &Deed::Call(CallName::NotifyOne), condvar.index());
         self.words.look_shown(&mut token.seat, condvar)
     }
 
@@ -347,10 +346,8 @@ impl ParkingLot {
             Ok(taken) => Ok(taken),
             // The token is asked again: what it expects is kept nowhere past the step.
             Err(seen) if token.is_armed() => Err(seen),
-            Err(_) => {
-                self.pass(token, &Deed::Call(CallName::Lock), word.index());
-                self.words.enter_open(&mut token.seat, word, 0)
-            }
+            Err(_) if token.may_step() => self.words.enter_open(&mut token.seat, word, 0),
+            Err(_) => Err(0),
         }
     }
 
@@ -369,7 +366,9 @@ impl ParkingLot {
         ensures opened { MatchOption result.1 (result.0 % 2 ≢ 0) (λ taken. (result.0 % 2 ≡ 0)
             × IsOpenOf self.now.words word taken.0 × (taken.1.id ≡ permit_of self.now.words word)) }
     {
-        self.forget_section(token, &Deed::Call(CallName::TryLock), word.index());
+        if !token.is_armed() {
+            self.pass(token, &Deed::Call(CallName::TryLock), word.index());
+        }
         self.words.try_enter_open(&mut token.seat, word)
     }
 
@@ -390,13 +389,18 @@ impl ParkingLot {
         let locked = u64::from(token.expected.locked);
         let words = &self.words;
         match words.leave_open(&mut token.seat, word, opened, permit, locked) {
-            Ok(seen) => seen,
-            Err((opened, permit)) => {
-                self.pass(token, &Deed::Call(CallName::Unlock), word.index());
+            Ok(1) => 1,
+            Ok(_) => 3,
+            Err((opened, permit)) if token.may_step() => {
                 match words.leave_open(&mut token.seat, word, opened, permit, 1) {
-                    Ok(seen) => seen,
+                    Ok(1) => 1,
+                    Ok(_) => 3,
                     Err(_) => unreachable!(),
                 }
+            }
+            Err((opened, permit)) => {
+                words.join_open(&mut token.seat, word, opened, permit);
+                0
             }
         }
     }
@@ -424,12 +428,15 @@ impl ParkingLot {
         let words = &self.words;
         match words.leave_open_alone(&mut token.seat, word, opened, permit, locked) {
             Ok(seen) => seen,
-            Err((opened, permit)) => {
-                self.pass(token, &Deed::Call(CallName::UnlockFair), word.index());
+            Err((opened, permit)) if token.may_step() => {
                 match words.leave_open_alone(&mut token.seat, word, opened, permit, 1) {
                     Ok(seen) => seen,
                     Err(_) => unreachable!(),
                 }
+            }
+            Err((opened, permit)) => {
+                words.join_open(&mut token.seat, word, opened, permit);
+                0
             }
         }
     }

@@ -33,7 +33,7 @@ use core_base::main_key;
 use parking_lot_core::{
     CallName, Clock, Deed, Fault, Key, Op, ParkingLot, Permit, Token, Word, WordKind,
 };
-use run_base::driver::{NO_LIMIT, first_mutex_step, step};
+use run_base::driver::{NO_LIMIT, first_mutex_step, first_step_in_turn, step};
 use run_base::limits::limit_in;
 use run_mutexes::calls::call_slow;
 use run_mutexes::unlocks::unlock_slow;
@@ -41,6 +41,9 @@ use spec_locks::{Answer, MutexCall};
 use std::sync::{Arc, Wait};
 use std::time::Duration;
 use steps_mutex::{LOCKED, PARKED, is_locked, is_parked};
+
+// In place of what a call's first step saw: none is taken, and the thread waits for its turn.
+const NOT_BEGUN: u64 = 0;
 
 /// A mutex of a lot. Its word is 1 where it is locked, and 2 where a thread may be parked, or the
 /// sum of these.
@@ -143,6 +146,14 @@ impl RawMutex {
             × TookIfSeen (word_of self.now).number UnlockFair (steps_of before) (steps_of token.new)
             (last_of token.new) }
     {
+        let mut seen = seen;
+        if seen == NOT_BEGUN {
+            let (name, op) = (&Deed::Call(CallName::UnlockFair), Op::Exchange { from: LOCKED, to: 0 });
+            seen = first_step_in_turn(rt, &self.lot, token, name, self.word, op);
+            if seen == LOCKED {
+                return;
+            }
+        }
         self.go_on(rt, token, MutexCall::UnlockFair, seen);
     }
 
@@ -178,7 +189,14 @@ impl RawMutex {
             → StaysAs before token.new
             × HasWalkedMutex (word_of self.now).number Bump ok before token.new }
     {
-        self.go_on(rt, token, MutexCall::Bump, seen);
+        let mut seen = seen;
+        if seen == NOT_BEGUN {
+            let name = &Deed::Call(CallName::Bump);
+            seen = first_step_in_turn(rt, &self.lot, token, name, self.word, Op::Load);
+        }
+        if is_parked(seen) {
+            self.go_on(rt, token, MutexCall::Bump, seen);
+        }
         self.split(&self.lot, token)
     }
 
@@ -243,7 +261,14 @@ impl RawMutex {
         ensures late { IfNone result (TimeIsUp C.tells limit.entry) }
     {
         let lot: &ParkingLot = &self.lot;
-        lot.renames(token, &Deed::Call(CallName::LockTimed));
+        let mut seen = seen;
+        if seen == NOT_BEGUN {
+            let (name, op) = (&Deed::Call(CallName::LockTimed), Op::Exchange { from: 0, to: LOCKED });
+            seen = first_step_in_turn(rt, lot, token, name, self.word, op);
+            if seen == 0 {
+                return Some(self.split(lot, token));
+            }
+        }
         let answer = call_slow(rt, lot, token, self.word, limit, MutexCall::LockTimed, seen);
         if matches!(answer, Answer::No) {
             return None;
@@ -359,7 +384,14 @@ impl lock_raw::RawMutex for RawMutex {
     #[cold]
     #[inline(never)]
     fn lock_slow<R: Wait>(&self, rt: &R, token: &mut Token, seen: u64) -> RawGuard {
-        self.go_on(rt, token, MutexCall::Lock, seen);
+        let mut seen = seen;
+        if seen == NOT_BEGUN {
+            let (name, op) = (&Deed::Call(CallName::Lock), Op::Exchange { from: 0, to: LOCKED });
+            seen = first_step_in_turn(rt, &self.lot, token, name, self.word, op);
+        }
+        if seen != 0 {
+            self.go_on(rt, token, MutexCall::Lock, seen);
+        }
         self.split(&self.lot, token)
     }
 
@@ -371,15 +403,21 @@ impl lock_raw::RawMutex for RawMutex {
     #[inline]
     fn unlock_fast(&self, lot: &ParkingLot, token: &mut Token, guard: RawGuard) -> Option<u64> {
         let RawGuard { opened, permit } = guard;
-        // An owner finds one of two values. The flags of the subtraction tell them apart, so the
-        // value isn't asked for.
-        if lot.leave_open(token, self.word, opened, permit) == LOCKED {
+        let seen = lot.leave_open(token, self.word, opened, permit);
+        if seen == LOCKED {
             return None;
         }
-        Some(LOCKED | PARKED)
+        Some(seen)
     }
 
-    fn unlock_slow<R: Wait>(&self, rt: &R, token: &mut Token, _seen: u64) {
+    fn unlock_slow<R: Wait>(&self, rt: &R, token: &mut Token, seen: u64) {
+        if seen == NOT_BEGUN {
+            let name = &Deed::Call(CallName::Unlock);
+            let seen = first_step_in_turn(rt, &self.lot, token, name, self.word, Op::Sub(LOCKED));
+            if seen == LOCKED {
+                return;
+            }
+        }
         self.wake_first(rt, token);
     }
 
@@ -404,10 +442,12 @@ impl lock_raw::RawMutexFair for RawMutex {
 
     #[inline]
     fn bump<R: Wait>(&self, rt: &R, token: &mut Token, guard: RawGuard) -> RawGuard {
-        let name = &Deed::Call(CallName::Bump);
-        let seen = first_mutex_step(&self.lot, token, name, self.word, Op::Load);
-        if !is_parked(seen) {
-            return guard;
+        let mut seen = NOT_BEGUN;
+        if self.lot.may_begin(token) {
+            seen = self.lot.word_again(token, self.word, Op::Load);
+            if !is_parked(seen) {
+                return guard;
+            }
         }
         self.join(&self.lot, token, guard);
         self.bump_slow(rt, token, seen)

@@ -270,7 +270,7 @@ impl lock_raw::RawRwLock for RawRwLock<true> {
         }
     }
 
-    #[inline]
+    #[inline(always)]
     fn lock_exclusive<R: Wait>(&self, rt: &R, token: &mut Token) -> RawExclusiveGuard {
         match self.lock_exclusive_fast(token) {
             Ok(guard) => guard,

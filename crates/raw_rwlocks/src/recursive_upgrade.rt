@@ -100,7 +100,7 @@ impl lock_raw::RawRwLockUpgrade for RawRwLock<true> {
         self.lock.release_fast(token, Access::Upgradable, right)
     }
 
-    #[inline]
+    #[inline(always)]
     fn upgrade<R: Wait>(
         &self,
         rt: &R,

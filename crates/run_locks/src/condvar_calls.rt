@@ -41,11 +41,20 @@ fn wait_name(timed: bool) -> &'static Deed {
     }
 }
 
-// A notification of all begins by the name of one of the first.
-fn rename(lot: &ParkingLot, token: &Token, all: bool) {
+// Returns what a schedule names a notification.
+fn notify_name(all: bool) -> &'static Deed {
     if all {
-        lot.renames(token, &Deed::Call(CallName::NotifyAll));
+        &Deed::Call(CallName::NotifyAll)
+    } else {
+        &Deed::Call(CallName::NotifyOne)
     }
+}
+
+// In place of what a notification saw: it waits for its turn.
+const NOT_BEGUN: u64 = u64::MAX;
+
+fn notified_nobody(all: bool) -> Answer {
+    if all { Answer::Number(0) } else { Answer::No }
 }
 
 /// Releases a mutex, which the thread owns, and locks it again once the thread is notified, or
@@ -106,6 +115,9 @@ pub fn notify_fast(lot: &ParkingLot, token: &mut Token, condvar: Word) -> u64
     ensures nobody { result ≡ 0 → (all : Bool)
         → NotifiesBy condvar.number all (notified all 0) token.old token.new }
 {
+    if !lot.may_begin(token) {
+        return NOT_BEGUN;
+    }
     lot.look_shown(token, condvar)
 }
 
@@ -134,7 +146,14 @@ pub fn notify_slow<R: Wait>(
     ensures owns { owns_of token.new ≡ owns_of token.old }
     ensures record { TellsMoved condvar.number all seen result token.old token.new }
 {
+    let mut seen = seen;
+    if seen == NOT_BEGUN {
+        lot.turn_to_begin(rt, token, notify_name(all), condvar);
+        seen = lot.look_shown(token, condvar);
+        if seen == 0 {
+            return notified_nobody(all);
+        }
+    }
     let mutex = lot.mutex_shown(token, condvar, seen);
-    rename(lot, token, all);
     notify_shown(rt, lot, token, condvar, mutex, all)
 }

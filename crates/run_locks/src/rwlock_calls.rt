@@ -34,7 +34,7 @@ use core_base::Line;
 use lot_steps::{Place, Reply, advance};
 use parking_lot_core::pauses::{SHORT_PAUSE, pause};
 use parking_lot_core::{Clock, Op, ParkingLot, Token, Word};
-use run_base::driver::{Stop, answer_of, first_step, run};
+use run_base::driver::{Stop, answer_of, first_step_in_turn, run};
 use run_base::words::Words;
 use spec_locks::{Access, Answer, Downgrade, Patience};
 use std::sync::Wait;
@@ -46,6 +46,8 @@ use steps_rwlock_fair::RwLockCallPlace;
 /// The rest of a call, which the fast half leaves to the slow one.
 #[derive(Clone, Copy)]
 pub enum Rest {
+    /// No step is taken: the thread waits for its turn.
+    NotBegun,
     /// The first step saw this, and the call goes on.
     GoesOn(u64),
     /// The first step saw one value, and the exchange by which the call takes its right found
@@ -334,6 +336,47 @@ pub fn missed<R: Wait, C: Clock>(
     )
 }
 
+// Runs a call, by reference, once the thread has its turn for it.
+#[cold]
+#[inline(never)]
+fn rest_in_turn<R: Wait, C: Clock>(
+    rt: &R,
+    lot: &ParkingLot,
+    token: &mut Token,
+    word: &Word,
+    admission: &Admission,
+    limit: &Option<(&C, u64)>,
+    purpose: &RwLockPurpose,
+) -> Answer
+{
+    let seen = first_step_in_turn(rt, lot, token, call_name(*purpose), *word, opening(*purpose));
+    let first = Place::RwLock {
+        lock: word.number(),
+        admission: *admission,
+        at: RwLockCallPlace::begin(*purpose),
+    };
+    let (next, act) = advance(first, Reply::Value(seen));
+    match answer_of(act) {
+        Some(answer) => answer,
+        None => run_out(rt, lot, token, *word, *limit, next),
+    }
+}
+
+/// Does the slow half of a call that has not begun: its thread waits for its turn.
+#[inline(always)]
+pub fn call_in_turn<R: Wait, C: Clock>(
+    rt: &R,
+    lot: &ParkingLot,
+    token: &mut Token,
+    word: &Word,
+    admission: &Admission,
+    limit: &Option<(&C, u64)>,
+    purpose: RwLockPurpose,
+) -> Answer
+{
+    rest_in_turn(rt, lot, token, word, admission, limit, static_purpose(purpose))
+}
+
 /// Does the fast half of a call of a thread that has the right that it needs: a step or two, which
 /// are all where it meets nobody. Else it answers what is left to `afterwards` or `missed`.
 #[inline(always)]
@@ -354,7 +397,10 @@ pub fn call_fast<C: Clock>(
         token.old token.new)
         (λ rest. HasBegunRwLock word.now settings.now.admission purpose rest token.old token.new) }
 {
-    let seen = first_step(lot, token, call_name(purpose), *word, opening(purpose));
+    if !lot.may_begin(token) {
+        return Err(Rest::NotBegun);
+    }
+    let seen = lot.word_again(token, *word, opening(purpose));
     match course_of(*settings, purpose, seen) {
         Course::Ends(answer) => Ok(answer),
         Course::GoesOn => Err(Rest::GoesOn(seen)),
@@ -395,6 +441,9 @@ pub fn call<R: Wait, C: Clock>(
 {
     match call_fast(lot, token, word, settings, limit, purpose) {
         Ok(answer) => answer,
+        Err(Rest::NotBegun) => {
+            call_in_turn(rt, lot, token, word, &settings.admission, limit, purpose)
+        }
         Err(Rest::GoesOn(seen)) => {
             call_slow(
                 rt,

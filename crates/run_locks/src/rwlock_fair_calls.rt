@@ -22,7 +22,7 @@ ghost use Rattle.run_base.specs.Telling.{owns_of};
 use crate::rwlock_calls::run_out;
 use lot_steps::{Next, Place, Reply};
 use parking_lot_core::{CallName, Deed, Op, ParkingLot, Token, Word};
-use run_base::driver::{NO_LIMIT, first_step};
+use run_base::driver::NO_LIMIT;
 use spec_locks::{Access, Answer};
 use std::sync::Wait;
 use steps_rwlock::Admission;
@@ -105,7 +105,10 @@ pub fn release_exclusive<R: Wait>(
     ensures record { ReleasesFairly word.now.number admission.now Exclusive token.old token.new }
 {
     let name = &Deed::Call(CallName::UnlockExclusiveFair);
-    let seen = first_step(lot, token, name, *word, LEAVE_ALONE);
+    if !lot.may_begin(token) {
+        lot.turn_to_begin(rt, token, name, *word);
+    }
+    let seen = lot.word_again(token, *word, LEAVE_ALONE);
     if seen != WRITER {
         rest(rt, lot, token, word, admission, HAND_OVER);
     }
@@ -169,7 +172,10 @@ pub fn bump<R: Wait>(
         → Answers ⊥ word.now.number base admission.now (Enter access Patient) result
         (stage_of token.new None) }
 {
-    let seen = first_step(lot, token, bump_name(access), *word, Op::Load);
+    if !lot.may_begin(token) {
+        lot.turn_to_begin(rt, token, bump_name(access), *word);
+    }
+    let seen = lot.word_again(token, *word, Op::Load);
     match RwLockCallPlace::PeekQueue(access).next(*admission, Reply::Value(seen)) {
         Next::End(answer) => answer,
         Next::At(at) => rest(rt, lot, token, word, admission, &at),

@@ -21,7 +21,7 @@ ghost use Rattle.run_once_and_semaphores.specs.OnceCalls.{MeetsOnce};
 
 use lot_steps::{Place, Reply, advance};
 use parking_lot_core::{CallName, Clock, Deed, Op, ParkingLot, Token, Word};
-use run_base::driver::{NO_LIMIT, Stop, answer_of, first_step, run};
+use run_base::driver::{NO_LIMIT, Stop, answer_of, first_step_in_turn, run};
 use run_base::words::Words;
 use spec_locks::{Answer, OnceCall, OnceState};
 use std::sync::Wait;
@@ -66,6 +66,9 @@ pub(crate) enum Look {
     Runs(OnceState),
 }
 
+// In place of what a call's first step saw: none is taken, and the thread waits for its turn.
+const NOT_BEGUN: u64 = 1 << 63;
+
 /// Takes the step with which each call begins, as all callers make it themselves: where it sees
 /// DONE the call is over.
 #[inline]
@@ -74,7 +77,10 @@ pub(crate) fn begin(lot: &ParkingLot, token: &mut Token, word: Word) -> u64
     ensures own { IsSameThread lot.now token.old token.new }
     ensures seen { HasLookedFirst word.number result token.old token.new }
 {
-    lot.load(token, word)
+    if !lot.may_begin(token) {
+        return NOT_BEGUN;
+    }
+    lot.word_again(token, word, Op::Load)
 }
 
 /// Runs the rest of a call whose first step saw this, up to its closure, or up to a deadline where
@@ -99,7 +105,10 @@ pub(crate) fn begin_slow<R: Wait, C: Clock>(
         → LookOwns (TimeIsUp C.tells limit.entry) word.number call result (owns_of before)
         (owns_of token.new) (last_of token.new) }
 {
-    lot.renames(token, call_name(call));
+    let mut seen = seen;
+    if seen == NOT_BEGUN {
+        seen = first_step_in_turn(rt, lot, token, call_name(call), word, Op::Load);
+    }
     let first = Place::Once {
         lock: word.number(),
         at: OncePlace::first(call),
@@ -178,7 +187,10 @@ pub(crate) fn close<R: Wait>(
         (owns_of token.new) }
 {
     let op = Op::Swap(word_after(succeeded));
-    let seen = first_step(lot, token, end_name(succeeded), word, op);
+    if !lot.may_begin(token) {
+        lot.turn_to_begin(rt, token, end_name(succeeded), word);
+    }
+    let seen = lot.word_again(token, word, op);
     if is_marked(seen) {
         wake(rt, lot, token, word, forced, succeeded);
     }

@@ -61,6 +61,15 @@ impl Drop for Semaphore {
     }
 }
 
+// Returns what a schedule names a call that waits for a permit.
+fn acquire_name(timed: bool) -> &'static Deed {
+    if timed {
+        &Deed::Call(CallName::AcquireTimed)
+    } else {
+        &Deed::Call(CallName::Acquire)
+    }
+}
+
 /// A permit of a semaphore. It is spent by its release, and can't be dropped.
 pub struct Permit<'a> {
     semaphore: &'a Semaphore,
@@ -166,7 +175,10 @@ impl Semaphore {
         ensures late { IfNone result ((timed ≡ true) × TimeIsUp C.tells limit.now) }
     {
         let lot: &ParkingLot = &self.lot;
-        let seen = look(lot, token, &Deed::Call(CallName::Acquire), self.word);
+        if !lot.may_begin(token) {
+            lot.turn_to_begin(rt, token, acquire_name(timed), self.word);
+        }
+        let seen = look(lot, token, self.word);
         if free_permits(seen) == 0 {
             return self.wait_after(rt, token, limit, timed, seen);
         }
@@ -204,7 +216,7 @@ impl Semaphore {
     }
 
     /// Waits for a permit.
-    #[inline]
+    #[inline(always)]
     pub fn acquire<'a, R: Wait>(&'a self, rt: &R, token: &mut Token) -> Permit<'a>
         requires { IsTokenOf (lot_of self.now) token.old }
         ensures token { IsTokenOf (lot_of self.now) token.new × StaysAs token.old token.new }
@@ -229,7 +241,10 @@ impl Semaphore {
         ensures none { IfNone result (SawNoneFree (number_of self.now) (steps_of token.new)) }
     {
         let lot: &ParkingLot = &self.lot;
-        let seen = look(lot, token, &Deed::Call(CallName::TryAcquire), self.word);
+        if !lot.may_begin(token) {
+            lot.turn_to_begin(rt, token, &Deed::Call(CallName::TryAcquire), self.word);
+        }
+        let seen = look(lot, token, self.word);
         if free_permits(seen) == 0 {
             return None;
         }
@@ -303,7 +318,7 @@ impl<'a> Permit<'a> {
     ghost use Rattle.run_once_and_semaphores.specs.SemaphoreUsers.{lot_of, number_of, semaphore_of};
 
     /// Gives the permit back, and wakes up the first waiter where a thread may be parked.
-    #[inline]
+    #[inline(always)]
     pub fn release<R: Wait>(self, rt: &R, token: &mut Token)
         requires { IsTokenOf (lot_of (semaphore_of self)) token.old }
         ensures token { IsTokenOf (lot_of (semaphore_of self.entry)) token.new
@@ -315,6 +330,9 @@ impl<'a> Permit<'a> {
         let Permit { semaphore, held } = self;
         let lot: &ParkingLot = &semaphore.lot;
         lot.join_held(token, semaphore.word, Want::Shared, held);
+        if !lot.may_begin(token) {
+            lot.turn_to_begin(rt, token, &Deed::Call(CallName::Release), semaphore.word);
+        }
         let seen = give(lot, token, semaphore.word);
         if has_parked(seen) {
             wake_first(rt, lot, token, semaphore.word);

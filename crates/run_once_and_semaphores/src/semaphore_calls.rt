@@ -24,28 +24,22 @@ ghost use Rattle.run_once_and_semaphores.specs.SemaphoreCalls.{deciding, try_pla
 use core_words::laws::{semaphore_may_step, semaphore_trades};
 use lot_steps::Place;
 use parking_lot_core::{CallName, Clock, Deed, Op, ParkingLot, Token, Word};
-use run_base::driver::{NO_LIMIT, Stop, first_step, run};
+use run_base::driver::{NO_LIMIT, Stop, run};
 use run_base::words::Words;
 use spec_locks::Answer;
 use std::sync::Wait;
 use steps_semaphore::{AcquireAt, ReleaseAt, SemaphorePlace, TryAt};
 
-// A timed call begins by the name of one without a limit.
-fn rename(lot: &ParkingLot, token: &Token, timed: bool) {
-    if timed {
-        lot.renames(token, &Deed::Call(CallName::AcquireTimed));
-    }
-}
-
 /// Takes one load of the word, with which each call begins that wants a permit.
 #[inline(always)]
-pub(crate) fn look(lot: &ParkingLot, token: &mut Token, deed: &'static Deed, word: Word) -> u64
+pub(crate) fn look(lot: &ParkingLot, token: &mut Token, word: Word) -> u64
     requires own { MeetsSemaphore lot.now token.old word }
+    requires forgotten { last_of token.old ≡ None }
     ensures own { IsSameThread lot.now token.old token.new }
     ensures looked { HasLooked word.number result token.old token.new }
 {
     semaphore_may_step();
-    first_step(lot, token, deed, word, Op::Load)
+    lot.word_again(token, word, Op::Load)
 }
 
 /// Makes the exchange that takes a permit, after a look that saw one free. Returns what it found:
@@ -74,6 +68,7 @@ pub(crate) fn take(lot: &ParkingLot, token: &mut Token, word: Word, seen: u64) -
 #[inline(always)]
 pub(crate) fn give(lot: &ParkingLot, token: &mut Token, word: Word) -> u64
     requires own { MeetsSemaphore lot.now token.old word }
+    requires forgotten { last_of token.old ≡ None }
     requires held { has (permit word.number) (owns_of token.old) ≡ true }
     ensures own { IsSameThread lot.now token.old token.new × (last_of token.new ≡ None) }
     ensures added { HasAdded word.number result token.old token.new }
@@ -81,8 +76,7 @@ pub(crate) fn give(lot: &ParkingLot, token: &mut Token, word: Word) -> u64
 {
     semaphore_may_step();
     semaphore_trades();
-    let name = &Deed::Call(CallName::Release);
-    first_step(lot, token, name, word, Op::Add(2))
+    lot.word_again(token, word, Op::Add(2))
 }
 
 /// The addition that gives all permits of a new semaphore, which its thread holds.
@@ -149,7 +143,6 @@ pub(crate) fn acquire_slow<R: Wait, C: Clock>(
     ensures over { IsSemaphoreOver (TimeIsUp C.tells limit.entry) word.number (owns_of token.old)
         (to_acquire timed) result (stage_of token.new None) }
 {
-    rename(lot, token, timed);
     let start = SemaphorePlace::Acquire {
         timed,
         retries: false,
