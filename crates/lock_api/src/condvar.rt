@@ -107,7 +107,7 @@ impl<R: RawCondvar> Condvar<R> {
     {
         // As `notify_one` of the raw one. It isn't called, since after each call that may wait a
         // flag is tested.
-        let seen = self.raw.notify_fast(token);
+        let seen = self.raw.notify_fast(rt, token, false);
         if seen == 0 {
             return false;
         }
@@ -123,7 +123,7 @@ impl<R: RawCondvar> Condvar<R> {
         ensures path { R.notified self.now true (Number result) token.old token.new }
         ensures record { R.moved self.now true result token.old token.new }
     {
-        let seen = self.raw.notify_fast(token);
+        let seen = self.raw.notify_fast(rt, token, true);
         if seen == 0 {
             return 0;
         }

@@ -81,7 +81,12 @@ pub trait RawCondvar {
 
     /// Takes the first step of a notification, of one or of all. Returns what it sees of the
     /// condition variable: where that is 0, nobody waits, and the notification is over.
-    fn notify_fast(&self, token: &mut <Self::RawMutex as RawMutex>::Token) -> u64
+    fn notify_fast<R: Wait>(
+        &self,
+        rt: &R,
+        token: &mut <Self::RawMutex as RawMutex>::Token,
+        all: bool,
+    ) -> u64
         requires { Self.RawMutex.is_token_of (lot_of self.now) token.old }
         ensures token { Self.RawMutex.is_token_of (lot_of self.now) token.new
             × Self.RawMutex.keeps_rights token.old token.new }
@@ -134,7 +139,7 @@ pub trait RawCondvar {
         ensures path { notified self.now false (notifying_answer result) token.old token.new }
         ensures record { moved self.now false (moved_first result) token.old token.new }
     {
-        let seen = self.notify_fast(token);
+        let seen = self.notify_fast(rt, token, false);
         if seen == 0 {
             return false;
         }
@@ -150,7 +155,7 @@ pub trait RawCondvar {
         ensures path { notified self.now true (Number result) token.old token.new }
         ensures record { moved self.now true result token.old token.new }
     {
-        let seen = self.notify_fast(token);
+        let seen = self.notify_fast(rt, token, true);
         if seen == 0 {
             return 0;
         }

@@ -70,7 +70,7 @@ fn raw_by_tries<M: RawLock, R: Wait>(rt: &R, mutex: &M, token: &mut M::Token) ->
     unreachable!()
 }
 
-#[inline]
+#[inline(always)]
 fn guard_by_tries<'a, M: RawLock, R: Wait>(
     rt: &R,
     mutex: &'a lock_api::Mutex<M, u64>,

@@ -103,7 +103,8 @@ impl ParkingLot {
         token.is_armed() || token.may_step()
     }
 
-    /// Waits for the turn to begin a call, by the word that a schedule has for it.
+    /// Waits for the turn to begin a call, by the word that a schedule has for it. It takes the word by
+    /// reference, so that a fast half has no local to clear for it.
     #[cold]
     #[inline(never)]
     pub fn turn_to_begin<R: Wait>(
@@ -111,7 +112,7 @@ impl ParkingLot {
         rt: &R,
         token: &Token,
         deed: &'static Deed,
-        word: Word,
+        word: &Word,
     ) {
         if let Some(director) = &self.director {
             director.turn_asleep(rt, Turn::at(token.number, *deed, word.number()));

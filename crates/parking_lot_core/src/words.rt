@@ -2,14 +2,14 @@
 #![tactic(auto, unfolding(crate::specs::Tokens::view_of))]
 
 ghost use Rattle.std.specs.Prelude.{◌≡◌, ◌≢◌, ℕ, ◌+◌, ◌%◌, ◌^◌, ◌<◌, ◌≤◌, ◌⊎◌, ◌∷◌, ◌++◌, [], true, None};
-ghost use Rattle.std.specs.Prelude.{IfOk, MatchOption, MatchResult};
+ghost use Rattle.std.specs.Prelude.{IfOk, IfErr, MatchOption, MatchResult};
 ghost use Rattle.core_words.specs.Indices.{permits_in, plain, word_index};
 ghost use Rattle.core_words.specs.Codes.{IsCountCode, ShowsBeside};
 ghost use Rattle.core_words.specs.Views.{HasSeen};
 ghost use Rattle.core_words.specs.Steps.{MayStep, CodesWith, after_step, has, holding};
 ghost use Rattle.core_words.specs.Draws.{IsDrawn, IsDrawRefused};
 ghost use Rattle.core_words.specs.Lots.{IsWordOf, permit_of};
-ghost use Rattle.core_words.specs.Plays.{WithinPermits, entering_saw, left_over, stepping, takes_in};
+ghost use Rattle.core_words.specs.Plays.{WithinPermits, left_over, stepping, takes_in};
 ghost use Rattle.core_words.specs.Rights.{leaving_alone, named_by, owner_for, piece_of};
 ghost use Rattle.core_words.specs.Permits.{out_after};
 ghost use Rattle.core_words.specs.RightsOf.{IsHeldOf, IsOpenOf, IsRightOf};
@@ -112,12 +112,14 @@ impl ParkingLot {
         self.word(token, condvar, Op::Exchange { from: 0, to })
     }
 
-    /// Looks what a condition variable shows, by one load of its word. Returns 0 where that is
-    /// nothing, and else one more than the number of a mutex of the lot.
+    /// Looks what a condition variable shows, by one load of its word, as a thread that has forgotten
+    /// its last section. Returns 0 where that is nothing, and else one more than the number of a mutex
+    /// of the lot.
     #[inline]
     pub fn look_shown(&self, token: &mut Token, condvar: Word) -> u64
-        requires { IsTokenOf self.now token.old × IsWordOf self.now.words condvar
+        requires own { IsTokenOf self.now token.old × IsWordOf self.now.words condvar
             × (condvar.kind ≡ Condvar) }
+        requires forgotten { last_of token.old ≡ None }
         ensures own { IsSameThread self.now token.old token.new × (last_of token.new ≡ None) }
         ensures untold { told_of token.new ≡ told_of token.old }
         ensures stepped { view_of token.new
@@ -322,22 +324,21 @@ impl ParkingLot {
     ///
     /// # Errors
     ///
-    /// What the step saw, where it wasn't an unlocked mutex without waiters.
+    /// What the step saw, where it wasn't an unlocked mutex without waiters. 0 where no step is taken:
+    /// a directed thread waits for its turn first (`turn_to_begin`).
     #[inline]
     pub fn enter_open(&self, token: &mut Token, word: Word) -> Result<(OpenHeld, Permit), u64>
         requires { IsTokenOf self.now token.old × IsWordOf self.now.words word
             × (word.kind ≡ Mutex) }
         ensures own { IsSameThread self.now token.old token.new × (last_of token.new ≡ None) }
         ensures untold { told_of token.new ≡ told_of token.old }
-        ensures stepped { MatchResult result
-            (λ _. view_of token.new
+        ensures taken { IfOk result (λ _. (view_of token.new
             ≡ stepping (view_of token.old) (word_index word.number word.kind) (Exchange 0 1) 0)
-            (λ seen. (seen ≢ 0)
-            × (view_of token.new
-            ≡ stepping (view_of token.old) (word_index word.number word.kind)
-            (Exchange 0 1) seen)) }
-        ensures coded { CodesWith word.kind (word_index word.number word.kind)
-            (entering_saw result) (view_of token.old).owns }
+            × CodesWith word.kind (word_index word.number word.kind) 0 (view_of token.old).owns) }
+        ensures missed { IfErr result (λ seen. seen ≢ 0 → (view_of token.new
+            ≡ stepping (view_of token.old) (word_index word.number word.kind) (Exchange 0 1) seen)
+            × CodesWith word.kind (word_index word.number word.kind) seen (view_of token.old).owns) }
+        ensures waits { IfErr result (λ seen. seen ≡ 0 → view_of token.new ≡ view_of token.old) }
         ensures opened { IfOk result (λ taken. IsOpenOf self.now.words word taken.0
             × (taken.1.id ≡ permit_of self.now.words word)) }
     {
@@ -373,7 +374,8 @@ impl ParkingLot {
     }
 
     /// Gives a mutex up, and lays the permit of its value back with the same step. Returns the
-    /// value before.
+    /// value before, or 0 where no step is taken: a directed thread waits for its turn first, and its
+    /// token's view names the mutex.
     #[inline]
     pub fn leave_open(&self, token: &mut Token, word: Word, opened: OpenHeld, permit: Permit) -> u64
         requires own { IsTokenOf self.now token.old × IsWordOf self.now.words word
@@ -382,19 +384,19 @@ impl ParkingLot {
             × (permit.id ≡ permit_of self.now.words word) }
         ensures own { IsSameThread self.now token.old token.new × (last_of token.new ≡ None) }
         ensures untold { told_of token.new ≡ told_of token.old }
-        ensures stepped { view_of token.new
+        ensures stepped { result ≢ 0 → view_of token.new
             ≡ stepping (view_of token.old) (word_index word.number word.kind) (Sub 1) result }
-        ensures coded { (result ≡ 1) ⊎ (result ≡ 3) }
+        ensures waits { result ≡ 0
+            → view_of token.new ≡ takes_in (view_of token.old) (piece_of word Exclusive) }
+        ensures coded { (result ≡ 0) ⊎ ((result ≡ 1) ⊎ (result ≡ 3)) }
     {
         let locked = u64::from(token.expected.locked);
         let words = &self.words;
         match words.leave_open(&mut token.seat, word, opened, permit, locked) {
-            Ok(1) => 1,
-            Ok(_) => 3,
+            Ok(seen) => seen,
             Err((opened, permit)) if token.may_step() => {
                 match words.leave_open(&mut token.seat, word, opened, permit, 1) {
-                    Ok(1) => 1,
-                    Ok(_) => 3,
+                    Ok(seen) => seen,
                     Err(_) => unreachable!(),
                 }
             }
@@ -406,7 +408,8 @@ impl ParkingLot {
     }
 
     /// Unlocks where nobody waits. Where somebody does, the thread owns the mutex, and its permit
-    /// is out with the thread still.
+    /// is out with the thread still. So it is where 0 is returned and no step is taken: a directed
+    /// thread waits for its turn first.
     #[inline]
     pub fn leave_open_alone(
         &self,
@@ -421,8 +424,11 @@ impl ParkingLot {
             × (permit.id ≡ permit_of self.now.words word) }
         ensures own { IsSameThread self.now token.old token.new × (last_of token.new ≡ None) }
         ensures untold { told_of token.new ≡ told_of token.old }
-        ensures stepped { view_of token.new ≡ leaving_alone (view_of token.old) word result }
-        ensures coded { (result ≡ 1) ⊎ (result ≡ 3) }
+        ensures stepped { result ≢ 0
+            → view_of token.new ≡ leaving_alone (view_of token.old) word result }
+        ensures waits { result ≡ 0
+            → view_of token.new ≡ takes_in (view_of token.old) (piece_of word Exclusive) }
+        ensures coded { (result ≡ 0) ⊎ ((result ≡ 1) ⊎ (result ≡ 3)) }
     {
         let locked = u64::from(token.expected.locked);
         let words = &self.words;

@@ -23,7 +23,7 @@ use core_base::main_key;
 use parking_lot_core::{Clock, Fault, Key, ParkingLot, Token, Word, WordKind};
 use run_base::driver::NO_LIMIT;
 use run_base::limits::limit_in;
-use run_locks::condvar_calls::{notify_fast, notify_slow, wait};
+use run_locks::condvar_calls::{notify_fast, notify_name, notify_slow, wait};
 use spec_locks::Answer;
 use std::sync::{Arc, Wait};
 use std::time::Duration;
@@ -178,8 +178,12 @@ impl lock_raw::RawCondvar for RawCondvar {
     }
 
     #[inline]
-    fn notify_fast(&self, token: &mut Token) -> u64 {
-        notify_fast(&self.lot, token, self.word)
+    fn notify_fast<R: Wait>(&self, rt: &R, token: &mut Token, all: bool) -> u64 {
+        let lot: &ParkingLot = &self.lot;
+        if !lot.may_begin(token) {
+            lot.turn_to_begin(rt, token, notify_name(all), &self.word);
+        }
+        notify_fast(lot, token, self.word)
     }
 
     fn notify_one_slow<R: Wait>(&self, rt: &R, token: &mut Token, seen: u64) -> bool {

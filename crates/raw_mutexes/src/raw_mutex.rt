@@ -7,7 +7,7 @@ ghost use Rattle.std.specs.Prelude.{◌≡◌, ◌<◌, ◌*◌, ◌++◌, List,
 ghost use Rattle.std.specs.Arc.{arc_value};
 ghost use Rattle.core_clocks.specs.Clocks.{TimeIsUp};
 ghost use Rattle.lock_raw.specs.Answers.{answer_by};
-ghost use Rattle.spec_locks.specs.declared.calls.MutexCall.TheVariants.{Bump, LockTimed, Unlock, UnlockFair};
+ghost use Rattle.spec_locks.specs.declared.calls.MutexCall.TheVariants.{Bump, Lock, LockTimed, Unlock, UnlockFair};
 ghost use Rattle.spec_locks.specs.declared.outcomes.Answer.TheVariants.{Ok as ok};
 ghost use Rattle.core_words.specs.Lots.{IsWordOf};
 ghost use Rattle.core_words.specs.Plays.{piece, left_over, takes_in};
@@ -16,7 +16,7 @@ ghost use Rattle.core_words.specs.declared.words.WordKind.TheVariants.{Mutex};
 ghost use Rattle.parking_lot_core.specs.Tokens.{IsTokenOf, IsSameThread, view_of, last_of, told_of};
 ghost use Rattle.parking_lot_core.specs.declared.tokens.Token.{Token};
 ghost use Rattle.run_base.specs.MutexCourses.{locked_and_parked};
-ghost use Rattle.raw_mutexes.specs.Begun.{HasBegun};
+ghost use Rattle.raw_mutexes.specs.Begun.{HasBegun, HasStepped, WaitsToBegin};
 ghost use Rattle.core_words.specs.declared.views.WordStep.{WordStep};
 ghost use Rattle.run_base.specs.Calls.{MeetAt, purpose_in, IsUnfinished, HasWalkedMutex, SawWhetherLocked};
 ghost use Rattle.run_base.specs.Calls.{TookIfSeen, WalksAfter};
@@ -44,6 +44,12 @@ use steps_mutex::{LOCKED, PARKED, is_locked, is_parked};
 
 // In place of what a call's first step saw: none is taken, and the thread waits for its turn.
 const NOT_BEGUN: u64 = 0;
+
+// The first step of a lock.
+const LOCKS: Op = Op::Exchange {
+    from: 0,
+    to: LOCKED,
+};
 
 /// A mutex of a lot. Its word is 1 where it is locked, and 2 where a thread may be parked, or the
 /// sum of these.
@@ -146,15 +152,38 @@ impl RawMutex {
             × TookIfSeen (word_of self.now).number UnlockFair (steps_of before) (steps_of token.new)
             (last_of token.new) }
     {
-        let mut seen = seen;
         if seen == NOT_BEGUN {
-            let (name, op) = (&Deed::Call(CallName::UnlockFair), Op::Exchange { from: LOCKED, to: 0 });
-            seen = first_step_in_turn(rt, &self.lot, token, name, self.word, op);
-            if seen == LOCKED {
-                return;
-            }
+            self.unlock_fair_in_turn(rt, token);
+        } else {
+            self.go_on(rt, token, MutexCall::UnlockFair, seen);
         }
-        self.go_on(rt, token, MutexCall::UnlockFair, seen);
+    }
+
+    // A fair release of a thread that waits for its turn.
+    #[cold]
+    #[inline(never)]
+    fn unlock_fair_in_turn<R: Wait>(&self, rt: &R, token: &mut Token)
+        requires token { IsTokenOf (lot_of self.now) token.old }
+        requires waits { (before : Token)
+            × WaitsToBegin (word_of self.now).number UnlockFair before token.old }
+        ensures token { IsTokenOf (lot_of self.now) token.new }
+        ensures over { (before : Token)
+            → WaitsToBegin (word_of self.now).number UnlockFair before token.old
+            → StaysAs before token.new
+            × HasWalkedMutex (word_of self.now).number UnlockFair ok before token.new
+            × TookIfSeen (word_of self.now).number UnlockFair (steps_of before) (steps_of token.new)
+            (last_of token.new) }
+    {
+        let lot: &ParkingLot = &self.lot;
+        let name = &Deed::Call(CallName::UnlockFair);
+        let op = Op::Exchange {
+            from: LOCKED,
+            to: 0,
+        };
+        let seen = first_step_in_turn(rt, lot, token, name, self.word, op);
+        if seen != LOCKED {
+            self.go_on(rt, token, MutexCall::UnlockFair, seen);
+        }
     }
 
     // Does the slow half of a call without a limit. It takes the mutex by its address, so that the
@@ -175,7 +204,8 @@ impl RawMutex {
         call_slow(rt, &self.lot, token, self.word, NO_LIMIT, call, seen)
     }
 
-    // Does the rest of a bump, whose first step saw a waiter. The thread owns the mutex.
+    // Does the rest of a bump, whose first step saw a waiter, or that waits for its turn. The thread
+    // owns the mutex.
     #[cold]
     #[inline(never)]
     fn bump_slow<R: Wait>(&self, rt: &R, token: &mut Token, seen: u64) -> RawGuard
@@ -189,15 +219,31 @@ impl RawMutex {
             → StaysAs before token.new
             × HasWalkedMutex (word_of self.now).number Bump ok before token.new }
     {
-        let mut seen = seen;
         if seen == NOT_BEGUN {
-            let name = &Deed::Call(CallName::Bump);
-            seen = first_step_in_turn(rt, &self.lot, token, name, self.word, Op::Load);
-        }
-        if is_parked(seen) {
+            self.bump_in_turn(rt, token);
+        } else {
             self.go_on(rt, token, MutexCall::Bump, seen);
         }
         self.split(&self.lot, token)
+    }
+
+    // A bump of a thread that waits for its turn, and owns the mutex.
+    fn bump_in_turn<R: Wait>(&self, rt: &R, token: &mut Token)
+        requires token { IsTokenOf (lot_of self.now) token.old }
+        requires waits { (before : Token)
+            × WaitsToBegin (word_of self.now).number Bump before token.old }
+        ensures token { IsTokenOf (lot_of self.now) token.new }
+        ensures owned { owns_of token.new ≡ owns_of token.old }
+        ensures path { (before : Token)
+            → WaitsToBegin (word_of self.now).number Bump before token.old
+            → (token.new.number ≡ before.number)
+            × HasWalkedMutex (word_of self.now).number Bump ok before token.new }
+    {
+        let name = &Deed::Call(CallName::Bump);
+        let seen = first_step_in_turn(rt, &self.lot, token, name, self.word, Op::Load);
+        if is_parked(seen) {
+            self.go_on(rt, token, MutexCall::Bump, seen);
+        }
     }
 
     // The slow half of an unlock, whose first step saw a waiter.
@@ -213,6 +259,49 @@ impl RawMutex {
             (stage_of token.new None) }
     {
         unlock_slow(rt, &self.lot, token, self.word);
+    }
+
+    // A lock of a thread that waits for its turn.
+    fn lock_in_turn<R: Wait>(&self, rt: &R, token: &mut Token) -> RawGuard
+        requires token { IsTokenOf (lot_of self.now) token.old }
+        requires waits { (before : Token)
+            × WaitsToBegin (word_of self.now).number Lock before token.old }
+        ensures token { IsTokenOf (lot_of self.now) token.new }
+        ensures guard { IsGuardOf (lot_of self.now) (word_of self.now) result }
+        ensures over { (before : Token)
+            → WaitsToBegin (word_of self.now).number Lock before token.old
+            → StaysAs before token.new
+            × HasWalkedMutex (word_of self.now).number Lock ok before token.new }
+    {
+        let lot: &ParkingLot = &self.lot;
+        let name = &Deed::Call(CallName::Lock);
+        let seen = first_step_in_turn(rt, lot, token, name, self.word, LOCKS);
+        if seen != 0 {
+            self.go_on(rt, token, MutexCall::Lock, seen);
+        }
+        self.split(lot, token)
+    }
+
+    // An unlock of a thread that waits for its turn, and owns the mutex.
+    #[cold]
+    #[inline(never)]
+    fn unlock_in_turn<R: Wait>(&self, rt: &R, token: &mut Token)
+        requires token { IsTokenOf (lot_of self.now) token.old }
+        requires waits { (before : Token)
+            × WaitsToBegin (word_of self.now).number Unlock before token.old }
+        ensures token { IsTokenOf (lot_of self.now) token.new }
+        ensures over { (before : Token)
+            → WaitsToBegin (word_of self.now).number Unlock before token.old
+            → StaysAs before token.new
+            × HasWalkedMutex (word_of self.now).number Unlock ok before token.new
+            × TookIfSeen (word_of self.now).number Unlock (steps_of before) (steps_of token.new)
+            (last_of token.new) }
+    {
+        let name = &Deed::Call(CallName::Unlock);
+        let seen = first_step_in_turn(rt, &self.lot, token, name, self.word, Op::Sub(LOCKED));
+        if seen != LOCKED {
+            self.wake_first(rt, token);
+        }
     }
 
     #[inline]
@@ -260,20 +349,68 @@ impl RawMutex {
             (TookNobodyAt (word_of self.now).number (last_of token.new)) }
         ensures late { IfNone result (TimeIsUp C.tells limit.entry) }
     {
-        let lot: &ParkingLot = &self.lot;
-        let mut seen = seen;
         if seen == NOT_BEGUN {
-            let (name, op) = (&Deed::Call(CallName::LockTimed), Op::Exchange { from: 0, to: LOCKED });
-            seen = first_step_in_turn(rt, lot, token, name, self.word, op);
-            if seen == 0 {
-                return Some(self.split(lot, token));
-            }
+            return self.lock_timed_in_turn(rt, token, limit);
         }
+        self.lock_timed_after(rt, token, limit, seen)
+    }
+
+    // Does the rest of a call with a limit, whose first step saw this.
+    fn lock_timed_after<R: Wait, C: Clock>(
+        &self,
+        rt: &R,
+        token: &mut Token,
+        limit: Option<(&C, u64)>,
+        seen: u64,
+    ) -> Option<RawGuard>
+        requires token { IsTokenOf (lot_of self.now) token.old }
+        requires begun { (before : Token)
+            × HasStepped (word_of self.now).number LockTimed seen before token.old }
+        ensures token { IsTokenOf (lot_of self.now) token.new }
+        ensures guard { IfSome result (IsGuardOf (lot_of self.now) (word_of self.now)) }
+        ensures over { (before : Token)
+            → HasStepped (word_of self.now).number LockTimed seen before token.old
+            → StaysAs before token.new
+            × HasWalkedMutex (word_of self.now).number LockTimed (answer_by result) before token.new }
+        ensures left { IfNone result
+            (TookNobodyAt (word_of self.now).number (last_of token.new)) }
+        ensures late { IfNone result (TimeIsUp C.tells limit.entry) }
+    {
+        let lot: &ParkingLot = &self.lot;
         let answer = call_slow(rt, lot, token, self.word, limit, MutexCall::LockTimed, seen);
         if matches!(answer, Answer::No) {
             return None;
         }
         Some(self.split(lot, token))
+    }
+
+    // A call with a limit of a thread that waits for its turn.
+    fn lock_timed_in_turn<R: Wait, C: Clock>(
+        &self,
+        rt: &R,
+        token: &mut Token,
+        limit: Option<(&C, u64)>,
+    ) -> Option<RawGuard>
+        requires token { IsTokenOf (lot_of self.now) token.old }
+        requires waits { (before : Token)
+            × WaitsToBegin (word_of self.now).number LockTimed before token.old }
+        ensures token { IsTokenOf (lot_of self.now) token.new }
+        ensures guard { IfSome result (IsGuardOf (lot_of self.now) (word_of self.now)) }
+        ensures over { (before : Token)
+            → WaitsToBegin (word_of self.now).number LockTimed before token.old
+            → StaysAs before token.new
+            × HasWalkedMutex (word_of self.now).number LockTimed (answer_by result) before token.new }
+        ensures left { IfNone result
+            (TookNobodyAt (word_of self.now).number (last_of token.new)) }
+        ensures late { IfNone result (TimeIsUp C.tells limit.entry) }
+    {
+        let lot: &ParkingLot = &self.lot;
+        let name = &Deed::Call(CallName::LockTimed);
+        let seen = first_step_in_turn(rt, lot, token, name, self.word, LOCKS);
+        if seen == 0 {
+            return Some(self.split(lot, token));
+        }
+        self.lock_timed_after(rt, token, limit, seen)
     }
 }
 
@@ -384,14 +521,10 @@ impl lock_raw::RawMutex for RawMutex {
     #[cold]
     #[inline(never)]
     fn lock_slow<R: Wait>(&self, rt: &R, token: &mut Token, seen: u64) -> RawGuard {
-        let mut seen = seen;
         if seen == NOT_BEGUN {
-            let (name, op) = (&Deed::Call(CallName::Lock), Op::Exchange { from: 0, to: LOCKED });
-            seen = first_step_in_turn(rt, &self.lot, token, name, self.word, op);
+            return self.lock_in_turn(rt, token);
         }
-        if seen != 0 {
-            self.go_on(rt, token, MutexCall::Lock, seen);
-        }
+        self.go_on(rt, token, MutexCall::Lock, seen);
         self.split(&self.lot, token)
     }
 
@@ -412,13 +545,10 @@ impl lock_raw::RawMutex for RawMutex {
 
     fn unlock_slow<R: Wait>(&self, rt: &R, token: &mut Token, seen: u64) {
         if seen == NOT_BEGUN {
-            let name = &Deed::Call(CallName::Unlock);
-            let seen = first_step_in_turn(rt, &self.lot, token, name, self.word, Op::Sub(LOCKED));
-            if seen == LOCKED {
-                return;
-            }
+            self.unlock_in_turn(rt, token);
+        } else {
+            self.wake_first(rt, token);
         }
-        self.wake_first(rt, token);
     }
 
     // A step of a thread that owns the mutex twice would find a word that says so, and there is

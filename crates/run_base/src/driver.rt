@@ -126,6 +126,32 @@ pub fn first_step(
     lot.word_again(token, word, op)
 }
 
+/// Takes the first step of a call, for which a directed thread waits asleep: else it does what
+/// `first_step` does.
+#[inline(always)]
+pub fn first_step_with<R: Wait>(
+    rt: &R,
+    lot: &ParkingLot,
+    token: &mut Token,
+    deed: &'static Deed,
+    word: Word,
+    op: Op,
+) -> u64
+    requires own { IsTokenOf lot.now token.old × IsWordOf lot.now.words word }
+    requires may { MayStep word.kind (word_index word.number word.kind) op (view_of token.old).owns }
+    ensures own { IsSameThread lot.now token.old token.new × (last_of token.new ≡ None) }
+    ensures untold { told_of token.new ≡ told_of token.old }
+    ensures stepped { view_of token.new
+        ≡ after_step word.kind (word_index word.number word.kind) op result (view_of token.old) }
+    ensures coded { CodesWith word.kind (word_index word.number word.kind) result
+        (view_of token.old).owns }
+{
+    if !lot.may_begin(token) {
+        lot.turn_to_begin(rt, token, deed, &word);
+    }
+    lot.word_again(token, word, op)
+}
+
 /// Takes the first step of a call once the thread has its turn for it, where a director says when it
 /// runs.
 #[cold]
@@ -148,7 +174,7 @@ pub fn first_step_in_turn<R: Wait>(
     ensures coded { CodesWith word.kind (word_index word.number word.kind) result
         (view_of token.old).owns }
 {
-    lot.turn_to_begin(rt, token, deed, word);
+    lot.turn_to_begin(rt, token, deed, &word);
     lot.word_again(token, word, op)
 }
 

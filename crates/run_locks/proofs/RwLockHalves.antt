@@ -1,10 +1,11 @@
 -- The halves of a reader-writer call make the whole.
-use Rattle.std.proofs.Common.{ℕ, List, None, ◌≡◌, ◌-◌, ◌^◌, ◌<◌, ap, refl, subst}
+use Rattle.std.proofs.Common.{ℕ, List, None, Some, ◌≡◌, ◌∙◌, ◌-◌, ◌^◌, ◌<◌, ap, refl, subst}
 use Rattle.steps_base.specs.declared.acts.Next.TheVariants.{At}
 use Rattle.steps_base.specs.declared.acts.Reply.TheVariants.{Value}
+use Rattle.core_base.specs.declared.ops.Op.{Op}
 use Rattle.core_base.specs.declared.ops.Op.TheVariants.{Exchange}
 use Rattle.spec_locks.specs.declared.outcomes.Answer.{Answer}
-use Rattle.run_base.specs.Fitting.{Fits, IsOver, Reached, call_purpose, of_rwlock}
+use Rattle.run_base.specs.Fitting.{Fits, IsOver, Reached, answer_of, call_purpose, of_rwlock}
 use Rattle.run_base.specs.Courses.{Courses, CoursesAfterReply, steps_in, trail_of}
 use Rattle.run_base.proofs.Courses.{steps_since}
 use Rattle.run_base.specs.Paths.{at_rwlock}
@@ -15,17 +16,33 @@ use Rattle.steps_rwlock.specs.RwLockSteps.{rwlock_next, word_taken}
 use Rattle.steps_rwlock.specs.declared.places.Admission.{Admission}
 use Rattle.steps_rwlock.specs.declared.places.RwLockPlace.{RwLockPlace}
 use Rattle.steps_rwlock.specs.declared.purposes.RwLockPurpose.{RwLockPurpose}
-use Rattle.lot_steps.specs.Steps.{next_place}
+use Rattle.lot_steps.specs.Steps.{next_act, next_place}
+use Rattle.core_words.specs.Indices.{word_index}
+use Rattle.core_words.specs.Steps.{CodesWith, after_step}
 use Rattle.core_words.specs.declared.owners.Ownership.{Ownership}
+use Rattle.core_words.specs.declared.views.View.{View}
 use Rattle.core_words.specs.declared.words.Word.{Word}
 use Rattle.core_words.specs.declared.words.WordKind.TheVariants as kinds
-use Rattle.parking_lot_core.specs.Tokens.{view_of}
+use Rattle.parking_lot_core.specs.Tokens.{told_of, view_of}
 use Rattle.parking_lot_core.specs.declared.tokens.Token.{Token}
 use Rattle.run_locks.specs.Halves.{HasBegunRwLock, HasEndedRwLock, SteppedAndFound}
 use Rattle.run_locks.specs.declared.rwlock_calls.Rest.TheVariants.{GoesOn, Missed}
-use Rattle.run_locks.proofs.RwLockCalling.{rest_fits, rest_over, rest_path, rest_record}
+use Rattle.run_locks.proofs.RwLockCalling.{ended_on, path_ended, rest_fits, rest_over, rest_path}
+use Rattle.run_locks.proofs.RwLockCalling.{rest_record, saw, started, wakes_at_once}
 use Rattle.run_locks.proofs.RwLockCourses.{takes_at, waits_at}
 use Rattle.run_locks.proofs.RwLockTakes.{over_missed, path_missed, word_takes_on}
+
+-- a step of a thread that has done nothing since is one since then
+pub stepped_since : (word : Word) (op : Op) (found : ℕ) (old mid new : Token) → mid.number ≡ old.number
+    → view_of mid ≡ view_of old → told_of mid ≡ told_of old → SteppedAndFound word op found mid new
+    → SteppedAndFound word op found old new
+stepped_since word op found old mid new number view told by = (
+  by.0 ∙ number,
+  by.1 ∙ ap (after_step word.kind (word_index word.number word.kind) op found) view,
+  by.2,
+  subst (λ (v : View). CodesWith word.kind (word_index word.number word.kind) found v.owns) view by.3,
+  by.4 ∙ told,
+)
 
 module _ (up : Type 0) (word : Word) (is : word.kind ≡ kinds.RwLock) (a : Admission) (room : a.limit
     < 2 ^ 60 - 1) (c : RwLockPurpose) (seen : ℕ) where
@@ -65,6 +82,21 @@ module _ (up : Type 0) (word : Word) (is : word.kind ≡ kinds.RwLock) (a : Admi
           new base b (over base)
           (steps_in walks.0) (steps_since _ _ walks.0 walks.1),
     )
+
+  -- its first step was all of the call
+  pub ended_at_once : (old new : Token) → SteppedAndFound word (first_op c) seen old new → (answer : Answer)
+      → answer_of (next_act (rwlock_begin word.number a c) (Value seen)) ≡ Some answer
+      → (base : List Ownership) → begins old base → HasEndedRwLock up word a c answer old new
+  ended_at_once old new stepped answer with base b = let first = saw word is c (first_op c) seen old new refl
+      stepped.1 in
+      let start = started word is c (first_op c) seen old new refl stepped.1 stepped.2 stepped.3 in
+      let on = λ (base : List Ownership). ended_on up word.number a base c (stage_of old None)
+      (stage_of new None) seen refl room answer in (
+        stepped.0,
+        path_ended word.number a c seen answer old new first stepped.4 with,
+        (λ base begins. (on base begins start with).0),
+        wakes_at_once word.number a c seen answer old new first stepped.2 (on base b start with).1,
+      )
 
   pub fits_on : (old mid : Token) → HasBegunRwLock word a c (GoesOn seen) old mid → (base : List Ownership)
       → begins old base → Fits up base (next_place (rwlock_begin word.number a c) (Value seen))

@@ -16,7 +16,7 @@ use Rattle.parking_lot_core.specs.Tokens.{view_of, last_of, told_of}
 use Rattle.parking_lot_core.specs.declared.tokens.Token.{Token}
 use Rattle.run_locks.specs.Courses.{course_of}
 use Rattle.run_locks.specs.declared.rwlock_calls.Rest.{Rest}
-use Rattle.run_locks.specs.declared.rwlock_calls.Rest.TheVariants.{GoesOn, Missed}
+use Rattle.run_locks.specs.declared.rwlock_calls.Rest.TheVariants.{GoesOn, Missed, NotBegun}
 use Rattle.run_locks.specs.declared.rwlock_courses.Course.TheVariants as courses
 
 -- the thread took one step on the word, which found this, and no queue told it anything
@@ -27,9 +27,12 @@ SteppedAndFound word op found old new = (new.number ≡ old.number)
     × CodesWith word.kind (word_index word.number word.kind) found (view_of old).owns
     × (told_of new ≡ told_of old)
 
--- the thread took what the fast half of a call takes, which is not over by it: its first step, and
--- where that saw that it may take its right, an exchange by what was seen, which found another value
+-- the thread took what the fast half of a call takes, which is not over by it: nothing where it waits for
+-- its turn; its first step, and where that saw that it may take its right, an exchange by what was seen,
+-- which found another value
 abbrev pub HasBegunRwLock : Word → Admission → RwLockPurpose → Rest → Token → Token → Type 0
+HasBegunRwLock word a q NotBegun old new = (new.number ≡ old.number) × (view_of new ≡ view_of old)
+    × (last_of new ≡ None) × (told_of new ≡ told_of old)
 HasBegunRwLock word a q (GoesOn seen) old new =
     SteppedAndFound word (first_op q) seen old new × (course_of a q seen ≡ courses.GoesOn)
 HasBegunRwLock word a q (Missed seen found) old new = (mid : Token)

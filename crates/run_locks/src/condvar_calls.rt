@@ -41,20 +41,13 @@ fn wait_name(timed: bool) -> &'static Deed {
     }
 }
 
-// Returns what a schedule names a notification.
-fn notify_name(all: bool) -> &'static Deed {
+/// Returns what a schedule names a notification.
+pub fn notify_name(all: bool) -> &'static Deed {
     if all {
         &Deed::Call(CallName::NotifyAll)
     } else {
         &Deed::Call(CallName::NotifyOne)
     }
-}
-
-// In place of what a notification saw: it waits for its turn.
-const NOT_BEGUN: u64 = u64::MAX;
-
-fn notified_nobody(all: bool) -> Answer {
-    if all { Answer::Number(0) } else { Answer::No }
 }
 
 /// Releases a mutex, which the thread owns, and locks it again once the thread is notified, or
@@ -104,20 +97,18 @@ fn notify_shown<R: Wait>(
     notify_through(rt, lot, token, pair_of(condvar, mutex), all)
 }
 
-/// Takes the step with which each notification begins, as all callers make it themselves. Returns
-/// what it sees of the condition variable: where that is 0 nobody waits, and the notification is
-/// over.
+/// Takes the step with which each notification begins, as all callers make it themselves, of a thread
+/// that has forgotten its last section. Returns what it sees of the condition variable: where that is 0
+/// nobody waits, and the notification is over.
 #[inline]
 pub fn notify_fast(lot: &ParkingLot, token: &mut Token, condvar: Word) -> u64
     requires own { MeetsCondvar lot.now token.old condvar }
+    requires forgotten { last_of token.old ≡ None }
     ensures own { IsSameThread lot.now token.old token.new }
     ensures looked { HasLooked lot.now.words.count condvar.number result token.old token.new }
     ensures nobody { result ≡ 0 → (all : Bool)
         → NotifiesBy condvar.number all (notified all 0) token.old token.new }
 {
-    if !lot.may_begin(token) {
-        return NOT_BEGUN;
-    }
     lot.look_shown(token, condvar)
 }
 
@@ -146,14 +137,6 @@ pub fn notify_slow<R: Wait>(
     ensures owns { owns_of token.new ≡ owns_of token.old }
     ensures record { TellsMoved condvar.number all seen result token.old token.new }
 {
-    let mut seen = seen;
-    if seen == NOT_BEGUN {
-        lot.turn_to_begin(rt, token, notify_name(all), condvar);
-        seen = lot.look_shown(token, condvar);
-        if seen == 0 {
-            return notified_nobody(all);
-        }
-    }
     let mutex = lot.mutex_shown(token, condvar, seen);
     notify_shown(rt, lot, token, condvar, mutex, all)
 }

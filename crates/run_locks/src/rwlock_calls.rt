@@ -176,9 +176,9 @@ fn entering(access: Access, patience: Patience) -> &'static RwLockPurpose
     }
 }
 
-// Returns the purpose of a call, where it lasts.
+/// Returns the purpose of a call, where it lasts.
 #[inline(always)]
-fn static_purpose(purpose: RwLockPurpose) -> &'static RwLockPurpose
+pub fn static_purpose(purpose: RwLockPurpose) -> &'static RwLockPurpose
     ensures { result.now ≡ purpose }
 {
     use RwLockPurpose::{Downgrade as Lessen, Enter, Release, Upgrade};
@@ -336,45 +336,40 @@ pub fn missed<R: Wait, C: Clock>(
     )
 }
 
-// Runs a call, by reference, once the thread has its turn for it.
+/// Does the slow half of a call that has not begun, once its thread has its turn.
 #[cold]
 #[inline(never)]
-fn rest_in_turn<R: Wait, C: Clock>(
-    rt: &R,
-    lot: &ParkingLot,
-    token: &mut Token,
-    word: &Word,
-    admission: &Admission,
-    limit: &Option<(&C, u64)>,
-    purpose: &RwLockPurpose,
-) -> Answer
-{
-    let seen = first_step_in_turn(rt, lot, token, call_name(*purpose), *word, opening(*purpose));
-    let first = Place::RwLock {
-        lock: word.number(),
-        admission: *admission,
-        at: RwLockCallPlace::begin(*purpose),
-    };
-    let (next, act) = advance(first, Reply::Value(seen));
-    match answer_of(act) {
-        Some(answer) => answer,
-        None => run_out(rt, lot, token, *word, *limit, next),
-    }
-}
-
-/// Does the slow half of a call that has not begun: its thread waits for its turn.
-#[inline(always)]
 pub fn call_in_turn<R: Wait, C: Clock>(
     rt: &R,
     lot: &ParkingLot,
     token: &mut Token,
     word: &Word,
-    admission: &Admission,
+    settings: &Settings,
     limit: &Option<(&C, u64)>,
-    purpose: RwLockPurpose,
+    purpose: &RwLockPurpose,
 ) -> Answer
+    requires own { MeetsAt lot.now token.old word.now settings.now.admission }
+    requires begun { (before : Token) × (base : List Ownership)
+        × BeginsWith word.now.number purpose.now base (owns_of before)
+        × HasBegunRwLock word.now settings.now.admission purpose.now NotBegun before token.old }
+    ensures own { IsSameThread lot.now token.old token.new }
+    ensures over { (before : Token) (base : List Ownership)
+        → BeginsWith word.now.number purpose.now base (owns_of before)
+        → HasBegunRwLock word.now settings.now.admission purpose.now NotBegun before token.old
+        → HasEndedRwLock (TimeIsUp C.tells limit.now) word.now settings.now.admission purpose.now result
+        before token.new }
 {
-    rest_in_turn(rt, lot, token, word, admission, limit, static_purpose(purpose))
+    let (name, op) = (call_name(*purpose), opening(*purpose));
+    let seen = first_step_in_turn(rt, lot, token, name, *word, op);
+    match course_of(*settings, *purpose, seen) {
+        Course::Ends(answer) => answer,
+        Course::GoesOn => {
+            rest_slow(rt, lot, token, word, &settings.admission, limit, purpose, seen)
+        }
+        Course::Takes => {
+            rest_slow(rt, lot, token, word, &settings.admission, limit, purpose, seen)
+        }
+    }
 }
 
 /// Does the fast half of a call of a thread that has the right that it needs: a step or two, which
@@ -442,7 +437,7 @@ pub fn call<R: Wait, C: Clock>(
     match call_fast(lot, token, word, settings, limit, purpose) {
         Ok(answer) => answer,
         Err(Rest::NotBegun) => {
-            call_in_turn(rt, lot, token, word, &settings.admission, limit, purpose)
+            call_in_turn(rt, lot, token, word, settings, limit, static_purpose(purpose))
         }
         Err(Rest::GoesOn(seen)) => {
             call_slow(

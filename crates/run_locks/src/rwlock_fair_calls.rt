@@ -22,7 +22,7 @@ ghost use Rattle.run_base.specs.Telling.{owns_of};
 use crate::rwlock_calls::run_out;
 use lot_steps::{Next, Place, Reply};
 use parking_lot_core::{CallName, Deed, Op, ParkingLot, Token, Word};
-use run_base::driver::NO_LIMIT;
+use run_base::driver::{NO_LIMIT, first_step_with};
 use spec_locks::{Access, Answer};
 use std::sync::Wait;
 use steps_rwlock::Admission;
@@ -105,10 +105,7 @@ pub fn release_exclusive<R: Wait>(
     ensures record { ReleasesFairly word.now.number admission.now Exclusive token.old token.new }
 {
     let name = &Deed::Call(CallName::UnlockExclusiveFair);
-    if !lot.may_begin(token) {
-        lot.turn_to_begin(rt, token, name, *word);
-    }
-    let seen = lot.word_again(token, *word, LEAVE_ALONE);
+    let seen = first_step_with(rt, lot, token, name, *word, LEAVE_ALONE);
     if seen != WRITER {
         rest(rt, lot, token, word, admission, HAND_OVER);
     }
@@ -172,10 +169,8 @@ pub fn bump<R: Wait>(
         → Answers ⊥ word.now.number base admission.now (Enter access Patient) result
         (stage_of token.new None) }
 {
-    if !lot.may_begin(token) {
-        lot.turn_to_begin(rt, token, bump_name(access), *word);
-    }
-    let seen = lot.word_again(token, *word, Op::Load);
+    let name = bump_name(access);
+    let seen = first_step_with(rt, lot, token, name, *word, Op::Load);
     match RwLockCallPlace::PeekQueue(access).next(*admission, Reply::Value(seen)) {
         Next::End(answer) => answer,
         Next::At(at) => rest(rt, lot, token, word, admission, &at),

@@ -25,7 +25,7 @@ ghost use Rattle.parking_lot_core.specs.declared.tokens.Token.{Token};
 ghost use Rattle.run_once_and_semaphores.specs.OnceCalls.{EndedAndWoke, EndsRun, HasLookedFirst};
 ghost use Rattle.run_once_and_semaphores.specs.Looks.{CameTo, FoundDone, came_by};
 
-use crate::once_calls::{Look, begin, begin_slow, close};
+use crate::once_calls::{Look, begin, begin_slow, call_name, close};
 use core_base::main_key;
 use core_words::laws::once_may_step;
 use parking_lot_core::{Clock, Fault, Key, Op, ParkingLot, Sort, Token, Word, WordKind};
@@ -229,15 +229,20 @@ impl Once {
         is_done(self.load(token))
     }
 
-    // Takes the step with which each call begins.
+    // Takes the step with which each call begins, in its turn where a director says when the thread
+    // runs.
     #[inline]
-    pub(crate) fn begin(&self, token: &mut Token) -> u64
+    pub(crate) fn begin<R: Wait>(&self, rt: &R, token: &mut Token, call: OnceCall) -> u64
         requires { IsTokenOf (lot_of self.now) token.old }
         ensures token { IsTokenOf (lot_of self.now) token.new }
         ensures seen { HasLookedFirst (number_of self.now) result token.old token.new }
         ensures done { is_done result ≡ true → FoundDone (number_of self.now) token.old token.new }
     {
-        begin(&self.lot, token, self.word)
+        let lot: &ParkingLot = &self.lot;
+        if !lot.may_begin(token) {
+            lot.turn_to_begin(rt, token, call_name(call), &self.word);
+        }
+        begin(lot, token, self.word)
     }
 
     // Does the rest of a call whose first step saw this, up to its end or its closure. The limit
@@ -295,11 +300,11 @@ impl Once {
             × StaysKnowing (number_of self.now) token.old token.new }
         ensures waited { Waited (number_of self.now) token.old token.new result }
     {
-        let seen = self.begin(token);
+        let call = OnceCall::Wait { forced: false };
+        let seen = self.begin(rt, token, call);
         if is_done(seen) {
             return Ok(());
         }
-        let call = OnceCall::Wait { forced: false };
         match self.go_on(rt, token, FOR_EVER, call, seen) {
             Came::Done => Ok(()),
             Came::Poisoned => Err(Fault::Poisoned),
@@ -317,11 +322,11 @@ impl Once {
         ensures path { RanNothing (number_of self.now)
             (calls.Wait true) answers.Ok token.old token.new }
     {
-        let seen = self.begin(token);
+        let call = OnceCall::Wait { forced: true };
+        let seen = self.begin(rt, token, call);
         if is_done(seen) {
             return;
         }
-        let call = OnceCall::Wait { forced: true };
         match self.go_on(rt, token, FOR_EVER, call, seen) {
             Came::Done => {}
             Came::Poisoned | Came::Late | Came::Runs(_) => unreachable!(),
@@ -348,11 +353,12 @@ impl Once {
         ensures late { IfOk result (λ done. done ≡ false → TimeIsUp C.tells limit.entry) }
         ensures poisoned { IfErr result (λ fault. fault ≡ Fault.Poisoned) }
     {
-        let seen = self.begin(token);
+        let call = OnceCall::WaitTimed;
+        let seen = self.begin(rt, token, call);
         if is_done(seen) {
             return Ok(true);
         }
-        match self.go_on(rt, token, &limit, OnceCall::WaitTimed, seen) {
+        match self.go_on(rt, token, &limit, call, seen) {
             Came::Done => Ok(true),
             Came::Late => Ok(false),
             Came::Poisoned => Err(Fault::Poisoned),
@@ -426,7 +432,7 @@ impl Once {
     ///
     /// `Refused` by `Poisoned`, where an earlier run failed. `Failed`, where its own did, by what
     /// that answered.
-    #[inline]
+    #[inline(always)]
     pub fn call_once<R: Wait, E, F: FnOnce() -> Result<(), E> + Drop>(
         &self,
         rt: &R,
@@ -440,11 +446,11 @@ impl Once {
         ensures ran { CalledOnce (number_of self.now) false
             (λ _ answer. F.post f answer) token.old token.new result }
     {
-        let seen = self.begin(token);
+        let call = OnceCall::CallOnce { forced: false };
+        let seen = self.begin(rt, token, call);
         if is_done(seen) {
             return Ok(());
         }
-        let call = OnceCall::CallOnce { forced: false };
         match self.go_on(rt, token, FOR_EVER, call, seen) {
             Came::Done => Ok(()),
             Came::Poisoned => Err(OnceFault::Refused(Fault::Poisoned)),
@@ -467,7 +473,7 @@ impl Once {
     /// # Errors
     ///
     /// `Failed`, where its own run did, by what that answered.
-    #[inline]
+    #[inline(always)]
     pub fn call_once_force<R: Wait, E, F: FnOnce(OnceState) -> Result<(), E> + Drop>(
         &self,
         rt: &R,
@@ -481,11 +487,11 @@ impl Once {
         ensures ran { CalledOnce (number_of self.now) true
             (λ state answer. F.post f state answer) token.old token.new result }
     {
-        let seen = self.begin(token);
+        let call = OnceCall::CallOnce { forced: true };
+        let seen = self.begin(rt, token, call);
         if is_done(seen) {
             return Ok(());
         }
-        let call = OnceCall::CallOnce { forced: true };
         match self.go_on(rt, token, FOR_EVER, call, seen) {
             Came::Done => Ok(()),
             Came::Poisoned | Came::Late => unreachable!(),

@@ -21,15 +21,15 @@ ghost use Rattle.run_once_and_semaphores.specs.OnceCalls.{MeetsOnce};
 
 use lot_steps::{Place, Reply, advance};
 use parking_lot_core::{CallName, Clock, Deed, Op, ParkingLot, Token, Word};
-use run_base::driver::{NO_LIMIT, Stop, answer_of, first_step_in_turn, run};
+use run_base::driver::{NO_LIMIT, Stop, answer_of, first_step_with, run};
 use run_base::words::Words;
 use spec_locks::{Answer, OnceCall, OnceState};
 use std::sync::Wait;
 use steps_base::bits::is_marked;
 use steps_once::{DONE, OncePlace, POISONED, RunAt};
 
-// Returns what a schedule names a call.
-fn call_name(call: OnceCall) -> &'static Deed {
+/// Returns what a schedule names a call.
+pub(crate) fn call_name(call: OnceCall) -> &'static Deed {
     match call {
         OnceCall::CallOnce { forced: false } => &Deed::Call(CallName::CallOnce),
         OnceCall::CallOnce { forced: true } => &Deed::Call(CallName::CallOnceForce),
@@ -66,20 +66,15 @@ pub(crate) enum Look {
     Runs(OnceState),
 }
 
-// In place of what a call's first step saw: none is taken, and the thread waits for its turn.
-const NOT_BEGUN: u64 = 1 << 63;
-
-/// Takes the step with which each call begins, as all callers make it themselves: where it sees
-/// DONE the call is over.
+/// Takes the step with which each call begins, as all callers make it themselves, of a thread that has
+/// forgotten its last section: where it sees DONE the call is over.
 #[inline]
 pub(crate) fn begin(lot: &ParkingLot, token: &mut Token, word: Word) -> u64
     requires own { MeetsOnce lot.now token.old word }
+    requires forgotten { last_of token.old ≡ None }
     ensures own { IsSameThread lot.now token.old token.new }
     ensures seen { HasLookedFirst word.number result token.old token.new }
 {
-    if !lot.may_begin(token) {
-        return NOT_BEGUN;
-    }
     lot.word_again(token, word, Op::Load)
 }
 
@@ -105,10 +100,6 @@ pub(crate) fn begin_slow<R: Wait, C: Clock>(
         → LookOwns (TimeIsUp C.tells limit.entry) word.number call result (owns_of before)
         (owns_of token.new) (last_of token.new) }
 {
-    let mut seen = seen;
-    if seen == NOT_BEGUN {
-        seen = first_step_in_turn(rt, lot, token, call_name(call), word, Op::Load);
-    }
     let first = Place::Once {
         lock: word.number(),
         at: OncePlace::first(call),
@@ -187,10 +178,7 @@ pub(crate) fn close<R: Wait>(
         (owns_of token.new) }
 {
     let op = Op::Swap(word_after(succeeded));
-    if !lot.may_begin(token) {
-        lot.turn_to_begin(rt, token, end_name(succeeded), word);
-    }
-    let seen = lot.word_again(token, word, op);
+    let seen = first_step_with(rt, lot, token, end_name(succeeded), word, op);
     if is_marked(seen) {
         wake(rt, lot, token, word, forced, succeeded);
     }

@@ -307,11 +307,11 @@ impl Once {
         ensures value { IfOk result (λ shown. F.post f (Ok shown.value)
             ⊎ RanNothing (number_of self.now) (CallOnce true) answers.Ok token.old token.new) }
     {
-        let seen = self.begin(token);
+        let call = OnceCall::CallOnce { forced: true };
+        let seen = self.begin(rt, token, call);
         if is_done(seen) {
             return Ok(shown_when_done(rt, value));
         }
-        let call = OnceCall::CallOnce { forced: true };
         match self.go_on(rt, token, FOR_EVER, call, seen) {
             Came::Done => Ok(shown_when_done(rt, value)),
             Came::Runs(_) => self.fill(rt, token, value, f),

@@ -27,7 +27,9 @@ ghost use Rattle.run_base.specs.Telling.{owns_of, steps_of};
 ghost use Rattle.run_once_and_semaphores.specs.SemaphoreCalls.{HasGone, HasReleased, HasAcquired, HasWalkedSemaphore};
 ghost use Rattle.run_once_and_semaphores.specs.SemaphoreCalls.{StaysAs, permit_answer, deciding, try_place};
 
-use crate::semaphore_calls::{acquire_slow, give, give_all, look, take, try_slow, wake_first};
+use crate::semaphore_calls::{
+    acquire_name, acquire_slow, give, give_all, look, look_in_turn, take, try_slow, wake_first,
+};
 use core_base::main_key;
 use parking_lot_core::{CallName, Clock, Deed, Fault, Held, Key, ParkingLot, Token, Want, Word};
 use run_base::driver::FOR_EVER;
@@ -58,15 +60,6 @@ impl Drop for Semaphore {
             word: _word,
             permits: _permits,
         } = self;
-    }
-}
-
-// Returns what a schedule names a call that waits for a permit.
-fn acquire_name(timed: bool) -> &'static Deed {
-    if timed {
-        &Deed::Call(CallName::AcquireTimed)
-    } else {
-        &Deed::Call(CallName::Acquire)
     }
 }
 
@@ -176,7 +169,8 @@ impl Semaphore {
     {
         let lot: &ParkingLot = &self.lot;
         if !lot.may_begin(token) {
-            lot.turn_to_begin(rt, token, acquire_name(timed), self.word);
+            let seen = look_in_turn(rt, lot, token, acquire_name(timed), &self.word);
+            return self.wait_after(rt, token, limit, timed, seen);
         }
         let seen = look(lot, token, self.word);
         if free_permits(seen) == 0 {
@@ -242,7 +236,12 @@ impl Semaphore {
     {
         let lot: &ParkingLot = &self.lot;
         if !lot.may_begin(token) {
-            lot.turn_to_begin(rt, token, &Deed::Call(CallName::TryAcquire), self.word);
+            let name = &Deed::Call(CallName::TryAcquire);
+            let seen = look_in_turn(rt, lot, token, name, &self.word);
+            if free_permits(seen) == 0 {
+                return None;
+            }
+            return self.retry(rt, token, seen);
         }
         let seen = look(lot, token, self.word);
         if free_permits(seen) == 0 {
@@ -331,7 +330,7 @@ impl<'a> Permit<'a> {
         let lot: &ParkingLot = &semaphore.lot;
         lot.join_held(token, semaphore.word, Want::Shared, held);
         if !lot.may_begin(token) {
-            lot.turn_to_begin(rt, token, &Deed::Call(CallName::Release), semaphore.word);
+            lot.turn_to_begin(rt, token, &Deed::Call(CallName::Release), &semaphore.word);
         }
         let seen = give(lot, token, semaphore.word);
         if has_parked(seen) {

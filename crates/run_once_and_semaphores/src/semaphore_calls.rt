@@ -24,11 +24,20 @@ ghost use Rattle.run_once_and_semaphores.specs.SemaphoreCalls.{deciding, try_pla
 use core_words::laws::{semaphore_may_step, semaphore_trades};
 use lot_steps::Place;
 use parking_lot_core::{CallName, Clock, Deed, Op, ParkingLot, Token, Word};
-use run_base::driver::{NO_LIMIT, Stop, run};
+use run_base::driver::{NO_LIMIT, Stop, first_step_in_turn, run};
 use run_base::words::Words;
 use spec_locks::Answer;
 use std::sync::Wait;
 use steps_semaphore::{AcquireAt, ReleaseAt, SemaphorePlace, TryAt};
+
+/// Returns what a schedule names a call that waits for a permit.
+pub(crate) fn acquire_name(timed: bool) -> &'static Deed {
+    if timed {
+        &Deed::Call(CallName::AcquireTimed)
+    } else {
+        &Deed::Call(CallName::Acquire)
+    }
+}
 
 /// Takes one load of the word, with which each call begins that wants a permit.
 #[inline(always)]
@@ -40,6 +49,25 @@ pub(crate) fn look(lot: &ParkingLot, token: &mut Token, word: Word) -> u64
 {
     semaphore_may_step();
     lot.word_again(token, word, Op::Load)
+}
+
+/// Takes that load once the thread has its turn for it.
+#[cold]
+#[inline(never)]
+pub(crate) fn look_in_turn<R: Wait>(
+    rt: &R,
+    lot: &ParkingLot,
+    token: &mut Token,
+    deed: &'static Deed,
+    word: &Word,
+) -> u64
+    requires own { MeetsSemaphore lot.now token.old word.now }
+    requires forgotten { last_of token.old ≡ None }
+    ensures own { IsSameThread lot.now token.old token.new }
+    ensures looked { HasLooked word.now.number result token.old token.new }
+{
+    semaphore_may_step();
+    first_step_in_turn(rt, lot, token, deed, *word, Op::Load)
 }
 
 /// Makes the exchange that takes a permit, after a look that saw one free. Returns what it found:

@@ -13,11 +13,11 @@ use Rattle.run_locks.proofs.rwlock_fair_calls.bump.Goals as goal
 
 pub rest-requires-clause-fits : goal.rest-requires-clause-fits
 rest-requires-clause-fits g c = let l = c.args.word.now.number in let a = c.args.admission.now in let seen =
-    c.first_step-seen.result in let step = c.first_step-seen.ensures in
-    let old = stage_of c.args.token.now None in let mid = stage_of c.first_step-seen.new.token None in
-    let goes : glance_next a c.args.access c.first_step-seen.result ≡ At c.in-At.at = sym c.next.ensures
+    c.first_step_with-seen.result in let step = c.first_step_with-seen.ensures in
+    let old = stage_of c.args.token.now None in let mid = stage_of c.first_step_with-seen.new.token None in
+    let goes : glance_next a c.args.access c.first_step_with-seen.result ≡ At c.in-At.at = sym c.next.ensures
     ∙ c.in-At.is in
-    let taken = has_taken c.args.word.now c.requires.own.2 Load seen c.args.token.now c.first_step-seen.new.token
+    let taken = has_taken c.args.word.now c.requires.own.2 Load seen c.args.token.now c.first_step_with-seen.new.token
     step.stepped step.own.1 step.coded in
     let here = subst (λ (n : Next RwLockCallPlace). Glanced l a c.args.access c.requires.right.0 old mid seen
     refl c.requires.own.4 taken c.requires.right.1 n) goes
@@ -27,21 +27,21 @@ rest-requires-clause-fits g c = let l = c.args.word.now.number in let a = c.args
 
 pub returns-in-End-clause-path : goal.returns-in-End-clause-path
 returns-in-End-clause-path g c =
-    let ends : glance_next c.args.admission.now c.args.access c.first_step-seen.result ≡ End c.in-End.answer =
+    let ends : glance_next c.args.admission.now c.args.access c.first_step_with-seen.result ≡ End c.in-End.answer =
     sym c.next.ensures ∙ c.in-End.is in
-    let saw = saw_step c.args.word.now c.requires.own.2 Load c.first_step-seen.result c.args.token.now
-    c.first_step-seen.new.token c.first_step-seen.ensures.stepped in
-    bump_ends c.args.word.now.number c.args.admission.now c.args.access c.first_step-seen.result c.args.token.now
-    c.first_step-seen.new.token saw c.first_step-seen.ensures.untold
+    let saw = saw_step c.args.word.now c.requires.own.2 Load c.first_step_with-seen.result c.args.token.now
+    c.first_step_with-seen.new.token c.first_step_with-seen.ensures.stepped in
+    bump_ends c.args.word.now.number c.args.admission.now c.args.access c.first_step_with-seen.result c.args.token.now
+    c.first_step_with-seen.new.token saw c.first_step_with-seen.ensures.untold
     c.in-End.answer ends
 
 pub returns-in-End-clause-over : goal.returns-in-End-clause-over
 returns-in-End-clause-over g c = λ (base : List Ownership) right. let l = c.args.word.now.number in let a =
-    c.args.admission.now in let seen = c.first_step-seen.result in let step = c.first_step-seen.ensures in
-    let old = stage_of c.args.token.now None in let mid = stage_of c.first_step-seen.new.token None in
-    let ends : glance_next a c.args.access c.first_step-seen.result ≡ End c.in-End.answer = sym c.next.ensures
+    c.args.admission.now in let seen = c.first_step_with-seen.result in let step = c.first_step_with-seen.ensures in
+    let old = stage_of c.args.token.now None in let mid = stage_of c.first_step_with-seen.new.token None in
+    let ends : glance_next a c.args.access c.first_step_with-seen.result ≡ End c.in-End.answer = sym c.next.ensures
     ∙ c.in-End.is in
-    let taken = has_taken c.args.word.now c.requires.own.2 Load seen c.args.token.now c.first_step-seen.new.token
+    let taken = has_taken c.args.word.now c.requires.own.2 Load seen c.args.token.now c.first_step_with-seen.new.token
     step.stepped step.own.1 step.coded in
     let here = subst (λ (n : Next RwLockCallPlace). Glanced l a c.args.access base old mid seen refl
     c.requires.own.4 taken right n) ends
@@ -50,21 +50,21 @@ returns-in-End-clause-over g c = λ (base : List Ownership) right. let l = c.arg
 
 pub returns-in-At-clause-path : goal.returns-in-At-clause-path
 returns-in-At-clause-path g c =
-    let goes : glance_next c.args.admission.now c.args.access c.first_step-seen.result ≡ At c.in-At.at =
+    let goes : glance_next c.args.admission.now c.args.access c.first_step_with-seen.result ≡ At c.in-At.at =
     sym c.next.ensures ∙ c.in-At.is in
-    let saw = saw_step c.args.word.now c.requires.own.2 Load c.first_step-seen.result c.args.token.now
-    c.first_step-seen.new.token c.first_step-seen.ensures.stepped in
-    bump_goes_on c.args.word.now.number c.args.admission.now c.args.access c.first_step-seen.result c.args.token.now
-    c.first_step-seen.new.token saw c.first_step-seen.ensures.untold
-    c.rest.result c.rest.new.token c.in-At.at c.first_step-seen.ensures.own.0.1 goes c.rest.ensures.path
+    let saw = saw_step c.args.word.now c.requires.own.2 Load c.first_step_with-seen.result c.args.token.now
+    c.first_step_with-seen.new.token c.first_step_with-seen.ensures.stepped in
+    bump_goes_on c.args.word.now.number c.args.admission.now c.args.access c.first_step_with-seen.result c.args.token.now
+    c.first_step_with-seen.new.token saw c.first_step_with-seen.ensures.untold
+    c.rest.result c.rest.new.token c.in-At.at c.first_step_with-seen.ensures.own.0.1 goes c.rest.ensures.path
 
 pub returns-in-At-clause-over : goal.returns-in-At-clause-over
 returns-in-At-clause-over g c = λ (base : List Ownership) right. let l = c.args.word.now.number in let a =
-    c.args.admission.now in let seen = c.first_step-seen.result in let step = c.first_step-seen.ensures in
-    let old = stage_of c.args.token.now None in let mid = stage_of c.first_step-seen.new.token None in
-    let goes : glance_next a c.args.access c.first_step-seen.result ≡ At c.in-At.at = sym c.next.ensures
+    c.args.admission.now in let seen = c.first_step_with-seen.result in let step = c.first_step_with-seen.ensures in
+    let old = stage_of c.args.token.now None in let mid = stage_of c.first_step_with-seen.new.token None in
+    let goes : glance_next a c.args.access c.first_step_with-seen.result ≡ At c.in-At.at = sym c.next.ensures
     ∙ c.in-At.is in
-    let taken = has_taken c.args.word.now c.requires.own.2 Load seen c.args.token.now c.first_step-seen.new.token
+    let taken = has_taken c.args.word.now c.requires.own.2 Load seen c.args.token.now c.first_step_with-seen.new.token
     step.stepped step.own.1 step.coded in
     let here = subst (λ (n : Next RwLockCallPlace). Glanced l a c.args.access base old mid seen refl
     c.requires.own.4 taken right n) goes
@@ -74,7 +74,7 @@ returns-in-At-clause-over g c = λ (base : List Ownership) right. let l = c.args
 
 pub rest-requires-clause-unqueued : goal.rest-requires-clause-unqueued
 rest-requires-clause-unqueued g c = let a = c.args.admission.now in
-    let goes : glance_next a c.args.access c.first_step-seen.result ≡ At c.in-At.at = sym c.next.ensures
+    let goes : glance_next a c.args.access c.first_step_with-seen.result ≡ At c.in-At.at = sym c.next.ensures
     ∙ c.in-At.is in
     subst (λ (n : Next RwLockCallPlace). after (call_queued c.args.admission.now) n ≡ false) goes
-    (glance_off a c.args.access (gives_way a c.args.access c.first_step-seen.result))
+    (glance_off a c.args.access (gives_way a c.args.access c.first_step_with-seen.result))

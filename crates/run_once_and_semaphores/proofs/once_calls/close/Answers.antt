@@ -25,8 +25,8 @@ use Rattle.run_once_and_semaphores.specs.OnceCalls.{WokeIfMarked}
 use Rattle.run_once_and_semaphores.proofs.OnceCalling.{closes_at_once, closes_on, runs_found, swapped, word_left}
 use Rattle.run_once_and_semaphores.proofs.once_calls.close.Goals as goal
 
-pub first_step-seen-requires-clause-may : goal.first_step-seen-requires-clause-may
-first_step-seen-requires-clause-may g c = let n = c.args.word.number in
+pub first_step_with-seen-requires-clause-may : goal.first_step_with-seen-requires-clause-may
+first_step_with-seen-requires-clause-may g c = let n = c.args.word.number in
     subst (λ (kind : WordKind). MayStep kind (word_index c.args.word.number kind) (Swap c.word_after.result)
     (owns_of c.args.token.now)) (sym c.requires.own.2)
     (subst (λ (left : ℕ). MayStep Once (once_at c.args.word.number) (Swap left) (owns_of c.args.token.now))
@@ -48,7 +48,7 @@ afterwards n s seen left kind owns new once same coded runs is = let code =
     (swapped n s owns seen code.1.0 (runs_found n seen owns code runs))
 
 pub wake-requires-clause-owns : goal.wake-requires-clause-owns
-wake-requires-clause-owns g c = let n = c.args.word.number in let w = c.first_step-seen in let owns =
+wake-requires-clause-owns g c = let n = c.args.word.number in let w = c.first_step_with-seen in let owns =
     owns_of c.args.token.now in (
       without (owning (once_at n) Runner) owns,
       afterwards n c.args.succeeded w.result c.word_after.result c.args.word.kind owns (owns_of w.new.token)
@@ -66,9 +66,9 @@ added n seen left s kind old new once same is = is
 
 pub returns-then-is_marked-clause-path : goal.returns-then-is_marked-clause-path
 returns-then-is_marked-clause-path g c = let n = c.args.word.number in let s = c.args.succeeded in let w =
-    c.first_step-seen in let owns = owns_of c.args.token.now in let old = steps_of c.args.token.now in let mid =
-    steps_of c.first_step-seen.new.token in
-    let marked : is_marked c.first_step-seen.result ≡ true = search rules in
+    c.first_step_with-seen in let owns = owns_of c.args.token.now in let old = steps_of c.args.token.now in let mid =
+    steps_of c.first_step_with-seen.new.token in
+    let marked : is_marked c.first_step_with-seen.result ≡ true = search rules in
     let over = c.wake.ensures.over (without (owning (once_at n) Runner) owns)
     (afterwards n s w.result c.word_after.result c.args.word.kind owns (owns_of w.new.token) c.requires.own.2
     c.word_after.ensures w.ensures.coded c.requires.runs (ap (λ (v : View). v.owns) w.ensures.stepped))
@@ -78,14 +78,14 @@ returns-then-is_marked-clause-path g c = let n = c.args.word.number in let s = c
     (one_more _ _ _ _ _ (added n w.result c.word_after.result s c.args.word.kind old mid c.requires.own.2
     c.word_after.ensures (ap (λ (v : View). v.steps) w.ensures.stepped)) w.ensures.untold) over.1
     (subst (λ (me : ℕ). Courses (at_once c.args.word.number) me (place.Once c.args.word.number
-    (Run c.args.forced (run.Enter c.args.succeeded))) (trail_of c.first_step-seen.new.token None)
+    (Run c.args.forced (run.Enter c.args.succeeded))) (trail_of c.first_step_with-seen.new.token None)
     (trail_of c.wake.new.token None) c.wake.result) w.ensures.own.0.1 c.wake.ensures.path)
 
 pub returns-then-is_marked-clause-closed : goal.returns-then-is_marked-clause-closed
 returns-then-is_marked-clause-closed g c = let n = c.args.word.number in let s = c.args.succeeded in let w =
-    c.first_step-seen in let owns = owns_of c.args.token.now in let old = steps_of c.args.token.now in let mid =
-    steps_of c.first_step-seen.new.token in
-    let marked : is_marked c.first_step-seen.result ≡ true = search rules in let path = c.wake.ensures.path in
+    c.first_step_with-seen in let owns = owns_of c.args.token.now in let old = steps_of c.args.token.now in let mid =
+    steps_of c.first_step_with-seen.new.token in
+    let marked : is_marked c.first_step_with-seen.result ≡ true = search rules in let path = c.wake.ensures.path in
     let over = c.wake.ensures.over (without (owning (once_at n) Runner) owns)
     (afterwards n s w.result c.word_after.result c.args.word.kind owns (owns_of w.new.token) c.requires.own.2
     c.word_after.ensures w.ensures.coded c.requires.runs (ap (λ (v : View). v.owns) w.ensures.stepped))
@@ -101,7 +101,7 @@ returns-then-is_marked-clause-closed g c = let n = c.args.word.number in let s =
 
 pub returns-then-is_marked-clause-owns : goal.returns-then-is_marked-clause-owns
 returns-then-is_marked-clause-owns g c = let n = c.args.word.number in let s = c.args.succeeded in let w =
-    c.first_step-seen in let owns = owns_of c.args.token.now in
+    c.first_step_with-seen in let owns = owns_of c.args.token.now in
     (c.wake.ensures.over (without (owning (once_at n) Runner) owns) (afterwards n s w.result
     c.word_after.result
     c.args.word.kind owns (owns_of w.new.token) c.requires.own.2 c.word_after.ensures w.ensures.coded
@@ -109,15 +109,15 @@ returns-then-is_marked-clause-owns g c = let n = c.args.word.number in let s = c
 
 pub returns-else-is_marked-clause-path : goal.returns-else-is_marked-clause-path
 returns-else-is_marked-clause-path g c = let n = c.args.word.number in let s = c.args.succeeded in let w =
-    c.first_step-seen in let old = steps_of c.args.token.now in let mid = steps_of c.first_step-seen.new.token in
-    let unmarked : is_marked c.first_step-seen.result ≡ false = search rules in
+    c.first_step_with-seen in let old = steps_of c.args.token.now in let mid = steps_of c.first_step_with-seen.new.token in
+    let unmarked : is_marked c.first_step_with-seen.result ≡ false = search rules in
     closes_at_once n c.args.forced s w.result c.args.token.now.number (trail_of c.args.token.now None)
     (trail_of w.new.token None) unmarked
     (one_more _ _ _ _ _ (added n w.result c.word_after.result s c.args.word.kind old mid c.requires.own.2
     c.word_after.ensures (ap (λ (v : View). v.steps) w.ensures.stepped)) w.ensures.untold)
 
 pub returns-else-is_marked-clause-owns : goal.returns-else-is_marked-clause-owns
-returns-else-is_marked-clause-owns g c = let n = c.args.word.number in let w = c.first_step-seen in let owns =
+returns-else-is_marked-clause-owns g c = let n = c.args.word.number in let w = c.first_step_with-seen in let owns =
     owns_of c.args.token.now in
     afterwards n c.args.succeeded w.result c.word_after.result c.args.word.kind owns (owns_of w.new.token)
     c.requires.own.2 c.word_after.ensures w.ensures.coded c.requires.runs
