@@ -12,7 +12,7 @@ pub enum Policy {
     RoundRobin { turns: u64 },
     /// The one that the script names by its place among the candidates, and after its end the first.
     /// A thread that could go on is the first candidate, and others are candidates only as long as
-    /// fewer than so many threads were interrupted.
+    /// fewer than so many threads were interrupted. A thread that gives way to others is none.
     Exhaustive { preemptions: u64 },
     /// The one that the script names by its number. After its end, the thread that could go on.
     Replay,
