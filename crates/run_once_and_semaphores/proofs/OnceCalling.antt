@@ -32,7 +32,8 @@ use Rattle.core_words.specs.Views.{owned, owning}
 use Rattle.core_words.specs.declared.owners.Owner.TheVariants.{Runner}
 use Rattle.core_words.specs.declared.owners.Ownership.{Ownership}
 use Rattle.core_words.specs.declared.views.WordStep.{WordStep}
-use Rattle.parking_lot_core.specs.Tokens.{told_of}
+use Rattle.core_words.specs.declared.views.View.{View}
+use Rattle.parking_lot_core.specs.Tokens.{told_of, view_of}
 use Rattle.parking_lot_core.specs.declared.tokens.Token.{Token}
 use Rattle.core_words.specs.declared.words.Word.{Word}
 use Rattle.core_words.specs.declared.words.WordKind as kinds
@@ -42,7 +43,7 @@ use Rattle.run_base.specs.OnceFitting.{LooksAnswer, OwnsAfter, OwnsRun}
 use Rattle.run_base.specs.Courses.{ComesBy, Course as Way, Courses, Trail, recorded_all, trail_of}
 use Rattle.run_base.specs.Paths.{at_once, once_at, onces, step}
 use Rattle.run_base.specs.Telling.{steps_of}
-use Rattle.run_base.specs.Stages.{ThreadState, stage}
+use Rattle.run_base.specs.Stages.{ThreadState, stage, stage_of}
 use Rattle.run_base.specs.Words.{single_word, at_in, kind_in}
 use Rattle.run_base.specs.declared.driver.Stop.TheVariants.{Paused}
 use Rattle.core_words.proofs.OnceSteps.{each_once_code}
@@ -52,7 +53,7 @@ use Rattle.run_base.proofs.Courses.{begins, comes_after, courses_after, goes_on,
 use Rattle.run_base.proofs.Courses.{steps_first}
 use Rattle.run_base.proofs.RwLockLeading.{rwlock_no_closure}
 use Rattle.run_base.proofs.SemaphoreLeading.{semaphore_no_closure}
-use Rattle.run_once_and_semaphores.specs.OnceCalls.{StepsLeadTo, EndsRun, in_closure, once_begin, run_end}
+use Rattle.run_once_and_semaphores.specs.OnceCalls.{EndsRun, HasLookedFirst, StepsLeadTo, in_closure, once_begin, run_end}
 use Rattle.run_once_and_semaphores.specs.Ran.{RanNothing}
 
 -- a look runs no closure
@@ -280,4 +281,15 @@ comes_by at n me p p2 q q2 old new is e f c = (
   c.1,
   subst (λ (r : Place). Way (at_once n) me p2 c.0 r) f
       (subst (λ (r : Place). Way (at_once n) me r c.0 q) e (subst (λ (w : ℕ → ℕ). Way w me p c.0 q) is c.2)),
+)
+
+-- a first look of a thread that has done nothing since is one since then
+pub looked_since : (n seen : ℕ) (old mid new : Token) → mid.number ≡ old.number → view_of mid ≡ view_of old
+    → told_of mid ≡ told_of old → HasLookedFirst n seen mid new → HasLookedFirst n seen old new
+looked_since n seen old mid new number view told saw = (
+  saw.0 ∙ number,
+  saw.1 ∙ ap (λ (v : View). v.steps ++ step (once_at n) Load seen) view,
+  (λ (call : OnceCall). subst (λ (v : View). Reached ⊥ v.owns (once_begin n call) (Value seen)
+      (stage_of new None)) view (saw.2 call)),
+  saw.3 ∙ told,
 )

@@ -28,14 +28,16 @@ use Rattle.core_words.specs.Indices.{word_index}
 use Rattle.core_words.specs.declared.words.Word.{Word}
 use Rattle.core_words.specs.declared.words.WordKind as kinds
 use Rattle.run_base.specs.Fitting.{AreWordsFor}
+use Rattle.core_words.specs.declared.views.View.{View}
+use Rattle.parking_lot_core.specs.Tokens.{told_of, view_of}
 use Rattle.parking_lot_core.specs.declared.tokens.Token.{Token}
 use Rattle.run_base.specs.Courses.{ComesBy, Courses, Trail, recorded_all, trail_of}
-use Rattle.run_base.specs.Paths.{at_semaphore, semaphore_at}
+use Rattle.run_base.specs.Paths.{at_semaphore, semaphore_at, step}
 use Rattle.run_base.specs.Words.{single_word, at_in, kind_in}
 use Rattle.run_base.proofs.Unqueued.{unqueued_semaphore}
 use Rattle.run_base.proofs.Courses.{arrives, begins, courses_on, goes_on, one, over_at_once}
 use Rattle.run_base.proofs.Courses.{steps_first}
-use Rattle.run_once_and_semaphores.specs.SemaphoreCalls.{HasGone, IsSemaphore, deciding, semaphore_begin, try_place}
+use Rattle.run_once_and_semaphores.specs.SemaphoreCalls.{HasGone, HasLooked, IsSemaphore, deciding, semaphore_begin, try_place}
 use Rattle.run_once_and_semaphores.specs.SemaphoreCalls.{waiting, waking}
 
 -- the word of a semaphore stands where that of any semaphore of its number does
@@ -243,3 +245,13 @@ module _ (n seen : ℕ) (me : ℕ) (old mid new : Trail) where
       (sym (ap (λ (b : Bool). semaphore_goes n (in_release (if b then At release.Enter else End answers.Ok)))
       parked)))
       rest
+
+-- a look of a thread that has done nothing since is one since then
+pub looked_since : (n seen : ℕ) (old mid new : Token) → mid.number ≡ old.number → view_of mid ≡ view_of old
+    → told_of mid ≡ told_of old → HasLooked n seen mid new → HasLooked n seen old new
+looked_since n seen old mid new number view told by = (
+  (by.0.0 ∙ number, by.0.1 ∙ ap (λ (v : View). v.owns) view),
+  by.1,
+  by.2 ∙ ap (λ (v : View). v.steps ++ step (semaphore_at n) Load seen) view,
+  by.3 ∙ told,
+)

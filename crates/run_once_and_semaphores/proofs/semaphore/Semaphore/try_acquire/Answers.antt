@@ -5,19 +5,23 @@ use Rattle.steps_semaphore.specs.SemaphoreSteps.{is_free}
 use Rattle.run_base.specs.Courses.{trail_of}
 use Rattle.run_base.proofs.Courses.{one_more}
 use Rattle.run_once_and_semaphores.specs.SemaphoreCalls.{permit_answer, try_place}
-use Rattle.run_once_and_semaphores.proofs.SemaphoreCalling.{by_same, misses_all, sees_none, tries_on, tries_well}
+use Rattle.run_once_and_semaphores.proofs.SemaphoreCalling.{by_same, looked_since, misses_all, sees_none, tries_on, tries_well}
 use Rattle.run_once_and_semaphores.proofs.semaphore.Semaphore.try_acquire.Goals as goal
 
 pub returns-then-free_permits-eq0-clause-path : goal.returns-then-free_permits-eq0-clause-path
 returns-then-free_permits-eq0-clause-path g c = let n = c.args.self.now.word.number in let old =
-    c.args.token.now in let mid = c.look-seen.new.token in let looked = c.look-seen.ensures.looked in
+    c.args.token.now in let mid = c.look-seen.new.token in let looked = looked_since n
+    c.look-seen.result old c.may_begin.new.token mid c.may_begin.ensures.own.0.1 c.may_begin.ensures.view
+    c.may_begin.ensures.untold c.look-seen.ensures.looked in
     let none : is_free c.look-seen.result ≡ false = search rules in
     sees_none n c.look-seen.result 0 old.number (trail_of old None) (trail_of mid None) (trail_of mid None)
     none (one_more _ _ _ _ _ looked.2 looked.3)
 
 pub returns-then-found-seen-clause-path : goal.returns-then-found-seen-clause-path
 returns-then-found-seen-clause-path g c = let n = c.args.self.now.word.number in let old = c.args.token.now
-    in let mid = c.look-seen.new.token in let looked = c.look-seen.ensures.looked in let found =
+    in let mid = c.look-seen.new.token in let looked = looked_since n
+    c.look-seen.result old c.may_begin.new.token mid c.may_begin.ensures.own.0.1 c.may_begin.ensures.view
+    c.may_begin.ensures.untold c.look-seen.ensures.looked in let found =
     c.take-found.ensures.found in
     let free : is_free c.look-seen.result ≡ true = search rules in
     let same : c.take-found.result ≡ c.look-seen.result = search rules in
@@ -28,7 +32,9 @@ returns-then-found-seen-clause-path g c = let n = c.args.self.now.word.number in
 
 pub returns-then-free_permits-eq0-2-clause-path : goal.returns-then-free_permits-eq0-2-clause-path
 returns-then-free_permits-eq0-2-clause-path g c = let n = c.args.self.now.word.number in let old =
-    c.args.token.now in let mid = c.look-seen.new.token in let looked = c.look-seen.ensures.looked
+    c.args.token.now in let mid = c.look-seen.new.token in let looked = looked_since n
+    c.look-seen.result old c.may_begin.new.token mid c.may_begin.ensures.own.0.1 c.may_begin.ensures.view
+    c.may_begin.ensures.untold c.look-seen.ensures.looked
     in let found = c.take-found.ensures.found in
     let free : is_free c.look-seen.result ≡ true = search rules in
     let none : is_free c.take-found.result ≡ false = search rules in
@@ -39,7 +45,9 @@ returns-then-free_permits-eq0-2-clause-path g c = let n = c.args.self.now.word.n
 
 pub returns-clause-path : goal.returns-clause-path
 returns-clause-path g c = let n = c.args.self.now.word.number in let old = c.args.token.now in let mid =
-    c.look-seen.new.token in let new = c.take-found.new.token in let looked = c.look-seen.ensures.looked
+    c.look-seen.new.token in let new = c.take-found.new.token in let looked = looked_since n
+    c.look-seen.result old c.may_begin.new.token mid c.may_begin.ensures.own.0.1 c.may_begin.ensures.view
+    c.may_begin.ensures.untold c.look-seen.ensures.looked
     in let found = c.take-found.ensures.found in
     let free : is_free c.look-seen.result ≡ true = search rules in
     let more : is_free c.take-found.result ≡ true = search rules in

@@ -4,12 +4,14 @@ use Rattle.steps_semaphore.specs.SemaphoreSteps.{acquired, is_free}
 use Rattle.run_base.specs.Courses.{trail_of}
 use Rattle.run_base.proofs.Courses.{one_more}
 use Rattle.run_once_and_semaphores.specs.SemaphoreCalls.{deciding, permit_answer}
-use Rattle.run_once_and_semaphores.proofs.SemaphoreCalling.{by_same, misses, takes, waits_on}
+use Rattle.run_once_and_semaphores.proofs.SemaphoreCalling.{by_same, looked_since, misses, takes, waits_on}
 use Rattle.run_once_and_semaphores.proofs.semaphore.Semaphore.wait.Goals as goal
 
 pub returns-then-free_permits-eq0-clause-path : goal.returns-then-free_permits-eq0-clause-path
 returns-then-free_permits-eq0-clause-path g c = let n = c.args.self.now.word.number in let old =
-    c.args.token.now in let mid = c.look-seen.new.token in let looked = c.look-seen.ensures.looked in
+    c.args.token.now in let mid = c.look-seen.new.token in let looked = looked_since n
+    c.look-seen.result old c.may_begin.new.token mid c.may_begin.ensures.own.0.1 c.may_begin.ensures.view
+    c.may_begin.ensures.untold c.look-seen.ensures.looked in
     let answer = permit_answer (acquired c.args.timed) c.wait_after.result in
     waits_on n c.args.timed c.look-seen.result 0 old.number (trail_of old None) (trail_of mid None)
     (trail_of c.wait_after.new.token None) answer (one_more _ _ _ _ _ looked.2 looked.3)
@@ -18,7 +20,9 @@ returns-then-free_permits-eq0-clause-path g c = let n = c.args.self.now.word.num
 
 pub returns-then-found-seen-clause-path : goal.returns-then-found-seen-clause-path
 returns-then-found-seen-clause-path g c = let n = c.args.self.now.word.number in let old = c.args.token.now
-    in let mid = c.look-seen.new.token in let looked = c.look-seen.ensures.looked in let found =
+    in let mid = c.look-seen.new.token in let looked = looked_since n
+    c.look-seen.result old c.may_begin.new.token mid c.may_begin.ensures.own.0.1 c.may_begin.ensures.view
+    c.may_begin.ensures.untold c.look-seen.ensures.looked in let found =
     c.take-found.ensures.found in
     let free : is_free c.look-seen.result ≡ true = search rules in
     let same : c.take-found.result ≡ c.look-seen.result = search rules in
@@ -29,7 +33,9 @@ returns-then-found-seen-clause-path g c = let n = c.args.self.now.word.number in
 
 pub returns-clause-path : goal.returns-clause-path
 returns-clause-path g c = let n = c.args.self.now.word.number in let old = c.args.token.now in let mid =
-    c.look-seen.new.token in let new = c.take-found.new.token in let looked = c.look-seen.ensures.looked
+    c.look-seen.new.token in let new = c.take-found.new.token in let looked = looked_since n
+    c.look-seen.result old c.may_begin.new.token mid c.may_begin.ensures.own.0.1 c.may_begin.ensures.view
+    c.may_begin.ensures.untold c.look-seen.ensures.looked
     in let found = c.take-found.ensures.found in
     let free : is_free c.look-seen.result ≡ true = search rules in
     let other : c.take-found.result ≢ c.look-seen.result = search rules in
