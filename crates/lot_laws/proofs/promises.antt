@@ -5,6 +5,8 @@ pub mod Debtors
 pub mod ExclusiveOwners
 pub mod LineActs
 pub mod PlaceSteps
+pub mod Heeds
+pub mod OnItsWay
 pub mod PromisesKept
 pub mod Fair
 pub mod OwingStays

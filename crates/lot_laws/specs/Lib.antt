@@ -1,4 +1,5 @@
 pub mod Refinement
+pub mod OnItsWay
 pub mod Promises
 pub mod MutexPromises
 pub mod Fair

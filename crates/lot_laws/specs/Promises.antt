@@ -29,6 +29,7 @@ use Rattle.spec_locks.specs.declared.calls.Patience.TheVariants.{Try}
 use Rattle.lot_laws.specs.Refinement.{RunsClosure, lock_state, locks_of, call_at}
 use Rattle.lot_laws.specs.Locations.{role_on}
 use Rattle.lot_laws.specs.SitesOf.{rules_in, key_of}
+use Rattle.lot_laws.specs.OnItsWay.{HeedsItsTime, IsOnItsWay}
 use Rattle.lot_laws.specs.Owing.{Owes, IsInside, IsWait, LetsOthersIn, sort_at}
 
 -- a thread stands in the queue of a lock
@@ -268,3 +269,7 @@ pub record IsKept (w : State) : Type 0 where
   pub shows : (l : ℕ) → sort_at w l ≡ locks.Condvar → ShowsWaiters (locks_of w) l
   -- a wait that sleeps has released its mutex
   pub let_go : (t : ℕ) → LetsGo (locks_of w) t
+  -- A thread in a call owns what it owned as the call began, or what the call trades that for.
+  pub on_its_way : (t : ℕ) → IsOnItsWay (call_at w t).purpose (locks_of w) t (call_at w t)
+  -- a thread whose time was up gives up before it sleeps again
+  pub heeds : (t : ℕ) → HeedsItsTime (locks_of w) t

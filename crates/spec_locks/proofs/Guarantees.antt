@@ -47,7 +47,12 @@ use Rattle.spec_locks.proofs.Firsts.{first_taken}
 use Rattle.spec_locks.proofs.Leaving.{leaves}
 use Rattle.spec_locks.proofs.Recalling.{answer_recalls, recalls_truly}
 use Rattle.spec_locks.proofs.RightsChange.{rights_change}
-use Rattle.spec_locks.proofs.OnceRuns.{closes, starts, stays_done}
+use Rattle.spec_locks.proofs.OnceRuns.{closes, starts}
+use Rattle.spec_locks.proofs.Joining.{joins}
+use Rattle.spec_locks.proofs.Moved.{answer_tells, step_tells}
+use Rattle.spec_locks.proofs.MovedInOrder.{in_order}
+use Rattle.spec_locks.proofs.Pending.{pends_on}
+use Rattle.spec_locks.proofs.Phases.{phase_changes}
 use Rattle.spec_locks.proofs.UserLaws.{readers_stay_out}
 use Rattle.spec_locks.proofs.NobodyWakes.{nobody_wakes}
 
@@ -241,12 +246,14 @@ made_of w t l case o p e may = (subst (MayDo w t l case) e may).0
 
 module _ (w v : LocksState) (t : ℕ) where
   recalled : (c : CallState) → c.purpose ≡ (w.calls t).purpose → c.former ≡ (w.calls t).former
-      → c.gave_up ≡ (w.calls t).gave_up → c.recalls ≡ (w.calls t).recalls → Recalls w t c
-  recalled c e f g h = record {
+      → c.gave_up ≡ (w.calls t).gave_up → c.recalls ≡ (w.calls t).recalls
+      → ((w.calls t).released ≡ true → c.released ≡ true) → Recalls w t c
+  recalled c e f g h i = record {
     purpose = e;
     former = f;
     gave_up = inl g;
     notified = λ n. subst IsNotified h n;
+    released = i;
   }
 
   -- the time of the thread is up
@@ -257,81 +264,90 @@ module _ (w v : LocksState) (t : ℕ) where
     former = refl;
     gave_up = inl refl;
     notified = λ n. subst IsNotified (sym e) tt;
+    released = λ r. r;
   }
   recalls_late l Blank e late = record {
     purpose = refl;
     former = refl;
     gave_up = inr late;
     notified = λ n. n;
+    released = λ r. r;
   }
   recalls_late l (Saw m) e late = record {
     purpose = refl;
     former = refl;
     gave_up = inr late;
     notified = λ n. n;
+    released = λ r. r;
   }
   recalls_late l (SawOwner m b) e late = record {
     purpose = refl;
     former = refl;
     gave_up = inr late;
     notified = λ n. n;
+    released = λ r. r;
   }
   recalls_late l (HasMoved m n) e late = record {
     purpose = refl;
     former = refl;
     gave_up = inr late;
     notified = λ n. n;
+    released = λ r. r;
   }
   recalls_late l WasNotified e late = record {
     purpose = refl;
     former = refl;
     gave_up = inr late;
     notified = λ n. n;
+    released = λ r. r;
   }
 
   pub recalls : (e : Event) → MayHappen w t e → Recalls w t (going_on e (w.calls t))
-  recalls Nothing may = recalled _ refl refl refl refl
+  recalls Nothing may = recalled _ refl refl refl refl (λ r. r)
   recalls (Moves c m all owned n) may = record {
     purpose = refl;
     former = refl;
     gave_up = inl refl;
     notified = λ n. absurd n;
+    released = λ r. r;
   }
   recalls (AtLock l Late) may = recalls_late l (w.calls t).recalls refl (timely_of w t l Late
       (w.calls t).purpose may)
-  recalls (AtLock l (Enter x)) may = recalled _ refl refl refl refl
-  recalls (AtLock l Pend) may = recalled _ refl refl refl refl
-  recalls (AtLock l Settle) may = recalled _ refl refl refl refl
-  recalls (AtLock l (Park x)) may = recalled _ refl refl refl refl
-  recalls (AtLock l Aside) may = recalled _ refl refl refl refl
-  recalls (AtLock l (Leave x)) may = recalled _ refl refl refl refl
-  recalls (AtLock l (HandOff x y)) may = recalled _ refl refl refl refl
-  recalls (AtLock l (OfOnce (Start b))) may = recalled _ refl refl refl refl
-  recalls (AtLock l (OfOnce (Rest x b))) may = recalled _ refl refl refl refl
-  recalls (AtLock l (OfOnce Fail)) may = recalled _ refl refl refl refl
-  recalls (AtLock l (OfOnce Finish)) may = recalled _ refl refl refl refl
-  recalls (AtLock l (OfOnce TakeAll)) may = recalled _ refl refl refl refl
+  recalls (AtLock l (Enter x)) may = recalled _ refl refl refl refl (λ r. r)
+  recalls (AtLock l Pend) may = recalled _ refl refl refl refl (λ r. r)
+  recalls (AtLock l Settle) may = recalled _ refl refl refl refl (λ r. r)
+  recalls (AtLock l (Park x)) may = recalled _ refl refl refl refl (λ r. r)
+  recalls (AtLock l Aside) may = recalled _ refl refl refl refl (λ r. r)
+  recalls (AtLock l (Leave x)) may = recalled _ refl refl refl refl (λ r. refl)
+  recalls (AtLock l (HandOff x y)) may = recalled _ refl refl refl refl (λ r. refl)
+  recalls (AtLock l (OfOnce (Start b))) may = recalled _ refl refl refl refl (λ r. refl)
+  recalls (AtLock l (OfOnce (Rest x b))) may = recalled _ refl refl refl refl (λ r. r)
+  recalls (AtLock l (OfOnce Fail)) may = recalled _ refl refl refl refl (λ r. r)
+  recalls (AtLock l (OfOnce Finish)) may = recalled _ refl refl refl refl (λ r. r)
+  recalls (AtLock l (OfOnce TakeAll)) may = recalled _ refl refl refl refl (λ r. r)
   recalls (AtLock l (OfCondvar (Look (Some m)))) may = record {
     purpose = refl;
     former = refl;
     gave_up = inl refl;
     notified = λ n. absurd n;
+    released = λ r. r;
   }
-  recalls (AtLock l (OfCondvar (Look None))) may = recalled _ refl refl refl refl
-  recalls (AtLock l (OfCondvar (Show m))) may = recalled _ refl refl refl refl
-  recalls (AtLock l (OfCondvar Hide)) may = recalled _ refl refl refl refl
+  recalls (AtLock l (OfCondvar (Look None))) may = recalled _ refl refl refl refl (λ r. r)
+  recalls (AtLock l (OfCondvar (Show m))) may = recalled _ refl refl refl refl (λ r. r)
+  recalls (AtLock l (OfCondvar Hide)) may = recalled _ refl refl refl refl (λ r. r)
   recalls (AtLock l (SeeOwner b)) may = record {
     purpose = refl;
     former = refl;
     gave_up = inl refl;
     notified = λ n. absurd n;
+    released = λ r. r;
   }
-  recalls (AtLock l (Convert x y)) may = recalled _ refl refl refl refl
-  recalls (AtLock l (TakeFirst x)) may = recalled _ refl refl refl refl
-  recalls (AtLock l (TakeAside u)) may = recalled _ refl refl refl refl
-  recalls (AtLock l (TakePicked x)) may = recalled _ refl refl refl refl
-  recalls (AtLock l Wake) may = recalled _ refl refl refl refl
-  recalls (AtLock l Rollback) may = recalled _ refl refl refl refl
+  recalls (AtLock l (Convert x y)) may = recalled _ refl refl refl refl (λ r. r)
+  recalls (AtLock l (TakeFirst x)) may = recalled _ refl refl refl refl (λ r. r)
+  recalls (AtLock l (TakeAside u)) may = recalled _ refl refl refl refl (λ r. r)
+  recalls (AtLock l (TakePicked x)) may = recalled _ refl refl refl refl (λ r. r)
+  recalls (AtLock l Wake) may = recalled _ refl refl refl refl (λ r. r)
+  recalls (AtLock l Rollback) may = recalled _ refl refl refl refl (λ r. r)
 
   module _ (o : Outcome) where
     goes_told : GoesOn w t o v → o ≢ outcome.TheVariants.NotNow
@@ -392,6 +408,7 @@ step_holds w v s o full safe h = record {
     going_on g.event (w.calls s.thread),
     recalls w v s.thread g.event g.may,
     answer_recalls w v s.thread o g,
+    answer_tells w v s.thread o g,
     answer_is (going_on g.event (w.calls s.thread)).purpose v s.thread (going_on g.event (w.calls s.thread))
         a (answered w v s.thread o a e g),
   ));
@@ -401,14 +418,19 @@ step_holds w v s o full safe h = record {
   ends = ends w v s o h.1;
   goes_on = goes_on w v s o h.1;
   recalled = recalls_truly w v s.thread o s.turn h.1;
+  told = step_tells w v s o h.1;
   rights = rights_change w v s.thread o safe.exclude safe.waiting s.turn h.1;
+  pends = λ l. pends_on w v s.thread o safe.exclude l s.turn h.1;
   readers = readers_stay_out w v s o safe.exclude h;
   starts = λ state told. starts w v s.thread o state told s.turn h.1;
   closes = λ l runs told. closes w v s.thread o full safe l runs s.turn h.1 told;
-  stays_done = λ l done. stays_done w v s.thread o l done s.turn h.1;
+  phase = λ l. phase_changes w v s.thread o l s.turn h.1;
   notified = nobody_wakes w v s o safe.exclude h;
+  sections = h.0.sections;
   others = h.2.others;
+  joins = λ u l none. joins w v s.thread o u l none s.turn h.1;
   order = queues_keep_order w v s o h;
+  in_order = λ c l all notifies mutex. in_order w v s.thread o c l all notifies mutex s.turn h.1;
   leaves = λ u l some. leaves w v s.thread o u l some s.turn h.1;
   first = λ u. first_taken w v s.thread o safe.exclude u s.turn h.1;
 }

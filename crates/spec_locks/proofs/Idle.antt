@@ -12,7 +12,7 @@ use Rattle.spec_locks.specs.declared.outcomes.Outcome.{Outcome}
 use Rattle.spec_locks.specs.declared.outcomes.Outcome as outcome
 use Rattle.spec_locks.specs.Onces.{Start}
 use Rattle.spec_locks.specs.Condvars.{moved_of}
-use Rattle.spec_locks.specs.Locks.{LockCase, Wake, HandOff, Late, OfOnce, OfCondvar, Look}
+use Rattle.spec_locks.specs.Locks.{LockCase, Leave, Wake, HandOff, Late, OfOnce, OfCondvar, Look}
 use Rattle.spec_locks.specs.Purposes.{Purpose, CondvarMemory, Blank, Saw, SawOwner, HasMoved, WasMoved}
 use Rattle.spec_locks.specs.Purposes.{WasNotified}
 use Rattle.spec_locks.specs.Runs.{LocksState, CallState, Event, AtLock, Moves, Does}
@@ -29,11 +29,11 @@ timely_of w t l case None may = absurd may
 timely_of w t l case (Some p) may = may.2
 
 call_same : (c d : CallState) → d.purpose ≡ c.purpose → d.former ≡ c.former → d.gave_up ≡ c.gave_up
-    → (d.late ≡ true → c.late ≡ true) → CallGoesOn c d
-call_same c d e f g h = record { purpose = e; former = f; gave_up = inl g; late = h }
+    → (d.late ≡ true → c.late ≡ true) → (c.released ≡ true → d.released ≡ true) → CallGoesOn c d
+call_same c d e f g h i = record { purpose = e; former = f; gave_up = inl g; late = h; released = i }
 
 call_stays : (c : CallState) → CallGoesOn c c
-call_stays c = call_same c c refl refl refl (λ h. h)
+call_stays c = call_same c c refl refl refl (λ h. h) (λ h. h)
 
 call_then : (c d e : CallState) → CallGoesOn c d → d.gave_up ≡ e.gave_up → CallGoesOn d e → CallGoesOn c e
 call_then c d e a same b = record {
@@ -41,6 +41,7 @@ call_then c d e a same b = record {
   former = b.former ∙ a.former;
   gave_up = elim a.gave_up [ inl h ↦ inl (sym same ∙ h) | inr h ↦ inr h ];
   late = λ h. a.late (b.late h);
+  released = λ h. b.released (a.released h);
 }
 
 -- by another thread's step
@@ -56,7 +57,7 @@ woken_goes w t (AtLock l Wake) u c = either (is_taken_by t ((w.locks l).taken u)
           retries = Some l;
           recalls = Rattle.spec_locks.specs.Runs.after_wake c.recalls;
         } else c).gave_up ≡ c.gave_up)
-    either true = (call_same c _ refl refl refl (λ h. h), refl)
+    either true = (call_same c _ refl refl refl (λ h. h) (λ h. h), refl)
     either false = (call_stays c, refl)
 woken_goes w t (AtLock l (HandOff x y)) u c = either (is_taken_by t ((w.locks l).taken u))
   where
@@ -68,13 +69,13 @@ woken_goes w t (AtLock l (HandOff x y)) u c = either (is_taken_by t ((w.locks l)
           retries = None;
           recalls = Rattle.spec_locks.specs.Runs.after_wake c.recalls;
         } else c).gave_up ≡ c.gave_up)
-    either true = (call_same c _ refl refl refl (λ h. h), refl)
+    either true = (call_same c _ refl refl refl (λ h. h) (λ h. h), refl)
     either false = (call_stays c, refl)
 woken_goes w t (Moves l m all owned n) u c = either (is_among u (moved_of all (w.locks l).queue))
   where
     either : (b : Bool) → CallGoesOn c (if b then record c { recalls = WasMoved } else c)
         × ((if b then record c { recalls = WasMoved } else c).gave_up ≡ c.gave_up)
-    either true = (call_same c _ refl refl refl (λ h. h), refl)
+    either true = (call_same c _ refl refl refl (λ h. h) (λ h. h), refl)
     either false = (call_stays c, refl)
 woken_goes w t e u c = (call_stays c, refl)
 
@@ -85,35 +86,54 @@ gives_up_goes l WasMoved c late = record {
   former = refl;
   gave_up = inl refl;
   late = λ h. late;
+  released = λ h. h;
 }
-gives_up_goes l Blank c late = record { purpose = refl; former = refl; gave_up = inr late; late = λ h. h }
-gives_up_goes l (Saw m) c late = record { purpose = refl; former = refl; gave_up = inr late; late = λ h. h }
+gives_up_goes l Blank c late = record {
+  purpose = refl;
+  former = refl;
+  gave_up = inr late;
+  late = λ h. h;
+  released = λ h. h;
+}
+gives_up_goes l (Saw m) c late = record {
+  purpose = refl;
+  former = refl;
+  gave_up = inr late;
+  late = λ h. h;
+  released = λ h. h;
+}
 gives_up_goes l (SawOwner m b) c late = record {
   purpose = refl;
   former = refl;
   gave_up = inr late;
   late = λ h. h;
+  released = λ h. h;
 }
 gives_up_goes l (HasMoved m n) c late = record {
   purpose = refl;
   former = refl;
   gave_up = inr late;
   late = λ h. h;
+  released = λ h. h;
 }
 gives_up_goes l WasNotified c late = record {
   purpose = refl;
   former = refl;
   gave_up = inr late;
   late = λ h. h;
+  released = λ h. h;
 }
 
-going_goes : (w : LocksState) (t : ℕ) (e : Event) → MayHappen w t e → CallGoesOn (w.calls t)
+pub going_goes : (w : LocksState) (t : ℕ) (e : Event) → MayHappen w t e → CallGoesOn (w.calls t)
     (going_on e (w.calls t))
 going_goes w t (AtLock l Late) may = gives_up_goes l (w.calls t).recalls (w.calls t)
     (timely_of w t l Late (w.calls t).purpose may)
-going_goes w t (AtLock l (OfCondvar (Look (Some m)))) may = call_same (w.calls t) _ refl refl refl (λ h. h)
-going_goes w t (AtLock l (OfOnce (Start b))) may = call_same (w.calls t) _ refl refl refl (λ h. h)
-going_goes w t e may = call_same (w.calls t) (going_on e (w.calls t)) refl refl refl (λ h. h)
+going_goes w t (AtLock l (OfCondvar (Look (Some m)))) may =
+    call_same (w.calls t) _ refl refl refl (λ h. h) (λ h. h)
+going_goes w t (AtLock l (OfOnce (Start b))) may = call_same (w.calls t) _ refl refl refl (λ h. h) (λ h. refl)
+going_goes w t (AtLock l (Leave x)) may = call_same (w.calls t) _ refl refl refl (λ h. h) (λ h. refl)
+going_goes w t (AtLock l (HandOff x y)) may = call_same (w.calls t) _ refl refl refl (λ h. h) (λ h. refl)
+going_goes w t e may = call_same (w.calls t) (going_on e (w.calls t)) refl refl refl (λ h. h) (λ h. h)
 
 -- ---------------------------------------------------------------- a step, by its calls
 

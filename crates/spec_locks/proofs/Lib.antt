@@ -15,6 +15,12 @@ pub mod SiteOnces
 pub mod SiteMoves
 pub mod SiteKeeps
 pub mod OnceLaws
+pub mod Changes
+pub mod Phases
+pub mod Joining
+pub mod Moved
+pub mod Pending
+pub mod MovedInOrder
 pub mod Seen
 pub mod CodeLaws
 pub mod Limits

@@ -39,10 +39,10 @@ gives_up_none l (SawOwner m owned) c e none h = subst (λ x. IsNotified x → �
 gives_up_none l (HasMoved m number) c e none h = subst (λ x. IsNotified x → ⊥) (sym e) none h
 gives_up_none l WasNotified c e none h = none tt
 
-abbrev Unnotified : CallState → Type 0
+abbrev pub Unnotified : CallState → Type 0
 Unnotified c = IsNotified c.recalls → ⊥
 
-own_none : (e : Event) (c : CallState) → Unnotified c → Unnotified (going_on e c)
+pub own_none : (e : Event) (c : CallState) → Unnotified c → Unnotified (going_on e c)
 own_none Nothing c none = none
 own_none (Moves l m all owned number) c none = λ h. h
 own_none (AtLock l case) c none = by_case case
@@ -75,7 +75,7 @@ own_none (AtLock l case) c none = by_case case
     by_case case = none
 
 -- a thread that a move concerns stood in the queue
-among_stood : (u : ℕ) (all : Bool) (q : List Queued) → is_among u (moved_of all q) ≡ true → 1 ≤ times u q
+pub among_stood : (u : ℕ) (all : Bool) (q : List Queued) → is_among u (moved_of all q) ≡ true → 1 ≤ times u q
 among_stood u true q h = leb-true 1 (times u q) h
 among_stood u false [] h = leb-true 1 (times u []) h
 among_stood u false (x ∷ q) h = let first : 1 ≤ times u (x ∷ []) = leb-true 1 (times u (x ∷ [])) h
@@ -96,7 +96,7 @@ module _ (w : LocksState) (a t : ℕ) where
   woken_none false c retries none = none
 
   -- only a move does
-  told_by : (e : Event) (c : CallState) → Unnotified c → IsNotified (woken w a e t c).recalls
+  pub told_by : (e : Event) (c : CallState) → Unnotified c → IsNotified (woken w a e t c).recalls
       → (l : ℕ) × (m : ℕ) × (all : Bool) × (owned : Bool) × (number : ℕ) × (e ≡ Moves l m all owned number)
       × (is_among t (moved_of all (w.locks l).queue) ≡ true)
   told_by Nothing c none h = absurd (none h)

@@ -1,4 +1,4 @@
--- The runs of a `Once`: where they begin, what they leave, and that one that is done stays so.
+-- The runs of a `Once`: where they begin, and what they leave.
 use Rattle.std.proofs.Common.{ℕ, Bool, true, false, Option, Some, None, if◌then◌else◌, ◌==◌, ◌≡◌, ◌≢◌, ◌⊎◌}
 use Rattle.std.proofs.Common.{inl, inr, refl, sym, ◌∙◌, ap, subst}
 use Rattle.std.proofs.lemmas.Bool.{eqb-true}
@@ -162,44 +162,3 @@ module _ (w v : LocksState) (t : ℕ) (o : Outcome) (full : ℕ → Bool) (safe 
       (x ≡ turn.TheVariants.Err → (v.locks l).phase ≡ Poisoned)
   closes x (inl d) told = ((λ e. done_then x e d.1), (λ e. poisoned_then x e d.1))
   closes x (inr r) told = absurd (told r.1.0)
-
--- ---------------------------------------------------------------- a `Once` that is done
-
-module _ (w v : LocksState) (t : ℕ) (o : Outcome) (l : ℕ) (done : (w.locks l).phase ≡ Done) where
-  done_by : (e : Event) → MayHappen w t e → (locks_after w t e l).phase ≡ Done
-  done_by Nothing may = done
-  done_by (Moves c m every owned n) may = at_mutex (l == m) refl
-    where
-      at_condvar : (b : Bool) → (l == c) ≡ b
-          → (if b then left_after every (w.locks c) else w.locks l).phase ≡ Done
-      at_condvar false e = done
-      at_condvar true e = ap (λ k. (w.locks k).phase) (sym (eqb-true l c e)) ∙ done
-
-      at_mutex : (b : Bool) → (l == m) ≡ b
-          → (if b then joined_by owned t (moved_of every (w.locks c).queue) (w.locks m) else putting w.locks
-          c (left_after every (w.locks c)) l).phase ≡ Done
-      at_mutex false e = at_condvar (l == c) refl
-      at_mutex true e = ap (λ k. (w.locks k).phase) (sym (eqb-true l m e)) ∙ done
-  done_by (AtLock k case) may = either (l == k) refl
-    where
-      either : (b : Bool) → (l == k) ≡ b
-          → (if b then after_case (rules_at w k) case (w.locks k) t else w.locks l).phase ≡ Done
-      either false e = done
-      either true e =
-          done_stays (rules_at w k) case (w.locks k) t (needs_of w t k case (w.calls t).purpose may)
-          (ap (λ j. (w.locks j).phase) (sym (eqb-true l k e)) ∙ done)
-
-  goes_done : GoesOn w t o v → (v.locks l).phase ≡ Done
-  goes_done g = ap (λ (s : LockState). s.phase) (g.locks l) ∙ done_by g.event g.may
-
-  does_done : (x : Turn) → Does w t x o v → (v.locks l).phase ≡ Done
-  does_done (turn.TheVariants.Begin c) d = ap (λ (s : LockState). s.phase) (d.locks l) ∙ done
-  does_done turn.TheVariants.Late d = ap (λ (s : LockState). s.phase) (d.locks l) ∙ done
-  does_done turn.TheVariants.Go d = goes_done d
-  does_done turn.TheVariants.Spin d = goes_done d.goes
-  does_done turn.TheVariants.Ok d = goes_done d.goes
-  does_done turn.TheVariants.Err d = goes_done d.goes
-
-  pub stays_done : (x : Turn) → Turned w t x o v → (v.locks l).phase ≡ Done
-  stays_done x (inl d) = does_done x d.1
-  stays_done x (inr r) = ap (λ (k : LocksState). (k.locks l).phase) r.1.1 ∙ done

@@ -26,11 +26,11 @@ use Rattle.spec_locks.proofs.Runs.{needs_of}
 
 -- ---------------------------------------------------------------- parts of a line
 
-skip : (x : Queued) (xs q : List Queued) → IsPartOf xs q → IsPartOf xs (x ∷ q)
+pub skip : (x : Queued) (xs q : List Queued) → IsPartOf xs q → IsPartOf xs (x ∷ q)
 skip x [] q h = tt
 skip x (y ∷ xs) q h = inr h
 
-whole : (q : List Queued) → IsPartOf q q
+pub whole : (q : List Queued) → IsPartOf q q
 whole [] = tt
 whole (x ∷ q) = inl (refl, whole q)
 
@@ -43,7 +43,7 @@ filtered : (p : Queued → Bool) (q : List Queued) → IsPartOf (filter p q) q
 filtered p [] = tt
 filtered p (x ∷ q) = kept_or_not x q (filter p q) (filtered p q) (p x)
 
-dropped : (n : ℕ) (q : List Queued) → IsPartOf (drop n q) q
+pub dropped : (n : ℕ) (q : List Queued) → IsPartOf (drop n q) q
 dropped zero q = whole q
 dropped (suc n) [] = tt
 dropped (suc n) (x ∷ q) = skip x (drop n q) q (dropped n q)
@@ -68,7 +68,7 @@ both (x ∷ xs) ys (y ∷ q) r (inr h) g = inr (both (x ∷ xs) ys q r h g)
 
 -- ---------------------------------------------------------------- lines
 
-append_none : (q : List Queued) → q ≡ q ++ []
+pub append_none : (q : List Queued) → q ≡ q ++ []
 append_none [] = refl
 append_none (x ∷ q) = ap (λ r. x ∷ r) (append_none q)
 
@@ -194,11 +194,11 @@ pub mapped_times : (u : ℕ) (q : List Queued) → times u (map wanting_mutex q)
 mapped_times u [] = refl
 mapped_times u (x ∷ q) = ap (λ n. (if x.thread == u then 1 else 0) + n) (mapped_times u q)
 
-dropped_times : (u : ℕ) (q : List Queued) → times u (drop 1 q) ≤ times u q
+pub dropped_times : (u : ℕ) (q : List Queued) → times u (drop 1 q) ≤ times u q
 dropped_times u [] = grind arith
 dropped_times u (x ∷ q) = grind arith
 
-lined : (owned : Bool) (u : ℕ) (moved : List Queued) → times u (line_of owned moved) ≤ times u moved
+pub lined : (owned : Bool) (u : ℕ) (moved : List Queued) → times u (line_of owned moved) ≤ times u moved
 lined true u moved = let e = mapped_times u moved in omega arith
 lined false u moved = let e = mapped_times u moved in let f = dropped_times u (map wanting_mutex moved)
     in omega arith

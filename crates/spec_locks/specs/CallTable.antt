@@ -135,9 +135,10 @@ IsTrue (Some (Converts l x y Timed)) No v t c = (c.gave_up ≡ Some l) × Trades
 IsTrue (Some (Converts l x y Try)) No v t c = (1 ≤ readers (v.locks l)) × Trades v t c l None None
 IsTrue (Some (Bumps l x)) Ok v t c = Owns (v.locks l) t x × Trades v t c l None None
 IsTrue (Some (Bumps l x)) ReadersFull v t c = IsFullFor v l x × Trades v t c l (Some x) None
-IsTrue (Some (CallsOnce l forced)) Ok v t c = ((v.locks l).phase ≡ Done) × Trades v t c l None None
+IsTrue (Some (CallsOnce l forced)) Ok v t c =
+    (c.failed ≡ false) × ((v.locks l).phase ≡ Done) × Trades v t c l None None
 IsTrue (Some (CallsOnce l forced)) IsPoisoned v t c =
-    ((v.locks l).phase ≡ Poisoned) × (forced ≡ false) × Trades v t c l None None
+    (c.failed ≡ false) × ((v.locks l).phase ≡ Poisoned) × (forced ≡ false) × Trades v t c l None None
 IsTrue (Some (CallsOnce l forced)) Failed v t c = (c.failed ≡ true) × Trades v t c l None None
 IsTrue (Some (Awaits l forced false)) Ok v t c =
     ((v.locks l).phase ≡ Done) × Trades v t c l None None
@@ -152,7 +153,7 @@ IsTrue (Some (Waits l m false)) Ok v t c =
 IsTrue (Some (Waits l m true)) Notified v t c =
     IsNotified c.recalls × (c.released ≡ true) × Trades v t c l None None
 IsTrue (Some (Waits l m true)) TimedOut v t c =
-    (c.gave_up ≡ Some l) × (c.released ≡ true) × Trades v t c l None None
+    (c.gave_up ≡ Some l) × (IsNotified c.recalls → ⊥) × (c.released ≡ true) × Trades v t c l None None
 IsTrue (Some (Waits l m timed)) TwoMutexes v t c =
     (c.released ≡ false) × (((v.locks l).shown ≢ None) × ((v.locks l).shown ≢ Some m))
     × Trades v t c l None None

@@ -299,11 +299,13 @@ BumpsAnswer w t c l x answer.TheVariants.Ok = Owns (w.locks l) t x × Keeps w t 
 BumpsAnswer w t c l x answer.TheVariants.ReadersFull = IsFull w l x × Loses w t c l x
 BumpsAnswer w t c l x a = ⊥
 
--- a `Once` is done, or poisoned for a thread that isn't forced; or the thread's own run failed
+-- a `Once` is done, or poisoned for a thread that isn't forced; or the thread's own run failed, and then the
+-- call says so alone
 abbrev pub CallsOnceAnswer : LocksState → ℕ → CallState → ℕ → Bool → Answer → Type 0
-CallsOnceAnswer w t c l forced answer.TheVariants.Ok = ((w.locks l).phase ≡ Done) × Keeps w t c
+CallsOnceAnswer w t c l forced answer.TheVariants.Ok =
+    (c.failed ≡ false) × ((w.locks l).phase ≡ Done) × Keeps w t c
 CallsOnceAnswer w t c l forced answer.TheVariants.Poisoned =
-    ((w.locks l).phase ≡ Poisoned) × (forced ≡ false) × Keeps w t c
+    (c.failed ≡ false) × ((w.locks l).phase ≡ Poisoned) × (forced ≡ false) × Keeps w t c
 CallsOnceAnswer w t c l forced answer.TheVariants.Failed = (c.failed ≡ true) × Keeps w t c
 CallsOnceAnswer w t c l forced a = ⊥
 
@@ -333,7 +335,8 @@ ShowsOther s m = (s.shown ≢ None) × (s.shown ≢ Some m)
 abbrev pub WaitsAnswer : LocksState → ℕ → CallState → ℕ → ℕ → Bool → Answer → Type 0
 WaitsAnswer w t c l m false answer.TheVariants.Ok = IsNotified c.recalls × HasAgain w t c
 WaitsAnswer w t c l m true answer.TheVariants.Notified = IsNotified c.recalls × HasAgain w t c
-WaitsAnswer w t c l m true answer.TheVariants.TimedOut = (c.gave_up ≡ Some l) × HasAgain w t c
+WaitsAnswer w t c l m true answer.TheVariants.TimedOut =
+    (c.gave_up ≡ Some l) × (IsNotified c.recalls → ⊥) × HasAgain w t c
 WaitsAnswer w t c l m timed answer.TheVariants.TwoMutexes =
     (c.released ≡ false) × ShowsOther (w.locks l) m × Keeps w t c
 WaitsAnswer w t c l m timed a = ⊥

@@ -235,7 +235,7 @@ module _ (v : CondvarSite) (limit : ℕ) (s : Site) (t c m : ℕ) (timed : Bool)
         by false true late a b = absurd (let g : false ≡ true = late refl in cc)
         by false false late a b = (subst IsNotified (sym a) tt, (released, own))
         by true false late a b = (subst IsNotified (sym a) tt, (released, own))
-        by true true late a b = (b, (released, own))
+        by true true late a b = (b, (λ n. subst IsNotified a n), (released, own))
 
     comes_in : (at : LockAt) (seen : ℕ) (shown : Option ℕ) → s.lock.exclusive ≡ None
         → ((rights : ℕ → Rights) → (condvar_call_by c m (locking at) rights).former ≡ one_more_at m Exclusive

@@ -50,12 +50,13 @@ module _ (r : Rules) (s : Site) (t l : ℕ) where
   module _ (c : OnceCall) (retries : Bool) where
     -- a call that ends has what it found
     ends_ok : s.lock.phase ≡ Done → is_timed c ≡ false → (v : LocksState) (call : CallState)
-        → v.locks l ≡ s.lock → Keeps v t call → AnswerHolds (Some (once_purpose l c)) v t call answer.Ok
-    ends_ok e untimed v call now keeps = by_call c untimed
+        → call.failed ≡ false → v.locks l ≡ s.lock → Keeps v t call
+        → AnswerHolds (Some (once_purpose l c)) v t call answer.Ok
+    ends_ok e untimed v call fresh now keeps = by_call c untimed
       where
         by_call : (c : OnceCall) → is_timed c ≡ false → AnswerHolds (Some (once_purpose l c)) v t call
             answer.Ok
-        by_call (CallOnce forced) f = (ap (λ (x : LockState). x.phase) now ∙ e, keeps)
+        by_call (CallOnce forced) f = (fresh, ap (λ (x : LockState). x.phase) now ∙ e, keeps)
         by_call (Wait forced) f = (ap (λ (x : LockState). x.phase) now ∙ e, keeps)
         by_call WaitTimed f = absurd cc
 
@@ -70,12 +71,13 @@ module _ (r : Rules) (s : Site) (t l : ℕ) where
         by_call WaitTimed f = (ap (λ (x : LockState). x.phase) now ∙ e, keeps)
 
     ends_poisoned : s.lock.phase ≡ Poisoned → is_forced c ≡ false → (v : LocksState) (call : CallState)
-        → v.locks l ≡ s.lock → Keeps v t call → AnswerHolds (Some (once_purpose l c)) v t call answer.Poisoned
-    ends_poisoned e unforced v call now keeps = by_call c unforced
+        → call.failed ≡ false → v.locks l ≡ s.lock → Keeps v t call
+        → AnswerHolds (Some (once_purpose l c)) v t call answer.Poisoned
+    ends_poisoned e unforced v call fresh now keeps = by_call c unforced
       where
         by_call : (c : OnceCall) → is_forced c ≡ false → AnswerHolds (Some (once_purpose l c)) v t call
             answer.Poisoned
-        by_call (CallOnce forced) f = (ap (λ (x : LockState). x.phase) now ∙ e, f, keeps)
+        by_call (CallOnce forced) f = (fresh, ap (λ (x : LockState). x.phase) now ∙ e, f, keeps)
         by_call (Wait forced) f = (ap (λ (x : LockState). x.phase) now ∙ e, f, keeps)
         by_call WaitTimed f = (ap (λ (x : LockState). x.phase) now ∙ e, refl, keeps)
 
@@ -93,7 +95,7 @@ module _ (r : Rules) (s : Site) (t l : ℕ) where
       one = tt;
       may = tt;
       comes = λ w rights ruled now is has. ends_ok may.0 may.1 w
-          (call_by l (once_profile (Look c retries look.Load)) rights) now (λ k. has k
+          (call_by l (once_profile (Look c retries look.Load)) rights) refl now (λ k. has k
           ∙ same s.lock refl rights is k);
     }
     looks v (Ends answer.Yes) may = record {
@@ -107,7 +109,7 @@ module _ (r : Rules) (s : Site) (t l : ℕ) where
       one = tt;
       may = tt;
       comes = λ w rights ruled now is has. ends_poisoned may.0 may.1 w
-          (call_by l (once_profile (Look c retries look.Load)) rights) now (λ k. has k
+          (call_by l (once_profile (Look c retries look.Load)) rights) refl now (λ k. has k
           ∙ same s.lock refl rights is k);
     }
     looks v (Ends other) may = absurd may
@@ -166,6 +168,7 @@ module _ (r : Rules) (s : Site) (t l : ℕ) where
     one = tt;
     may = ((refl, tt), tt);
     comes = λ w rights ruled now is has. (
+      refl,
       ap (λ (x : LockState). x.phase) now,
       λ k. has k
           ∙ same s.lock refl rights is k,
@@ -184,6 +187,7 @@ module _ (r : Rules) (s : Site) (t l : ℕ) where
     one = tt;
     may = ((refl, tt), tt);
     comes = λ w rights ruled now is has. (
+      refl,
       ap (λ (x : LockState). x.phase) now ∙ done refl,
       λ k. has k
           ∙ same s.lock refl rights is k,
@@ -193,6 +197,7 @@ module _ (r : Rules) (s : Site) (t l : ℕ) where
     one = tt;
     may = tt;
     comes = λ w rights ruled now is has. (
+      refl,
       ap (λ (x : LockState). x.phase) now ∙ done refl,
       λ k. has k
           ∙ same s.lock refl rights is k,

@@ -220,11 +220,11 @@ fn is_number(call: CondvarCall, answer: Answer, moved: usize) -> bool {
     }
 }
 
-/// Returns whether a `Once` is as a call of it is told.
+/// Returns whether a `Once` is as a call of it is told. A call whose own run failed is told that alone.
 fn is_state(answer: Answer, begun: Begun, word: u64) -> bool {
     match answer {
-        Answer::Ok | Answer::Yes => word & 1 != 0,
-        Answer::Poisoned => word & 7 == 2,
+        Answer::Ok | Answer::Yes => word & 1 != 0 && !begun.has_failed,
+        Answer::Poisoned => word & 7 == 2 && !begun.has_failed,
         Answer::Failed => begun.has_failed,
         _ => true,
     }

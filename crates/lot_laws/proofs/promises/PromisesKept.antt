@@ -30,6 +30,8 @@ use Rattle.lot_laws.proofs.calls.Spins.{spins}
 use Rattle.lot_laws.proofs.calls.TriesPass.{tries_go}
 use Rattle.lot_laws.proofs.condvar.ShownMutex.{shows_always, shows_waiters}
 use Rattle.lot_laws.proofs.condvar.LetsGo.{lets_go}
+use Rattle.lot_laws.proofs.promises.Heeds.{heeds}
+use Rattle.lot_laws.proofs.promises.OnItsWay.{on_its_way}
 use Rattle.lot_laws.proofs.promises.SitesPromise.{not_empty}
 use Rattle.lot_laws.proofs.promises.RowPromises.{CallsOneLock, IsDebtorIn, HasClaimed, HasDebt, WasHanded}
 use Rattle.lot_laws.proofs.promises.RowPromises.{RowLooksAfter}
@@ -618,6 +620,8 @@ module _ (w : State) (inductive : IsInductive w) where
     shown = λ l sort free. shows_waiters w l (condvars l sort) free;
     shows = λ l sort. shows_always w l (condvars l sort);
     let_go = lets_go w inductive;
+    on_its_way = on_its_way w inductive;
+    heeds = heeds w inductive;
   }
 
 -- ---------------------------------------------------------------- the opening state, of the abstract locks
