@@ -53,26 +53,26 @@ before xs i thread within differ stands =
     grind (arith, nat_tests, more, there)
 
 -- one more is marked
-pub one_marked : (xs : List Waiter) (marks : List Bool) (i : ℕ) → i < length xs
+pub one_marked : (xs : List Waiter) (marks : List Bool) (i : ℕ) (mark : Bool) → i < length xs
     → ((thread : ℕ) → 1 ≤ times thread (take i xs) → thread < length marks
-    → slice_index_or marks thread false ≡ true)
+    → slice_index_or marks thread false ≡ mark)
     → (thread : ℕ) → 1 ≤ times thread (take (i + 1) xs) → thread < length marks
-    → slice_index_or (slice_set marks (at xs i).thread true) thread false ≡ true
-one_marked xs marks i within marked thread stands fits = elim (cases_eq thread (at xs i).thread) [
-  | inl same ↦ rw same (get_or-set_same marks (at xs i).thread true false (subst (λ (t : ℕ). t < length marks)
+    → slice_index_or (slice_set marks (at xs i).thread mark) thread false ≡ mark
+one_marked xs marks i mark within marked thread stands fits = elim (cases_eq thread (at xs i).thread) [
+  | inl same ↦ rw same (get_or-set_same marks (at xs i).thread mark false (subst (λ (t : ℕ). t < length marks)
       same fits))
-  | inr differ ↦ get_or-set_other marks (at xs i).thread thread true false differ
+  | inr differ ↦ get_or-set_other marks (at xs i).thread thread mark false differ
       ∙ marked thread (before xs i thread within differ stands) fits
 ]
 
 -- one more has no mark
-pub none_to_mark : (xs : List Waiter) (marks : List Bool) (i : ℕ) → i < length xs
+pub none_to_mark : (xs : List Waiter) (marks : List Bool) (i : ℕ) (mark : Bool) → i < length xs
     → length marks ≤ (at xs i).thread
     → ((thread : ℕ) → 1 ≤ times thread (take i xs) → thread < length marks
-    → slice_index_or marks thread false ≡ true)
+    → slice_index_or marks thread false ≡ mark)
     → (thread : ℕ) → 1 ≤ times thread (take (i + 1) xs) → thread < length marks
-    → slice_index_or marks thread false ≡ true
-none_to_mark xs marks i within past marked thread stands fits =
+    → slice_index_or marks thread false ≡ mark
+none_to_mark xs marks i mark within past marked thread stands fits =
     let differ : thread ≢ (at xs i).thread = λ (same : thread ≡ (at xs i).thread). omega (arith, same, fits, past)
     in marked thread (before xs i thread within differ stands) fits
 

@@ -1,19 +1,18 @@
 //! Marks of threads. By these two lists of waiters are compared in one walk of each.
-ghost use Rattle.std.specs.Prelude.{◌≡◌, ◌<◌, ◌≤◌, ℕ, None, true, false, length, slice_index_or};
+ghost use Rattle.std.specs.Prelude.{◌≡◌, ◌<◌, ◌≤◌, ℕ, None, false, length, slice_index_or};
 ghost use Rattle.core_base.specs.Lines.{IsSeated, line, times};
 
 use core_base::{Key, Waiter};
 
-/// Marks the threads of waiters, and no others. One that has no mark is passed over.
-pub(crate) fn mark_all(marks: &mut Vec<bool>, waiters: &[Waiter])
+/// Gives the thread of each waiter this mark. One that has none is passed over.
+pub(crate) fn mark_all(marks: &mut Vec<bool>, waiters: &[Waiter], mark: bool)
     ensures marked { (thread : ℕ) → 1 ≤ times thread waiters.now
-        → thread < length marks.new.items → slice_index_or marks.new.items thread false ≡ true }
+        → thread < length marks.new.items → slice_index_or marks.new.items thread false ≡ mark }
     ensures length { length marks.new.items ≡ length marks.old.items }
 {
-    marks.fill(false);
     for waiter in waiters {
         if waiter.thread < marks.len() {
-            marks[waiter.thread] = true;
+            marks[waiter.thread] = mark;
         }
     }
 }

@@ -39,8 +39,10 @@ impl SectionQueues {
         if others.is_empty() {
             return None;
         }
-        mark_all(&mut self.marks, others);
-        first_marked(&self.marks, key, self.queues.waiters())
+        mark_all(&mut self.marks, others, true);
+        let doubled = first_marked(&self.marks, key, self.queues.waiters());
+        mark_all(&mut self.marks, others, false);
+        doubled
     }
 
     /// Puts a thread after the last under a key of one of the buckets. One that stands in them leaves

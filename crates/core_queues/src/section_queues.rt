@@ -26,7 +26,7 @@ pub struct SectionQueues {
     pub(crate) wants: Vec<Want>,
     // The threads among them that have not been given a right.
     rightless: Vec<usize>,
-    // A mark of each thread, for `doubled` alone.
+    // A mark of each thread, which it has inside `doubled` alone.
     pub(crate) marks: Vec<bool>,
     seats: usize,
     number: usize,

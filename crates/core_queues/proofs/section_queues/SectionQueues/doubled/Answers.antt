@@ -9,7 +9,7 @@ returns-clause-apart c = let self = c.args.self.now in
     let seated : IsSeated self.queues.waiters (length c.mark_all.new.marks.items) = rw seats
     self.of_bucket.seated in
     let marked = rw c.waiters-others.ensures.all at c.mark_all.ensures.marked in
-    let unmarked = rw (c.waiters.ensures.all, c.deref.ensures.value) at c.first_marked.ensures in
+    let unmarked = rw (c.waiters.ensures.all, c.deref.ensures.value) at c.first_marked-doubled.ensures in
     λ none. none_marked c.args.key self.queues.waiters c.args.other.now.queues.waiters
     c.mark_all.new.marks.items seated marked
     (unmarked none)
