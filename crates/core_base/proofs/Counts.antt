@@ -39,6 +39,19 @@ times_by_key : (thread key : ℕ) (waiters : List Waiter) → times thread (with
 times_by_key thread key [] = omega arith
 times_by_key thread key (x ∷ xs) = grind (arith, nat_tests, times_by_key thread key xs)
 
+-- once those of a line have come to another list
+pub times_passed : (thread from to : ℕ) (xs ys : List Waiter)
+    → (times thread (ys ++ map (λ (x : Waiter). waiter to x.thread Exclusive) (line from xs))
+    ≡ times thread ys + times thread (line from xs)) × (times thread (line from xs) ≤ times thread xs)
+times_passed thread from to xs ys = (
+  omega (
+    arith,
+    times_both thread ys (map (λ (x : Waiter). waiter to x.thread Exclusive) (line from xs)),
+    times_moved thread to (line from xs),
+  ),
+  omega (arith, times_by_key thread from xs),
+)
+
 times_by_first : (thread key : ℕ) (waiters : List Waiter) → times thread (without_first key waiters)
     + times thread (take 1 (line key waiters)) ≡ times thread waiters
 times_by_first thread key [] = omega arith

@@ -1,14 +1,13 @@
 -- A requeue, one waiter after another.
-use Rattle.std.proofs.Common.{ℕ, ◌≡◌, ◌≢◌, ◌+◌, ◌≤◌, Some, List, [], ◌∷◌, ◌++◌, length, map, take, drop, ◌∙◌}
+use Rattle.std.proofs.Common.{ℕ, ◌≡◌, ◌≢◌, ◌+◌, ◌≤◌, Some, List, [], ◌∷◌, ◌++◌, length, take, drop, ◌∙◌}
 use Rattle.std.proofs.Common.{append_assoc, refl, arith}
 use Rattle.std.proofs.lemmas.Bool.Decides.{nat_tests}
 use Rattle.std.proofs.lemmas.List.{append-nil}
 use Rattle.std.proofs.lemmas.List.Elements.{filter-append}
 use Rattle.core_base.specs.declared.requeues.Requeue.TheVariants.{One, All, TakeOneMoveRest}
 use Rattle.core_base.specs.declared.wants.Waiter.{Waiter}
-use Rattle.core_base.specs.declared.wants.Want.TheVariants.{Exclusive}
-use Rattle.core_base.specs.Lines.{waiter, line, first_of, without_first, without_key}
-use Rattle.core_base.specs.Requeues.{moved_by, requeued}
+use Rattle.core_base.specs.Lines.{line, first_of, without_first, without_key}
+use Rattle.core_base.specs.Requeues.{moved_by, moved_to, requeued}
 
 -- once the first under a key has left
 pub line_without_first : (key : ℕ) (waiters : List Waiter) → line key (without_first key waiters)
@@ -40,9 +39,6 @@ without_key_of_none key (x ∷ xs) none = grind (arith, nat_tests, without_key_o
 pub length-line : (key : ℕ) (waiters : List Waiter) → length (line key waiters) ≤ length waiters
 length-line key [] = omega arith
 length-line key (x ∷ xs) = grind (arith, nat_tests, length-line key xs)
-
-abbrev moved_to : ℕ → List Waiter → List Waiter
-moved_to to waiters = map (λ (x : Waiter). waiter to x.thread Exclusive) waiters
 
 -- a thread that was moved stands under another key
 without_key_moved : (from to : ℕ) (waiters : List Waiter) → from ≢ to → without_key from (moved_to to waiters)

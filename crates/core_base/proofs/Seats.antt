@@ -1,19 +1,20 @@
 -- There is room for all: each thread is below the capacity, and stands at most once.
 use Rattle.std.proofs.Common.{ℕ, zero, suc, ◌≡◌, ◌+◌, ◌≤◌, ◌<◌, inl, inr, List, [], ◌∷◌, ◌++◌, Option, Some}
-use Rattle.std.proofs.Common.{None, IfSome, length, length-append, refl, ◌∙◌, arith}
-use Rattle.std.proofs.lemmas.Bool.{cases_eq}
+use Rattle.std.proofs.Common.{None, IfSome, length, length-append, refl, ap, ◌∙◌, arith}
+use Rattle.std.proofs.lemmas.Bool.{cases_eq, cases_lt}
+use Rattle.std.proofs.lemmas.List.{length-map}
 use Rattle.std.proofs.lemmas.Bool.Decides.{nat_tests}
 use Rattle.core_base.specs.declared.wants.Waiter.{Waiter}
 use Rattle.core_base.specs.declared.wants.Want.{Want}
-use Rattle.core_base.specs.declared.wants.Want.TheVariants.{Wait}
+use Rattle.core_base.specs.declared.wants.Want.TheVariants.{Exclusive, Wait}
 use Rattle.core_base.specs.Lines.{waiter, line, first_of, threads_of, times, without, without_first}
 use Rattle.core_base.specs.Lines.{without_key, IsSeated}
 use Rattle.core_base.specs.Picks.{without_picked}
-use Rattle.core_base.specs.Requeues.{moved_by, requeued}
+use Rattle.core_base.specs.Requeues.{moved_by, moved_to, requeued, standing}
 use Rattle.core_base.specs.declared.picks.Pick.{Pick}
 use Rattle.core_base.specs.declared.requeues.Requeue.{Requeue}
 use Rattle.core_base.specs.declared.requeues.Requeue.TheVariants.{One, All, TakeOneMoveRest}
-use Rattle.core_base.proofs.Counts.{times_append, times_without, times_gone, no_more_requeued}
+use Rattle.core_base.proofs.Counts.{times_append, times_without, times_gone, times_passed, no_more_requeued}
 use Rattle.core_base.proofs.Moves.{length-line}
 
 length-without : (thread : ℕ) (waiters : List Waiter) → length waiters ≡ length (without thread waiters)
@@ -176,6 +177,14 @@ pub length-threads_of_line : (key : ℕ) (waiters : List Waiter) → length (thr
 length-threads_of_line key [] = omega arith
 length-threads_of_line key (x ∷ xs) = grind (arith, nat_tests, length-threads_of_line key xs)
 
+pub length-line_seated : (key capacity : ℕ) (waiters : List Waiter) → IsSeated waiters capacity
+    → length (threads_of (line key waiters)) ≤ capacity
+length-line_seated key capacity waiters seated = omega (
+  arith,
+  length-threads_of_line key waiters,
+  length_seated capacity waiters seated,
+)
+
 fewer_moved : (op : Requeue) (waiters : List Waiter) → length (moved_by op waiters) ≤ length waiters
 fewer_moved One [] = omega arith
 fewer_moved One (x ∷ xs) = omega arith
@@ -195,3 +204,42 @@ moved_seated op key capacity waiters number seated counted = (
     length_seated capacity waiters seated,
   ),
 )
+
+-- threads of a line, put under a key, are the waiters of that line, moved to it
+pub standing_moved : (key : ℕ) (waiters : List Waiter) → standing key (threads_of waiters)
+    ≡ moved_to key waiters
+standing_moved key [] = refl
+standing_moved key (x ∷ xs) = ap (λ (l : List Waiter). waiter key x.thread Exclusive ∷ l)
+    (standing_moved key xs)
+
+pub length-standing : (key : ℕ) (threads : List ℕ) → length (standing key threads) ≡ length threads
+length-standing key threads = length-map threads _
+
+pub length-threads_of : (waiters : List Waiter) → length (threads_of waiters) ≡ length waiters
+length-threads_of waiters = length-map waiters _
+
+-- those that stood nowhere in a list have come to it
+pub seated_passed : (from to capacity : ℕ) (xs ys : List Waiter) → IsSeated xs capacity
+    → IsSeated ys capacity → ((thread : ℕ) → 1 ≤ times thread (line from xs) → times thread ys ≡ 0)
+    → IsSeated (ys ++ moved_to to (line from xs)) capacity
+seated_passed from to capacity xs ys mine theirs apart = record {
+  below = λ thread above. omega (
+    arith,
+    times_passed thread from to xs ys,
+    mine.below thread above,
+    theirs.below thread above,
+  );
+  once = λ thread. elim (cases_lt 0 (times thread (line from xs))) [
+    | inl stands ↦ omega (
+      arith,
+      times_passed thread from to xs ys,
+      mine.once thread,
+      apart thread (omega arith),
+    )
+    | inr none ↦ omega (
+      arith,
+      times_passed thread from to xs ys,
+      theirs.once thread,
+    )
+  ];
+}

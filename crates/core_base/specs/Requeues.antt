@@ -22,9 +22,16 @@ abbrev pub left_by : Requeue → ℕ → List Waiter → List Waiter
 left_by One key waiters = without_first key waiters
 left_by _ key waiters = without_key key waiters
 
+-- waiters, after their move to a key
+abbrev pub moved_to : ℕ → List Waiter → List Waiter
+moved_to key waiters = map (λ (x : Waiter). waiter key x.thread Exclusive) waiters
+
+-- threads that stand under a key and want to own alone
+abbrev pub standing : ℕ → List ℕ → List Waiter
+standing key threads = map (λ (thread : ℕ). waiter key thread Exclusive) threads
+
 -- the list after a requeue: a thread that was moved stands after the last of another key, and wants to own
 -- alone
 abbrev pub requeued : Requeue → ℕ → ℕ → List Waiter → List Waiter
 requeued op from to waiters =
-    left_by op from waiters ++ map
-    (λ (x : Waiter). waiter to x.thread Exclusive) (moved_by op (line from waiters))
+    left_by op from waiters ++ moved_to to (moved_by op (line from waiters))

@@ -2,12 +2,12 @@
 //!
 //! Each call walks the list of all waiters once or twice, and no threads beside them. This is the plain
 //! kind of queues, easy to trust.
-ghost use Rattle.std.specs.Prelude.{◌≡◌, ◌≢◌, ◌+◌, ◌≤◌, ◌++◌, length, drop, if◌then◌else◌};
+ghost use Rattle.std.specs.Prelude.{ℕ, ◌≡◌, ◌≢◌, ◌+◌, ◌≤◌, ◌++◌, [], length, drop, if◌then◌else◌};
 ghost use Rattle.std.specs.Vec.{vec_len, vec_capacity};
 ghost use Rattle.core_base.specs.Lines.{line, line-from_first, without, without_first, without_key};
-ghost use Rattle.core_base.specs.Lines.{first_of, threads_of};
+ghost use Rattle.core_base.specs.Lines.{first_of, threads_of, times, IsSeated};
 ghost use Rattle.core_base.specs.Picks.{picked, without_picked};
-ghost use Rattle.core_base.specs.Requeues.{moved_by, requeued};
+ghost use Rattle.core_base.specs.Requeues.{moved_by, moved_to, requeued, standing};
 ghost use Rattle.core_base.specs.declared.requeues.Requeue.TheVariants.{One, All};
 
 use crate::faults::Fault;
@@ -82,6 +82,37 @@ fn take_picked<P: Picker + Drop>(
     }
 }
 
+/// Takes all under a key, and pushes them to `out` in their order.
+fn take_key(waiters: &mut Vec<Waiter>, key: Key, out: &mut Vec<usize>)
+    requires { vec_len out.old + vec_len waiters.old ≤ vec_capacity out.old }
+    ensures taken { out.new.items ≡ out.old.items ++ threads_of (line key waiters.old.items) }
+    ensures room { vec_capacity out.new ≡ vec_capacity out.old }
+    ensures items { waiters.new.items ≡ without_key key waiters.old.items }
+    ensures capacity { vec_capacity waiters.new ≡ vec_capacity waiters.old }
+{
+    for waiter in &*waiters {
+        if waiter.key == key {
+            out.push_reserved(waiter.thread);
+        }
+    }
+    drop_key(waiters, key);
+}
+
+/// Pushes threads to the end, under a key. They want to own alone.
+fn push_each(waiters: &mut Vec<Waiter>, key: Key, threads: &[usize])
+    requires { vec_len waiters.old + length threads.now ≤ vec_capacity waiters.old }
+    ensures items { waiters.new.items ≡ waiters.old.items ++ standing key threads.now }
+    ensures capacity { vec_capacity waiters.new ≡ vec_capacity waiters.old }
+{
+    for thread in threads {
+        waiters.push_reserved(Waiter {
+            key,
+            thread: *thread,
+            want: Want::Exclusive,
+        });
+    }
+}
+
 /// Moves the first under a key after the last under another, where there is one.
 fn move_first(waiters: &mut Vec<Waiter>, from: Key, to: Key) -> bool
     ensures moved { (if result then 1 else 0)
@@ -135,6 +166,60 @@ impl Model for ListQueues {
         × IsSeated a.waiters.items a.capacity };
 }
 
+impl ListQueues {
+    /// Moves all under a key after the last under another, in one walk of the list, and returns how many
+    /// there were. `spare` is an empty list that has room for all threads, and is empty afterwards.
+    pub fn move_all(&mut self, from: Key, to: Key, spare: &mut Vec<usize>) -> usize
+        requires spare { (spare.old.items ≡ []) × (self.old.capacity ≤ vec_capacity spare.old) }
+        ensures number { (result ≡ length (line from self.old.waiters)) × (result ≤ self.old.capacity) }
+        ensures waiting { self.new.waiters ≡ requeued All from to self.old.waiters }
+        ensures capacity { self.new.capacity ≡ self.old.capacity }
+        ensures spare { (spare.new.items ≡ []) × (vec_capacity spare.new ≡ vec_capacity spare.old) }
+    {
+        take_key(&mut self.waiters, from, spare);
+        push_each(&mut self.waiters, to, spare.as_slice());
+        let number = spare.len();
+        spare.clear();
+        number
+    }
+
+    /// Moves all under a key after the last under a key of other queues, in which none of them stands, in
+    /// one walk of the list, and returns how many there were. `spare` is as in `move_all`.
+    pub fn pass_all(
+        &mut self,
+        other: &mut ListQueues,
+        from: Key,
+        to: Key,
+        spare: &mut Vec<usize>,
+    ) -> usize
+        requires spare { (spare.old.items ≡ []) × (self.old.capacity ≤ vec_capacity spare.old) }
+        requires same { other.old.capacity ≡ self.old.capacity }
+        requires apart { (thread : ℕ) → 1 ≤ times thread (line from self.old.waiters)
+            → times thread other.old.waiters ≡ 0 }
+        ensures number { (result ≡ length (line from self.old.waiters)) × (result ≤ self.old.capacity) }
+        ensures left { self.new.waiters ≡ without_key from self.old.waiters }
+        ensures passed { other.new.waiters
+            ≡ other.old.waiters ++ moved_to to (line from self.old.waiters) }
+        ensures capacity { (self.new.capacity ≡ self.old.capacity)
+            × (other.new.capacity ≡ other.old.capacity) }
+        ensures spare { (spare.new.items ≡ []) × (vec_capacity spare.new ≡ vec_capacity spare.old) }
+    {
+        take_key(&mut self.waiters, from, spare);
+        push_each(&mut other.waiters, to, spare.as_slice());
+        let number = spare.len();
+        spare.clear();
+        number
+    }
+
+    /// Lists all waiters.
+    pub fn waiters(&self) -> &[Waiter]
+        ensures all { result.now ≡ self.now.waiters }
+        ensures seated { IsSeated self.now.waiters self.now.capacity }
+    {
+        self.waiters.as_slice()
+    }
+}
+
 impl Queues for ListQueues {
     ghost waiting = { λ q. q.waiters };
 
@@ -162,12 +247,7 @@ impl Queues for ListQueues {
     }
 
     fn take_all(&mut self, key: Key, out: &mut Vec<usize>) {
-        for waiter in &self.waiters {
-            if waiter.key == key {
-                out.push_reserved(waiter.thread);
-            }
-        }
-        drop_key(&mut self.waiters, key);
+        take_key(&mut self.waiters, key, out);
     }
 
     fn take_by<P: Picker + Drop>(&mut self, key: Key, picker: P, out: &mut Vec<usize>) {

@@ -13,7 +13,7 @@ use Rattle.core_base.specs.declared.wants.Want.TheVariants.{Exclusive}
 use Rattle.core_base.specs.Lines.{waiter, times, line, lines, without, without_first, without_key, first_of}
 use Rattle.core_base.specs.Lines.{queued_under}
 use Rattle.core_base.specs.Picks.{without_lock_picked, lock_answer, next_picker, lock_picker}
-use Rattle.core_base.specs.Requeues.{moved_by, requeued}
+use Rattle.core_base.specs.Requeues.{moved_by, moved_to, requeued}
 use Rattle.core_base.proofs.Counts.{times_gone}
 use Rattle.core_base.proofs.Moves.{line_without_first, take_then_all}
 use Rattle.core_base.proofs.Seats.{line_seated}
@@ -21,7 +21,7 @@ use Rattle.core_queues.specs.Chains.{bucket_of}
 use Rattle.core_queues.proofs.Joined.{everywhere, line_without, line_first_other, line_picked}
 use Rattle.core_queues.proofs.Joined.{line_picked_other, one_line, without_none}
 use Rattle.core_queues.proofs.Places.{same_line, lines_both, line_key_same, line_key_other, all_moved}
-use Rattle.core_queues.proofs.Places.{first_moved, no_times}
+use Rattle.core_queues.proofs.Places.{first_moved}
 use Rattle.core_queues.proofs.Requeued.{rest_moved}
 use Rattle.core_queues.specs.Buckets.{AreApart, HasNone, IsOfBucket, both}
 use Rattle.core_queues.proofs.InBuckets.{same_times}
@@ -273,6 +273,18 @@ none_over from to xs ys xs' none first taken =
           ∙ ap lines (rw empty (sym (append-nil (without_first from (xs ++ ys))))),
     )
 
+-- all of a line were moved into the other
+pub all_over : (from to : ℕ) (xs ys : List Waiter) → line from ys ≡ []
+    → lines (without_key from xs ++ (ys ++ moved_to to (line from xs))) ≡ lines
+    (requeued All from to (xs ++ ys))
+all_over from to xs ys none =
+    let moved = moved_to to (line from xs) in
+    ap lines (sym (append_assoc (without_key from xs) ys moved))
+    ∙ lines_both (without_key from xs ++ ys) (without_key from (xs ++ ys)) moved
+    (side_key from xs (without_key from xs) (xs ++ ys) (Some ys) none refl refl)
+    ∙ ap (λ (l : List Waiter). lines (without_key from (xs ++ ys) ++ moved_to to l))
+    (sym (first_of_both from xs ys none))
+
 -- a key of one bucket has nobody in another
 pub in_another : (bits bits' number seats from : ℕ) (ys : List Waiter) → IsOfBucket bits' number seats ys
     → (here : ℕ) → bucket_of bits from ≡ here → bits' ≡ bits → number ≢ here → line from ys ≡ []
@@ -319,28 +331,6 @@ apart_moved from to thread xs ys xs' ys' once first taken come apart t stands =
     omega (arith, none, later) in
     let none : times t ys ≡ 0 = apart t (omega (arith, times_drop t (line from xs), later)) in
     omega (arith, (appended to thread Exclusive ys ys' come).in_all t differ, none)
-
--- ---------------------------------------------------------------- the test that they are apart
-
--- the waiters under the key from a place on are yet to be asked for
-abbrev pub AreAsked : ℕ → List Waiter → List Waiter → List Waiter → Type 0
-AreAsked key xs rest ys = (thread : ℕ) → 1 ≤ times thread (line key xs) → (1 ≤ times thread rest)
-    ⊎ (times thread ys ≡ 0)
-
-pub one_asked : (key : ℕ) (xs rest more ys : List Waiter) (x : Waiter) → rest ≡ x ∷ more → None
-    ≡ queued_under x.thread ys → AreAsked key xs rest ys → AreAsked key xs more ys
-one_asked key xs rest more ys x is none asked thread stands = elim (asked thread stands) [
-  | inl there ↦ elim (cases_eq x.thread thread) [
-    | inl same ↦ inr (ap (λ (t : ℕ). times t ys) (sym same) ∙ no_times x.thread ys (sym none))
-    | inr differ ↦
-        let one : 1 ≤ times thread (x ∷ more) = subst (λ (l : List Waiter). 1 ≤ times thread l) is there in
-        inl (later x more thread differ one)
-  ]
-  | inr gone ↦ inr gone
-] where
-  later : (x : Waiter) (more : List Waiter) (thread : ℕ) → x.thread ≢ thread → 1 ≤ times thread (x ∷ more)
-      → 1 ≤ times thread more
-  later x more thread differ one = grind (arith, nat_tests)
 
 -- ---------------------------------------------------------------- how many are moved
 

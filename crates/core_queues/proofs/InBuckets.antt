@@ -12,15 +12,15 @@ use Rattle.core_base.specs.declared.wants.Want.{Want}
 use Rattle.core_base.specs.declared.wants.Want.TheVariants.{Exclusive}
 use Rattle.core_base.specs.Lines.{IsSeated, waiter, times, line, lines, without, without_first, without_key}
 use Rattle.core_base.specs.Picks.{without_picked}
-use Rattle.core_base.specs.Requeues.{moved_by, requeued}
+use Rattle.core_base.specs.Requeues.{moved_by, moved_to, requeued}
 use Rattle.core_base.proofs.Moves.{line_without_first}
-use Rattle.core_base.proofs.Seats.{seated_append, seated_requeued, seated_without, seated_without_first}
+use Rattle.core_base.proofs.Seats.{seated_append, seated_passed, seated_requeued, seated_without, seated_without_first}
 use Rattle.core_base.proofs.Seats.{seated_without_key, seated_without_picked}
 use Rattle.core_queues.specs.Chains.{bucket_of}
 use Rattle.core_queues.proofs.Joined.{everywhere, line_without, line_first_other, line_picked}
 use Rattle.core_queues.proofs.Joined.{line_picked_other, one_line}
 use Rattle.core_queues.proofs.Places.{same_line, line_key_same, line_key_other}
-use Rattle.core_queues.specs.Buckets.{IsOfBucket}
+use Rattle.core_queues.specs.Buckets.{AreApart, IsOfBucket}
 
 -- ---------------------------------------------------------------- a list's waiters are those of its lines
 
@@ -152,3 +152,14 @@ bucket_requeued op bits number seats from to old new is here same =
     bucket_after bits number seats new (requeued op from to old) (λ k differ. none_requeued op from to k old
     (λ (e : k ≡ to). differ (ap (bucket_of bits) e ∙ here)) (is.hashed k differ))
     (seated_requeued op from to seats old is.seated) same
+
+-- the waiters of a key of another bucket have come
+pub bucket_passed : (bits number seats from to : ℕ) (xs ys : List Waiter) → IsOfBucket bits number seats ys
+    → bucket_of bits to ≡ number → IsSeated xs seats → AreApart from xs ys
+    → IsOfBucket bits number seats (ys ++ moved_to to (line from xs))
+bucket_passed bits number seats from to xs ys is here seated apart = record {
+  hashed = λ key differ. filter-append _ ys _
+      ∙ rw (is.hashed key differ) (none_moved key to (line from xs)
+      (λ (e : key ≡ to). differ (ap (bucket_of bits) e ∙ here)));
+  seated = seated_passed from to seats xs ys seated is.seated apart;
+}

@@ -3,6 +3,7 @@ pub mod Leads
 pub mod Changes
 pub mod Linked
 pub mod Found
+pub mod Walks
 pub mod Moved
 pub mod Joined
 pub mod Parts

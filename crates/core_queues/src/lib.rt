@@ -7,6 +7,7 @@ mod everybody;
 mod formula;
 mod kind;
 mod links;
+mod marks;
 mod pairs;
 mod records;
 mod section_queues;

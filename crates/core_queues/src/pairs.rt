@@ -9,8 +9,10 @@ ghost use Rattle.core_queues.specs.Buckets.{AreApart};
 ghost use Rattle.core_queues.specs.Wants.{wants_of, taken_in_line};
 
 use crate::bucket_among;
+use crate::marks::{first_marked, mark_all};
 use crate::section_queues::SectionQueues;
 use crate::stands::Stands;
+use crate::wants::note_first_want;
 use core_base::{Key, Queues, Requeue, Want};
 
 impl SectionQueues {
@@ -27,17 +29,20 @@ impl SectionQueues {
 
     /// Finds the first thread under a key that stands in another bucket as well. None where nobody
     /// does.
-    pub fn doubled(&self, key: Key, other: &SectionQueues) -> Option<usize>
-        ensures { result ≡ None → AreApart key self.now.queues.waiters other.now.queues.waiters }
+    pub fn doubled(&mut self, key: Key, other: &SectionQueues) -> Option<usize>
+        ensures apart { result ≡ None
+            → AreApart key self.new.queues.waiters other.now.queues.waiters }
+        ensures same { (self.new.queues ≡ self.old.queues) × TookSame self.old self.new
+            × IsSameBucket self.old self.new }
     {
-        let mut place = 0;
-        while let Some((waiter, next)) = self.queues.find(key, place) {
-            match other.queues.key_of(waiter.thread) {
-                Some(_) => return Some(waiter.thread),
-                None => place = next,
-            }
+        let others = other.queues.waiters();
+        if others.is_empty() {
+            return None;
         }
-        None
+        mark_all(&mut self.marks, others, true);
+        let doubled = first_marked(&self.marks, key, self.queues.waiters());
+        mark_all(&mut self.marks, others, false);
+        doubled
     }
 
     /// Puts a thread after the last under a key of one of the buckets. One that stands in them leaves
@@ -133,13 +138,14 @@ impl SectionQueues {
         true
     }
 
-    // Moves all under a key after the last under a key of another bucket, and answers how many there
-    // were.
+    // Moves all under a key after the last under a key of another bucket, in one walk of the list, and
+    // answers how many there were.
     fn move_all(&mut self, other: &mut SectionQueues, from: Key, to: Key) -> usize
         requires keys { (bucket_of self.old.bits from ≡ self.old.number)
             × (bucket_of other.old.bits to ≡ other.old.number) × (from ≢ to) }
         requires two { AreTwo self.old other.old }
         requires apart { AreApart from self.old.queues.waiters other.old.queues.waiters }
+        requires none { self.old.taken.items ≡ [] }
         ensures number { (result
             ≡ length (line from (self.old.queues.waiters ++ other.old.queues.waiters)))
             × (result ≤ self.old.seats) }
@@ -149,11 +155,8 @@ impl SectionQueues {
         ensures same { TookSame self.old self.new × IsSameBucket self.old self.new }
         ensures other { TookSame other.old other.new × IsSameBucket other.old other.new }
     {
-        let mut number = 0;
-        while self.move_first(other, from, to) {
-            number += 1;
-        }
-        number
+        self.queues
+            .pass_all(&mut other.queues, from, to, &mut self.taken)
     }
 
     /// Moves waiters from under a key after the last under a key of another bucket.
@@ -193,8 +196,11 @@ impl SectionQueues {
             }
             Requeue::All => (None, self.move_all(other, from, to)),
             Requeue::TakeOneMoveRest => {
-                let first = self.take_first(from);
-                (first, self.move_all(other, from, to))
+                note_first_want(&self.queues, from, &mut self.wants);
+                let first = self.queues.take_first(from);
+                let moved = self.move_all(other, from, to);
+                self.note_taken(first);
+                (first, moved)
             }
         }
     }

@@ -20,18 +20,21 @@ use std::alloc::{AllocError, Global};
 #[derive(Drop)]
 pub struct SectionQueues {
     pub(crate) queues: ListQueues,
-    // In the order in which they were taken.
-    taken: Vec<usize>,
+    // In the order in which they were taken. A requeue lists those that it moves here in between.
+    pub(crate) taken: Vec<usize>,
     // The want of each of them.
-    wants: Vec<Want>,
+    pub(crate) wants: Vec<Want>,
     // The threads among them that have not been given a right.
     rightless: Vec<usize>,
+    // A mark of each thread, which it has inside `doubled` alone.
+    pub(crate) marks: Vec<bool>,
     seats: usize,
     number: usize,
     bits: u32,
     ghost of_bucket: { IsOfBucket bits number seats queues.waiters },
     ghost roomy: { (queues.capacity ≡ seats) × (seats ≤ vec_capacity taken)
         × (vec_capacity taken ≤ vec_capacity rightless) × (seats ≤ vec_capacity wants) },
+    ghost marked: { length marks.items ≡ seats },
 }
 
 fn room(alloc: Global, seats: usize) -> Result<(Vec<usize>, Vec<usize>, Vec<Want>), AllocError>
@@ -62,6 +65,34 @@ fn drop_thread(threads: &mut Vec<usize>, thread: usize)
     threads.retain(|other| *other != thread);
 }
 
+// Moves waiters as `requeue` does, in one walk of the list. `spare` is empty before and afterwards.
+fn requeue_with(
+    queues: &mut ListQueues,
+    from: Key,
+    to: Key,
+    op: Requeue,
+    spare: &mut Vec<usize>,
+) -> (Option<usize>, usize)
+    requires differ { from ≢ to }
+    requires spare { (spare.old.items ≡ []) × (queues.old.capacity ≤ vec_capacity spare.old) }
+    ensures taken { result.0 ≡ taken_by op (line from queues.old.waiters) }
+    ensures seated { IfSome result.0 (λ thread. thread < queues.old.capacity) }
+    ensures number { (result.1 ≡ length (moved_by op (line from queues.old.waiters)))
+        × (result.1 ≤ queues.old.capacity) }
+    ensures lines { lines queues.new.waiters ≡ lines (requeued op from to queues.old.waiters) }
+    ensures capacity { queues.new.capacity ≡ queues.old.capacity }
+    ensures spare { (spare.new.items ≡ []) × (vec_capacity spare.new ≡ vec_capacity spare.old) }
+{
+    match op {
+        Requeue::One => queues.requeue(from, to, op),
+        Requeue::All => (None, queues.move_all(from, to, spare)),
+        Requeue::TakeOneMoveRest => {
+            let first = queues.take_first(from);
+            (first, queues.move_all(from, to, spare))
+        }
+    }
+}
+
 impl SectionQueues {
     ghost use Rattle.core_queues.specs.Places.{IsSameBucket, TookSame};
 
@@ -85,11 +116,15 @@ impl SectionQueues {
         let Ok((taken, rightless, wants)) = room(alloc, seats) else {
             return Err(Fault::NoMemory);
         };
+        let Ok(marks) = Vec::from_elem(alloc, false, seats) else {
+            return Err(Fault::NoMemory);
+        };
         Ok(SectionQueues {
             queues,
             taken,
             wants,
             rightless,
+            marks,
             seats,
             number,
             bits,
@@ -108,7 +143,7 @@ impl SectionQueues {
     }
 
     // The one that was taken, if any.
-    fn note_taken(&mut self, first: Option<usize>)
+    pub(crate) fn note_taken(&mut self, first: Option<usize>)
         requires { (self.old.taken.items ≡ []) × (self.old.rightless.items ≡ [])
             × IfSome first (λ thread. thread < self.old.seats) }
         ensures taken { MatchOption first (self.new.taken.items ≡ [])
@@ -200,7 +235,7 @@ impl SectionQueues {
         if op == Requeue::TakeOneMoveRest {
             note_first_want(&self.queues, from, &mut self.wants);
         }
-        let (first, moved) = self.queues.requeue(from, to, op);
+        let (first, moved) = requeue_with(&mut self.queues, from, to, op, &mut self.taken);
         self.note_taken(first);
         (first, moved)
     }

@@ -56,10 +56,18 @@ fn try_queues(lock: &Mutex<SectionQueues>) -> Option<MutexGuard<'_, SectionQueue
 }
 
 // Finds a thread that stands under one of two keys and in the other's bucket as well.
-fn doubled(low: Key, high: Key, first: &SectionQueues, other: &SectionQueues) -> Option<usize>
-    ensures { result ≡ None
-        → AreApart low first.now.queues.waiters other.now.queues.waiters
-        × AreApart high other.now.queues.waiters first.now.queues.waiters }
+fn doubled(
+    low: Key,
+    high: Key,
+    first: &mut SectionQueues,
+    other: &mut SectionQueues,
+) -> Option<usize>
+    requires { IsBegun first.old × IsBegun other.old }
+    ensures apart { result ≡ None
+        → AreApart low first.new.queues.waiters other.new.queues.waiters
+        × AreApart high other.new.queues.waiters first.new.queues.waiters }
+    ensures same { IsSameBucket first.old first.new × IsSameBucket other.old other.new }
+    ensures begun { IsBegun first.new × IsBegun other.new }
 {
     match first.doubled(low, other) {
         Some(thread) => Some(thread),

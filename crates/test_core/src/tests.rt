@@ -3,6 +3,7 @@ mod deadlines;
 mod doubled;
 mod lots;
 mod queues;
+mod requeues;
 mod single;
 
 ghost use Rattle.std.specs.Prelude.{◌≡◌, ◌≤◌, ◌<◌, All};

@@ -14,7 +14,7 @@ const KEY: Key = 2;
 const OTHER: Key = 3;
 
 // Puts a thread after the last under a key, in a section of that key alone.
-fn put<R: Wait>(rt: &R, lot: &ParkingLot, token: &mut Token, key: Key, thread: usize)
+pub(super) fn put<R: Wait>(rt: &R, lot: &ParkingLot, token: &mut Token, key: Key, thread: usize)
     requires { IsTokenOf lot.now token.old × (thread < lot.now.records.count) }
     ensures { IsSameThread lot.now token.old token.new }
 {

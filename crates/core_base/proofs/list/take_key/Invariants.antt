@@ -1,7 +1,7 @@
 use Rattle.std.proofs.Common.{◌≡◌, ◌++◌, take}
 use Rattle.std.specs.Vec.{vec_capacity}
 use Rattle.core_base.specs.Lines.{line, threads_of}
-use Rattle.core_base.proofs.list.ListQueuesQueues.take_all.Given as goal
+use Rattle.core_base.proofs.list.take_key.Given as goal
 
 abbrev pub invariant-loop-waiter : goal.invariant-loop-waiter
 invariant-loop-waiter l = record {
