@@ -148,8 +148,8 @@ pub trait RawMutex {
     ///
     /// # Errors
     ///
-    /// The value that the step saw, where somebody has the mutex. `lock_slow` is the rest of the
-    /// call then.
+    /// What is left to `lock_slow`: the value that the step saw, where somebody has the mutex, or that no
+    /// step is taken, where the thread has to wait for its turn first.
     fn lock_fast(&self, token: &mut Self::Token) -> Result<Self::Guard, u64>
         requires { is_token_of (lot_of self.now) token.old }
         ensures token { is_token_of (lot_of self.now) token.new }
@@ -159,7 +159,7 @@ pub trait RawMutex {
             × is_guard_of self.now guard) }
         ensures begun { IfErr result (λ seen. begun self.now Lock seen token.old token.new) };
 
-    /// Does the rest of a `lock` whose first step saw this.
+    /// Does what `lock_fast` has left of a `lock`.
     fn lock_slow<R: Wait>(&self, rt: &R, token: &mut Self::Token, seen: u64) -> Self::Guard
         requires token { is_token_of (lot_of self.now) token.old }
         requires begun { (before : Self.Token) × begun self.now Lock seen before token.old }
@@ -172,8 +172,8 @@ pub trait RawMutex {
     fn lot(&self) -> &Self::Lot
         ensures { result.now ≡ lot_of self.now };
 
-    /// Takes the first step of `unlock`, which spends the guard. Returns what it saw where the call
-    /// has more to do, which is `unlock_slow`.
+    /// Takes the first step of `unlock`, which spends the guard. Returns what is left to `unlock_slow`,
+    /// where the call has more to do: what the step saw, or that none is taken.
     ///
     /// The lot is that of the mutex: a thread that has kept it since the mutex was taken needn't
     /// look for it after an atomic step.
@@ -192,7 +192,7 @@ pub trait RawMutex {
             × released self.now Unlock token.old token.new) }
         ensures begun { IfSome result (λ seen. begun self.now Unlock seen token.old token.new) };
 
-    /// The rest of an `unlock` whose first step saw this.
+    /// Does what `unlock_fast` has left of an `unlock`.
     fn unlock_slow<R: Wait>(&self, rt: &R, token: &mut Self::Token, seen: u64)
         requires token { is_token_of (lot_of self.now) token.old }
         requires begun { (before : Self.Token) × begun self.now Unlock seen before token.old }

@@ -1,9 +1,11 @@
 //! The lot's side of its director, which says when its threads run.
 //!
-//! A directed token is never armed (`Expected`), and so each step of its thread comes to `pass` and waits
-//! for its turn there. A lot without a director pays for that at its looks alone, which ask whether the
-//! token is armed. A raw lock names its call as it begins (`begins`), or in its slow half (`renames`). Deeds
-//! come by reference: an enum by value would be a local of each fast half.
+//! A directed token is never armed (`Expected`), and so each step of its thread comes to cold code. The
+//! fast half of a call leaves the call to its slow half then (`may_begin`), which waits for its turn
+//! (`turn_to_begin`); any other step comes to `pass`, and waits there. A lot without a director pays for
+//! that at tries and looks, which have no slow half: the compiler tests a flag after each call that may
+//! wait. A raw lock names its call as it begins. Deeds come by reference: an enum by value would be a local
+//! of each fast half.
 ghost use Rattle.std.specs.Prelude.{◌≡◌, None};
 
 use crate::lot::ParkingLot;

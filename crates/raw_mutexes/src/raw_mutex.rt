@@ -572,14 +572,16 @@ impl lock_raw::RawMutexFair for RawMutex {
 
     #[inline]
     fn bump<R: Wait>(&self, rt: &R, token: &mut Token, guard: RawGuard) -> RawGuard {
-        let mut seen = NOT_BEGUN;
-        if self.lot.may_begin(token) {
-            seen = self.lot.word_again(token, self.word, Op::Load);
-            if !is_parked(seen) {
-                return guard;
-            }
+        let lot: &ParkingLot = &self.lot;
+        if !lot.may_begin(token) {
+            self.join(lot, token, guard);
+            return self.bump_slow(rt, token, NOT_BEGUN);
         }
-        self.join(&self.lot, token, guard);
+        let seen = lot.word_again(token, self.word, Op::Load);
+        if !is_parked(seen) {
+            return guard;
+        }
+        self.join(lot, token, guard);
         self.bump_slow(rt, token, seen)
     }
 }

@@ -12,7 +12,7 @@ use Rattle.raw_mutexes.proofs.raw_mutex.RawMutex.lock_timed.Goals as goal
 pub returns-in-Ok-clause-path : goal.returns-in-Ok-clause-path
 returns-in-Ok-clause-path g c = let mutex = c.args.self.now in let n = mutex.word.number in let old =
     c.args.token.now in let new = c.enter_open.new.token in
-    let added = ap (λ (v : View). v.steps) c.in-Ok.ensures.stepped
+    let added = ap (λ (v : View). v.steps) c.in-Ok.ensures.taken.0
     ∙ ap (λ (k : WordKind). (view_of old).steps ++ step (word_index n k) (Exchange 0 1) 0) mutex.drawn.1
     in
     path_at_once n LockTimed 0 old new refl added c.enter_open.ensures.untold
@@ -20,16 +20,23 @@ returns-in-Ok-clause-path g c = let mutex = c.args.self.now in let n = mutex.wor
 pub go_on_timed-requires-clause-begun : goal.go_on_timed-requires-clause-begun
 go_on_timed-requires-clause-begun g c = let mutex = c.args.self.now in let n = mutex.word.number in let old =
     c.args.token.now in let new = c.enter_open.new.token in let seen = c.in-Err.seen in
-    let number : new.number ≡ old.number = search rules in
-    let stepped = c.in-Err.ensures.stepped in let some = stepped.0 in
-    let steps = ap (λ (v : View). v.steps) stepped.1 ∙ ap (λ (k : WordKind). (view_of old).steps
-    ++ step (word_index n k) (Exchange 0 1) seen) mutex.drawn.1 in (
+    let number : new.number ≡ old.number = search rules in (
       old,
       (
-        number,
-        steps,
-        ap (λ (v : View). v.owns) stepped.1,
-        omega (arith, some),
-        c.enter_open.ensures.untold,
-      ),
+      (λ some. let stepped = c.in-Err.ensures.missed some in (
+          number,
+          ap (λ (v : View). v.steps) stepped.0 ∙ ap (λ (k : WordKind). (view_of old).steps
+              ++ step (word_index n k) (Exchange 0 1) seen) mutex.drawn.1,
+          ap (λ (v : View). v.owns) stepped.0,
+          omega (arith, some),
+          c.enter_open.ensures.untold,
+      )),
+      (λ none. let same = c.in-Err.ensures.waits none in (
+          number,
+          ap (λ (v : View). v.steps) same,
+          ap (λ (v : View). v.owns) same,
+          c.enter_open.ensures.own.1,
+          c.enter_open.ensures.untold,
+      )),
+    ),
     )

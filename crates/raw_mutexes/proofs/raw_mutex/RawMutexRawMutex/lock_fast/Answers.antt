@@ -1,4 +1,4 @@
-use Rattle.std.proofs.Common.{◌∙◌, ◌++◌, ap, refl, rules}
+use Rattle.std.proofs.Common.{◌≡◌, ◌∙◌, ◌++◌, ap, arith, refl, rules}
 use Rattle.core_base.specs.declared.ops.Op.TheVariants.{Exchange}
 use Rattle.spec_locks.specs.declared.calls.MutexCall.TheVariants.{Lock}
 use Rattle.run_base.specs.Paths.{step}
@@ -13,11 +13,32 @@ use Rattle.raw_mutexes.proofs.raw_mutex.RawMutexRawMutex.lock_fast.Goals as goal
 pub returns-in-Ok-clause-over : goal.returns-in-Ok-clause-over
 returns-in-Ok-clause-over c = let mutex = c.args.self.now in let n = mutex.word.number in let old =
     c.args.token.now in let new = c.enter_open.new.token in
-    let added = ap (λ (v : View). v.steps) c.in-Ok.ensures.stepped
+    let added = ap (λ (v : View). v.steps) c.in-Ok.ensures.taken.0
     ∙ ap (λ (k : WordKind). (view_of old).steps ++ step (word_index n k) (Exchange 0 1) 0) mutex.drawn.1
     in
     let keeps_rights : StaysAs old new = search rules in (
       keeps_rights,
       path_at_once n Lock 0 old new refl added c.enter_open.ensures.untold,
       (search rules, search rules),
+    )
+
+pub returns-in-Err-clause-begun : goal.returns-in-Err-clause-begun
+returns-in-Err-clause-begun c = let mutex = c.args.self.now in let n = mutex.word.number in let old =
+    c.args.token.now in let new = c.enter_open.new.token in let seen = c.in-Err.seen in
+    let number : new.number ≡ old.number = search rules in (
+      (λ some. let stepped = c.in-Err.ensures.missed some in (
+          number,
+          ap (λ (v : View). v.steps) stepped.0 ∙ ap (λ (k : WordKind). (view_of old).steps
+              ++ step (word_index n k) (Exchange 0 1) seen) mutex.drawn.1,
+          ap (λ (v : View). v.owns) stepped.0,
+          omega (arith, some),
+          c.enter_open.ensures.untold,
+      )),
+      (λ none. let same = c.in-Err.ensures.waits none in (
+          number,
+          ap (λ (v : View). v.steps) same,
+          ap (λ (v : View). v.owns) same,
+          c.enter_open.ensures.own.1,
+          c.enter_open.ensures.untold,
+      )),
     )
