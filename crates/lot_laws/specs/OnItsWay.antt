@@ -17,8 +17,8 @@ abbrev pub IsToWrite : LocksState → ℕ → CallState → ℕ → (lost : Opti
 IsToWrite v t c l lost = (k : ℕ) → putting (rights_in v t) l (one_more lost (rights_in v t l)) k
     ≡ putting c.former l (with_pending (c.former l)) k
 
--- in its call c, of this purpose, the thread t owns what it owned as the call began; or it has lost a right, got
--- the right that the call is for, or is pending for that
+-- in its call c, of this purpose, the thread t owns what it owned as the call began; or it has lost the right
+-- that the call gives up, and got the one that the call is for or is pending for that
 abbrev pub IsOnItsWay : Option Purpose → LocksState → ℕ → CallState → Type 0
 IsOnItsWay None v t c = Unit {0}
 IsOnItsWay (Some (Enters l x how)) v t c = Trades v t c l None None
@@ -33,7 +33,8 @@ IsOnItsWay (Some (Awaits l forced timed)) v t c = Trades v t c l None None
 IsOnItsWay (Some (Waits l m timed)) v t c = Trades v t c m None None ⊎ Trades v t c m (Some Exclusive) None
 IsOnItsWay (Some (Notifies l all)) v t c = Trades v t c l None None
 
--- the thread sleeps no more once its time was up, but for a wait that has given up and is to have its mutex again
+-- the thread sleeps no more once its time was up, but for a wait that has given up and is to have its mutex
+-- again
 abbrev pub HeedsItsTime : LocksState → ℕ → Type 0
 HeedsItsTime w t = (w.stances t).asleep ≡ true → (w.calls t).late ≡ true
     → (l m : ℕ) × ((w.calls t).purpose ≡ Some (Waits l m true)) × ((w.calls t).gave_up ≡ Some l)

@@ -14,12 +14,12 @@ use Rattle.lot_laws.proofs.mutex.MutexRows.{unlock_awake}
 use Rattle.lot_laws.proofs.promises.PlacePromises.{calls_one_lock}
 use Rattle.lot_laws.proofs.promises.RowPromises.{CallsOneLock}
 
-asleep_is : (a : Act) → sleeps a ≡ true → a ≡ Sleep
+pub asleep_is : (a : Act) → sleeps a ≡ true → a ≡ Sleep
 asleep_is Sleep h = refl
 asleep_is a h = absurd cc
 
 -- an unlock doesn't sleep
-no_sleep : (m : ℕ) (at : MutexPlace) → IsUnlockPlace at → mutex_act m at ≡ Sleep → ⊥
+pub no_sleep : (m : ℕ) (at : MutexPlace) → IsUnlockPlace at → mutex_act m at ≡ Sleep → ⊥
 no_sleep m (mutex.Unlock at) h e = unlock_awake m at e
 no_sleep m at h e = absurd h
 

@@ -1,28 +1,17 @@
 -- A sleeper that waits to be notified owns what it owned as its call began, but for its mutex.
 use Rattle.lot_laws.proofs.Imports
 use Imports.{ℕ, Bool, true, false, Option, Some, None, ◌≡◌, inl, inr, refl, sym, ◌∙◌, ap, subst, Exclusive}
-use Imports.{Trades, Rights, Notifies, Waits, IsNotified, one_more_at, loses, Act, Sleep, MutexPlace, mutex_act}
-use Imports.{CondvarPlace, Wait, Look, Notify, WaitAt, condvar_act, wait_act, IsReached, IsUnlockPlace}
-use Imports.{condvar_place_purpose, Place, Condvar, act_of, State, place_at, call_at, call_state, locks_of}
-use Imports.{sleeps, IsInductive}
-use Rattle.steps_mutex.specs.declared.places.MutexPlace.TheVariants as mutex
+use Imports.{Trades, Rights, Notifies, Waits, IsNotified, one_more_at, loses, Sleep, CondvarPlace, Wait, Look}
+use Imports.{Notify, WaitAt, condvar_act, wait_act, IsReached, condvar_place_purpose, Place, Condvar, act_of}
+use Imports.{State, place_at, call_at, call_state, locks_of, sleeps, IsInductive}
 use Rattle.steps_condvar.specs.declared.wait.WaiterFate.TheVariants as stands
 use Rattle.steps_condvar.specs.declared.wait.WaitAt.TheVariants as wait
 use Rattle.lot_laws.proofs.calls.CallEvents.{rights}
 use Rattle.lot_laws.proofs.condvar.CondvarPromises.{two_purpose}
+use Rattle.lot_laws.proofs.condvar.LetsGo.{asleep_is, no_sleep}
 use Rattle.lot_laws.proofs.machine.Parts.{IsOfTwo, fits_two, single_or_two}
-use Rattle.lot_laws.proofs.mutex.MutexRows.{unlock_awake}
 use Rattle.lot_laws.proofs.promises.PlacePromises.{calls_one_lock}
 use Rattle.lot_laws.proofs.promises.RowPromises.{CallsOneLock}
-
-asleep_is : (a : Act) → sleeps a ≡ true → a ≡ Sleep
-asleep_is Sleep h = refl
-asleep_is a h = absurd cc
-
--- an unlock doesn't sleep
-no_sleep : (m : ℕ) (at : MutexPlace) → IsUnlockPlace at → mutex_act m at ≡ Sleep → ⊥
-no_sleep m (mutex.Unlock at) h e = unlock_awake m at e
-no_sleep m at h e = absurd h
 
 module _ (r : ℕ → Rights) where
   -- a wait was neither notified nor has it given up

@@ -1,12 +1,10 @@
 -- A sleeper whose time was up is in a wait that has given up: no other call sleeps once it is late.
 use Rattle.lot_laws.proofs.Imports
-use Imports.{ℕ, Bool, true, false, Option, Some, None, ◌≡◌, ◌≢◌, inl, inr, refl, sym, ◌∙◌, ap, subst, Want, Line}
-use Imports.{Main, Second}
-use Imports.{Rights, Waits, Act, Sleep, MutexPlace, mutex_act, Patience, RwLockCallPlace, call_act}
-use Imports.{call_profile, CondvarPlace, Wait, Look, Notify, WaitAt, condvar_act, wait_act, IsReached, profile}
-use Imports.{IsUnlockPlace, Place, act_of, State, place_at, call_at, call_state, locks_of, sleeps, IsInductive}
+use Imports.{ℕ, Bool, true, false, Some, ◌≡◌, inl, inr, refl, sym, ◌∙◌, ap, subst, Want, Line, Main, Second}
+use Imports.{Rights, Waits, Sleep, MutexPlace, mutex_act, RwLockCallPlace, call_act, call_profile}
+use Imports.{CondvarPlace, Wait, Look, Notify, WaitAt, condvar_act, wait_act, IsReached, Place, act_of, State}
+use Imports.{place_at, call_state, locks_of, sleeps, IsInductive}
 use Rattle.steps_mutex.specs.MutexProfiles.{mutex_profile}
-use Rattle.steps_mutex.specs.declared.lock.Entry.{Entry}
 use Rattle.steps_mutex.specs.declared.lock.LockAt.{LockAt}
 use Rattle.steps_mutex.specs.declared.lock.LockAt.TheVariants as lock
 use Rattle.steps_mutex.specs.declared.places.MutexPlace.TheVariants as mutex
@@ -36,13 +34,12 @@ use Rattle.steps_semaphore.specs.declared.acquire.AcquireAt.TheVariants as acqui
 use Rattle.steps_semaphore.specs.declared.places.SemaphorePlace.{SemaphorePlace}
 use Rattle.steps_semaphore.specs.declared.places.SemaphorePlace.TheVariants as semaphore
 use Rattle.steps_semaphore.specs.declared.release.ReleaseAt.TheVariants as release
-use Rattle.steps_condvar.specs.declared.wait.WaiterFate.TheVariants as stands
 use Rattle.steps_condvar.specs.declared.wait.WaitAt.TheVariants as wait
 use Rattle.lot_steps.specs.declared.places.Place.TheVariants as places
 use Rattle.lot_laws.specs.OnItsWay.{HeedsItsTime}
 use Rattle.lot_laws.proofs.calls.CallEvents.{rights}
-use Rattle.lot_laws.proofs.machine.Parts.{IsOfTwo, IsSingle, fits_two, single_or_two}
-use Rattle.lot_laws.proofs.mutex.MutexRows.{unlock_awake}
+use Rattle.lot_laws.proofs.condvar.LetsGo.{asleep_is, no_sleep}
+use Rattle.lot_laws.proofs.machine.Parts.{IsSingle, fits_two, single_or_two}
 
 -- ---------------------------------------------------------------- calls of one lock
 
@@ -124,7 +121,8 @@ by_once l (once.GiveUp retries give_up.Remove) is = absurd cc
 by_once l (once.GiveUp retries give_up.Clear) is = absurd cc
 by_once l (once.GiveUp retries give_up.Leave) is = absurd cc
 
-by_semaphore : (l : ℕ) (at : SemaphorePlace) → semaphore_act l at ≡ Sleep → (semaphore_profile at).late ≡ false
+by_semaphore : (l : ℕ) (at : SemaphorePlace) → semaphore_act l at ≡ Sleep
+    → (semaphore_profile at).late ≡ false
 by_semaphore l (semaphore.Acquire timed retries acquire.Load) is = refl
 by_semaphore l (semaphore.Acquire timed retries (acquire.Decide seen)) is = refl
 by_semaphore l (semaphore.Acquire timed retries acquire.Check) is = refl
@@ -153,11 +151,8 @@ by_single (places.Condvar l at) r single is = absurd single
 
 -- the call is a wait that has given up
 abbrev HasGivenUp : Place → (ℕ → Rights) → Type 0
-HasGivenUp p r = (l m : ℕ) × ((call_state p r).purpose ≡ Some (Waits l m true)) × ((call_state p r).gave_up ≡ Some l)
-
-no_sleep : (m : ℕ) (at : MutexPlace) → IsUnlockPlace at → mutex_act m at ≡ Sleep → ⊥
-no_sleep m (mutex.Unlock at) h e = unlock_awake m at e
-no_sleep m at h e = absurd h
+HasGivenUp p r = (l m : ℕ) × ((call_state p r).purpose ≡ Some (Waits l m true))
+    × ((call_state p r).gave_up ≡ Some l)
 
 by_wait : (l m : ℕ) (timed : Bool) (at : WaitAt) (r : ℕ → Rights) → IsReached (Wait m timed at)
     → wait_act l m at ≡ Sleep → (call_state (places.Condvar l (Wait m timed at)) r).late ≡ true
@@ -175,13 +170,10 @@ by_place l (Notify all m at) r reached is late = absurd cc
 
 -- ---------------------------------------------------------------- each thread
 
-asleep_is : (a : Act) → sleeps a ≡ true → a ≡ Sleep
-asleep_is Sleep h = refl
-asleep_is a h = absurd cc
-
 pub heeds : (w : State) → IsInductive w → (t : ℕ) → HeedsItsTime (locks_of w) t
 heeds w inductive t asleep late = elim (single_or_two (place_at w t)) [
-  | inl single ↦ absurd (let f : false ≡ true = sym (by_single (place_at w t) (rights w t) single is) ∙ late in cc)
+  | inl single ↦ absurd (let f : false ≡ true = sym (by_single (place_at w t) (rights w t) single is)
+      ∙ late in cc)
   | inr two ↦ subst (λ p. HasGivenUp p (rights w t)) (sym two.is) (by_place two.lock two.at (rights w t)
       (fits_two w t inductive two).reached (sym (ap act_of two.is) ∙ is)
       (sym (ap (λ p. (call_state p (rights w t)).late) two.is) ∙ late))

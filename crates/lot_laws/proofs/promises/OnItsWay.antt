@@ -1,11 +1,12 @@
--- A thread in a call owns what it owned as the call began, or what the call trades that for: as the row of its
--- place tells what it owned.
+-- A thread in a call owns what it owned as the call began, or what the call trades that for: the rows of its
+-- places tell so.
 use Rattle.lot_laws.proofs.Imports
-use Imports.{ℕ, Bool, true, false, Option, Some, None, if◌then◌else◌, ◌≡◌, ◌⊎◌, inl, inr, refl, sym, ◌∙◌, ap}
-use Imports.{subst, arith, nat_tests, Want, Exclusive, Shared, Line, Rights, rights_of, with_right, without_right}
-use Imports.{putting, Purpose, LockState, Owns, Role, idle, Pends, Holds, MutexPlace, Patience, RwLockCallPlace}
-use Imports.{call_profile, CondvarPlace, Wait, Look, Notify, profile, called_lock, is_none, Place, State, place_at}
-use Imports.{lock_state, call_at, call_state, locks_of, IsInductive, FitsItsLock, one_more_at, one_less_at}
+use Imports.{ℕ, Bool, true, false, Option, Some, if◌then◌else◌, ◌≡◌, ◌⊎◌, inl, inr, refl, sym, ◌∙◌, ap, subst}
+use Imports.{arith, nat_tests, Want, Exclusive, Shared, Line, Rights, rights_of, with_right, without_right}
+use Imports.{putting, LockState, Owns, Role, Pends, Holds, MutexPlace, Patience, RwLockCallPlace}
+use Imports.{call_profile, CondvarPlace, Wait, Look, Notify, profile, called_lock, is_none, Place, State}
+use Imports.{place_at, lock_state, call_at, call_state, locks_of, IsInductive, FitsItsLock, one_more_at}
+use Imports.{one_less_at}
 use Rattle.core_base.specs.declared.wants.Want.TheVariants.{Upgradable}
 use Rattle.spec_locks.specs.Purposes.{Bumps, once_purpose}
 use Rattle.spec_locks.specs.Runs.{CallState}
@@ -17,18 +18,18 @@ use Rattle.spec_locks.specs.declared.calls.Downgrade.TheVariants as downgrade
 use Rattle.spec_locks.specs.declared.calls.OnceCall.{OnceCall}
 use Rattle.spec_locks.specs.declared.calls.OnceCall.TheVariants as once_call
 use Rattle.spec_locks.proofs.Rights.{AreAt, agree, changed, less_pending, regained, rights_are, unchanged}
-use Rattle.steps_base.specs.Profiles.{Profile, blank_row}
-use Rattle.steps_mutex.specs.MutexProfiles.{before_entry, before_release, entry_purpose, is_bump, mutex_profile}
-use Rattle.steps_mutex.specs.MutexProfiles.{unlock_row, hand_off_row, release_purpose, was_handed}
-use Rattle.steps_mutex.specs.declared.hand_off.HandOffAt.{HandOffAt}
+use Rattle.steps_base.specs.Profiles.{blank_row}
+use Rattle.steps_mutex.specs.MutexProfiles.{before_entry, entry_purpose, is_bump}
+use Rattle.steps_mutex.specs.MutexProfiles.{mutex_profile}
+use Rattle.steps_mutex.specs.MutexProfiles.{unlock_row, hand_off_row, was_handed}
 use Rattle.steps_mutex.specs.declared.lock.Entry.{Entry}
 use Rattle.steps_mutex.specs.declared.lock.Entry.TheVariants as entry
 use Rattle.steps_mutex.specs.declared.lock.LockAt.{LockAt}
 use Rattle.steps_mutex.specs.declared.lock.LockAt.TheVariants as lock
 use Rattle.steps_mutex.specs.declared.places.MutexPlace.TheVariants as mutex
-use Rattle.steps_mutex.specs.declared.unlock.UnlockAt.{UnlockAt}
-use Rattle.steps_rwlock.specs.RwLockCalls.{MayStand, SharesAt, StandsAt}
-use Rattle.steps_rwlock.specs.RwLockDeeds.{kept_claim, parking_role, pends, retried_want, role_at, waking_role}
+use Rattle.steps_rwlock.specs.RwLockCalls.{SharesAt, StandsAt}
+use Rattle.steps_rwlock.specs.RwLockDeeds.{kept_claim, parking_role, pends, retried_want, role_at}
+use Rattle.steps_rwlock.specs.RwLockDeeds.{waking_role}
 use Rattle.steps_rwlock.specs.RwLockProfiles.{before, is_pending, is_waking, purpose_by, without_pending}
 use Rattle.steps_rwlock.specs.RwLockSteps.{access_of, from_of, start_of, to_of, wanted}
 use Rattle.steps_rwlock.specs.declared.park.ParkAt.{ParkAt}
@@ -48,14 +49,14 @@ use Rattle.steps_rwlock_fair.specs.FairProfiles as given
 use Rattle.steps_rwlock_fair.specs.declared.handed.HandedAt.{HandedAt}
 use Rattle.steps_rwlock_fair.specs.declared.handed.HandedAt.TheVariants as handed
 use Rattle.steps_rwlock_fair.specs.declared.places.RwLockCallPlace.TheVariants as fair
-use Rattle.steps_once.specs.OnceProfiles.{look_row, once_profile}
+use Rattle.steps_once.specs.OnceProfiles.{look_row}
 use Rattle.steps_once.specs.declared.look.LookAt.{LookAt}
 use Rattle.steps_once.specs.declared.look.LookAt.TheVariants as look
 use Rattle.steps_once.specs.declared.places.OncePlace.{OncePlace}
 use Rattle.steps_once.specs.declared.places.OncePlace.TheVariants as once
 use Rattle.steps_once.specs.declared.give_up.GiveUpAt.TheVariants as give_up
 use Rattle.steps_once.specs.declared.run.RunAt.TheVariants as run
-use Rattle.steps_semaphore.specs.SemaphoreProfiles.{acquire_row, release_row, semaphore_profile}
+use Rattle.steps_semaphore.specs.SemaphoreProfiles.{acquire_row, release_row}
 use Rattle.steps_semaphore.specs.declared.acquire.AcquireAt.{AcquireAt}
 use Rattle.steps_semaphore.specs.declared.acquire.AcquireAt.TheVariants as acquire
 use Rattle.steps_semaphore.specs.declared.places.SemaphorePlace.{SemaphorePlace}
@@ -64,7 +65,6 @@ use Rattle.steps_condvar.specs.CondvarProfiles.{wait_row}
 use Rattle.lot_steps.specs.declared.places.Place.TheVariants as places
 use Rattle.lot_laws.specs.OnItsWay.{IsOnItsWay, with_pending}
 use Rattle.lot_laws.proofs.calls.CallEvents.{rights}
-use Rattle.lot_laws.proofs.machine.Parts.{IsSingle, single_or_two}
 use Rattle.lot_laws.proofs.promises.PlacePromises.{role_own}
 
 -- ---------------------------------------------------------------- rows of a reader-writer lock
@@ -90,7 +90,8 @@ pending_claims again q (at.Aside to) e = parking_claims _ again (pends q) to
 pending_claims again q at.RollBack e = refl
 pending_claims again q to e = absurd cc
 
-waking_claims : (start : Option Want) (m : Line) (to : WakeAt) → (waking_role start m to).claims ≡ kept_claim start
+waking_claims : (start : Option Want) (m : Line) (to : WakeAt)
+    → (waking_role start m to).claims ≡ kept_claim start
 waking_claims start m waking.Enter = refl
 waking_claims start m waking.Take = refl
 waking_claims start m (waking.Clear any) = refl
@@ -153,12 +154,15 @@ module _ (w : State) (t : ℕ) where
   here : (l : ℕ) → AreAt r r l (r l)
   here l = unchanged r l (r l) refl
 
-  -- what is lost beside what it owns is what is got beside what it owned
+  -- what it owns and what it owned are the same, where some at the lock is put beside either
+  abbrev Trade : ℕ → (ℕ → Rights) → (g h : Rights → Rights) → Type 0
+  Trade l f g h = (k : ℕ) → putting r l (g (r l)) k ≡ putting f l (h (f l)) k
+
   trades : (l : ℕ) (f : ℕ → Rights) (y : Rights) (g h : Rights → Rights) → AreAt r f l y → g (r l) ≡ h y
-      → (k : ℕ) → putting r l (g (r l)) k ≡ putting f l (h (f l)) k
+      → Trade l f g h
   trades l f y g h are e = agree r l _ _ _ _ (changed r l g r (r l) (here l)) (changed r l h f y are) e
 
-  kept : (l : ℕ) (f : ℕ → Rights) → f ≡ r → (k : ℕ) → putting r l (r l) k ≡ putting f l (f l) k
+  kept : (l : ℕ) (f : ℕ → Rights) → f ≡ r → Trade l f (λ y. y) (λ y. y)
   kept l f e k = ap (λ (g : ℕ → Rights). putting g l (g l) k) (sym e)
 
   lost : (l : ℕ) (x : Want) → AreAt r (one_more_at l x r) l (with_right x (r l))
@@ -174,26 +178,27 @@ module _ (w : State) (t : ℕ) where
   -- -------------------------------------------------------------- a mutex
 
   mutex_enters : (l : ℕ) (e : Entry) (retries : Bool) (at : LockAt)
-      → (was_handed at ≡ true → Owns (lock_state w l) t Exclusive) → Way (places.Mutex l (mutex.Lock e retries at))
+      → (was_handed at ≡ true → Owns (lock_state w l) t Exclusive)
+      → Way (places.Mutex l (mutex.Lock e retries at))
   mutex_enters l e retries at own = by_entry e (was_handed at) own
     where
       enters : (handed : Bool) → (handed ≡ true → Owns (lock_state w l) t Exclusive)
-          → ((k : ℕ) → putting r l (r l) k
-          ≡ putting (before_entry l false handed r) l (before_entry l false handed r l) k)
-          ⊎ ((k : ℕ) → putting r l (r l) k ≡ putting (before_entry l false handed r) l
-          (with_right Exclusive (before_entry l false handed r l)) k)
+          → Trade l (before_entry l false handed r) (λ y. y) (λ y. y)
+          ⊎ Trade l (before_entry l false handed r) (λ y. y) (with_right Exclusive)
       enters false own = inl (kept l r refl)
       enters true own = inr (trades l (one_less_at l Exclusive r) _ (λ y. y) (with_right Exclusive)
           (got l Exclusive) (sym (regained (lock_state w l) t Exclusive (own refl))))
 
       by_entry : (e : Entry) (b : Bool) → (b ≡ true → Owns (lock_state w l) t Exclusive)
           → IsOnItsWay (Some (entry_purpose l e)) (locks_of w) t
-          (record (call_state (places.Mutex l (mutex.Lock e retries at)) r) { former = before_entry l (is_bump e) b r })
+          (record (call_state (places.Mutex l (mutex.Lock e retries at)) r) {
+            former = before_entry l (is_bump e) b r;
+          })
       by_entry entry.Lock b own = elim (enters b own) [ inl same ↦ inl same | inr more ↦ inr (inl more) ]
       by_entry entry.LockTimed b own = elim (enters b own) [ inl same ↦ inl same | inr more ↦ inr (inl more) ]
       by_entry entry.Bump true own = inl (kept l r refl)
-      by_entry entry.Bump false own = inr (inl (trades l (one_more_at l Exclusive r) _ (with_right Exclusive) (λ y. y)
-          (lost l Exclusive) refl))
+      by_entry entry.Bump false own = inr (inl (trades l (one_more_at l Exclusive r) _ (with_right Exclusive)
+          (λ y. y) (lost l Exclusive) refl))
 
   handed_owns : (l : ℕ) (e : Entry) (retries : Bool) (at : LockAt)
       → HoldsAt l (mutex_profile (mutex.Lock e retries at)).role.claims → was_handed at ≡ true
@@ -204,10 +209,8 @@ module _ (w : State) (t : ℕ) where
 
   -- a release has lost its right, or not yet
   loses : (l : ℕ) (x : Want) (b : Bool)
-      → ((k : ℕ) → putting r l (r l) k ≡ putting (if b then one_more_at l x r else r) l
-      ((if b then one_more_at l x r else r) l) k)
-      ⊎ ((k : ℕ) → putting r l (with_right x (r l)) k ≡ putting (if b then one_more_at l x r else r) l
-      ((if b then one_more_at l x r else r) l) k)
+      → Trade l (if b then one_more_at l x r else r) (λ y. y) (λ y. y)
+      ⊎ Trade l (if b then one_more_at l x r else r) (with_right x) (λ y. y)
   loses l x true = inr (trades l (one_more_at l x r) _ (with_right x) (λ y. y) (lost l x) refl)
   loses l x false = inl (kept l r refl)
 
@@ -239,13 +242,11 @@ module _ (w : State) (t : ℕ) where
     enters : (x : Access) (how : Patience) (g : Rights → Rights) (f : ℕ → Rights)
         → AreAt r f l (g (found (purpose.Enter x how) p.at (r l))) → Pending (purpose.Enter x how)
         → ((y : Rights) → g (with_pending y) ≡ with_pending (g y))
-        → ((k : ℕ) → putting r l (g (r l)) k ≡ putting f l (f l) k)
-        ⊎ ((is_pending p.at ≡ true) × ((k : ℕ) → putting r l (g (r l)) k ≡ putting f l (with_pending (f l)) k))
+        → Trade l f g (λ y. y) ⊎ ((is_pending p.at ≡ true) × Trade l f g with_pending)
     enters x how g f are pending apart = by_bit (is_pending p.at) refl
       where
         by_bit : (b : Bool) → is_pending p.at ≡ b
-            → ((k : ℕ) → putting r l (g (r l)) k ≡ putting f l (f l) k)
-            ⊎ ((is_pending p.at ≡ true) × ((k : ℕ) → putting r l (g (r l)) k ≡ putting f l (with_pending (f l)) k))
+            → Trade l f g (λ y. y) ⊎ ((is_pending p.at ≡ true) × Trade l f g with_pending)
         by_bit false e = inl (trades l f _ g (λ y. y) are
             (ap (λ b. g (if b then less_pending (r l) else r l)) (sym e)))
         by_bit true e = inr (
@@ -256,7 +257,8 @@ module _ (w : State) (t : ℕ) where
 
     lowers : (d : Downgrade) → Owns (lock_state w l) t (wanted (to_of d))
         → with_right (wanted (from_of d)) (r l)
-        ≡ with_right (wanted (to_of d)) (with_right (wanted (from_of d)) (without_right (wanted (to_of d)) (r l)))
+        ≡ with_right (wanted (to_of d)) (with_right (wanted (from_of d))
+        (without_right (wanted (to_of d)) (r l)))
     lowers downgrade.ToShared own =
         ap (with_right (wanted (from_of downgrade.ToShared)))
         (sym (regained (lock_state w l) t (wanted (to_of downgrade.ToShared)) own))
@@ -278,8 +280,8 @@ module _ (w : State) (t : ℕ) where
         → IsOnItsWay (Some (purpose_by q l)) (locks_of w) t
         (record (call_state (places.RwLock l a (fair.Plain p)) r) { former = before q p.at l r })
     by_purpose (purpose.Enter x how) stands pending owning =
-        elim (enters x how (λ y. y) (before (purpose.Enter x how) p.at l r) (first (purpose.Enter x how)) pending
-        (λ y. refl)) [
+        elim (enters x how (λ y. y) (before (purpose.Enter x how) p.at l r) (first (purpose.Enter x how))
+        pending (λ y. refl)) [
           | inl same ↦ inl same
           | inr more ↦ inr (inr (only_writers x how p.retries p.at stands more.0, more.1))
         ]
@@ -287,11 +289,10 @@ module _ (w : State) (t : ℕ) where
     by_purpose (purpose.Downgrade d) stands pending owning = by_bit (is_waking p.at) refl
       where
         by_bit : (b : Bool) → is_waking p.at ≡ b
-            → ((k : ℕ) → putting r l (r l) k ≡ putting (Lowered d b) l (Lowered d b l) k)
-            ⊎ (((k : ℕ) → putting r l (with_right (wanted (from_of d)) (r l)) k
-            ≡ putting (Lowered d b) l (with_right (wanted (to_of d)) (Lowered d b l)) k)
-            ⊎ ((wanted (to_of d) ≡ Exclusive) × ((k : ℕ) → putting r l (with_right (wanted (from_of d)) (r l)) k
-            ≡ putting (Lowered d b) l (with_pending (Lowered d b l)) k)))
+            → Trade l (Lowered d b) (λ y. y) (λ y. y)
+            ⊎ (Trade l (Lowered d b) (with_right (wanted (from_of d))) (with_right (wanted (to_of d)))
+            ⊎ ((wanted (to_of d) ≡ Exclusive)
+            × Trade l (Lowered d b) (with_right (wanted (from_of d))) with_pending))
         by_bit false e = inl (kept l r refl)
         by_bit true e = inr (inl (trades l (Lowered d true) _ (with_right (wanted (from_of d)))
             (with_right (wanted (to_of d)))
@@ -300,11 +301,9 @@ module _ (w : State) (t : ℕ) where
     by_purpose (purpose.Upgrade how) stands pending owning = by_bit (is_pending p.at) refl
       where
         by_bit : (b : Bool) → is_pending p.at ≡ b
-            → ((k : ℕ) → putting r l (r l) k ≡ putting (Raised b) l (Raised b l) k)
-            ⊎ (((k : ℕ) → putting r l (with_right Upgradable (r l)) k
-            ≡ putting (Raised b) l (with_right Exclusive (Raised b l)) k)
-            ⊎ ((Exclusive ≡ Exclusive) × ((k : ℕ) → putting r l (with_right Upgradable (r l)) k
-            ≡ putting (Raised b) l (with_pending (Raised b l)) k)))
+            → Trade l (Raised b) (λ y. y) (λ y. y)
+            ⊎ (Trade l (Raised b) (with_right Upgradable) (with_right Exclusive)
+            ⊎ ((Exclusive ≡ Exclusive) × Trade l (Raised b) (with_right Upgradable) with_pending))
         by_bit false e = inl (kept l r refl)
         by_bit true e = inr (inr (
           refl,
@@ -316,16 +315,20 @@ module _ (w : State) (t : ℕ) where
     -- the second half of a bump
     by_bump : (q : RwLockPurpose) → IsOfBump q p.retries → StandsAt q p.retries p.at → Pending q
         → IsOnItsWay (Some (Bumps l (wanted (access_of q)))) (locks_of w) t
-        (record (call_state (places.RwLock l a (fair.Bump p)) r) { former = given.bump_former q l (before q p.at l r) })
+        (record (call_state (places.RwLock l a (fair.Bump p)) r) {
+          former = given.bump_former q l (before q p.at l r);
+        })
     by_bump (purpose.Enter x how) of stands pending =
-        elim (enters x how (with_right (wanted x)) (one_more_at l (wanted x) (before (purpose.Enter x how) p.at l r))
-        (changed r l (with_right (wanted x)) (before (purpose.Enter x how) p.at l r) _ (first (purpose.Enter x how)))
-        pending (λ y. apart x y)) [
+        elim (enters x how (with_right (wanted x))
+        (one_more_at l (wanted x) (before (purpose.Enter x how) p.at l r))
+        (changed r l (with_right (wanted x)) (before (purpose.Enter x how) p.at l r) _
+        (first (purpose.Enter x how))) pending (λ y. apart x y)) [
           | inl same ↦ inr (inl same)
           | inr more ↦ inr (inr (only_writers x how p.retries p.at stands more.0, more.1))
         ]
       where
-        apart : (x : Access) (y : Rights) → with_right (wanted x) (with_pending y) ≡ with_pending (with_right (wanted x) y)
+        apart : (x : Access) (y : Rights)
+            → with_right (wanted x) (with_pending y) ≡ with_pending (with_right (wanted x) y)
         apart access.Exclusive y = refl
         apart access.Upgradable y = refl
         apart access.Shared y = refl
@@ -359,9 +362,11 @@ module _ (w : State) (t : ℕ) where
       owned false own = inr (inl (trades l (one_less_at l x r) _ (λ y. y) (with_right x) (got l x)
           (sym (regained (lock_state w l) t x own))))
       owned true own = inl (trades l (one_more_at l x (one_less_at l x r)) _ (λ y. y) (λ y. y)
-          (changed r l (with_right x) (one_less_at l x r) _ (got l x)) (sym (regained (lock_state w l) t x own)))
+          (changed r l (with_right x) (one_less_at l x r) _ (got l x))
+          (sym (regained (lock_state w l) t x own)))
 
-      waits : (b : Bool) → x ≡ Exclusive → Holds (lock_state w l) t (Pends false) → Goes l x how call b (Pends false)
+      waits : (b : Bool) → x ≡ Exclusive → Holds (lock_state w l) t (Pends false)
+          → Goes l x how call b (Pends false)
       waits false e h = inr (inr (
         e,
         trades l (without_pending l r) _ (λ y. y) with_pending
@@ -369,9 +374,8 @@ module _ (w : State) (t : ℕ) where
       ))
       waits true e h = inr (inr (
         e,
-        subst (λ x. (k : ℕ) → putting r l (with_right x (r l)) k
-            ≡ putting (one_more_at l x (without_pending l r)) l (with_pending (one_more_at l x (without_pending l r) l)) k)
-            (sym e) (trades l (one_more_at l Exclusive (without_pending l r)) _ (with_right Exclusive) with_pending
+        subst (λ x. Trade l (one_more_at l x (without_pending l r)) (with_right x) with_pending) (sym e)
+            (trades l (one_more_at l Exclusive (without_pending l r)) _ (with_right Exclusive) with_pending
             (changed r l (with_right Exclusive) (without_pending l r) _
             (changed r l less_pending r (r l) (here l)))
             (ap (with_right Exclusive) (pending_back (lock_state w l) t false h))),
@@ -384,10 +388,12 @@ module _ (w : State) (t : ℕ) where
           (subst (Goes l x how call bumps) (sym e) (owned bumps (subst (Holds (lock_state w l) t) e holds)))
       by (inr e) = subst (λ f. IsOnItsWay (Some (given.entry_purpose bumps x how l)) (locks_of w) t
           (record call { former = f })) (sym is)
-          (subst (Goes l x how call bumps) (sym e.1) (waits bumps e.0 (subst (Holds (lock_state w l) t) e.1 holds)))
+          (subst (Goes l x how call bumps) (sym e.1)
+          (waits bumps e.0 (subst (Holds (lock_state w l) t) e.1 holds)))
 
   claimed : (x : Access) (to : HandedAt)
-      → (claim_at (wanted x) to ≡ Has (wanted x)) ⊎ ((wanted x ≡ Exclusive) × (claim_at (wanted x) to ≡ Pends false))
+      → (claim_at (wanted x) to ≡ Has (wanted x))
+      ⊎ ((wanted x ≡ Exclusive) × (claim_at (wanted x) to ≡ Pends false))
   claimed x handed.Accept = inl refl
   claimed x (handed.Asleep by true) = inl refl
   claimed access.Exclusive (handed.Asleep by false) = inr (refl, refl)
@@ -414,12 +420,13 @@ module _ (w : State) (t : ℕ) where
 
   by_once : (l : ℕ) (at : OncePlace) → Way (places.Once l at)
   by_once l (once.Look c retries at) = by_purpose c
-      (kept l ((look_row _ _ at).former l r) (ap (λ (f : ℕ → (ℕ → Rights) → ℕ → Rights). f l r) (looks_same _ _ at)))
+      (kept l ((look_row _ _ at).former l r)
+      (ap (λ (f : ℕ → (ℕ → Rights) → ℕ → Rights). f l r) (looks_same _ _ at)))
     where
       by_purpose : (d : OnceCall)
-          → ((k : ℕ) → putting r l (r l) k ≡ putting ((call_state (places.Once l (once.Look c retries at)) r).former) l
-          ((call_state (places.Once l (once.Look c retries at)) r).former l) k)
-          → IsOnItsWay (Some (once_purpose l d)) (locks_of w) t (call_state (places.Once l (once.Look c retries at)) r)
+          → Trade l (call_state (places.Once l (once.Look c retries at)) r).former (λ y. y) (λ y. y)
+          → IsOnItsWay (Some (once_purpose l d)) (locks_of w) t
+          (call_state (places.Once l (once.Look c retries at)) r)
       by_purpose (once_call.CallOnce forced) same = same
       by_purpose (once_call.Wait forced) same = same
       by_purpose once_call.WaitTimed same = same
@@ -433,7 +440,8 @@ module _ (w : State) (t : ℕ) where
   by_once l (once.GiveUp retries give_up.Leave) = kept l r refl
 
   by_semaphore : (l : ℕ) (at : SemaphorePlace) → Way (places.Semaphore l at)
-  by_semaphore l (semaphore.Acquire timed retries at) = inl (kept l ((acquire_row timed retries at).former l r)
+  by_semaphore l (semaphore.Acquire timed retries at) = inl (kept l
+      ((acquire_row timed retries at).former l r)
       (ap (λ (f : ℕ → (ℕ → Rights) → ℕ → Rights). f l r) (acquires_same timed retries at)))
   by_semaphore l (semaphore.Try at) = inl (kept l r refl)
   by_semaphore l (semaphore.Release at) = loses l Shared (release_row at).released
@@ -445,7 +453,8 @@ module _ (w : State) (t : ℕ) where
   by_condvar l (Look all) = kept l r refl
   by_condvar l (Notify all m at) = kept l r refl
 
-pub on_its_way : (w : State) → IsInductive w → (t : ℕ) → IsOnItsWay (call_at w t).purpose (locks_of w) t (call_at w t)
+pub on_its_way : (w : State) → IsInductive w → (t : ℕ)
+    → IsOnItsWay (call_at w t).purpose (locks_of w) t (call_at w t)
 on_its_way w inductive t = by_place (place_at w t) refl
   where
     holds : (l : ℕ) → called_lock (place_at w t) ≡ Some l → HoldsAt w t l (profile (place_at w t)).role.claims
