@@ -1,4 +1,4 @@
--- Where the turns are over, the word is 0, or a thread clears it.
+-- Where the releases are over, the word is 0, or a thread clears it.
 use Rattle.std.proofs.Common.{ℕ, zero, suc, Bool, true, false, Option, Some, None, if◌then◌else◌, ◌==◌, ◌≡◌}
 use Rattle.std.proofs.Common.{◌≢◌, ◌≤◌, ◌<◌, length, length-set, inl, inr, refl, sym, ◌∙◌, ap, subst, arith}
 use Rattle.std.specs.Prelude.{replicate, slice_index_or, sum}

@@ -80,9 +80,6 @@ round_goes n t d e h is =
     ∙ ap (λ u. round (go_alone d t) u (n - (t + 1))) (add-one t)
     ∙ sym (ap (round d t) (one_left n t h))
 
-pub round_end : (n t : ℕ) (d : Progress) → n ≡ 0 → round d t n ≡ d
-round_end n t d h = ap (round d t) h
-
 rounds_more : (n : ℕ) (d : Progress) → rounds (suc n) d ≡ unless_still d
     (round d 0 (length d.state.places)) (rounds n (round d 0 (length d.state.places)))
 unfolding rounds
