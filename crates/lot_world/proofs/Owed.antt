@@ -72,18 +72,20 @@ owed_less w v t size there kept unspent spent = subst (λ n. sum_below n (owes v
       | inr one ↦ let none = spent_owes v t spent in omega arith
     ]
 
--- a thread that has spent its right gets none, whatever thread goes on
+-- a thread in no call can't go on
 never : (b : Bool) → (b && false) ≡ false
 never true = refl
 never false = refl
 
-idle_stays : (w : State) (t : ℕ) → place_at w t ≡ Idle → after w (go_of t) ≡ w
-idle_stays w t idle =
+pub idle_stuck : (w : State) (t : ℕ) → place_at w t ≡ Idle → is_possible w (go_of t) ≡ false
+idle_stuck w t idle =
     let cannot : can_go w t ≡ false = ap (λ p. can_do w (act_of p)) idle in
-    let no : is_possible w (go_of t) ≡ false = ap (λ b. nat_lt t (length w.places) && b) cannot
-    ∙ never (nat_lt t (length w.places)) in
-    ap (λ b. if b then state_after_go w t else w) no
+    ap (λ b. nat_lt t (length w.places) && b) cannot ∙ never (nat_lt t (length w.places))
 
+idle_stays : (w : State) (t : ℕ) → place_at w t ≡ Idle → after w (go_of t) ≡ w
+idle_stays w t idle = ap (λ b. if b then state_after_go w t else w) (idle_stuck w t idle)
+
+-- a thread that has spent its right gets none, whatever thread goes on
 pub spent_goes : (w : State) (t u : ℕ) → IsOrdered w → IsSpent w u → IsSpent (after w (go_of t)) u
 spent_goes w t u h spent = elim (cases_eq u t) [
   | inl e ↦ subst (λ v. IsSpent v u) (sym (idle_stays w t (subst (λ j. place_at w j ≡ Idle) e spent.0))) spent

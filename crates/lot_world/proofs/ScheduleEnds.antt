@@ -1,8 +1,7 @@
 -- The schedule of a world that may be drained does so.
-use Rattle.std.proofs.Common.{ℕ, zero, suc, Bool, true, false, None, if◌then◌else◌, ◌==◌, ◌&&◌, ◌≡◌, ◌+◌}
-use Rattle.std.proofs.Common.{◌*◌, ◌≤◌, nat_lt, [], length, refl, sym, ◌∙◌, ap, subst, arith}
-use Rattle.lot_steps.specs.Steps.{act_of}
-use Rattle.lot_machine.specs.Machine.{State, can_do, can_go, kind_at, word_at}
+use Rattle.std.proofs.Common.{ℕ, zero, suc, true, None, if◌then◌else◌, ◌==◌, ◌≡◌, ◌+◌}
+use Rattle.std.proofs.Common.{◌*◌, ◌≤◌, [], length, refl, sym, ◌∙◌, ap, subst, arith}
+use Rattle.lot_machine.specs.Machine.{State, kind_at, word_at}
 use Rattle.lot_laws.specs.SitesOf.{IsWorld}
 use Rattle.lot_rests.specs.Rests.{NobodyGoes, most_steps}
 use Rattle.lot_rests.proofs.Rest.{left_most}
@@ -13,7 +12,7 @@ use Rattle.lot_world.specs.Schedules.{Progress, clear, first_release, passed_thr
 use Rattle.lot_world.specs.Schedules.{schedule_of, settled, where_some}
 use Rattle.lot_world.proofs.Cleared.{IsCleared, clears}
 use Rattle.lot_world.proofs.NextReleases.{nobody_next}
-use Rattle.lot_world.proofs.Owed.{owed, owed_most}
+use Rattle.lot_world.proofs.Owed.{idle_stuck, owed, owed_most}
 use Rattle.lot_world.proofs.Progress.{HasCome}
 use Rattle.lot_world.proofs.Released.{HasSettled, IsEnded, come_size, has_settled, released_end}
 use Rattle.lot_world.proofs.Settled.{most_more, settled_none}
@@ -27,10 +26,6 @@ bound n = grind arith
 summed : (l0 l1 l2 s1 s2 s3 a b c : ℕ) → l0 ≤ a → s1 + l1 ≤ 0 + l0 → s2 + l2 ≤ s1 + l1 + b → s3 ≤ s2 + 130
     → a + b + 130 ≤ c → s3 ≤ c
 summed l0 l1 l2 s1 s2 s3 a b c h k m n o = omega arith
-
-never : (b : Bool) → (b && false) ≡ false
-never true = refl
-never false = refl
 
 -- ---------------------------------------------------------------- where all is over, there are no steps
 
@@ -72,8 +67,7 @@ module _ (w : State) (world : IsWorld w) (h : IsDrainable w) where
 
   -- nobody goes on where everybody is in no call
   nobody : IsDrained w → NobodyGoes w
-  nobody over t = ap (λ b. nat_lt t (length w.places) && b) (let cannot : can_go w t ≡ false =
-      ap (λ p. can_do w (act_of p)) (over.over.idle t) in cannot) ∙ never (nat_lt t (length w.places))
+  nobody over t = idle_stuck w t (over.over.idle t)
 
   no_steps : IsDrained w → schedule_of w ≡ []
   no_steps over =
