@@ -1,12 +1,13 @@
 -- How many threads are in a call, or own between their calls.
-use Rattle.std.proofs.Common.{ℕ, Bool, true, false, if◌then◌else◌, ◌==◌, ◌&&◌, ◌≡◌, ◌+◌, ◌≤◌, ◌<◌, ◌⊎◌, nat_lt}
-use Rattle.std.proofs.Common.{length, inl, inr, refl, sym, ◌∙◌, ap, subst, arith}
+use Rattle.std.proofs.Common.{ℕ, Bool, true, false, if◌then◌else◌, ◌==◌, ◌&&◌, ◌≡◌, ◌+◌, ◌≤◌, ◌<◌, ◌⊎◌}
+use Rattle.std.proofs.Common.{nat_lt, length, inl, inr, refl, sym, ◌∙◌, ap, subst, arith}
 use Rattle.std.proofs.lemmas.Bool.{cases_eq, eqb-true}
 use Rattle.spec_locks.specs.Locks.{rights_of}
 use Rattle.spec_locks.specs.Runs.{no_rights}
 use Rattle.lot_steps.specs.declared.places.Place.TheVariants.{Idle}
 use Rattle.lot_steps.specs.Steps.{act_of, is_idle}
-use Rattle.lot_machine.specs.Machine.{State, after, can_do, can_go, go_of, is_possible, place_at, state_after_go}
+use Rattle.lot_machine.specs.Machine.{State, after, can_do, can_go, go_of, is_possible, place_at}
+use Rattle.lot_machine.specs.Machine.{state_after_go}
 use Rattle.lot_laws.specs.Refinement.{lock_state}
 use Rattle.lot_rests.proofs.Sums.{sum_below, sum_less, sum_most}
 use Rattle.lot_world.specs.Few.{number}

@@ -244,7 +244,8 @@ rounds_settle (suc n) w d world h few =
         → (length d.steps + 1 ≤ length (next d).steps → IsSettled w (next d) (rounds n (next d)))
         → IsSettled w d (if b then next d else rounds n (next d))
     by_length true e one more =
-        let same : length (next d).steps ≡ length d.steps = eqb-true (length (next d).steps) (length d.steps) e
+        let same : length (next d).steps ≡ length d.steps =
+        eqb-true (length (next d).steps) (length d.steps) e
         in
         let still = round_still (length d.state.places) 0 d (omega arith) in
         record {
@@ -313,7 +314,8 @@ module _ (w : State) (t : ℕ) (c : Call) where
 
   works : sum_below (length w.places) (work_at begun) ≤ sum_below (length w.places) (work_at w) + 21
   works = sum_but_one (length w.places) t 21 (work_at w) (work_at begun)
-      (λ u ne. subst (λ p. work p ≤ work_at w u) (sym (get_or-set_other w.places t u _ Idle ne)) (omega arith))
+      (λ u ne. subst (λ p. work p ≤ work_at w u) (sym (get_or-set_other w.places t u _ Idle ne))
+      (omega arith))
       (work_most (place_at begun t))
 
   short : sum_below (length w.places) (ways_at begun) ≤ 5 * length w.places
@@ -322,7 +324,8 @@ module _ (w : State) (t : ℕ) (c : Call) where
   adds : left begun ≤ left w + most_more (length w.places)
   adds =
       let sum = works in
-      let same : sum_below (length w.locks) (clear_at begun) ≡ sum_below (length w.locks) (clear_at w) = refl in
+      let same : sum_below (length w.locks) (clear_at begun) ≡ sum_below (length w.locks) (clear_at w) = refl
+      in
       rw size (more_events (length w.places) (events w) (3 * sum_below (length w.places) (work_at begun)
       + sum_below (length w.locks) (clear_at begun)) (sum_below (length w.places) (ways_at w))
       (sum_below (length w.places) (ways_at begun)) (omega arith) short)
