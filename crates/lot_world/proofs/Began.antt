@@ -48,7 +48,7 @@ use Rattle.lot_world.proofs.Sleepers.{here}
 use Rattle.lot_world.specs.Began.{IsJust, PlacesBegan}
 use Rattle.lot_world.specs.Owned.{ReleasesOne}
 use Rattle.lot_world.specs.Sleepers.{BeganWithFew}
-use Rattle.lot_world.specs.Waits.{MayStandAt}
+use Rattle.lot_world.specs.Standing.{MayStandAt}
 
 -- a call with another purpose is no release
 no_enter : (y x : Want) (how : Patience) (fair : Bool) → Enters 0 y how ≡ Releases 0 x fair → ⊥

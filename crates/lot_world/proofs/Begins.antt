@@ -8,7 +8,6 @@ use Rattle.spec_locks.specs.declared.kinds.Kind.{Kind}
 use Rattle.spec_locks.specs.declared.kinds.Kind.TheVariants as kinds
 use Rattle.spec_locks.specs.declared.calls.Call.{Call}
 use Rattle.spec_locks.specs.declared.calls.Call.TheVariants as calling
-use Rattle.spec_locks.specs.declared.outcomes.Outcome.TheVariants as outcome
 use Rattle.spec_locks.specs.Kinds.{has_call}
 use Rattle.spec_locks.specs.Locks.{LockState, Rules, rights_of, with_right}
 use Rattle.spec_locks.specs.Purposes.{Releases, rules_of}
@@ -28,11 +27,9 @@ use Rattle.lot_world.specs.Drained.{as_now}
 use Rattle.lot_world.proofs.AsNow.{another}
 use Rattle.lot_world.specs.Quiet.{IsDraining}
 use Rattle.lot_world.specs.Full.{IsStrict}
-use Rattle.lot_world.specs.Now.{DrainingBegins, ReleasesKeepDraining, TurnsKeepDraining}
-use Rattle.lot_world.specs.Turns.{IsOrdered, NobodyInside, begin_of}
-use Rattle.lot_world.proofs.Full.{strict_goes_on}
-use Rattle.lot_world.proofs.OnNow.{by_deeds, draining_goes_on, unmutexed}
-use Rattle.lot_world.proofs.Turns.{solo_keeps}
+use Rattle.lot_world.specs.Now.{DrainingBegins}
+use Rattle.lot_world.specs.Ordered.{IsOrdered, begin_of}
+use Rattle.lot_world.proofs.OnNow.{by_deeds, unmutexed}
 use Rattle.lot_world.proofs.Releases.{begins, new_calling, ordered_begun, own_right}
 
 one_other : (u t : ℕ) → u ≢ t → (u == t) ≡ false
@@ -70,7 +67,6 @@ no_semaphore kinds.Once l o e f = cc
 no_semaphore (kinds.Semaphore permits) l o e f = cc
 
 module _ (w : State) (t : ℕ) (c : Call) (x : Want) (fair : Bool) (h : IsDraining w) (strict : IsStrict w)
-    (outside : NobodyInside w)
     (may : MayBegin (locks_of w) t c) (releases : purpose_at (locks_of w) c ≡ Some (Releases 0 x fair)) where
   abbrev v : State
   v = after w (begin_of t c)
@@ -79,7 +75,7 @@ module _ (w : State) (t : ℕ) (c : Call) (x : Want) (fair : Bool) (h : IsDraini
   Now y = IsSite (rules_in y 0) (as_now (rules_in y 0) (site_of y 0))
 
   order : IsOrdered v
-  order = ordered_begun w t c x fair strict.ordered outside may releases
+  order = ordered_begun w t c x fair strict.ordered may releases
 
   same_rules : rules_in v 0 ≡ rules_in w 0
   same_rules = ap rules_of (after_kinds w (begin_of t c) 0)
@@ -146,51 +142,40 @@ module _ (w : State) (t : ℕ) (c : Call) (x : Want) (fair : Bool) (h : IsDraini
 
   stays : Stays (locks_of w) t (new_call (purpose_at (locks_of w) c) (rights_in (locks_of w) t))
       (step_outcome w (begin_of t c)) (locks_of v)
-  stays = begins w t c x fair strict.ordered outside may releases
+  stays = begins w t c x fair strict.ordered may releases
 
   abbrev Fresh : CallState → Type 0
   Fresh d = (y : Want) (f : Bool) → d.purpose ≡ Some (Releases 0 y f) → d.released ≡ false → d.former 0
       ≡ with_right y no_rights
 
   new_fresh : Fresh (new_call (Some (Releases 0 x fair)) (rights_in (locks_of w) t))
-  new_fresh y f is free = own_right w t c x fair strict.ordered outside may releases
+  new_fresh y f is free = own_right w t c x fair strict.ordered may releases
       ∙ ap (λ z. with_right z no_rights) (let e : Some (Releases 0 x fair) ≡ Some (Releases 0 y f) = is
       in let g : x ≡ y = cc in g)
 
   fresh_then : (u : ℕ) → Fresh (call_at v u)
   fresh_then u = elim (cases_eq u t) [
     | inl e ↦ subst (λ j. Fresh (call_at v j)) (sym e)
-        (subst Fresh (sym (new_calling w t c x fair strict.ordered outside may releases)) new_fresh)
+        (subst Fresh (sym (new_calling w t c x fair strict.ordered may releases)) new_fresh)
     | inr ne ↦ subst Fresh (sym (stays.calls u
         ∙ ap (λ b. if b then new_call (purpose_at (locks_of w) c) (rights_in (locks_of w) t) else call_at w u)
         (one_other u t ne))) (strict.fresh u)
   ]
 
 pub draining_begins : DrainingBegins
-draining_begins w t c x fair h strict outside may releases = (
+draining_begins w t c x fair h strict may releases = (
   record {
-    world = (order w t c x fair h strict outside may releases).world;
-    lock = (order w t c x fair h strict outside may releases).lock;
-    few = (order w t c x fair h strict outside may releases).few;
-    now = by_sort w t c x fair h strict outside may releases (has_readers (rules_in w 0).sort) refl;
+    world = (order w t c x fair h strict may releases).world;
+    lock = (order w t c x fair h strict may releases).lock;
+    few = (order w t c x fair h strict may releases).few;
+    now = by_sort w t c x fair h strict may releases (has_readers (rules_in w 0).sort) refl;
   },
   record {
-    ordered = order w t c x fair h strict outside may releases;
-    fresh = fresh_then w t c x fair h strict outside may releases;
+    ordered = order w t c x fair h strict may releases;
+    fresh = fresh_then w t c x fair h strict may releases;
     past = λ u ge. ap (λ (s : LockState). rights_of s u)
-        ((stays w t c x fair h strict outside may releases).locks 0)
+        ((stays w t c x fair h strict may releases).locks 0)
         ∙ strict.past u (let size : SameSize w (after w (begin_of t c)) = after_size w (begin_of t c)
         in let n : length (after w (begin_of t c)).places ≡ length w.places = size.threads in omega arith);
   },
 )
-
--- ---------------------------------------------------------------- turns
-
-pub turns_keep_draining : TurnsKeepDraining
-turns_keep_draining w t h strict = solo_keeps (λ v. IsDraining v × IsStrict v) t
-    (λ v p. (draining_goes_on v t p.0 p.1, strict_goes_on v t p.1)) 64 w outcome.NotNow (h, strict)
-
-pub releases_keep_draining : ReleasesKeepDraining
-releases_keep_draining w t c x fair h strict outside may releases =
-    let begun = draining_begins w t c x fair h strict outside may releases in
-    turns_keep_draining (after w (begin_of t c)) t begun.0 begun.1

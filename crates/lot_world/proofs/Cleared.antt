@@ -1,4 +1,4 @@
--- Where the turns are over, the word is 0, or a thread clears it.
+-- Where the releases are over, the word is 0, or a thread clears it.
 use Rattle.std.proofs.Common.{ℕ, zero, suc, Bool, true, false, Option, Some, None, if◌then◌else◌, ◌==◌, ◌≡◌}
 use Rattle.std.proofs.Common.{◌≢◌, ◌≤◌, ◌<◌, length, length-set, inl, inr, refl, sym, ◌∙◌, ap, subst, arith}
 use Rattle.std.specs.Prelude.{replicate, slice_index_or, sum}
@@ -27,7 +27,7 @@ use Rattle.lot_laws.proofs.machine.Parts.{IsSingle}
 use Rattle.lot_laws.proofs.alone.EndsOrSleeps.{ends_alone}
 use Rattle.lot_world.specs.Drained.{Drains}
 use Rattle.lot_world.specs.Quiet.{IsAllOver}
-use Rattle.lot_world.specs.Turns.{NobodyInside, begin_of}
+use Rattle.lot_world.specs.Ordered.{NobodyInside, begin_of}
 use Rattle.lot_world.specs.Drains.{IsDrained}
 use Rattle.lot_world.specs.Schedules.{Progress, call_alone, clear, entry_call, fair_release_of, one_more}
 use Rattle.lot_world.specs.Schedules.{passed_through}
@@ -36,7 +36,7 @@ use Rattle.lot_world.proofs.Passes.{Passes, begins, led, may}
 use Rattle.lot_world.proofs.Passing.{Runs, lock_runs, release_runs_1, release_runs_2, release_runs_3}
 use Rattle.lot_world.proofs.Passing.{unlock_runs, write_runs_1, write_runs_2, write_runs_3}
 use Rattle.lot_world.proofs.Progress.{HasCome, HasGone, alone_state, call_goes, goes_then, stays}
-use Rattle.lot_world.proofs.Turned.{IsReady}
+use Rattle.lot_world.proofs.Released.{IsReady}
 
 -- ---------------------------------------------------------------- a call of the thread
 

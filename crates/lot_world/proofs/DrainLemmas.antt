@@ -1,17 +1,18 @@
 -- The rest of a drain leads where all of it leads.
-use Rattle.std.proofs.Common.{ℕ, zero, suc, Bool, true, false, cond, Some, None, List, ◌≡◌, ◌≢◌, ◌+◌, ◌-◌}
-use Rattle.std.proofs.Common.{◌<◌, refl, sym, ap, ◌∙◌, arith, add-one}
+use Rattle.std.proofs.Common.{ℕ, zero, suc, Bool, true, false, Option, Some, None, List, ◌≡◌, ◌≢◌, ◌+◌, ◌-◌}
+use Rattle.std.proofs.Common.{if◌then◌else◌, ◌==◌, ◌^◌, ◌<◌, length, refl, sym, ap, ◌∙◌, arith, add-one}
+use Rattle.std.proofs.lemmas.Bool.Decides.{nat_tests}
 use Rattle.std.specs.Prelude.{◌&&◌}
 use Rattle.spec_locks.specs.declared.calls.Step.{Step}
 use Rattle.spec_locks.specs.declared.outcomes.Outcome.{Outcome}
 use Rattle.spec_locks.specs.declared.outcomes.Outcome.TheVariants as outcome
 use Rattle.spec_locks.specs.Locks.{rights_of}
-use Rattle.lot_machine.specs.Machine.{State, after, go_of, kind_at, place_at, section_at, step_outcome}
+use Rattle.lot_machine.specs.Machine.{State, after, go_of, kind_at, place_at, step_outcome}
 use Rattle.lot_laws.specs.Refinement.{lock_state}
 use Rattle.lot_laws.proofs.alone.AloneSteps.{after_stuck}
-use Rattle.lot_world.specs.Schedules.{Progress, one_more, run_alone, alone_by, where_inside, out_of_second}
-use Rattle.lot_world.specs.Schedules.{is_up, first_up, releases, first_begin, or_else, first_release}
-use Rattle.lot_world.specs.Schedules.{next_turn, turn_taken, where_some, turns}
+use Rattle.lot_world.specs.Schedules.{Progress, one_more, run_alone, alone_by, go_alone, round, rounds}
+use Rattle.lot_world.specs.Schedules.{unless_still, releases, first_begin, or_else, first_release}
+use Rattle.lot_world.specs.Schedules.{release_taken, released, where_some}
 use Rattle.lot_world.specs.Drainable.{holds_few, all_hold_few}
 
 one_left : (n i : ℕ) → i < n → n - i ≡ suc (n - (i + 1))
@@ -70,67 +71,78 @@ unfolding run_alone
 alone_end zero d t h = refl
 alone_end (suc n) d t h = absurd (omega (arith, h))
 
--- ---------------------------------------------------------------- out of the second section
+-- ---------------------------------------------------------------- all threads
 
-second_more : (n : ℕ) (d : Progress) → out_of_second (suc n) d ≡ where_inside (section_at d.state 1) d
-    (λ t. out_of_second n (one_more d (go_of t)))
-unfolding out_of_second
-second_more n d = refl
+pub round_goes : (n t : ℕ) (d e : Progress) → t < n → e ≡ go_alone d t → round e (t + 1) (n - (t + 1))
+    ≡ round d t (n - t)
+round_goes n t d e h is =
+    ap (λ x. round x (t + 1) (n - (t + 1))) is
+    ∙ ap (λ u. round (go_alone d t) u (n - (t + 1))) (add-one t)
+    ∙ sym (ap (round d t) (one_left n t h))
 
-pub second_goes : (n i : ℕ) (d e : Progress) (t : ℕ) → i < n → section_at d.state 1 ≡ Some t
-    → e ≡ one_more d (go_of t) → out_of_second (n - (i + 1)) e ≡ out_of_second (n - i) d
-second_goes n i d e t h there is =
-    ap (out_of_second (n - (i + 1))) is
-    ∙ sym (ap (λ m. out_of_second m d) (one_left n i h) ∙ second_more (n - (i + 1)) d
-    ∙ ap (λ o. where_inside o d (λ u. out_of_second (n - (i + 1)) (one_more d (go_of u)))) there)
+rounds_more : (n : ℕ) (d : Progress) → rounds (suc n) d ≡ unless_still d
+    (round d 0 (length d.state.places)) (rounds n (round d 0 (length d.state.places)))
+unfolding rounds
+rounds_more n d = refl
 
-pub second_left : (n : ℕ) (d : Progress) → section_at d.state 1 ≡ None → d ≡ out_of_second n d
-unfolding out_of_second
-second_left zero d h = refl
-second_left (suc n) d h = sym (ap (λ o. where_inside o d (λ t. out_of_second n (one_more d (go_of t)))) h)
+pub few_rounds : (i m : ℕ) → i < 2 ^ 64 - 1 → i < 2 ^ 64 + m
+few_rounds i m h = omega arith
 
-pub second_end : (n : ℕ) (d : Progress) → n ≡ 0 → out_of_second n d ≡ d
-unfolding out_of_second
-second_end zero d h = refl
-second_end (suc n) d h = absurd (omega (arith, h))
+same_length : (n m : ℕ) → n ≡ m → (n == m) ≡ true
+same_length n m e = grind (arith, nat_tests)
 
--- ---------------------------------------------------------------- turns
+other_length : (n m : ℕ) → n ≢ m → (n == m) ≡ false
+other_length n m ne = grind (arith, nat_tests)
 
-turns_more : (n : ℕ) (d : Progress) → turns (suc n) d ≡ where_some (next_turn d.state) d
-    (λ s. turns n (turn_taken d s.thread s.turn))
-unfolding turns
-turns_more n d = refl
+-- somebody has gone on
+pub rounds_go : (n i : ℕ) (d e : Progress) → i < n → e ≡ round d 0 (length d.state.places)
+    → length e.steps ≢ length d.steps → rounds (n - (i + 1)) e ≡ rounds (n - i) d
+rounds_go n i d e h is moved =
+    let next = round d 0 (length d.state.places) in
+    let more = rounds (n - (i + 1)) next in
+    ap (rounds (n - (i + 1))) is
+    ∙ sym (ap (λ m. rounds m d) (one_left n i h) ∙ rounds_more (n - (i + 1)) d
+    ∙ ap (λ b. if b then next else more) (ap (λ (x : Progress). length x.steps == length d.steps) (sym is)
+    ∙ other_length (length e.steps) (length d.steps) moved))
 
-pub turns_go : (n i : ℕ) (d e : Progress) (s : Step) → i < n → Some s ≡ next_turn d.state → e
-    ≡ turn_taken d s.thread s.turn → turns (n - (i + 1)) e ≡ turns (n - i) d
-turns_go n i d e s h there is =
-    ap (turns (n - (i + 1))) is
-    ∙ sym (ap (λ m. turns m d) (one_left n i h) ∙ turns_more (n - (i + 1)) d
-    ∙ ap (λ o. where_some o d (λ u. turns (n - (i + 1)) (turn_taken d u.thread u.turn))) (sym there))
+-- nobody has
+pub rounds_end : (n i : ℕ) (d e : Progress) → i < n → e ≡ round d 0 (length d.state.places)
+    → length e.steps ≡ length d.steps → e ≡ rounds (n - i) d
+rounds_end n i d e h is still =
+    let next = round d 0 (length d.state.places) in
+    let more = rounds (n - (i + 1)) next in
+    is ∙ sym (ap (λ m. rounds m d) (one_left n i h) ∙ rounds_more (n - (i + 1)) d
+    ∙ ap (λ b. if b then next else more) (ap (λ (x : Progress). length x.steps == length d.steps) (sym is)
+    ∙ same_length (length e.steps) (length d.steps) still))
 
-pub turns_over : (n : ℕ) (d : Progress) → None ≡ next_turn d.state → d ≡ turns n d
-unfolding turns
-turns_over zero d h = refl
-turns_over (suc n) d h = sym (ap (λ o. where_some o d (λ s. turns n (turn_taken d s.thread s.turn))) (sym h))
+-- ---------------------------------------------------------------- releases
 
-pub turns_end : (n : ℕ) (d : Progress) → n ≡ 0 → turns n d ≡ d
-unfolding turns
-turns_end zero d h = refl
-turns_end (suc n) d h = absurd (omega (arith, h))
+abbrev next_release : Progress → Option Step
+next_release d = first_release d.state 0 (length d.state.places)
+
+released_more : (n : ℕ) (d : Progress) → released (suc n) d ≡ where_some (next_release d) d
+    (λ s. released n (release_taken d s))
+unfolding released
+released_more n d = refl
+
+pub releases_go : (n i : ℕ) (d e : Progress) (s : Step) → i < n → Some s ≡ next_release d → e
+    ≡ release_taken d s → released (n - (i + 1)) e ≡ released (n - i) d
+releases_go n i d e s h there is =
+    ap (released (n - (i + 1))) is
+    ∙ sym (ap (λ m. released m d) (one_left n i h) ∙ released_more (n - (i + 1)) d
+    ∙ ap (λ o. where_some o d (λ u. released (n - (i + 1)) (release_taken d u))) (sym there))
+
+pub releases_over : (n : ℕ) (d : Progress) → None ≡ next_release d → d ≡ released n d
+unfolding released
+releases_over zero d h = refl
+releases_over (suc n) d h = sym (ap (λ o. where_some o d (λ s. released n (release_taken d s))) (sym h))
+
+pub releases_end : (n : ℕ) (d : Progress) → n ≡ 0 → released n d ≡ d
+unfolding released
+releases_end zero d h = refl
+releases_end (suc n) d h = absurd (omega (arith, h))
 
 -- ---------------------------------------------------------------- searches
-
-pub up_here : (w : State) (n t : ℕ) → t < n → is_up (place_at w t) ≡ true → Some (go_of t) ≡ first_up w t
-    (n - t)
-up_here w n t h up = sym (ap (first_up w t) (one_left n t h)
-    ∙ ap (λ b. cond b (Some (go_of t)) (first_up w (suc t) (n - (t + 1)))) up)
-
-pub up_later : (w : State) (n t : ℕ) → t < n → is_up (place_at w t) ≡ false → first_up w (t + 1) (n - (t + 1))
-    ≡ first_up w t (n - t)
-up_later w n t h down =
-    ap (λ u. first_up w u (n - (t + 1))) (add-one t)
-    ∙ sym (ap (first_up w t) (one_left n t h)
-    ∙ ap (λ b. cond b (Some (go_of t)) (first_up w (suc t) (n - (t + 1)))) down)
 
 pub release_later : (w : State) (n t : ℕ) → t < n → None ≡ first_begin w t (releases (kind_at w 0))
     → first_release w (t + 1) (n - (t + 1)) ≡ first_release w t (n - t)

@@ -35,11 +35,11 @@ use Rattle.lot_world.specs.Few.{HasFew, IsFew, IsPlain, number}
 use Rattle.lot_world.proofs.Crowded.{nobody_is_left_out}
 use Rattle.lot_world.proofs.Few.{began_same}
 use Rattle.lot_world.specs.Owned.{ReleasesOne}
-use Rattle.lot_world.specs.Waits.{MayStandAt}
+use Rattle.lot_world.specs.Standing.{MayStandAt}
 use Rattle.lot_world.proofs.Owned.{places_own_few, queued_own_nothing}
 use Rattle.lot_world.specs.Full.{FullIsEmpty, IsStrict, StrictGoesOn}
 use Rattle.lot_world.proofs.Quiet.{began}
-use Rattle.lot_world.proofs.Turns.{here, ordered, others_own, stepped}
+use Rattle.lot_world.proofs.Ordered.{here, ordered, others_own, stepped}
 
 same_one : (t : ℕ) → (t == t) ≡ true
 same_one t = grind (arith, nat_tests)

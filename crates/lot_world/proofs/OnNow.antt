@@ -48,10 +48,10 @@ use Rattle.lot_world.proofs.AsNow.{another}
 use Rattle.lot_world.specs.Quiet.{IsDraining}
 use Rattle.lot_world.specs.Full.{IsStrict}
 use Rattle.lot_world.specs.Now.{AllKeep, DrainingGoesOn, HasOneCase, IsOneFollowed, KeepsLock}
-use Rattle.lot_world.specs.Turns.{IsOrdered}
+use Rattle.lot_world.specs.Ordered.{IsOrdered}
 use Rattle.lot_world.proofs.Full.{full_is_empty}
 use Rattle.lot_world.proofs.Now.{step_keeps_now}
-use Rattle.lot_world.proofs.Turns.{here, ordered}
+use Rattle.lot_world.proofs.Ordered.{here, ordered}
 
 -- ---------------------------------------------------------------- deeds of one thread
 
@@ -259,15 +259,15 @@ module _ (w : State) (t : ℕ) (h : IsDraining w) (strict : IsStrict w) where
               by_deeds (state_after_go w t) (ap rules_of (at_zero.goes.follows.kinds 0)) readers at_zero
           by_place (Once l at) is fits of = absurd (elim (here w strict.ordered t) [
             | inl idle ↦ let e : Once l at ≡ Idle = sym is ∙ idle in cc
-            | inr only ↦ subst Rattle.lot_world.specs.Waits.MayStandAt is only.1
+            | inr only ↦ subst Rattle.lot_world.specs.Standing.MayStandAt is only.1
           ])
           by_place (Semaphore l at) is fits of = absurd (elim (here w strict.ordered t) [
             | inl idle ↦ let e : Semaphore l at ≡ Idle = sym is ∙ idle in cc
-            | inr only ↦ subst Rattle.lot_world.specs.Waits.MayStandAt is only.1
+            | inr only ↦ subst Rattle.lot_world.specs.Standing.MayStandAt is only.1
           ])
           by_place (Condvar l at) is fits of = absurd (elim (here w strict.ordered t) [
             | inl idle ↦ let e : Condvar l at ≡ Idle = sym is ∙ idle in cc
-            | inr only ↦ subst Rattle.lot_world.specs.Waits.MayStandAt is only.1
+            | inr only ↦ subst Rattle.lot_world.specs.Standing.MayStandAt is only.1
           ])
 
       by_possible : (b : Bool) → is_possible w (go_of t) ≡ b → Now (if b then state_after_go w t else w)

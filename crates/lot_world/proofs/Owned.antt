@@ -46,7 +46,7 @@ use Rattle.lot_world.specs.Few.{IsFew, IsPlain}
 use Rattle.lot_world.proofs.Sleepers.{given_up, here, less}
 use Rattle.lot_world.specs.Owned.{PlacesOwnFew, QueuedOwnNothing, ReleasesOne}
 use Rattle.lot_world.specs.Sleepers.{BeganWithFew}
-use Rattle.lot_world.specs.Waits.{MayStandAt}
+use Rattle.lot_world.specs.Standing.{MayStandAt}
 
 -- ---------------------------------------------------------------- rights
 

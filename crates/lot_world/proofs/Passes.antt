@@ -48,7 +48,7 @@ use Rattle.lot_laws.proofs.alone.TwoLines.{Comes, StepsAlone, enter_comes, hand_
 use Rattle.lot_laws.proofs.alone.TwoLines.{take_comes, word_comes}
 use Rattle.lot_laws.proofs.mutex.FairMutexes.{settled_after}
 use Rattle.lot_laws.proofs.sites.TurnsKept.{after_inductive}
-use Rattle.lot_world.specs.Turns.{begin_of}
+use Rattle.lot_world.specs.Ordered.{begin_of}
 
 abbrev pub no_lines : Line → List Waiter
 no_lines m = []

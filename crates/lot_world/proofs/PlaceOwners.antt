@@ -41,7 +41,7 @@ use Rattle.lot_steps.specs.declared.places.Place.{Place}
 use Rattle.lot_steps.specs.declared.places.Place.TheVariants.{Idle, Mutex, RwLock, Once, Condvar, Semaphore}
 use Rattle.lot_steps.specs.Steps.{act_of, called_lock, profile}
 use Rattle.steps_mutex.specs.MutexProfiles.{mutex_profile}
-use Rattle.lot_world.specs.Waits.{MayStandAt}
+use Rattle.lot_world.specs.Standing.{MayStandAt}
 
 mutex_own : (l : ℕ) (at : MutexPlace) → lock_for ((mutex_profile at).purpose l) ≡ l
 mutex_own l (mutex.Lock entry.Lock retries to) = refl

@@ -11,7 +11,7 @@ use Rattle.spec_locks.specs.declared.outcomes.Outcome.TheVariants as outcome
 use Rattle.lot_steps.specs.Steps.{act_of, next_act}
 use Rattle.lot_machine.specs.Machine.{State, after, after_steps, alone_after, go_of, go_outcome, is_possible}
 use Rattle.lot_machine.specs.Machine.{place_at, reply_to, solo, state_after_act, step_outcome}
-use Rattle.lot_world.specs.Turns.{begin_of}
+use Rattle.lot_world.specs.Ordered.{begin_of}
 use Rattle.lot_world.specs.Drains.{AllPossible}
 use Rattle.lot_world.specs.Schedules.{Progress, run_alone, alone_by, call_alone, one_more}
 

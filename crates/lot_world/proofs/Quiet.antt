@@ -25,7 +25,7 @@ use Rattle.lot_world.specs.Drained.{Drains, IsEmptied, IsResting, OwnsNothing, a
 use Rattle.lot_world.specs.Few.{HasFew}
 use Rattle.lot_world.proofs.Drained.{resting_is_empty}
 use Rattle.lot_world.specs.Sleepers.{BeganWithFew, without_pending}
-use Rattle.lot_world.specs.Waits.{MayStandAt}
+use Rattle.lot_world.specs.Standing.{MayStandAt}
 use Rattle.lot_world.proofs.Sleepers.{pending_own_nothing, sleepers_own_nothing, sleepers_rest}
 use Rattle.lot_world.proofs.Sleepers.{sleepers_stand}
 use Rattle.lot_world.specs.Quiet.{HasOneLock, IsDraining, IsQuiet, QuietIsOver}

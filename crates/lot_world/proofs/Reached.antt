@@ -47,7 +47,7 @@ use Rattle.lot_world.proofs.DrainPending.{others_own, unpending_go_on}
 use Rattle.lot_world.specs.Quiet.{HasOneLock}
 use Rattle.lot_world.proofs.DrainOwners.{index_sum}
 use Rattle.lot_world.proofs.Quiet.{only_here}
-use Rattle.lot_world.proofs.Turns.{called_here}
+use Rattle.lot_world.proofs.Ordered.{called_here}
 use Rattle.lot_world.specs.Reached.{ReachedHaveOwners}
 
 pub record IsReached (w : State) : Type 0 where

@@ -1,7 +1,8 @@
--- A thread that owns between its calls releases, and there is less before the drain.
-use Rattle.std.proofs.Common.{ℕ, zero, suc, Bool, true, false, Option, Some, None, if◌then◌else◌, ◌==◌, ◌&&◌}
-use Rattle.std.proofs.Common.{not, is_none, ◌≡◌, ◌≢◌, ◌≤◌, ◌<◌, ◌⊎◌, length, inl, inr, refl, sym, ◌∙◌, ap}
-use Rattle.std.proofs.Common.{subst, arith, get_or-set_other}
+-- A thread that owns between its calls releases, and then owns nothing.
+use Rattle.std.proofs.Common.{ℕ, zero, suc, Bool, true, false, Option, Some, None, if◌then◌else◌, ◌==◌, ◌≡◌}
+use Rattle.std.proofs.Common.{is_none, ◌≢◌, ◌≤◌, ◌⊎◌, inl, inr, refl, sym, ◌∙◌, ap, subst, arith}
+use Rattle.std.proofs.Common.{get_or-set_other}
+use Rattle.std.proofs.lemmas.Bool.{cases_eq}
 use Rattle.std.proofs.lemmas.Bool.Decides.{nat_tests}
 use Rattle.core_base.specs.declared.wants.Want.{Want}
 use Rattle.core_base.specs.declared.wants.Want.TheVariants.{Exclusive, Upgradable, Shared, Wait, CallOnce}
@@ -17,28 +18,25 @@ use Rattle.spec_locks.specs.Purposes.{MayWait, Purpose, Releases}
 use Rattle.spec_locks.specs.Runs.{AnswerHolds, Agrees, CallState, GoesOn, HasRight, LocksState, MayBegin}
 use Rattle.spec_locks.specs.Runs.{Stays, going_on, new_call, no_rights, purpose_at, rights_in, unless_ended}
 use Rattle.spec_locks.specs.Runs.{woken}
-use Rattle.lot_steps.specs.declared.places.Place.{Place}
 use Rattle.lot_steps.specs.declared.places.Place.TheVariants.{Idle}
-use Rattle.lot_steps.specs.Steps.{act_of, is_idle}
+use Rattle.lot_steps.specs.Steps.{act_of, first_place}
 use Rattle.spec_locks.specs.Calls.{lock_in}
-use Rattle.lot_steps.specs.Steps.{first_place}
-use Rattle.lot_machine.specs.Machine.{State, after, go_of, is_possible, kind_at, place_at, section_at}
-use Rattle.lot_machine.specs.Machine.{state_after_begin, step_outcome}
+use Rattle.lot_machine.specs.Machine.{State, after, go_of, is_possible, kind_at, place_at, state_after_begin}
+use Rattle.lot_machine.specs.Machine.{step_outcome}
 use Rattle.lot_machine.specs.Fits.{SameSize}
 use Rattle.lot_machine.proofs.Shape.{after_size}
 use Rattle.lot_laws.specs.Promises.{IsHandedOverIn, IsKept}
-use Rattle.lot_laws.specs.Refinement.{call_at, call_state, lock_state, locks_of, sleeps}
+use Rattle.lot_laws.specs.Refinement.{call_at, call_state, lock_state, locks_of}
 use Rattle.lot_laws.proofs.machine.KindsStay.{after_kinds}
 use Rattle.lot_laws.proofs.calls.LockSteps.{IsTurn, after_step}
 use Rattle.lot_laws.proofs.alone.WorldRuns.{world_after, world_kept}
 use Rattle.lot_world.specs.Drained.{Drains}
-use Rattle.lot_world.specs.Few.{HasFew, IsFew, IsPlain, number}
-use Rattle.lot_world.specs.Potential.{GoesAlone, one_if}
-use Rattle.lot_world.proofs.Few.{began_same, few_begin, less, rights_are}
-use Rattle.lot_world.specs.Turns.{EachReleaseFalls, IsOrdered, NobodyInside, after_release, awake, begin_of}
-use Rattle.lot_world.specs.Turns.{weight, weight_of}
-use Rattle.lot_world.proofs.Outside.{each_turn_leaves}
-use Rattle.lot_world.proofs.Turns.{each_turn_falls, here, idle_call, ordered, rests, solo_keeps, stepped}
+use Rattle.lot_world.specs.Few.{HasFew, IsFew, IsPlain}
+use Rattle.lot_world.specs.Ordered.{IsOrdered, begin_of}
+use Rattle.lot_world.specs.Quiet.{AtRest}
+use Rattle.lot_world.proofs.Few.{SameBeginning, began_same, few_begin, less, rights_are, woken_same}
+use Rattle.lot_world.proofs.Ordered.{here, idle_call, idle_is, ordered, others_own, same_purpose, stepped}
+use Rattle.lot_world.proofs.Owed.{IsSpent}
 
 -- ---------------------------------------------------------------- a release gives its right up as it ends
 
@@ -46,7 +44,7 @@ abbrev right_now : State → ℕ → Rights
 right_now w t = rights_of (lock_state w 0) t
 
 -- the thread is in its call, or has ended it without a right
-record GivesUp (t : ℕ) (x : Want) (fair : Bool) (w : State) : Type 0 where
+pub record GivesUp (t : ℕ) (x : Want) (fair : Bool) (w : State) : Type 0 where
   pub ordered_now : IsOrdered w
   pub either : (((call_at w t).purpose ≡ Some (Releases 0 x fair))
       × ((call_at w t).former 0 ≡ with_right x no_rights))
@@ -54,6 +52,9 @@ record GivesUp (t : ℕ) (x : Want) (fair : Bool) (w : State) : Type 0 where
 
 same : (t : ℕ) → (t == t) ≡ true
 same t = grind (arith, nat_tests)
+
+other : (u t : ℕ) → u ≢ t → (u == t) ≡ false
+other u t ne = grind (arith, nat_tests)
 
 module _ (t : ℕ) (x : Want) (fair : Bool) (w : State) (h : IsOrdered w)
     (calling : (call_at w t).purpose ≡ Some (Releases 0 x fair)) (before : (call_at w t).former 0
@@ -120,9 +121,9 @@ module _ (t : ℕ) (x : Want) (fair : Bool) (w : State) (h : IsOrdered w)
     )
   ]
 
-gives_step : (t : ℕ) (x : Want) (fair : Bool) (w : State) → GivesUp t x fair w
+own_step : (t : ℕ) (x : Want) (fair : Bool) (w : State) → GivesUp t x fair w
     → GivesUp t x fair (after w (go_of t))
-gives_step t x fair w h = record { ordered_now = ordered w t h.ordered_now; either = by_call h.either }
+own_step t x fair w h = record { ordered_now = ordered w t h.ordered_now; either = by_call h.either }
   where
     by_call : (((call_at w t).purpose ≡ Some (Releases 0 x fair))
         × ((call_at w t).former 0 ≡ with_right x no_rights)) ⊎ (((call_at w t).purpose ≡ None)
@@ -139,6 +140,47 @@ gives_step t x fair w h = record { ordered_now = ordered w t h.ordered_now; eith
       )
     ]
 
+-- the call of a thread that doesn't go on remembers how it began
+other_call : (w : State) (t u : ℕ) → IsOrdered w → u ≢ t
+    → SameBeginning (call_at w u) (call_at (after w (go_of t)) u)
+other_call w t u h ne = elim (stepped w t h).1 [
+  | inl did ↦ subst (SameBeginning (call_at w u)) (sym (told did.1))
+      (woken_same (locks_of w) t did.1.event u (call_at w u))
+  | inr refused ↦ subst (λ (y : LocksState). SameBeginning (call_at w u) (y.calls u)) (sym refused.1.1)
+      (record { purpose = refl; former = refl })
+]
+  where
+    told : (goes : GoesOn (locks_of w) t (step_outcome w (go_of t)) (locks_of (after w (go_of t))))
+        → call_at (after w (go_of t)) u ≡ woken (locks_of w) t goes.event u (call_at w u)
+    told goes = goes.calls u
+        ∙ ap (λ b. if b then unless_ended (step_outcome w (go_of t)) (woken (locks_of w) t goes.event t
+        (going_on goes.event (call_at w t))) else woken (locks_of w) t goes.event u (call_at w u))
+        (other u t ne)
+
+-- whatever thread goes on
+pub gives_step : (t : ℕ) (x : Want) (fair : Bool) (w : State) (u : ℕ) → GivesUp t x fair w
+    → GivesUp t x fair (after w (go_of u))
+gives_step t x fair w u h = elim (cases_eq t u) [
+  | inl e ↦ subst (λ j. GivesUp t x fair (after w (go_of j))) e (own_step t x fair w h)
+  | inr ne ↦ record { ordered_now = ordered w u h.ordered_now; either = by_call ne h.either }
+]
+  where
+    by_call : t ≢ u → (((call_at w t).purpose ≡ Some (Releases 0 x fair))
+        × ((call_at w t).former 0 ≡ with_right x no_rights)) ⊎ (((call_at w t).purpose ≡ None)
+        × (right_now w t ≡ no_rights))
+        → (((call_at (after w (go_of u)) t).purpose ≡ Some (Releases 0 x fair))
+        × ((call_at (after w (go_of u)) t).former 0 ≡ with_right x no_rights))
+        ⊎ (((call_at (after w (go_of u)) t).purpose ≡ None) × (right_now (after w (go_of u)) t ≡ no_rights))
+    by_call ne (inl calling) = let alike = other_call w u t h.ordered_now ne in inl (
+      alike.purpose ∙ calling.0,
+      ap (λ (f : ℕ → Rights). f 0) alike.former ∙ calling.1,
+    )
+    by_call ne (inr over) = inr (
+      same_purpose w u h.ordered_now t ne ∙ over.0,
+      others_own w u h.ordered_now t ne (idle_call (place_at w t) (λ l. rights_of (lock_state w l) t)
+          (here w h.ordered_now t) ∙ ap is_none over.0) ∙ over.1,
+    )
+
 -- a release never sleeps
 never_asleep : (w : State) (t : ℕ) (x : Want) (fair : Bool) → IsOrdered w → (call_at w t).purpose
     ≡ Some (Releases 0 x fair) → act_of (place_at w t) ≡ act.Sleep → ⊥
@@ -154,6 +196,23 @@ never_asleep w t x fair h calling asleep =
         by_number zero e = e
         by_number (suc n) e = absurd (let kept : IsKept w = world_kept w h.world
             in subst (λ p. MayWait p l) calling (kept.waiting t l (omega arith)))
+
+-- a thread that rests has released
+pub given_up : (t : ℕ) (x : Want) (fair : Bool) (w : State) → GivesUp t x fair w → AtRest (place_at w t)
+    → IsSpent w t
+given_up t x fair w h rest = elim h.either [
+  | inl calling ↦ elim rest [
+    | inl idle ↦ absurd (let e : (call_at w t).purpose ≡ None =
+        subst (λ p. (call_state p (λ l. rights_of (lock_state w l) t)).purpose ≡ None) (sym idle) refl
+        in let g : ◌≡◌ {A = Option Purpose} None (Some (Releases 0 x fair)) = sym e ∙ calling.0 in cc)
+    | inr asleep ↦ absurd (never_asleep w t x fair h.ordered_now calling.0 asleep)
+  ]
+  | inr ended ↦ (
+    idle_is (place_at w t) (idle_call (place_at w t) (λ l. rights_of (lock_state w l) t)
+        (here w h.ordered_now t) ∙ ap is_none ended.0),
+    ended.1,
+  )
+]
 
 -- ---------------------------------------------------------------- it begins
 
@@ -176,11 +235,7 @@ only_right s t Shared owns few =
 only_right s t Wait owns few = absurd owns
 only_right s t CallOnce owns few = absurd owns
 
--- a thread between its calls weighs by what it owns
-weighs : (p : Place) (r s : Rights) → is_idle p ≡ true → r ≡ s → weight_of p r ≡ one_if (not (number s == 0))
-weighs p r s e f = rw e (ap (λ x. one_if (not (number x == 0))) f)
-
-module _ (w : State) (t : ℕ) (c : Call) (x : Want) (fair : Bool) (h : IsOrdered w) (outside : NobodyInside w)
+module _ (w : State) (t : ℕ) (c : Call) (x : Want) (fair : Bool) (h : IsOrdered w)
     (may : MayBegin (locks_of w) t c) (releases : purpose_at (locks_of w) c ≡ Some (Releases 0 x fair)) where
   abbrev b : State
   b = after w (begin_of t c)
@@ -224,13 +279,6 @@ module _ (w : State) (t : ℕ) (c : Call) (x : Want) (fair : Bool) (h : IsOrdere
   }
 
   -- nothing else changes
-  same_sections : (key : ℕ) → section_at b key ≡ section_at w key
-  same_sections key = either (is_possible w (begin_of t c))
-    where
-      either : (y : Bool) → section_at (if y then state_after_begin w t c else w) key ≡ section_at w key
-      either true = refl
-      either false = refl
-
   same_places : (u : ℕ) → u ≢ t → place_at b u ≡ place_at w u
   same_places u ne = either (is_possible w (begin_of t c))
     where
@@ -243,88 +291,17 @@ module _ (w : State) (t : ℕ) (c : Call) (x : Want) (fair : Bool) (h : IsOrdere
       (rights_in (locks_of w) t) else (locks_of w).calls t) (same t)
       ∙ ap (λ q. new_call q (rights_in (locks_of w) t)) releases
 
-  busy : is_idle (place_at b t) ≡ false
-  busy = idle_call (place_at b t) (λ l. rights_of (lock_state b l) t) (here b ordered_begun t)
-      ∙ ap (λ (y : CallState). is_none y.purpose) new_calling
+  pub spent_begun : (u : ℕ) → u ≢ t → IsSpent w u → IsSpent b u
+  spent_begun u ne spent = (
+    same_places u ne ∙ spent.0,
+    ap (λ (s : LockState). rights_of s u) (begins.locks 0) ∙ spent.1,
+  )
 
-  up : awake b t ≡ true
-  up = by_sleep (sleeps (act_of (place_at b t))) refl
-    where
-      bits : (p q : Bool) → p ≡ false → q ≡ false → (not p && not q) ≡ true
-      bits p q e f = rw (e, f) refl
-
-      by_sleep : (q : Bool) → sleeps (act_of (place_at b t)) ≡ q → awake b t ≡ true
-      by_sleep false e = bits (is_idle (place_at b t)) (sleeps (act_of (place_at b t))) busy e
-      by_sleep true e = absurd (let s : step_outcome w (begin_of t c) ≡ outcome.Sleep =
-          ((begun_step.0.told (λ f. let g : outcome.Step ≡ outcome.NotNow = sym begins.told ∙ f in cc)).1 e)
-          in let g : outcome.Step ≡ outcome.Sleep = sym begins.told ∙ s in cc)
-
-  outside_begun : NobodyInside b
-  outside_begun key = same_sections key ∙ outside key
-
-  abbrev done : State
-  done = after_release w t c
-
-  fell : IsOrdered done × GoesAlone (length b.places) t (weight b) (weight done) (awake b) (awake done)
-  fell = each_turn_falls b t ordered_begun outside_begun up
-
-  given_up : GivesUp t x fair done
-  given_up = solo_keeps (GivesUp t x fair) t (gives_step t x fair) 64 b outcome.NotNow (record {
+  pub gives_begun : GivesUp t x fair b
+  gives_begun = record {
     ordered_now = ordered_begun;
     either = inl (
       ap (λ (y : CallState). y.purpose) new_calling,
-      ap (λ (y : CallState). y.former 0)
-          new_calling ∙ own_right,
+      ap (λ (y : CallState). y.former 0) new_calling ∙ own_right,
     );
-  })
-
-  over : ((call_at done t).purpose ≡ None) × (right_now done t ≡ no_rights)
-  over = elim given_up.either [
-    | inl calling ↦ elim (rests b t ordered_begun outside_begun up) [
-      | inl idle ↦ absurd (let e : (call_at done t).purpose ≡ None =
-          subst (λ p. (call_state p (λ l. rights_of (lock_state done l) t)).purpose ≡ None) (sym idle) refl
-          in let g : ◌≡◌ {A = Option Purpose} None (Some (Releases 0 x fair)) = sym e ∙ calling.0 in cc)
-      | inr asleep ↦ absurd (never_asleep done t x fair fell.0 calling.0 asleep)
-    ]
-    | inr ended ↦ ended
-  ]
-
-  nothing_left : weight done t ≡ 0
-  nothing_left =
-      let idle : is_idle (place_at done t) ≡ true = idle_call (place_at done t)
-      (λ l. rights_of (lock_state done l) t) (here done fell.0 t) ∙ ap is_none over.0 in
-      weighs (place_at done t) (right_now done t) no_rights idle over.1
-
-  one_before : weight w t ≡ 1
-  one_before =
-      let idle : is_idle (place_at w t) ≡ true = idle_call (place_at w t) (λ l. rights_of (lock_state w l) t)
-      (here w h t) ∙ ap is_none was_idle in
-      weighs (place_at w t) (right_now w t) (with_right x no_rights) idle own_right ∙ counts x owned
-    where
-      counts : (x : Want) → Owns (lock_state w 0) t x → one_if (not (number (with_right x no_rights) == 0))
-          ≡ 1
-      counts Exclusive o = refl
-      counts Upgradable o = refl
-      counts Shared o = refl
-      counts Wait o = absurd o
-      counts CallOnce o = absurd o
-
-  others_weigh : (u : ℕ) → u ≢ t → weight done u ≡ weight w u
-  others_weigh u ne = fell.1.others u ne
-      ∙ (λ i. weight_of (same_places u ne i) (rights_of (begins.locks 0 i) u))
-
-  there : t < length w.places
-  there = may.thread
-
-pub each_release_falls : EachReleaseFalls
-each_release_falls w t c x fair h outside may releases = (
-  (fell w t c x fair h outside may releases).0,
-  each_turn_leaves (after w (begin_of t c)) t (ordered_begun w t c x fair h outside may releases)
-      (outside_begun w t c x fair h outside may releases) (up w t c x fair h outside may releases),
-  record {
-    there = there w t c x fair h outside may releases;
-    others = others_weigh w t c x fair h outside may releases;
-    goes = inr (let none = nothing_left w t c x fair h outside may releases in let one =
-        one_before w t c x fair h outside may releases in omega arith);
-  },
-)
+  }

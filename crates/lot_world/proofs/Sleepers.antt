@@ -42,7 +42,7 @@ use Rattle.steps_rwlock_fair.specs.FairSteps.{accept_act}
 use Rattle.lot_steps.specs.declared.places.Place.TheVariants.{Idle, Mutex, RwLock, Once, Condvar, Semaphore}
 use Rattle.lot_steps.specs.Steps.{act_of, profile}
 use Rattle.lot_world.specs.Drained.{IsResting}
-use Rattle.lot_world.proofs.Waits.{decided_sleeps, either_sleeps, hand_off_wakes, handing_wakes, unlock_wakes}
+use Rattle.lot_world.proofs.Awake.{decided_sleeps, either_sleeps, hand_off_wakes, handing_wakes, unlock_wakes}
 use Rattle.lot_world.specs.Sleepers.{BeganWithFew, PendingOwnNothing, SleepersOwnNothing, SleepersRest}
 use Rattle.lot_world.specs.Sleepers.{SleepersStand, StandsSomewhere, without_pending}
 

@@ -9,7 +9,7 @@ use Rattle.lot_steps.specs.Steps.{called_lock, profile}
 use Rattle.lot_world.specs.Few.{HadNone, IsFew, PendsInCall}
 use Rattle.lot_world.specs.Owned.{ReleasesOne}
 use Rattle.lot_world.specs.Sleepers.{BeganWithFew}
-use Rattle.lot_world.specs.Waits.{MayStandAt}
+use Rattle.lot_world.specs.Standing.{MayStandAt}
 
 -- a thread owns what its place says, and no more
 abbrev pub IsJust : Option Claim → Rights → Type 0

@@ -8,7 +8,7 @@ use Rattle.spec_locks.specs.Sites.{is_full}
 use Rattle.lot_machine.specs.Machine.{State, after, go_of}
 use Rattle.lot_laws.specs.Refinement.{call_at, lock_state}
 use Rattle.lot_laws.specs.SitesOf.{rules_in}
-use Rattle.lot_world.specs.Turns.{IsOrdered}
+use Rattle.lot_world.specs.Ordered.{IsOrdered}
 
 pub record IsStrict (w : State) : Type 0 where
   pub ordered : IsOrdered w

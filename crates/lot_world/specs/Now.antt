@@ -5,7 +5,7 @@ use Rattle.spec_locks.specs.declared.calls.Call.{Call}
 use Rattle.spec_locks.specs.Purposes.{Releases}
 use Rattle.spec_locks.specs.Runs.{MayBegin, purpose_at}
 use Rattle.lot_laws.specs.Refinement.{locks_of}
-use Rattle.lot_world.specs.Turns.{NobodyInside, after_alone, after_release, begin_of}
+use Rattle.lot_world.specs.Ordered.{begin_of}
 use Rattle.spec_locks.specs.Locks.{Rules}
 use Rattle.spec_locks.specs.Sites.{Site, IsSite, Deed, Out, Bring, Send, LeaveLine, Case, has_readers}
 use Rattle.spec_locks.specs.Sites.{is_full}
@@ -59,19 +59,6 @@ DrainingGoesOn =
 abbrev pub DrainingBegins : Type 0
 DrainingBegins =
     (w : State) (t : ℕ) (c : Call) (x : Want) (fair : Bool) → IsDraining w → IsStrict w
-    → NobodyInside w → MayBegin (locks_of w) t c
+    → MayBegin (locks_of w) t c
     → purpose_at (locks_of w) c ≡ Some (Releases 0 x fair)
     → IsDraining (after w (begin_of t c)) × IsStrict (after w (begin_of t c))
-
--- A world that drains does so after each turn.
-abbrev pub TurnsKeepDraining : Type 0
-TurnsKeepDraining =
-    (w : State) (t : ℕ) → IsDraining w → IsStrict w
-    → IsDraining (after_alone w t) × IsStrict (after_alone w t)
-
-abbrev pub ReleasesKeepDraining : Type 0
-ReleasesKeepDraining =
-    (w : State) (t : ℕ) (c : Call) (x : Want) (fair : Bool) → IsDraining w → IsStrict w
-    → NobodyInside w → MayBegin (locks_of w) t c
-    → purpose_at (locks_of w) c ≡ Some (Releases 0 x fair)
-    → IsDraining (after_release w t c) × IsStrict (after_release w t c)

@@ -9,7 +9,7 @@ use Rattle.lot_steps.specs.declared.places.Place.{Place}
 use Rattle.lot_steps.specs.Steps.{called_lock, profile}
 use Rattle.lot_world.specs.Few.{IsFew}
 use Rattle.lot_world.specs.Sleepers.{BeganWithFew}
-use Rattle.lot_world.specs.Waits.{MayStandAt}
+use Rattle.lot_world.specs.Standing.{MayStandAt}
 
 -- a release that has its right yet has no other
 abbrev pub ReleasesOne : Place → (ℕ → Rights) → Type 0

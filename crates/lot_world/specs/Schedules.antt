@@ -1,7 +1,7 @@
--- The schedule that drains a world of one lock. A thread inside a section leaves it. Then one thread after
--- another goes on alone until it rests: the first that is up. Where none is, the first between its calls
--- that may release the lock does so.
-use Rattle.std.specs.Prelude.{ℕ, zero, suc, if◌then◌else◌, Option, Some, None, ◌==◌, ◌+◌, ◌*◌, List, [], ◌∷◌}
+-- The schedule that drains a world of one lock. Threads go on, round and round, until none can. Then the
+-- first between its calls that may release the lock does so, and threads go on again, as long as there is
+-- one.
+use Rattle.std.specs.Prelude.{ℕ, zero, suc, if◌then◌else◌, Option, Some, None, ◌==◌, ◌+◌, ◌^◌, List, [], ◌∷◌}
 use Rattle.std.specs.Prelude.{◌++◌, length}
 use Rattle.spec_locks.specs.declared.calls.Access.TheVariants as access
 use Rattle.spec_locks.specs.declared.calls.Call.{Call}
@@ -10,16 +10,14 @@ use Rattle.spec_locks.specs.declared.calls.MutexCall.TheVariants as mutex_call
 use Rattle.spec_locks.specs.declared.calls.Patience.TheVariants as patience
 use Rattle.spec_locks.specs.declared.calls.RwLockCall.TheVariants as rwlock_call
 use Rattle.spec_locks.specs.declared.calls.Step.{Step}
-use Rattle.spec_locks.specs.declared.calls.Turn.{Turn}
-use Rattle.spec_locks.specs.declared.calls.Turn.TheVariants as turn
 use Rattle.spec_locks.specs.declared.kinds.Kind.{Kind}
 use Rattle.spec_locks.specs.declared.outcomes.Outcome.{Outcome}
 use Rattle.spec_locks.specs.declared.outcomes.Outcome.TheVariants as outcome
-use Rattle.lot_machine.specs.Machine.{State, after, can_begin, go_of, kind_at, place_at, section_at}
-use Rattle.lot_machine.specs.Machine.{step_outcome, word_at}
+use Rattle.lot_machine.specs.Machine.{State, after, can_begin, go_of, kind_at, step_outcome, word_at}
 use Rattle.lot_machine.specs.Fits.{is_rwlock}
 pub use Rattle.lot_world.specs.Owners.{releases}
-pub use Rattle.lot_world.specs.Turns.{begin_of, is_up}
+use Rattle.lot_rests.specs.Rests.{most_steps}
+pub use Rattle.lot_world.specs.Ordered.{begin_of}
 
 -- a schedule so far: its steps, and where they have led
 pub record Progress : Type 0 where
@@ -51,28 +49,31 @@ go_alone d t = run_alone 64 d t
 abbrev pub call_alone : Progress → ℕ → Call → Progress
 call_alone d t c = go_alone (one_more d (begin_of t c)) t
 
--- ---------------------------------------------------------------- out of the sections
+-- ---------------------------------------------------------------- all threads
 
-abbrev pub where_inside : Option ℕ → Progress → (ℕ → Progress) → Progress
-where_inside None d go = d
-where_inside (Some t) d go = go t
+-- each of n threads from t on goes on until it rests
+abbrev pub round : Progress → ℕ → ℕ → Progress
+round d t zero = d
+round d t (suc n) = round (go_alone d t) (suc t) n
 
--- at most n steps of the thread inside the section of the second queue
-unfoldable pub out_of_second : ℕ → Progress → Progress
-out_of_second zero d = d
-out_of_second (suc n) d = where_inside (section_at d.state 1) d
-    (λ t. out_of_second n (one_more d (go_of t)))
+-- a round in which nobody has gone on is the last
+abbrev pub unless_still : Progress → Progress → Progress → Progress
+unless_still d next more = if length next.steps == length d.steps then next else more
 
--- a thread inside that of the main queue goes on until it rests
-abbrev pub out_of_main : Progress → Progress
-out_of_main d = where_inside (section_at d.state 0) d (go_alone d)
+-- at most n rounds, until nobody can go on
+unfoldable pub rounds : ℕ → Progress → Progress
+rounds zero d = d
+rounds (suc n) d = unless_still d (round d 0 (length d.state.places))
+    (rounds n (round d 0 (length d.state.places)))
 
--- ---------------------------------------------------------------- turns
+-- more than there are, and than a list has room for
+abbrev pub most_rounds : State → ℕ
+most_rounds w = 2 ^ 64 + most_steps (length w.places) (length w.locks)
 
--- the first of n threads from t on that is up
-abbrev pub first_up : State → ℕ → ℕ → Option Step
-first_up w t zero = None
-first_up w t (suc n) = if is_up (place_at w t) then Some (go_of t) else first_up w (suc t) n
+abbrev pub settled : Progress → Progress
+settled d = rounds (most_rounds d.state) d
+
+-- ---------------------------------------------------------------- releases
 
 -- the first of some calls that a thread may begin
 abbrev pub first_begin : State → ℕ → List Call → Option Step
@@ -90,32 +91,22 @@ first_release w t zero = None
 first_release w t (suc n) =
     or_else (first_begin w t (releases (kind_at w 0))) (first_release w (suc t) n)
 
--- the step with which the next turn begins
-abbrev pub next_turn : State → Option Step
-next_turn w = or_else (first_up w 0 (length w.places)) (first_release w 0 (length w.places))
-
--- a call is begun first
-abbrev pub turn_taken : Progress → ℕ → Turn → Progress
-turn_taken d t (turn.Begin c) = call_alone d t c
-turn_taken d t turn.Go = go_alone d t
-turn_taken d t turn.Spin = d
-turn_taken d t turn.Late = d
-turn_taken d t turn.Ok = d
-turn_taken d t turn.Err = d
-
 abbrev pub where_some : Option Step → Progress → (Step → Progress) → Progress
 where_some None d go = d
 where_some (Some step) d go = go step
 
--- at most n turns, until none is left
-unfoldable pub turns : ℕ → Progress → Progress
-turns zero d = d
-turns (suc n) d = where_some (next_turn d.state) d
-    (λ s. turns n (turn_taken d s.thread s.turn))
+-- an owner begins to release, and threads go on until nobody can
+abbrev pub release_taken : Progress → Step → Progress
+release_taken d s = settled (one_more d s)
 
--- more than there are
-abbrev pub most_turns : ℕ → ℕ
-most_turns threads = 2 * ((threads + 1) * (threads + 1))
+-- at most n releases, until nobody may begin one
+unfoldable pub released : ℕ → Progress → Progress
+released zero d = d
+released (suc n) d = where_some (first_release d.state 0 (length d.state.places)) d
+    (λ s. released n (release_taken d s))
+
+abbrev pub all_released : Progress → Progress
+all_released d = released (length d.state.places) d
 
 -- ---------------------------------------------------------------- the word
 
@@ -141,7 +132,7 @@ clear d = if word_at d.state 0 == 0 then d else passed_through d (kind_at d.stat
 -- ---------------------------------------------------------------- all of it
 
 abbrev pub drain_from : Progress → Progress
-drain_from d = clear (turns (most_turns (length d.state.places)) (out_of_main (out_of_second 3 d)))
+drain_from d = clear (all_released (settled d))
 
 abbrev pub drain_of : State → Progress
 drain_of w = drain_from (record { state = w; steps = [] })

@@ -9,7 +9,7 @@ use Rattle.lot_steps.specs.declared.places.Place.{Place}
 use Rattle.lot_steps.specs.Steps.{act_of, called_lock, profile}
 use Rattle.lot_world.specs.Drained.{IsResting}
 use Rattle.lot_world.specs.Few.{HasFew}
-use Rattle.lot_world.specs.Waits.{MayStandAt}
+use Rattle.lot_world.specs.Standing.{MayStandAt}
 
 -- a sleeper is inside no section, owes nobody a wake, and has nobody in hand
 abbrev pub SleepersRest : Type 0

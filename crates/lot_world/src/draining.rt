@@ -1,27 +1,23 @@
 //! The schedule that drains a machine of one lock, worked out on the machine itself.
 //!
-//! The schedule takes one thread at a time: the first that is awake in a call, until it rests; where
-//! none is, the first owner between its calls, which begins its release in the same turn.
-ghost use Rattle.std.specs.Prelude.{◌≡◌, ◌<◌, ◌^◌, IfOk, IfErr, length};
+//! Threads go on, round and round, until none can. Then the first owner between its calls begins its
+//! release, and threads go on again, as often as there is an owner. The word is cleared last.
+ghost use Rattle.std.specs.Prelude.{◌≡◌, ◌<◌, IfOk, IfErr, length};
 ghost use Rattle.lot_machine.specs.Machine.{go_of, kind_at, step_outcome};
 ghost use Rattle.lot_machine.specs.Fits.{IsWellFormed};
 ghost use Rattle.lot_world.specs.Schedules.{one_more, alone_by, begin_of, go_alone, call_alone};
-ghost use Rattle.lot_world.specs.Schedules.{out_of_second, out_of_main, is_up, first_up, releases};
-ghost use Rattle.lot_world.specs.Schedules.{first_begin, first_release, next_turn, turn_taken, turns};
-ghost use Rattle.lot_world.specs.Schedules.{most_turns, entry_call, fair_release_of, clear, schedule_of};
+ghost use Rattle.lot_world.specs.Schedules.{round, settled, releases, first_begin, first_release};
+ghost use Rattle.lot_world.specs.Schedules.{release_taken, all_released, entry_call, fair_release_of};
+ghost use Rattle.lot_world.specs.Schedules.{clear, schedule_of};
 
-use core_base::{Fault, Queues, main_key, second_key};
+use core_base::{Fault, Queues};
 use lot_machine::Machine;
-use lot_steps::Place;
 use spec_locks::{Access, Call, Kind, MutexCall, Outcome, Patience, RwLockCall, Step, Turn};
 use std::alloc::Global;
 use std::marker::Model;
 
 /// After how many steps alone a thread is stopped.
 const SOLO_STEPS: usize = 64;
-
-/// In how many steps the thread inside the section of the second queue leaves it.
-const LEAVING_STEPS: usize = 3;
 
 /// The lock that is drained.
 const LOCK: usize = 0;
@@ -78,14 +74,12 @@ pub fn schedule<Q: Queues + Drop>(alloc: Global, machine: Machine<Q>) -> Result<
     ensures ok { IfOk result (λ steps. steps.items ≡ schedule_of machine) }
     ensures err { IfErr result (λ fault. fault ≡ Fault.NoMemory) }
 {
-    let most = most_turns(machine.threads());
     let mut drain = Drain {
         machine,
         steps: Vec::new(alloc),
     };
-    drain.leave_second()?;
-    drain.leave_main()?;
-    drain.take_turns(most)?;
+    drain.settle()?;
+    drain.release_all()?;
     drain.clear_word()?;
     Ok(drain.steps)
 }
@@ -146,78 +140,54 @@ impl<Q: Queues + Drop> Drain<Q> {
         self.go_alone(thread)
     }
 
-    /// The thread inside the section of the second queue leaves it.
-    fn leave_second(&mut self) -> Result<(), Fault>
-        ensures ok { IfOk result (λ _. self.new ≡ out_of_second 3 self.old) }
+    /// Each thread in its turn goes on until it rests, or its next step isn't possible.
+    fn go_round(&mut self) -> Result<(), Fault>
+        ensures ok { IfOk result (λ _. self.new ≡ round self.old 0 (length self.old.state.places)) }
         ensures err { IfErr result (λ fault. fault ≡ Fault.NoMemory) }
-    {
-        for _ in 0..LEAVING_STEPS {
-            match self.machine.inside(second_key(LOCK)) {
-                Some(thread) => self.take(go_of(thread))?,
-                None => return Ok(()),
-            }
-        }
-        Ok(())
-    }
-
-    /// The thread inside the section of the main queue goes on until it rests.
-    fn leave_main(&mut self) -> Result<(), Fault>
-        ensures ok { IfOk result (λ _. self.new ≡ out_of_main self.old) }
-        ensures err { IfErr result (λ fault. fault ≡ Fault.NoMemory) }
-    {
-        match self.machine.inside(main_key(LOCK)) {
-            Some(thread) => self.go_alone(thread),
-            None => Ok(()),
-        }
-    }
-
-    /// One thread after another goes on until it rests, or releases, as long as there is one, and
-    /// at most so often.
-    fn take_turns(&mut self, most: u128) -> Result<(), Fault>
-        ensures ok { IfOk result (λ _. self.new ≡ turns most self.old) }
-        ensures err { IfErr result (λ fault. fault ≡ Fault.NoMemory) }
-    {
-        for _ in 0..most {
-            match self.next_turn() {
-                Some(step) => self.take_turn(step)?,
-                None => return Ok(()),
-            }
-        }
-        Ok(())
-    }
-
-    /// A thread begins a call, if the turn is that, and goes on until it rests.
-    fn take_turn(&mut self, step: Step) -> Result<(), Fault>
-        ensures ok { IfOk result (λ _. self.new ≡ turn_taken self.old step.thread step.turn) }
-        ensures err { IfErr result (λ fault. fault ≡ Fault.NoMemory) }
-    {
-        match step.turn {
-            Turn::Begin(call) => self.call_alone(step.thread, call),
-            Turn::Go => self.go_alone(step.thread),
-            Turn::Spin | Turn::Late | Turn::Ok | Turn::Err => Ok(()),
-        }
-    }
-
-    /// Takes the step with which the next turn begins.
-    fn next_turn(&self) -> Option<Step>
-        ensures { result ≡ next_turn self.now.state }
-    {
-        match self.first_up() {
-            Some(step) => Some(step),
-            None => self.first_release(),
-        }
-    }
-
-    /// Returns a step of the first thread that is in a call, awake.
-    fn first_up(&self) -> Option<Step>
-        ensures { result ≡ first_up self.now.state 0 (length self.now.state.places) }
     {
         for thread in 0..self.machine.threads() {
-            if is_up(self.machine.place(thread)) {
-                return Some(go_of(thread));
+            self.go_alone(thread)?;
+        }
+        Ok(())
+    }
+
+    /// Threads go on, round and round, until none can.
+    fn settle(&mut self) -> Result<(), Fault>
+        ensures ok { IfOk result (λ _. self.new ≡ settled self.old) }
+        ensures err { IfErr result (λ fault. fault ≡ Fault.NoMemory) }
+    {
+        for _ in 0..usize::MAX {
+            let before = self.steps.len();
+            self.go_round()?;
+            if self.steps.len() == before {
+                return Ok(());
             }
         }
-        None
+        // No memory has room for the steps of so many rounds.
+        Err(Fault::NoMemory)
+    }
+
+    /// One owner after another releases, as long as there is one.
+    fn release_all(&mut self) -> Result<(), Fault>
+        ensures ok { IfOk result (λ _. self.new ≡ all_released self.old) }
+        ensures err { IfErr result (λ fault. fault ≡ Fault.NoMemory) }
+    {
+        for _ in 0..self.machine.threads() {
+            match self.first_release() {
+                Some(step) => self.release(step)?,
+                None => return Ok(()),
+            }
+        }
+        Ok(())
+    }
+
+    /// A thread begins to release, and threads go on until none can.
+    fn release(&mut self, step: Step) -> Result<(), Fault>
+        ensures ok { IfOk result (λ _. self.new ≡ release_taken self.old step) }
+        ensures err { IfErr result (λ fault. fault ≡ Fault.NoMemory) }
+    {
+        self.take(step)?;
+        self.settle()
     }
 
     /// Returns the first release that a thread may begin.
@@ -292,22 +262,6 @@ fn begin_of(thread: usize, call: Call) -> Step
         thread,
         turn: Turn::Begin(call),
     }
-}
-
-/// Returns whether a thread at this place is in a call, awake.
-fn is_up(place: Place) -> bool
-    ensures { result ≡ is_up place }
-{
-    !place.is_idle() && !matches!(place.outcome(), Outcome::Sleep)
-}
-
-/// More turns than a drain of so many threads takes.
-fn most_turns(threads: usize) -> u128
-    requires { threads < 2 ^ 63 }
-    ensures { result ≡ most_turns threads }
-{
-    let number = threads as u128 + 1;
-    2 * (number * number)
 }
 
 /// The call that takes a lock of this kind for one thread alone.

@@ -2,7 +2,6 @@
 ghost use Rattle.lot_world.specs.Drained.{EachDeedKeepsNow, NobodyIsLeftOut, RestingIsEmpty};
 ghost use Rattle.lot_world.specs.Few.{FewBegin, FewGoOn};
 ghost use Rattle.lot_world.specs.Pending.{UnpendingGoOn};
-ghost use Rattle.lot_world.specs.Potential.{EachTurnLowers, TurnsAreFew};
 
 /// Shows that a lock has nobody in any line where all its threads rest and nobody owns it, but for
 /// a pending writer beside which somebody stands aside.
@@ -19,16 +18,6 @@ pub fn each_deed_keeps_now()
 /// Shows that every thread owns a full lock, where each has one right at most.
 pub fn nobody_is_left_out()
     ensures { NobodyIsLeftOut }
-{}
-
-/// Shows that a thread which goes on alone until it rests lowers what a drain has before it.
-pub fn each_turn_lowers()
-    ensures { EachTurnLowers }
-{}
-
-/// Shows that a drain has little before it.
-pub fn turns_are_few()
-    ensures { TurnsAreFew }
 {}
 
 /// Shows that each thread of one lock has one right at most, whatever thread goes on.

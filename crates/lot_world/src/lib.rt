@@ -1,5 +1,5 @@
 //! Any number of threads over locks, by a list of steps; and the schedule that drains a world of one
-//! lock, with the laws that it does: a thread in a call ends it, and an owner gives its right up.
+//! lock, with the laws that it does: threads come to rest, and each owner gives its right up.
 #![tactic(auto)]
 
 pub mod course_laws;

@@ -2,28 +2,6 @@
 ghost use Rattle.lot_world.specs.Owned.{PlacesOwnFew, QueuedOwnNothing};
 ghost use Rattle.lot_world.specs.Sleepers.{PendingOwnNothing, SleepersOwnNothing, SleepersRest};
 ghost use Rattle.lot_world.specs.Sleepers.{SleepersStand};
-ghost use Rattle.lot_world.specs.Waits.{NothingBefallsWaiting, SleepersWait, WaitersGoOnWaiting};
-ghost use Rattle.lot_world.specs.Waits.{WaitersOnlyWait};
-
-/// Shows that a call which only waits tells nobody anything.
-pub fn waiters_only_wait()
-    ensures { WaitersOnlyWait }
-{}
-
-/// Shows that it goes on to wait, until it ends.
-pub fn waiters_go_on_waiting()
-    ensures { WaitersGoOnWaiting }
-{}
-
-/// Shows that a thread only waits where it did, whatever befalls it.
-pub fn nothing_befalls_waiting()
-    ensures { NothingBefallsWaiting }
-{}
-
-/// Shows that a thread which sleeps only waits.
-pub fn sleepers_wait()
-    ensures { SleepersWait }
-{}
 
 /// Shows that a thread which sleeps is inside no section, owes nobody a wake, and has nobody in hand.
 pub fn sleepers_rest()
