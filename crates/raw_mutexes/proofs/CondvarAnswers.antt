@@ -7,7 +7,9 @@ use Rattle.spec_locks.specs.declared.outcomes.Answer.TheVariants.{No, Number, Ti
 use Rattle.steps_condvar.specs.CondvarSteps.{waited}
 use Rattle.lock_raw.specs.Answers.{GivesBack, GivesBackTimed, LateByClock, timed_answer, waiting_answer}
 use Rattle.core_words.specs.declared.owners.Ownership.{Ownership}
+use Rattle.core_words.specs.declared.views.View.{View}
 use Rattle.core_words.specs.declared.views.WordStep.{WordStep}
+use Rattle.parking_lot_core.specs.Tokens.{told_of, view_of}
 use Rattle.parking_lot_core.specs.declared.tokens.Token.{Token}
 use Rattle.run_base.specs.CondvarFitting.{IsWaitOver, LateIf, move_did}
 use Rattle.run_base.specs.Paths.{condvar_at, step}
@@ -126,3 +128,15 @@ module _ (words c first : ℕ) (before old new : Token) (looked : HasLooked word
       × HasMoved c false 0 before new
   moved_none answer other (inl none) = (none.0, (inl (refl, saw_else none.1), λ some. absurd (some refl)))
   moved_none answer other (inr moved) = absurd (other moved.4)
+
+-- a look of a thread that has done nothing since is one since then
+pub looked_since : (words n seen : ℕ) (old mid new : Token) → mid.number ≡ old.number
+    → view_of mid ≡ view_of old → told_of mid ≡ told_of old → HasLooked words n seen mid new
+    → HasLooked words n seen old new
+looked_since words n seen old mid new number view told by = (
+  by.0 ∙ ap (λ (v : View). v.steps ++ step (condvar_at n) Load seen) view,
+  by.1 ∙ ap (λ (v : View). v.owns) view,
+  by.2,
+  by.3 ∙ told,
+  by.4 ∙ number,
+)

@@ -37,9 +37,7 @@ use parking_lot_core::{
     CallName, Clock, Deed, Fault, Held, Key, Op, ParkingLot, Sort, Token, Want, Word, WordKind,
 };
 use run_base::driver::{FOR_EVER, first_step};
-use run_locks::rwlock_calls::{
-    Rest, call, call_fast, call_in_turn, call_slow, missed, static_purpose,
-};
+use run_locks::rwlock_calls::{Rest, call, call_fast, call_in_turn, call_slow, missed};
 use run_locks::rwlock_courses::{Settings, greater, lesser};
 use run_locks::rwlock_fair_calls::{bump, release_exclusive, release_upgradable};
 use spec_locks::{Access, Answer, Downgrade, Patience};
@@ -253,17 +251,16 @@ impl LotRwLock {
         let (word, admission) = (&self.word, &self.settings.admission);
         let purpose = RwLockPurpose::Enter { access, patience };
         match rest {
-            Rest::NotBegun => {
-                let purpose = static_purpose(purpose);
-                let answer = call_in_turn(rt, lot, token, word, &self.settings, limit, purpose);
-                self.entered(lot, token, limit, access, patience, answer)
-            }
             Rest::GoesOn(seen) => {
                 let answer = call_slow(rt, lot, token, word, admission, limit, purpose, seen);
                 self.entered(lot, token, limit, access, patience, answer)
             }
             Rest::Missed { seen, found } => {
                 let answer = missed(rt, lot, token, word, admission, limit, purpose, seen, found);
+                self.entered(lot, token, limit, access, patience, answer)
+            }
+            Rest::NotBegun => {
+                let answer = call_in_turn(rt, lot, token, word, &self.settings, limit, purpose);
                 self.entered(lot, token, limit, access, patience, answer)
             }
         }
@@ -376,10 +373,6 @@ impl LotRwLock {
         let (word, admission) = (&self.word, &self.settings.admission);
         let purpose = RwLockPurpose::Release(access);
         match rest {
-            Rest::NotBegun => {
-                let purpose = static_purpose(purpose);
-                call_in_turn(rt, lot, token, word, &self.settings, FOR_EVER, purpose);
-            }
             Rest::GoesOn(seen) => {
                 call_slow(rt, lot, token, word, admission, FOR_EVER, purpose, seen);
             }
@@ -387,6 +380,9 @@ impl LotRwLock {
                 missed(
                     rt, lot, token, word, admission, FOR_EVER, purpose, seen, found,
                 );
+            }
+            Rest::NotBegun => {
+                call_in_turn(rt, lot, token, word, &self.settings, FOR_EVER, purpose);
             }
         }
     }

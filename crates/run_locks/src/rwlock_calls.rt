@@ -16,7 +16,7 @@ ghost use Rattle.core_words.specs.declared.words.WordKind.TheVariants.{RwLock};
 ghost use Rattle.parking_lot_core.specs.Tokens.{IsTokenOf, IsSameThread};
 ghost use Rattle.parking_lot_core.specs.declared.tokens.Token.{Token};
 ghost use Rattle.run_locks.specs.Halves.{HasBegunRwLock, HasEndedRwLock};
-ghost use Rattle.run_locks.specs.declared.rwlock_calls.Rest.TheVariants.{GoesOn, Missed};
+ghost use Rattle.run_locks.specs.declared.rwlock_calls.Rest.TheVariants.{GoesOn, Missed, NotBegun};
 ghost use Rattle.run_base.specs.Fitting.{AreWordsFor, Fits, IsOver, Reached, call_purpose, of_rwlock};
 ghost use Rattle.run_base.specs.Courses.{Courses, CoursesAfterReply, trail_of};
 ghost use Rattle.run_base.specs.Paths.{at_rwlock};
@@ -176,9 +176,9 @@ fn entering(access: Access, patience: Patience) -> &'static RwLockPurpose
     }
 }
 
-/// Returns the purpose of a call, where it lasts.
+// Returns the purpose of a call, where it lasts.
 #[inline(always)]
-pub fn static_purpose(purpose: RwLockPurpose) -> &'static RwLockPurpose
+fn static_purpose(purpose: RwLockPurpose) -> &'static RwLockPurpose
     ensures { result.now ≡ purpose }
 {
     use RwLockPurpose::{Downgrade as Lessen, Enter, Release, Upgrade};
@@ -336,10 +336,10 @@ pub fn missed<R: Wait, C: Clock>(
     )
 }
 
-/// Does the slow half of a call that has not begun, once its thread has its turn.
+// Runs a call, by reference, once its thread has its turn.
 #[cold]
 #[inline(never)]
-pub fn call_in_turn<R: Wait, C: Clock>(
+fn rest_in_turn<R: Wait, C: Clock>(
     rt: &R,
     lot: &ParkingLot,
     token: &mut Token,
@@ -370,6 +370,31 @@ pub fn call_in_turn<R: Wait, C: Clock>(
             rest_slow(rt, lot, token, word, &settings.admission, limit, purpose, seen)
         }
     }
+}
+
+/// Does the slow half of a call that has not begun: its thread waits for its turn.
+#[inline(always)]
+pub fn call_in_turn<R: Wait, C: Clock>(
+    rt: &R,
+    lot: &ParkingLot,
+    token: &mut Token,
+    word: &Word,
+    settings: &Settings,
+    limit: &Option<(&C, u64)>,
+    purpose: RwLockPurpose,
+) -> Answer
+    requires own { MeetsAt lot.now token.old word.now settings.now.admission }
+    requires begun { (before : Token) × (base : List Ownership)
+        × BeginsWith word.now.number purpose base (owns_of before)
+        × HasBegunRwLock word.now settings.now.admission purpose NotBegun before token.old }
+    ensures own { IsSameThread lot.now token.old token.new }
+    ensures over { (before : Token) (base : List Ownership)
+        → BeginsWith word.now.number purpose base (owns_of before)
+        → HasBegunRwLock word.now settings.now.admission purpose NotBegun before token.old
+        → HasEndedRwLock (TimeIsUp C.tells limit.now) word.now settings.now.admission purpose result
+        before token.new }
+{
+    rest_in_turn(rt, lot, token, word, settings, limit, static_purpose(purpose))
 }
 
 /// Does the fast half of a call of a thread that has the right that it needs: a step or two, which
@@ -436,9 +461,6 @@ pub fn call<R: Wait, C: Clock>(
 {
     match call_fast(lot, token, word, settings, limit, purpose) {
         Ok(answer) => answer,
-        Err(Rest::NotBegun) => {
-            call_in_turn(rt, lot, token, word, settings, limit, static_purpose(purpose))
-        }
         Err(Rest::GoesOn(seen)) => {
             call_slow(
                 rt,
@@ -464,5 +486,6 @@ pub fn call<R: Wait, C: Clock>(
                 found,
             )
         }
+        Err(Rest::NotBegun) => call_in_turn(rt, lot, token, word, settings, limit, purpose),
     }
 }

@@ -3,7 +3,7 @@ use Rattle.steps_rwlock.specs.declared.purposes.RwLockPurpose.TheVariants.{Relea
 use Rattle.parking_lot_core.specs.Tokens.{view_of}
 use Rattle.run_locks.specs.Halves.{HasBegunRwLock}
 use Rattle.run_locks.specs.declared.rwlock_calls.Rest.{Rest}
-use Rattle.run_locks.specs.declared.rwlock_calls.Rest.TheVariants.{GoesOn, Missed}
+use Rattle.run_locks.specs.declared.rwlock_calls.Rest.TheVariants.{GoesOn, Missed, NotBegun}
 use Rattle.raw_rwlocks.proofs.RwLockReleases.{begins_releasing, released}
 use Rattle.raw_rwlocks.proofs.rwlock_rights.LotRwLock.release_slow.Goals as goal
 
@@ -43,6 +43,25 @@ returns-in-Missed-clause-over g c = λ before begun. let is : c.args.rest ≡ Mi
     released c.args.self.now c.args.access before begun.0 begun.1 begun.2 begun.4 c.missed.new.token
     c.missed.result
     (c.missed.ensures.over begun.0 (view_of before).owns (begins_releasing c.args.self.now c.args.access
+    before begun.0 begun.1 begun.2)
+    (subst (λ (r : Rest). HasBegunRwLock c.args.self.now.word c.args.self.now.settings.admission
+    (Release c.args.access) r begun.0 c.args.token.now) is begun.3))
+
+pub call_in_turn-requires-clause-begun : goal.call_in_turn-requires-clause-begun
+call_in_turn-requires-clause-begun g c = let begun = c.requires.begun in let is : c.args.rest ≡ NotBegun = search rules in (
+      begun.1.0,
+      (view_of begun.0).owns,
+      begins_releasing c.args.self.now c.args.access begun.0 begun.1.0 begun.1.1 begun.1.2,
+      subst (λ (r : Rest). HasBegunRwLock c.args.self.now.word c.args.self.now.settings.admission
+          (Release c.args.access) r c.requires.begun.1.0 c.args.token.now) is begun.1.3,
+    )
+
+pub returns-in-NotBegun-clause-over : goal.returns-in-NotBegun-clause-over
+returns-in-NotBegun-clause-over g c = λ before begun. let is : c.args.rest ≡ NotBegun =
+    search rules in
+    released c.args.self.now c.args.access before begun.0 begun.1 begun.2 begun.4 c.call_in_turn.new.token
+    c.call_in_turn.result
+    (c.call_in_turn.ensures.over begun.0 (view_of before).owns (begins_releasing c.args.self.now c.args.access
     before begun.0 begun.1 begun.2)
     (subst (λ (r : Rest). HasBegunRwLock c.args.self.now.word c.args.self.now.settings.admission
     (Release c.args.access) r begun.0 c.args.token.now) is begun.3))
