@@ -9,7 +9,7 @@ ghost use Rattle.core_words.specs.Views.{HasSeen};
 ghost use Rattle.core_words.specs.Steps.{MayStep, CodesWith, after_step, has, holding};
 ghost use Rattle.core_words.specs.Draws.{IsDrawn, IsDrawRefused};
 ghost use Rattle.core_words.specs.Lots.{IsWordOf, permit_of};
-ghost use Rattle.core_words.specs.Plays.{WithinPermits, left_over, stepping, takes_in};
+ghost use Rattle.core_words.specs.Plays.{WithinPermits, entering_saw, left_over, stepping, takes_in};
 ghost use Rattle.core_words.specs.Rights.{leaving_alone, named_by, owner_for, piece_of};
 ghost use Rattle.core_words.specs.Permits.{out_after};
 ghost use Rattle.core_words.specs.RightsOf.{IsHeldOf, IsOpenOf, IsRightOf};
@@ -347,9 +347,35 @@ impl ParkingLot {
             Ok(taken) => Ok(taken),
             // The token is asked again: what it expects is kept nowhere past the step.
             Err(seen) if token.is_armed() => Err(seen),
-            Err(_) if token.may_step() => self.words.enter_open(&mut token.seat, word, 0),
+            Err(_) if token.may_step() => self.enter_now(token, word),
             Err(_) => Err(0),
         }
+    }
+
+    /// Takes a mutex that nobody has, as a thread that has forgotten its last section and has its turn.
+    ///
+    /// # Errors
+    ///
+    /// What the step saw, where it wasn't an unlocked mutex without waiters.
+    pub fn enter_now(&self, token: &mut Token, word: Word) -> Result<(OpenHeld, Permit), u64>
+        requires own { IsTokenOf self.now token.old × IsWordOf self.now.words word
+            × (word.kind ≡ Mutex) }
+        requires forgotten { last_of token.old ≡ None }
+        ensures own { IsSameThread self.now token.old token.new × (last_of token.new ≡ None) }
+        ensures untold { told_of token.new ≡ told_of token.old }
+        ensures stepped { MatchResult result
+            (λ _. view_of token.new
+            ≡ stepping (view_of token.old) (word_index word.number word.kind) (Exchange 0 1) 0)
+            (λ seen. (seen ≢ 0)
+            × (view_of token.new
+            ≡ stepping (view_of token.old) (word_index word.number word.kind)
+            (Exchange 0 1) seen)) }
+        ensures coded { CodesWith word.kind (word_index word.number word.kind)
+            (entering_saw result) (view_of token.old).owns }
+        ensures opened { IfOk result (λ taken. IsOpenOf self.now.words word taken.0
+            × (taken.1.id ≡ permit_of self.now.words word)) }
+    {
+        self.words.enter_open(&mut token.seat, word, 0)
     }
 
     /// Locks where others may wait. Returns what the step saw, and writes nothing to a mutex that
@@ -395,10 +421,7 @@ impl ParkingLot {
         match words.leave_open(&mut token.seat, word, opened, permit, locked) {
             Ok(seen) => seen,
             Err((opened, permit)) if token.may_step() => {
-                match words.leave_open(&mut token.seat, word, opened, permit, 1) {
-                    Ok(seen) => seen,
-                    Err(_) => unreachable!(),
-                }
+                self.leave_now(token, word, opened, permit)
             }
             Err((opened, permit)) => {
                 words.join_open(&mut token.seat, word, opened, permit);
@@ -435,15 +458,57 @@ impl ParkingLot {
         match words.leave_open_alone(&mut token.seat, word, opened, permit, locked) {
             Ok(seen) => seen,
             Err((opened, permit)) if token.may_step() => {
-                match words.leave_open_alone(&mut token.seat, word, opened, permit, 1) {
-                    Ok(seen) => seen,
-                    Err(_) => unreachable!(),
-                }
+                self.leave_alone_now(token, word, opened, permit)
             }
             Err((opened, permit)) => {
                 words.join_open(&mut token.seat, word, opened, permit);
                 0
             }
+        }
+    }
+
+    /// Gives a mutex up as `leave_open` does, as a thread that has forgotten its last section and has its
+    /// turn. Returns the value before.
+    pub fn leave_now(&self, token: &mut Token, word: Word, opened: OpenHeld, permit: Permit) -> u64
+        requires own { IsTokenOf self.now token.old × IsWordOf self.now.words word
+            × (word.kind ≡ Mutex) }
+        requires opened { IsOpenOf self.now.words word opened
+            × (permit.id ≡ permit_of self.now.words word) }
+        requires forgotten { last_of token.old ≡ None }
+        ensures own { IsSameThread self.now token.old token.new × (last_of token.new ≡ None) }
+        ensures untold { told_of token.new ≡ told_of token.old }
+        ensures stepped { view_of token.new
+            ≡ stepping (view_of token.old) (word_index word.number word.kind) (Sub 1) result }
+        ensures coded { (result ≡ 1) ⊎ (result ≡ 3) }
+    {
+        match self.words.leave_open(&mut token.seat, word, opened, permit, 1) {
+            Ok(seen) => seen,
+            Err(_) => unreachable!(),
+        }
+    }
+
+    /// Gives a mutex up as `leave_open_alone` does, as a thread that has forgotten its last section and
+    /// has its turn. Returns the value before.
+    pub fn leave_alone_now(
+        &self,
+        token: &mut Token,
+        word: Word,
+        opened: OpenHeld,
+        permit: Permit,
+    ) -> u64
+        requires own { IsTokenOf self.now token.old × IsWordOf self.now.words word
+            × (word.kind ≡ Mutex) }
+        requires opened { IsOpenOf self.now.words word opened
+            × (permit.id ≡ permit_of self.now.words word) }
+        requires forgotten { last_of token.old ≡ None }
+        ensures own { IsSameThread self.now token.old token.new × (last_of token.new ≡ None) }
+        ensures untold { told_of token.new ≡ told_of token.old }
+        ensures stepped { view_of token.new ≡ leaving_alone (view_of token.old) word result }
+        ensures coded { (result ≡ 1) ⊎ (result ≡ 3) }
+    {
+        match self.words.leave_open_alone(&mut token.seat, word, opened, permit, 1) {
+            Ok(seen) => seen,
+            Err(_) => unreachable!(),
         }
     }
 

@@ -33,7 +33,7 @@ use core_base::main_key;
 use parking_lot_core::{
     CallName, Clock, Deed, Fault, Key, Op, ParkingLot, Permit, Token, Word, WordKind,
 };
-use run_base::driver::{NO_LIMIT, first_mutex_step, first_step_in_turn, step};
+use run_base::driver::{NO_LIMIT, first_mutex_step, step};
 use run_base::limits::limit_in;
 use run_mutexes::calls::call_slow;
 use run_mutexes::unlocks::unlock_slow;
@@ -44,12 +44,6 @@ use steps_mutex::{LOCKED, PARKED, is_locked, is_parked};
 
 // In place of what a call's first step saw: none is taken, and the thread waits for its turn.
 const NOT_BEGUN: u64 = 0;
-
-// The first step of a lock.
-const LOCKS: Op = Op::Exchange {
-    from: 0,
-    to: LOCKED,
-};
 
 /// A mutex of a lot. Its word is 1 where it is locked, and 2 where a thread may be parked, or the
 /// sum of these.
@@ -175,12 +169,9 @@ impl RawMutex {
             (last_of token.new) }
     {
         let lot: &ParkingLot = &self.lot;
-        let name = &Deed::Call(CallName::UnlockFair);
-        let op = Op::Exchange {
-            from: LOCKED,
-            to: 0,
-        };
-        let seen = first_step_in_turn(rt, lot, token, name, self.word, op);
+        lot.turn_to_begin(rt, token, &Deed::Call(CallName::UnlockFair), &self.word);
+        let (opened, permit) = lot.split_open(token, self.word);
+        let seen = lot.leave_alone_now(token, self.word, opened, permit);
         if seen != LOCKED {
             self.go_on(rt, token, MutexCall::UnlockFair, seen);
         }
@@ -239,8 +230,9 @@ impl RawMutex {
             → (token.new.number ≡ before.number)
             × HasWalkedMutex (word_of self.now).number Bump ok before token.new }
     {
-        let name = &Deed::Call(CallName::Bump);
-        let seen = first_step_in_turn(rt, &self.lot, token, name, self.word, Op::Load);
+        let lot: &ParkingLot = &self.lot;
+        lot.turn_to_begin(rt, token, &Deed::Call(CallName::Bump), &self.word);
+        let seen = lot.word_again(token, self.word, Op::Load);
         if is_parked(seen) {
             self.go_on(rt, token, MutexCall::Bump, seen);
         }
@@ -274,12 +266,14 @@ impl RawMutex {
             × HasWalkedMutex (word_of self.now).number Lock ok before token.new }
     {
         let lot: &ParkingLot = &self.lot;
-        let name = &Deed::Call(CallName::Lock);
-        let seen = first_step_in_turn(rt, lot, token, name, self.word, LOCKS);
-        if seen != 0 {
-            self.go_on(rt, token, MutexCall::Lock, seen);
+        lot.turn_to_begin(rt, token, &Deed::Call(CallName::Lock), &self.word);
+        match lot.enter_now(token, self.word) {
+            Ok((opened, permit)) => RawGuard { opened, permit },
+            Err(seen) => {
+                self.go_on(rt, token, MutexCall::Lock, seen);
+                self.split(lot, token)
+            }
         }
-        self.split(lot, token)
     }
 
     // An unlock of a thread that waits for its turn, and owns the mutex.
@@ -297,9 +291,10 @@ impl RawMutex {
             × TookIfSeen (word_of self.now).number Unlock (steps_of before) (steps_of token.new)
             (last_of token.new) }
     {
-        let name = &Deed::Call(CallName::Unlock);
-        let seen = first_step_in_turn(rt, &self.lot, token, name, self.word, Op::Sub(LOCKED));
-        if seen != LOCKED {
+        let lot: &ParkingLot = &self.lot;
+        lot.turn_to_begin(rt, token, &Deed::Call(CallName::Unlock), &self.word);
+        let (opened, permit) = lot.split_open(token, self.word);
+        if lot.leave_now(token, self.word, opened, permit) != LOCKED {
             self.wake_first(rt, token);
         }
     }
@@ -405,12 +400,11 @@ impl RawMutex {
         ensures late { IfNone result (TimeIsUp C.tells limit.entry) }
     {
         let lot: &ParkingLot = &self.lot;
-        let name = &Deed::Call(CallName::LockTimed);
-        let seen = first_step_in_turn(rt, lot, token, name, self.word, LOCKS);
-        if seen == 0 {
-            return Some(self.split(lot, token));
+        lot.turn_to_begin(rt, token, &Deed::Call(CallName::LockTimed), &self.word);
+        match lot.enter_now(token, self.word) {
+            Ok((opened, permit)) => Some(RawGuard { opened, permit }),
+            Err(seen) => self.lock_timed_after(rt, token, limit, seen),
         }
-        self.lock_timed_after(rt, token, limit, seen)
     }
 }
 
