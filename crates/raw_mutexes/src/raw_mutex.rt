@@ -40,7 +40,7 @@ use run_mutexes::unlocks::unlock_slow;
 use spec_locks::{Answer, MutexCall};
 use std::sync::{Arc, Wait};
 use std::time::Duration;
-use steps_mutex::{LOCKED, PARKED, is_locked, is_parked};
+use steps_mutex::{LOCKED, is_locked, is_parked};
 
 // In place of what a call's first step saw: none is taken, and the thread waits for its turn.
 const NOT_BEGUN: u64 = 0;
