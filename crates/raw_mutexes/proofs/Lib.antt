@@ -1,1 +1,2 @@
 pub mod CondvarAnswers
+pub mod InTurn

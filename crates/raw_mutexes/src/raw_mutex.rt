@@ -149,8 +149,24 @@ impl RawMutex {
         if seen == NOT_BEGUN {
             self.unlock_fair_in_turn(rt, token);
         } else {
-            self.go_on(rt, token, MutexCall::UnlockFair, seen);
+            self.hand_over(rt, token, seen);
         }
+    }
+
+    // Does the rest of a fair release whose first step saw a waiter.
+    fn hand_over<R: Wait>(&self, rt: &R, token: &mut Token, seen: u64)
+        requires token { IsTokenOf (lot_of self.now) token.old }
+        requires begun { (before : Token)
+            × HasStepped (word_of self.now).number UnlockFair seen before token.old }
+        ensures token { IsTokenOf (lot_of self.now) token.new }
+        ensures over { (before : Token)
+            → HasStepped (word_of self.now).number UnlockFair seen before token.old
+            → StaysAs before token.new
+            × HasWalkedMutex (word_of self.now).number UnlockFair ok before token.new
+            × TookIfSeen (word_of self.now).number UnlockFair (steps_of before) (steps_of token.new)
+            (last_of token.new) }
+    {
+        self.go_on(rt, token, MutexCall::UnlockFair, seen);
     }
 
     // A fair release of a thread that waits for its turn.
@@ -173,7 +189,7 @@ impl RawMutex {
         let (opened, permit) = lot.split_open(token, self.word);
         let seen = lot.leave_alone_now(token, self.word, opened, permit);
         if seen != LOCKED {
-            self.go_on(rt, token, MutexCall::UnlockFair, seen);
+            self.hand_over(rt, token, seen);
         }
     }
 
@@ -211,31 +227,48 @@ impl RawMutex {
             × HasWalkedMutex (word_of self.now).number Bump ok before token.new }
     {
         if seen == NOT_BEGUN {
-            self.bump_in_turn(rt, token);
-        } else {
-            self.go_on(rt, token, MutexCall::Bump, seen);
+            return self.bump_in_turn(rt, token);
         }
+        self.bump_after(rt, token, seen)
+    }
+
+    // Does the rest of a bump whose first step saw a waiter.
+    fn bump_after<R: Wait>(&self, rt: &R, token: &mut Token, seen: u64) -> RawGuard
+        requires token { IsTokenOf (lot_of self.now) token.old }
+        requires begun { (before : Token)
+            × HasStepped (word_of self.now).number Bump seen before token.old }
+        ensures token { IsTokenOf (lot_of self.now) token.new }
+        ensures guard { IsGuardOf (lot_of self.now) (word_of self.now) result }
+        ensures over { (before : Token)
+            → HasStepped (word_of self.now).number Bump seen before token.old
+            → StaysAs before token.new
+            × HasWalkedMutex (word_of self.now).number Bump ok before token.new }
+    {
+        self.go_on(rt, token, MutexCall::Bump, seen);
         self.split(&self.lot, token)
     }
 
     // A bump of a thread that waits for its turn, and owns the mutex.
-    fn bump_in_turn<R: Wait>(&self, rt: &R, token: &mut Token)
+    fn bump_in_turn<R: Wait>(&self, rt: &R, token: &mut Token) -> RawGuard
         requires token { IsTokenOf (lot_of self.now) token.old }
         requires waits { (before : Token)
             × WaitsToBegin (word_of self.now).number Bump before token.old }
         ensures token { IsTokenOf (lot_of self.now) token.new }
-        ensures owned { owns_of token.new ≡ owns_of token.old }
-        ensures path { (before : Token)
+        ensures guard { IsGuardOf (lot_of self.now) (word_of self.now) result }
+        ensures over { (before : Token)
             → WaitsToBegin (word_of self.now).number Bump before token.old
-            → (token.new.number ≡ before.number)
+            → StaysAs before token.new
             × HasWalkedMutex (word_of self.now).number Bump ok before token.new }
     {
         let lot: &ParkingLot = &self.lot;
         lot.turn_to_begin(rt, token, &Deed::Call(CallName::Bump), &self.word);
+        let guard = self.split(lot, token);
         let seen = lot.word_again(token, self.word, Op::Load);
-        if is_parked(seen) {
-            self.go_on(rt, token, MutexCall::Bump, seen);
+        if !is_parked(seen) {
+            return guard;
         }
+        self.join(lot, token, guard);
+        self.bump_after(rt, token, seen)
     }
 
     // The slow half of an unlock, whose first step saw a waiter.
@@ -269,11 +302,24 @@ impl RawMutex {
         lot.turn_to_begin(rt, token, &Deed::Call(CallName::Lock), &self.word);
         match lot.enter_now(token, self.word) {
             Ok((opened, permit)) => RawGuard { opened, permit },
-            Err(seen) => {
-                self.go_on(rt, token, MutexCall::Lock, seen);
-                self.split(lot, token)
-            }
+            Err(seen) => self.lock_after(rt, token, seen),
         }
+    }
+
+    // Does the rest of a lock whose first step saw this.
+    fn lock_after<R: Wait>(&self, rt: &R, token: &mut Token, seen: u64) -> RawGuard
+        requires token { IsTokenOf (lot_of self.now) token.old }
+        requires begun { (before : Token)
+            × HasStepped (word_of self.now).number Lock seen before token.old }
+        ensures token { IsTokenOf (lot_of self.now) token.new }
+        ensures guard { IsGuardOf (lot_of self.now) (word_of self.now) result }
+        ensures over { (before : Token)
+            → HasStepped (word_of self.now).number Lock seen before token.old
+            → StaysAs before token.new
+            × HasWalkedMutex (word_of self.now).number Lock ok before token.new }
+    {
+        self.go_on(rt, token, MutexCall::Lock, seen);
+        self.split(&self.lot, token)
     }
 
     // An unlock of a thread that waits for its turn, and owns the mutex.
@@ -294,9 +340,26 @@ impl RawMutex {
         let lot: &ParkingLot = &self.lot;
         lot.turn_to_begin(rt, token, &Deed::Call(CallName::Unlock), &self.word);
         let (opened, permit) = lot.split_open(token, self.word);
-        if lot.leave_now(token, self.word, opened, permit) != LOCKED {
-            self.wake_first(rt, token);
+        let seen = lot.leave_now(token, self.word, opened, permit);
+        if seen != LOCKED {
+            self.unlock_after(rt, token, seen);
         }
+    }
+
+    // Does the rest of an unlock whose first step saw a waiter.
+    fn unlock_after<R: Wait>(&self, rt: &R, token: &mut Token, _seen: u64)
+        requires token { IsTokenOf (lot_of self.now) token.old }
+        requires begun { (before : Token)
+            × HasStepped (word_of self.now).number Unlock _seen before token.old }
+        ensures token { IsTokenOf (lot_of self.now) token.new }
+        ensures over { (before : Token)
+            → HasStepped (word_of self.now).number Unlock _seen before token.old
+            → StaysAs before token.new
+            × HasWalkedMutex (word_of self.now).number Unlock ok before token.new
+            × TookIfSeen (word_of self.now).number Unlock (steps_of before) (steps_of token.new)
+            (last_of token.new) }
+    {
+        self.wake_first(rt, token);
     }
 
     #[inline]
@@ -518,8 +581,7 @@ impl lock_raw::RawMutex for RawMutex {
         if seen == NOT_BEGUN {
             return self.lock_in_turn(rt, token);
         }
-        self.go_on(rt, token, MutexCall::Lock, seen);
-        self.split(&self.lot, token)
+        self.lock_after(rt, token, seen)
     }
 
     #[inline]
@@ -541,7 +603,7 @@ impl lock_raw::RawMutex for RawMutex {
         if seen == NOT_BEGUN {
             self.unlock_in_turn(rt, token);
         } else {
-            self.wake_first(rt, token);
+            self.unlock_after(rt, token, seen);
         }
     }
 

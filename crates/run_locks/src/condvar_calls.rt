@@ -3,7 +3,7 @@
 //! A notification's first load is inlined, and the rest is out of line: mostly no thread waits.
 ghost use Rattle.std.specs.Prelude.{◌≡◌, ◌≢◌, Bool, None};
 ghost use Rattle.core_clocks.specs.Clocks.{TimeIsUp};
-ghost use Rattle.parking_lot_core.specs.Tokens.{IsSameThread};
+ghost use Rattle.parking_lot_core.specs.Tokens.{IsSameThread, last_of};
 ghost use Rattle.parking_lot_core.specs.declared.tokens.Token.{Token};
 ghost use Rattle.steps_condvar.specs.CondvarSteps.{notified};
 ghost use Rattle.run_base.specs.CondvarFitting.{IsNotifyOver, IsWaitOver, OwnsIt};
