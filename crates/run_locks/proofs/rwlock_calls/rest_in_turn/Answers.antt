@@ -44,8 +44,8 @@ returns-in-Ends-clause-over g c = let word = c.args.word.now in let a = c.args.s
     λ before base begins begun. ended_at_once up word c.requires.own.2 a c.requires.own.4 q seen before mid
     (now before begun) c.in-Ends.answer (ends_with word.number a q seen c.in-Ends.answer ends) base begins
 
-pub rest_slow-in-GoesOn-requires-clause-fits : goal.rest_slow-in-GoesOn-requires-clause-fits
-rest_slow-in-GoesOn-requires-clause-fits g c = let word = c.args.word.now in let a = c.args.settings.now.admission in let q = c.args.purpose.now in
+pub rest_slow-requires-clause-fits : goal.rest_slow-requires-clause-fits
+rest_slow-requires-clause-fits g c = let word = c.args.word.now in let a = c.args.settings.now.admission in let q = c.args.purpose.now in
     let by = c.first_step_in_turn-seen in let mid = by.new.token in let seen = by.result in
     let up = TimeIsUp g.C.Clock.tells c.args.limit.now in
     let now : (before : Token) → HasBegunRwLock word a q NotBegun before c.args.token.now
@@ -85,8 +85,8 @@ returns-in-GoesOn-clause-over g c = let word = c.args.word.now in let a = c.args
     (c.rest_slow.ensures.own.1 ∙ by.ensures.own.0.1 ∙ begun.0) base begins c.rest_slow.ensures.path
     c.rest_slow.ensures.over
 
-pub rest_slow-in-Takes-requires-clause-fits : goal.rest_slow-in-Takes-requires-clause-fits
-rest_slow-in-Takes-requires-clause-fits g c = let word = c.args.word.now in let a = c.args.settings.now.admission in let q = c.args.purpose.now in
+pub rest_slow-requires-in-Takes-clause-fits : goal.rest_slow-requires-in-Takes-clause-fits
+rest_slow-requires-in-Takes-clause-fits g c = let word = c.args.word.now in let a = c.args.settings.now.admission in let q = c.args.purpose.now in
     let by = c.first_step_in_turn-seen in let mid = by.new.token in let seen = by.result in
     let up = TimeIsUp g.C.Clock.tells c.args.limit.now in
     let now : (before : Token) → HasBegunRwLock word a q NotBegun before c.args.token.now
@@ -122,6 +122,6 @@ returns-in-Takes-clause-over g c = let word = c.args.word.now in let a = c.args.
     ))
     in let goes : course_of a q seen ≡ Takes = search rules in
     λ before base begins begun. ended_after up word c.requires.own.2 a c.requires.own.4 q seen before mid
-    (now before begun) (takes_at word.number a q seen goes) c.rest_slow.result c.rest_slow.new.token
-    (c.rest_slow.ensures.own.1 ∙ by.ensures.own.0.1 ∙ begun.0) base begins c.rest_slow.ensures.path
-    c.rest_slow.ensures.over
+    (now before begun) (takes_at word.number a q seen goes) c.rest_slow-in-Takes.result c.rest_slow-in-Takes.new.token
+    (c.rest_slow-in-Takes.ensures.own.1 ∙ by.ensures.own.0.1 ∙ begun.0) base begins c.rest_slow-in-Takes.ensures.path
+    c.rest_slow-in-Takes.ensures.over
