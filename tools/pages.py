@@ -316,6 +316,10 @@ UNITS = ["", "-one", "-two", "-three", "-four", "-five", "-six", "-seven", "-eig
 WORDS = {10 * ten + unit: TENS[ten] + UNITS[unit] for ten in TENS for unit in range(10)}
 FIRST_PAGE = [f"crates/spec_locks/specs/{name}.antt" for name in ["Guarantees", "EachState", "EachStep", "CallTable"]]
 PARSER = "crates/lot_program_text/src/parser.rt"
+SMALL = {1: "alone", 3: "three", 5: "five", 6: "six", 9: "nine", 10: "ten", 22: "twenty-two"}
+# Kinds of steps that PROVED counts, each with its law and its record in `core_words/specs/Laws`.
+STEPS = [("on a mutex's word", "MutexSteps"), ("on a reader-writer", "RwLockSteps"), ("on a `Once`'s", "OnceSteps"),
+         ("on a condition", "CondvarSteps"), ("on a semaphore's", "SemaphoreSteps")]
 # Pages, what they say, and where the number is from.
 FACTS = [
     ("README.md", r"The four files are (\d+) lines", lambda: sum(text_of(path).count("\n") for path in FIRST_PAGE)),
@@ -333,6 +337,32 @@ FACTS = [
     ("docs/LOCKS.md", r"1 to ([\d,]+) threads", lambda: number_in("crates/parking_lot_core/src/lot.rt", r"0 < seats && seats <= (\d+)")),
     ("docs/DIFFERENCES.md", r"at (\d+) guards", lambda: number_in("crates/lock_raw/src/counts.rt", r"MOST: u64 = (\d+)")),
 ]
+
+
+def fields_of(path, record):
+    """Returns how many fields a record has."""
+    found = re.search(rf"^pub record {record} .*?\n(.*?)(?=^\S|\Z)", text_of(path), re.MULTILINE | re.DOTALL)
+    return len(re.findall(r"^  pub \w+ :", found.group(1), re.MULTILINE))
+
+
+def programs_in(name):
+    text = text_of(f"crates/test_explore/src/tests/{name}.rt")
+    table = text[text.index("const PROGRAMS"):]
+    table = table[:table.index("\n];")]
+    return len(re.findall(r"^    Grained \{", table, re.MULTILINE)) or table.count("Found::")
+
+
+def wrong_counts():
+    """Checks what PROVED counts in words, or in a row: the kinds of steps on words, and the programs of `test_explore`."""
+    proved = " ".join(text_of("docs/PROVED.md").split())
+    for what, record in STEPS:
+        wanted = SMALL[fields_of("crates/core_words/specs/Laws.antt", record)]
+        if not re.search(rf"{wanted} (?:kinds )?{re.escape(what)}", proved):
+            yield f"docs/PROVED.md: {record} has {wanted} kinds of steps {what}"
+    counts = (f"{programs_in('programs')} programs by steps, {programs_in('grains')} by each grain, "
+              f"{SMALL[programs_in('properties')]} properties")
+    if counts not in proved:
+        yield f"docs/PROVED.md: {counts} by the code"
 
 
 def wrong_facts():
@@ -391,7 +421,7 @@ def wrong_numbers():
 
 def main():
     wrong = [line for check in (wrong_blocks, wrong_widths, wrong_names, wrong_crates, wrong_files, wrong_links,
-                                  wrong_flags, wrong_arguments, wrong_facts, wrong_clauses, wrong_tests,
+                                  wrong_flags, wrong_arguments, wrong_counts, wrong_facts, wrong_clauses, wrong_tests,
                                   wrong_numbers) for line in check()]
     for line in wrong:
         print(line)
