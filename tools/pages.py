@@ -1,8 +1,10 @@
 #!/usr/bin/env python3
 """Checks what a script can of the pages: that each block "```rust PATH" or "```text PATH" shows lines of that file; that
-each clause, test and must-fail edit that a page names is there; that lines keep to the width; that numbers which README
-takes from SPEED are SPEED's; and that pages written by a script are current. Usage: pages.py, at the top of the
-repository."""
+each name, clause, test, must-fail edit, flag, file and link of a page is there; that ARCHITECTURE has each crate, each
+name in its crate's row and each file in its folder; that LAWS has each must-fail edit; that lines keep to the width; that
+numbers are the code's, and README's speeds SPEED's; and that pages written by a script are current. Usage: pages.py, at
+the top of the repository."""
+import os
 import pathlib
 import re
 import subprocess
@@ -122,6 +124,10 @@ def clauses_by_name():
 LISTED = re.compile(r"clauses? ((?:`\w+`(?: \([^)]*\))?(?:, | and )?)+)")
 
 
+# A function, and clauses that follow it without the word.
+FOLLOWED = re.compile(r"`\w+::\w+`((?:, `[a-z_]+`(?: \([^)]*\))?)+)")
+
+
 def wrong_clauses():
     known = clauses_by_name()
     for page in pages():
@@ -131,6 +137,10 @@ def wrong_clauses():
             for listed in LISTED.findall(text):
                 for clause in MARKED.findall(re.sub(r"\([^)]*\)", "", listed)):
                     if here and clause not in here:
+                        yield f"{page}:{number}: nothing that the paragraph names has a clause `{clause}`"
+            for listed in FOLLOWED.findall(text):
+                for clause in MARKED.findall(re.sub(r"\([^)]*\)", "", listed)):
+                    if clause not in known and clause not in here:
                         yield f"{page}:{number}: nothing that the paragraph names has a clause `{clause}`"
 
 
@@ -149,6 +159,10 @@ def wrong_tests():
                 for name in MARKED.findall(listed):
                     if not re.search(rf"\b{name}\b", source):
                         yield f"{page}:{number}: no {name} in {crate}"
+    laws = text_of("docs/LAWS.md")
+    for edit in sorted(edits):
+        if not re.search(rf"`(?:{edit.split('/')[0]}/)?{edit.split('/')[1]}`", laws):
+            yield f"docs/LAWS.md: nothing is said of the edit {edit}"
     told = re.search(r"There are (\d+), in (\w+) crates", text_of("docs/CONTRIBUTING.md"))
     count = ["no", "one", "two", "three", "four", "five", "six", "seven", "eight", "nine", "ten", "eleven", "twelve"]
     if told and (int(told.group(1)), told.group(2)) != (len(edits), count[len(homes)]):
@@ -185,22 +199,85 @@ def wrong_names():
                         yield f"{page}:{number}: nothing has the name `{name}`"
 
 
+MAP = "docs/ARCHITECTURE.md"
+LAWS_FOLDERS = pathlib.Path("crates/lot_laws/proofs")
+
+
+def words_of(crate):
+    """Returns all words of a crate's sources, and the names of its files."""
+    words = set()
+    for path in pathlib.Path("crates", crate).glob("**/*"):
+        if path.suffix in (".rt", ".antt") and "out" not in path.parts:
+            words |= {path.stem} | set(re.findall(r"[A-Za-z_]\w*", path.read_text(errors="replace")))
+    return words
+
+
 def wrong_crates():
-    """Checks that ARCHITECTURE names each crate."""
-    page = "docs/ARCHITECTURE.md"
+    """Checks that ARCHITECTURE has each crate in a row, and in a row only names of its crates."""
     crates = {line.partition(":")[0].split()[0] for line in text_of("crates.txt").split("\n") if re.match(r"\w", line)}
-    named = {name for line in text_of(page).split("\n") for name in MARKED.findall(line)}
+    named = set()
+    for cells in table_rows(MAP, 2):
+        here = set(MARKED.findall(cells[0])) & crates
+        named |= here
+        words = set().union(*[words_of(crate) for crate in here])
+        for name in set(re.findall(r"[A-Za-z_]\w*", " ".join(MARKED.findall(cells[1])))) - crates - words:
+            if here:
+                yield f"{MAP}: {', '.join(sorted(here))}: no `{name}` there"
     for crate in sorted(crates - named):
-        yield f"{page}: nothing is said of the crate {crate}"
+        yield f"{MAP}: nothing is said of the crate {crate}"
+
+
+def is_there(path):
+    return any(path.with_name(path.name + ending).exists() for ending in ("", ".rt", ".antt"))
+
+
+def wrong_files():
+    """Checks each file of a crate that a page names, and each folder and file of `lot_laws/proofs` in ARCHITECTURE."""
+    for page in pages():
+        for number, line in enumerate(text_of(page).split("\n"), 1):
+            for name in MARKED.findall(line):
+                found = re.fullmatch(r"(?:crates/)?(\w+/(?:src|specs|proofs|must-fail)(?:/[\w.]+)*)/?", name)
+                if found and not is_there(pathlib.Path("crates", found.group(1))):
+                    yield f"{page}:{number}: no file {name}"
+                short = re.fullmatch(r"([a-z]+)/\w+", name)
+                if page == MAP and short and (LAWS_FOLDERS / short.group(1)).is_dir() and not is_there(LAWS_FOLDERS / name):
+                    yield f"{page}:{number}: no file {name} in {LAWS_FOLDERS}"
+    for number, text in paragraphs(MAP):
+        head = re.match(r"((?:`\w+`(?:, )?)+): ", text)
+        folders = MARKED.findall(head.group(1)) if head else []
+        if folders and (LAWS_FOLDERS / folders[0]).is_dir() or folders == ["Imports"]:
+            for name in folders:
+                if not is_there(LAWS_FOLDERS / name):
+                    yield f"{MAP}:{number}: no folder {name} in {LAWS_FOLDERS}"
+            for listed in re.findall(r"\(([^)]*)\)", text):
+                for name in MARKED.findall(listed):
+                    if not any(is_there(LAWS_FOLDERS / folder / name) for folder in folders):
+                        yield f"{MAP}:{number}: no file {name} in {', '.join(folders)}"
+
+
+def anchor(heading):
+    return re.sub(r"[^\w\- ]", "", heading.strip().lower()).replace(" ", "-")
+
+
+def wrong_links():
+    """Checks that each link leads to a file, and to a heading of it."""
+    for page in pages():
+        for number, line in enumerate(text_of(page).split("\n"), 1):
+            for target in re.findall(r"\]\(([^)\s]+)\)", line):
+                name, _, part = target.partition("#")
+                path = os.path.join(os.path.dirname(page), name) if name else page
+                if target.startswith("http"):
+                    continue
+                if not os.path.exists(path):
+                    yield f"{page}:{number}: no file {target}"
+                elif part and part not in map(anchor, re.findall(r"^#+ (.*)$", text_of(path), re.MULTILINE)):
+                    yield f"{page}:{number}: no heading {target}"
 
 
 def wrong_flags():
-    """Checks that each flag which EXPLORE and README show is in some program's arguments, or a script's."""
-    known = {"help", "version"}
-    for path in sources():
-        if path.suffix in (".rt", ".py"):
-            known.update(re.findall(r'"(?:--)?([a-z][a-z-]+)"', path.read_text(errors="replace")))
-    foreign = {"fail-alloc", "test", "only", "manifest-path", "pipe", "jobs", "halt"}
+    """Checks that each flag which README and EXPLORE show is one of the arguments of `lotexplore`."""
+    known = set(re.findall(r'"([a-z][a-z-]+)"', text_of("crates/lot_arguments/src/arguments.rt"))) | {"help", "version"}
+    foreign = {"html", "halt"}
     for page in ["README.md", "docs/EXPLORE.md"]:
         for number, line in enumerate(text_of(page).split("\n"), 1):
             for flag in set(re.findall(r"(?<![\w-])--([a-z][a-z-]+)", line)) - known - foreign:
@@ -238,6 +315,11 @@ TENS = {7: "Seventy", 8: "Eighty", 9: "Ninety"}
 UNITS = ["", "-one", "-two", "-three", "-four", "-five", "-six", "-seven", "-eight", "-nine"]
 WORDS = {10 * ten + unit: TENS[ten] + UNITS[unit] for ten in TENS for unit in range(10)}
 FIRST_PAGE = [f"crates/spec_locks/specs/{name}.antt" for name in ["Guarantees", "EachState", "EachStep", "CallTable"]]
+PARSER = "crates/lot_program_text/src/parser.rt"
+SMALL = {1: "alone", 3: "three", 5: "five", 6: "six", 9: "nine", 10: "ten", 22: "twenty-two"}
+# Kinds of steps that PROVED counts, each with its law and its record in `core_words/specs/Laws`.
+STEPS = [("on a mutex's word", "MutexSteps"), ("on a reader-writer", "RwLockSteps"), ("on a `Once`'s", "OnceSteps"),
+         ("on a condition", "CondvarSteps"), ("on a semaphore's", "SemaphoreSteps")]
 # Pages, what they say, and where the number is from.
 FACTS = [
     ("README.md", r"The four files are (\d+) lines", lambda: sum(text_of(path).count("\n") for path in FIRST_PAGE)),
@@ -247,8 +329,40 @@ FACTS = [
     ("docs/PROVED.md", r"within (\d+)\s+steps", lambda: number_in("crates/lot_world/src/world.rt", r"SOLO_STEPS: usize = (\d+)")),
     ("README.md", r"It has up to ([\d,]+)\s+threads", lambda: number_in("crates/lot_world/src/world.rt", r"MOST_THREADS: usize = (\d+)")),
     ("README.md", r"up to (\d+) locks", lambda: number_in("crates/lot_world/src/world.rt", r"MOST_LOCKS: usize = (\d+)")),
+    ("docs/EXPLORE.md", r"\| locks \| (\d+) \|", lambda: number_in(PARSER, r"MOST_LOCKS: usize = (\d+)")),
+    ("docs/EXPLORE.md", r"\| threads \| (\d+) \|", lambda: number_in(PARSER, r"MOST_THREADS: u64 = (\d+)")),
+    ("docs/EXPLORE.md", r"\| variables, [^|]*\| (\d+) \|", lambda: number_in(PARSER, r"MOST_VARIABLES: usize = (\d+)")),
+    ("docs/EXPLORE.md", r"\| instructions [^|]*\| ([\d,]+) \|",
+     lambda: number_in("crates/lot_program_lines/src/sections.rt", r"MOST_CODE: usize = (\d+)")),
+    ("docs/LOCKS.md", r"1 to ([\d,]+) threads", lambda: number_in("crates/parking_lot_core/src/lot.rt", r"0 < seats && seats <= (\d+)")),
     ("docs/DIFFERENCES.md", r"at (\d+) guards", lambda: number_in("crates/lock_raw/src/counts.rt", r"MOST: u64 = (\d+)")),
 ]
+
+
+def fields_of(path, record):
+    """Returns how many fields a record has."""
+    found = re.search(rf"^pub record {record} .*?\n(.*?)(?=^\S|\Z)", text_of(path), re.MULTILINE | re.DOTALL)
+    return len(re.findall(r"^  pub \w+ :", found.group(1), re.MULTILINE))
+
+
+def programs_in(name):
+    text = text_of(f"crates/test_explore/src/tests/{name}.rt")
+    table = text[text.index("const PROGRAMS"):]
+    table = table[:table.index("\n];")]
+    return len(re.findall(r"^    Grained \{", table, re.MULTILINE)) or table.count("Found::")
+
+
+def wrong_counts():
+    """Checks what PROVED counts in words, or in a row: the kinds of steps on words, and the programs of `test_explore`."""
+    proved = " ".join(text_of("docs/PROVED.md").split())
+    for what, record in STEPS:
+        wanted = SMALL[fields_of("crates/core_words/specs/Laws.antt", record)]
+        if not re.search(rf"{wanted} (?:kinds )?{re.escape(what)}", proved):
+            yield f"docs/PROVED.md: {record} has {wanted} kinds of steps {what}"
+    counts = (f"{programs_in('programs')} programs by steps, {programs_in('grains')} by each grain, "
+              f"{SMALL[programs_in('properties')]} properties")
+    if counts not in proved:
+        yield f"docs/PROVED.md: {counts} by the code"
 
 
 def wrong_facts():
@@ -306,8 +420,8 @@ def wrong_numbers():
 
 
 def main():
-    wrong = [line for check in (wrong_blocks, wrong_widths, wrong_names, wrong_crates, wrong_flags, wrong_arguments,
-                                  wrong_facts, wrong_clauses, wrong_tests,
+    wrong = [line for check in (wrong_blocks, wrong_widths, wrong_names, wrong_crates, wrong_files, wrong_links,
+                                  wrong_flags, wrong_arguments, wrong_counts, wrong_facts, wrong_clauses, wrong_tests,
                                   wrong_numbers) for line in check()]
     for line in wrong:
         print(line)
