@@ -1,5 +1,5 @@
 -- The calls of a `Once`: what they come to, by what a run of the driver came to.
-use Rattle.std.proofs.Common.{ℕ, ◌≡◌, ◌<◌, ◌/◌, ◌%◌, Bool, true, false, List, ◌++◌, ◌⊎◌, Option, None, Some}
+use Rattle.std.proofs.Common.{ℕ, ◌≡◌, ◌∙◌, ◌<◌, ◌/◌, ◌%◌, Bool, true, false, List, ◌++◌, ◌⊎◌, Option, None, Some}
 use Rattle.std.proofs.Common.{if◌then◌else◌, inl, inr, sym, refl, ap, subst, arith}
 use Rattle.spec_locks.specs.Codes.{is_done, is_marked}
 use Rattle.core_base.specs.declared.ops.Op.TheVariants.{Load, Swap}

@@ -222,6 +222,14 @@ module _ (n : ℕ) (seen found : ℕ) (me : ℕ) (old mid new : Trail) where
           ∙ ap (λ (b : Bool). semaphore_goes n
           (in_try (if b then At (tries.Decide found) else End answers.No))) more)
 
+  -- A try that saw a permit free goes on after its look.
+  pub tries_after : (answer : Answer) → is_free seen ≡ true
+      → mid ≡ recorded_all old (one (semaphore_at n) Load seen)
+      → Courses (at_semaphore n) me (try_place n seen) mid new answer
+      → Courses (at_semaphore n) me (semaphore_begin n (calls.Acquire OnlyTry)) old new answer
+  tries_after answer free e walks = courses_on (at_semaphore n) me
+      (semaphore_begin n (calls.Acquire OnlyTry)) (try_place n seen) old mid new answer (tries_it free e) walks
+
 module _ (n seen : ℕ) (me : ℕ) (old mid new : Trail) where
   -- a release that saw nobody parked
   pub releases_at_once : has_parked seen ≡ false → mid ≡ recorded_all old (one (semaphore_at n) (Add 2) seen)

@@ -20,10 +20,11 @@ returns-then-has_parked-clause-path g c = let n = c.args.self.semaphore.now.word
     let joined = ap (λ (v : View). v.steps) c.join_held.ensures.joined in
     releases_on n c.give-seen.result old.number (trail_of old None) (trail_of mid None) (trail_of new None)
     answers.Ok parked
-    (one_more _ _ _ _ _ (c.give-seen.ensures.added.1
+    (one_more _ _ _ _ _ (c.give-seen.ensures.added.1 ∙ ap (λ (v : View). v.steps ++ step (semaphore_at
+    c.args.self.semaphore.now.word.number) (Add 2) c.give-seen.result) c.may_begin.ensures.view
     ∙ ap (λ (steps : List WordStep). steps ++ step (semaphore_at c.args.self.semaphore.now.word.number)
-    (Add 2) c.give-seen.result) joined) (c.give-seen.ensures.added.2 ∙ c.join_held.ensures.untold))
-    (by_same n (waking n) answers.Ok old mid new (c.give-seen.ensures.added.0 ∙ c.join_held.ensures.own.0.1)
+    (Add 2) c.give-seen.result) joined) (c.give-seen.ensures.added.2 ∙ c.may_begin.ensures.untold ∙ c.join_held.ensures.untold))
+    (by_same n (waking n) answers.Ok old mid new (c.give-seen.ensures.added.0 ∙ c.may_begin.ensures.own.0.1 ∙ c.join_held.ensures.own.0.1)
     (subst (λ (answer : Answer). HasGone c.args.self.semaphore.now.word.number
     (waking c.args.self.semaphore.now.word.number) answer c.give-seen.new.token c.wake_first.new.token)
     c.wake_first.ensures.over.0 c.wake_first.ensures.path))
@@ -35,9 +36,10 @@ returns-else-has_parked-clause-path g c = let n = c.args.self.semaphore.now.word
     let joined = ap (λ (v : View). v.steps) c.join_held.ensures.joined in
     releases_at_once n c.give-seen.result old.number (trail_of old None) (trail_of mid None)
     (trail_of mid None) none
-    (one_more _ _ _ _ _ (c.give-seen.ensures.added.1
+    (one_more _ _ _ _ _ (c.give-seen.ensures.added.1 ∙ ap (λ (v : View). v.steps ++ step (semaphore_at
+    c.args.self.semaphore.now.word.number) (Add 2) c.give-seen.result) c.may_begin.ensures.view
     ∙ ap (λ (steps : List WordStep). steps ++ step (semaphore_at c.args.self.semaphore.now.word.number)
-    (Add 2) c.give-seen.result) joined) (c.give-seen.ensures.added.2 ∙ c.join_held.ensures.untold))
+    (Add 2) c.give-seen.result) joined) (c.give-seen.ensures.added.2 ∙ c.may_begin.ensures.untold ∙ c.join_held.ensures.untold))
 
 pub returns-then-has_parked-clause-woke : goal.returns-then-has_parked-clause-woke
 returns-then-has_parked-clause-woke g c =
@@ -47,7 +49,8 @@ returns-then-has_parked-clause-woke g c =
       c.give-seen.result,
       steps_in path.0,
       steps_since _ _ path.0 path.1 ∙ ap (λ (l : List WordStep). l ++ steps_in c.wake_first.ensures.path.0)
-          (c.give-seen.ensures.added.1
+          (c.give-seen.ensures.added.1 ∙ ap (λ (v : View). v.steps ++ step (semaphore_at
+    c.args.self.semaphore.now.word.number) (Add 2) c.give-seen.result) c.may_begin.ensures.view
           ∙ ap (λ (steps : List WordStep). steps ++ step (semaphore_at
           c.args.self.semaphore.now.word.number) (Add 2) c.give-seen.result) joined),
       subst (λ (b : Bool). WokeIfParked c.args.self.semaphore.now.word.number b
