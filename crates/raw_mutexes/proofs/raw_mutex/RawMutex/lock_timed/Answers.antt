@@ -40,3 +40,25 @@ go_on_timed-requires-clause-begun g c = let mutex = c.args.self.now in let n = m
       )),
     ),
     )
+
+pub returns-in-Err-clause-path : goal.returns-in-Err-clause-path
+returns-in-Err-clause-path g c = let mutex = c.args.self.now in let n = mutex.word.number in let old =
+    c.args.token.now in let new = c.enter_open.new.token in let seen = c.in-Err.seen in
+    let number : new.number ≡ old.number = search rules in
+    (c.go_on_timed.ensures.over old (
+      (λ some. let stepped = c.in-Err.ensures.missed some in (
+          number,
+          ap (λ (v : View). v.steps) stepped.0 ∙ ap (λ (k : WordKind). (view_of old).steps
+              ++ step (word_index n k) (Exchange 0 1) seen) mutex.drawn.1,
+          ap (λ (v : View). v.owns) stepped.0,
+          omega (arith, some),
+          c.enter_open.ensures.untold,
+      )),
+      (λ none. let same = c.in-Err.ensures.waits none in (
+          number,
+          ap (λ (v : View). v.steps) same,
+          ap (λ (v : View). v.owns) same,
+          c.enter_open.ensures.own.1,
+          c.enter_open.ensures.untold,
+      )),
+    )).1

@@ -43,8 +43,8 @@ returns-then-seen-eq-LOCKED-clause-over c = let mutex = c.args.self.now in let n
       released,
     )
 
-pub returns-else-seen-eq-LOCKED-clause-begun : goal.returns-else-seen-eq-LOCKED-clause-begun
-returns-else-seen-eq-LOCKED-clause-begun c = let mutex = c.args.self.now in let n = mutex.word.number in
+pub returns-clause-begun : goal.returns-clause-begun
+returns-clause-begun c = let mutex = c.args.self.now in let n = mutex.word.number in
     let old = c.args.token.now in let v = view_of old in let by = c.leave_open_alone-seen in
     let new = by.new.token in let seen = by.result in let number : new.number ≡ old.number = search rules in
     let other = c.if-seen-eq-LOCKED.false in let at = word_index n mutex.word.kind in

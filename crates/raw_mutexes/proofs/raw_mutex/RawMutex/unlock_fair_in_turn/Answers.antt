@@ -19,13 +19,13 @@ use Rattle.run_base.proofs.Afterwards.{path_at_once}
 use Rattle.raw_mutexes.proofs.InTurn.{first_step_of, has_it, without_it}
 use Rattle.raw_mutexes.proofs.raw_mutex.RawMutex.unlock_fair_in_turn.Goals as goal
 
-pub split_open-requires-clause-named : goal.split_open-requires-clause-named
-split_open-requires-clause-named g c = let waits = c.requires.waits in
+pub split_open-opened-requires-clause-named : goal.split_open-opened-requires-clause-named
+split_open-opened-requires-clause-named g c = let waits = c.requires.waits in
     has_it c.args.self.now.word c.args.self.now.drawn.1 (owns_of waits.0) (owns_of c.args.token.now) waits.1.2
 
 pub hand_over-requires-clause-begun : goal.hand_over-requires-clause-begun
 hand_over-requires-clause-begun g c = let word = c.args.self.now.word in let is = c.args.self.now.drawn.1 in
-    let old = c.args.token.now in let kept = c.split_open in let by = c.leave_alone_now-seen in let mid = by.new.token in
+    let old = c.args.token.now in let kept = c.split_open-opened in let by = c.leave_alone_now-seen in let mid = by.new.token in
     let seen = by.result in
     let before = c.requires.waits.0 in let waits = c.requires.waits.1 in
     let other : seen ≢ 1 = c.if-seen-ne-LOCKED.true in
@@ -56,7 +56,7 @@ hand_over-requires-clause-begun g c = let word = c.args.self.now.word in let is 
 
 pub returns-then-seen-ne-LOCKED-clause-over : goal.returns-then-seen-ne-LOCKED-clause-over
 returns-then-seen-ne-LOCKED-clause-over g c = let word = c.args.self.now.word in let is = c.args.self.now.drawn.1 in
-    let old = c.args.token.now in let kept = c.split_open in let by = c.leave_alone_now-seen in let mid = by.new.token in
+    let old = c.args.token.now in let kept = c.split_open-opened in let by = c.leave_alone_now-seen in let mid = by.new.token in
     let seen = by.result in
     λ before waits.
     let other : seen ≢ 1 = c.if-seen-ne-LOCKED.true in
@@ -87,7 +87,7 @@ returns-then-seen-ne-LOCKED-clause-over g c = let word = c.args.self.now.word in
 
 pub returns-else-seen-ne-LOCKED-clause-over : goal.returns-else-seen-ne-LOCKED-clause-over
 returns-else-seen-ne-LOCKED-clause-over g c = let word = c.args.self.now.word in let is = c.args.self.now.drawn.1 in
-    let old = c.args.token.now in let kept = c.split_open in let by = c.leave_alone_now-seen in let mid = by.new.token in
+    let old = c.args.token.now in let kept = c.split_open-opened in let by = c.leave_alone_now-seen in let mid = by.new.token in
     let seen = by.result in
     λ before waits.
     let one : seen ≡ 1 = omega (arith, c.if-seen-ne-LOCKED.false) in

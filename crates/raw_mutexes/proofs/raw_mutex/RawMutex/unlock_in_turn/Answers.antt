@@ -12,13 +12,13 @@ use Rattle.steps_mutex.specs.MutexSteps.{is_parked}
 use Rattle.raw_mutexes.proofs.InTurn.{first_step_of, has_it, without_it}
 use Rattle.raw_mutexes.proofs.raw_mutex.RawMutex.unlock_in_turn.Goals as goal
 
-pub split_open-requires-clause-named : goal.split_open-requires-clause-named
-split_open-requires-clause-named g c = let waits = c.requires.waits in
+pub split_open-opened-requires-clause-named : goal.split_open-opened-requires-clause-named
+split_open-opened-requires-clause-named g c = let waits = c.requires.waits in
     has_it c.args.self.now.word c.args.self.now.drawn.1 (owns_of waits.0) (owns_of c.args.token.now) waits.1.2
 
 pub unlock_after-requires-clause-begun : goal.unlock_after-requires-clause-begun
 unlock_after-requires-clause-begun g c = let word = c.args.self.now.word in let is = c.args.self.now.drawn.1 in
-    let old = c.args.token.now in let kept = c.split_open in let by = c.leave_now-seen in let mid = by.new.token in
+    let old = c.args.token.now in let kept = c.split_open-opened in let by = c.leave_now-seen in let mid = by.new.token in
     let seen = by.result in
     let before = c.requires.waits.0 in let waits = c.requires.waits.1 in
     let first = first_step_of word is (Sub 1) seen before old mid waits.1 (ap (λ (v : View). v.steps)
@@ -33,7 +33,7 @@ unlock_after-requires-clause-begun g c = let word = c.args.self.now.word in let 
 
 pub returns-then-seen-ne-LOCKED-clause-over : goal.returns-then-seen-ne-LOCKED-clause-over
 returns-then-seen-ne-LOCKED-clause-over g c = let word = c.args.self.now.word in let is = c.args.self.now.drawn.1 in
-    let old = c.args.token.now in let kept = c.split_open in let by = c.leave_now-seen in let mid = by.new.token in
+    let old = c.args.token.now in let kept = c.split_open-opened in let by = c.leave_now-seen in let mid = by.new.token in
     let seen = by.result in
     λ before waits.
     let first = first_step_of word is (Sub 1) seen before old mid waits.1 (ap (λ (v : View). v.steps)
@@ -48,7 +48,7 @@ returns-then-seen-ne-LOCKED-clause-over g c = let word = c.args.self.now.word in
 
 pub returns-else-seen-ne-LOCKED-clause-over : goal.returns-else-seen-ne-LOCKED-clause-over
 returns-else-seen-ne-LOCKED-clause-over g c = let word = c.args.self.now.word in let is = c.args.self.now.drawn.1 in
-    let old = c.args.token.now in let kept = c.split_open in let by = c.leave_now-seen in let mid = by.new.token in
+    let old = c.args.token.now in let kept = c.split_open-opened in let by = c.leave_now-seen in let mid = by.new.token in
     let seen = by.result in
     λ before waits.
     let first = first_step_of word is (Sub 1) seen before old mid waits.1 (ap (λ (v : View). v.steps)

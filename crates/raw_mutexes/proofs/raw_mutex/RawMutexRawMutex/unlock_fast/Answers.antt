@@ -33,8 +33,8 @@ returns-then-seen-eq-LOCKED-clause-over c = let mutex = c.args.self.now in let n
     ) in
     (keeps_rights, path_at_once n Unlock seen old new none added c.leave_open-seen.ensures.untold, released)
 
-pub returns-else-seen-eq-LOCKED-clause-begun : goal.returns-else-seen-eq-LOCKED-clause-begun
-returns-else-seen-eq-LOCKED-clause-begun c = let mutex = c.args.self.now in let n = mutex.word.number in
+pub returns-clause-begun : goal.returns-clause-begun
+returns-clause-begun c = let mutex = c.args.self.now in let n = mutex.word.number in
     let old = c.args.token.now in let left = c.leave_open-seen in let new = left.new.token in
     let seen = left.result in let number : new.number ≡ old.number = search rules in
     let other = c.if-seen-eq-LOCKED.false in (
