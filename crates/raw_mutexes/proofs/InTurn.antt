@@ -25,6 +25,10 @@ first_step_of word is op seen before old mid same stepped = stepped
     ∙ ap (λ (k : WordKind). steps_of old ++ step (word_index word.number k) op seen) is
     ∙ ap (λ steps. steps ++ step (mutex_at word.number) op seen) same
 
+-- an owner of a mutex owns it
+pub owns_it : (n : ℕ) (rest : List Ownership) → has (mutex_ownership n) (mutex_ownership n ∷ rest) ≡ true
+owns_it n rest = search rules
+
 -- a thread that has spent its guard owns the mutex, and what is left without it is what it owned before
 module _ (word : Word) (is : word.kind ≡ Mutex) (rest owns : List Ownership)
     (spent : owns ≡ mutex_ownership word.number ∷ rest) where
@@ -32,10 +36,8 @@ module _ (word : Word) (is : word.kind ≡ Mutex) (rest owns : List Ownership)
   itself k = owning (word_index word.number k) Exclusive
 
   pub has_it : has (itself word.kind) owns ≡ true
-  has_it = let there : has (mutex_ownership word.number) (mutex_ownership word.number ∷ rest) ≡ true =
-      search rules in
-      subst (λ (k : WordKind). has (itself k) owns ≡ true) (sym is)
-      (subst (λ os. has (mutex_ownership word.number) os ≡ true) (sym spent) there)
+  has_it = subst (λ (k : WordKind). has (itself k) owns ≡ true) (sym is)
+      (subst (λ os. has (mutex_ownership word.number) os ≡ true) (sym spent) (owns_it word.number rest))
 
   pub without_it : without (itself word.kind) owns ≡ rest
   without_it = let whole : without (mutex_ownership word.number) (mutex_ownership word.number ∷ rest) ≡ rest =

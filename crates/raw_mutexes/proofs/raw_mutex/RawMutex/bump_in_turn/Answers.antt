@@ -10,12 +10,12 @@ use Rattle.run_base.specs.Paths.{step}
 use Rattle.run_base.specs.Telling.{owns_of}
 use Rattle.run_base.proofs.Afterwards.{path_at_once}
 use Rattle.steps_mutex.specs.MutexSteps.{is_parked}
-use Rattle.raw_mutexes.proofs.InTurn.{first_step_of}
+use Rattle.raw_mutexes.proofs.InTurn.{first_step_of, owns_it}
 use Rattle.raw_mutexes.proofs.raw_mutex.RawMutex.bump_in_turn.Goals as goal
 
 pub split-guard-requires-clause-held : goal.split-guard-requires-clause-held
 split-guard-requires-clause-held g c = let n = c.args.self.now.word.number in let waits = c.requires.waits in
-    let there : has (mutex_ownership n) (mutex_ownership n ∷ owns_of waits.0) ≡ true = search rules in
+    let there = owns_it n (owns_of waits.0) in
     subst (λ os. has (mutex_ownership n) os ≡ true) (sym waits.1.2) there
 
 pub returns-then-not-is_parked-clause-over : goal.returns-then-not-is_parked-clause-over
@@ -53,7 +53,7 @@ bump_after-requires-clause-begun g c = let word = c.args.self.now.word in let is
     let told = by.ensures.untold ∙ kept.ensures.untold ∙ waits.4 in
     let parked : is_parked seen ≡ true = search rules in
     let again = ap (λ (v : View). v.owns) c.join.ensures.joined ∙ ap (λ os. mutex_ownership n ∷ os) owns in
-    let there : has (mutex_ownership n) (mutex_ownership n ∷ owns_of before) ≡ true = search rules in
+    let there = owns_it n (owns_of before) in
     (before, (
       c.join.ensures.own.0.1 ∙ number,
       ap (λ (v : View). v.steps) c.join.ensures.joined ∙ first,
@@ -79,7 +79,7 @@ returns-clause-over g c = let word = c.args.self.now.word in let is = c.args.sel
     let told = by.ensures.untold ∙ kept.ensures.untold ∙ waits.4 in
     let parked : is_parked seen ≡ true = search rules in
     let again = ap (λ (v : View). v.owns) c.join.ensures.joined ∙ ap (λ os. mutex_ownership n ∷ os) owns in
-    let there : has (mutex_ownership n) (mutex_ownership n ∷ owns_of before) ≡ true = search rules in
+    let there = owns_it n (owns_of before) in
     c.bump_after.ensures.over before (
       c.join.ensures.own.0.1 ∙ number,
       ap (λ (v : View). v.steps) c.join.ensures.joined ∙ first,

@@ -16,7 +16,7 @@ use Rattle.run_base.specs.MutexFitting.{mutex_ownership}
 use Rattle.run_base.specs.Paths.{mutex_at, step}
 use Rattle.run_base.specs.Telling.{owns_of, steps_of}
 use Rattle.run_base.proofs.Afterwards.{path_at_once}
-use Rattle.raw_mutexes.proofs.InTurn.{first_step_of, has_it, without_it}
+use Rattle.raw_mutexes.proofs.InTurn.{first_step_of, has_it, owns_it, without_it}
 use Rattle.raw_mutexes.proofs.raw_mutex.RawMutex.unlock_fair_in_turn.Goals as goal
 
 pub split_open-opened-requires-clause-named : goal.split_open-opened-requires-clause-named
@@ -41,8 +41,7 @@ hand_over-requires-clause-begun g c = let word = c.args.self.now.word in let is 
     ∷ v.owns) is ∙ ap (λ os. mutex_ownership word.number ∷ os) rest in
     let number = by.ensures.own.0.1 ∙ kept.ensures.own.0.1 ∙ waits.0 in
     let told = by.ensures.untold ∙ kept.ensures.untold ∙ waits.4 in
-    let there : has (mutex_ownership word.number) (mutex_ownership word.number ∷ owns_of before) ≡ true =
-    search rules in
+    let there = owns_it word.number (owns_of before) in
     (before, (
       number,
       first,
@@ -72,8 +71,7 @@ returns-then-seen-ne-LOCKED-clause-over g c = let word = c.args.self.now.word in
     ∷ v.owns) is ∙ ap (λ os. mutex_ownership word.number ∷ os) rest in
     let number = by.ensures.own.0.1 ∙ kept.ensures.own.0.1 ∙ waits.0 in
     let told = by.ensures.untold ∙ kept.ensures.untold ∙ waits.4 in
-    let there : has (mutex_ownership word.number) (mutex_ownership word.number ∷ owns_of before) ≡ true =
-    search rules in
+    let there = owns_it word.number (owns_of before) in
     c.hand_over.ensures.over before (
       number,
       first,
