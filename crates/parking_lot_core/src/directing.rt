@@ -109,13 +109,7 @@ impl ParkingLot {
     /// reference, so that a fast half has no local to clear for it.
     #[cold]
     #[inline(never)]
-    pub fn turn_to_begin<R: Wait>(
-        &self,
-        rt: &R,
-        token: &Token,
-        deed: &'static Deed,
-        word: &Word,
-    ) {
+    pub fn turn_to_begin<R: Wait>(&self, rt: &R, token: &Token, deed: &'static Deed, word: &Word) {
         if let Some(director) = &self.director {
             director.turn_asleep(rt, Turn::at(token.number, *deed, word.number()));
         }

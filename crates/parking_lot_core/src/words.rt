@@ -481,7 +481,10 @@ impl ParkingLot {
             ≡ stepping (view_of token.old) (word_index word.number word.kind) (Sub 1) result }
         ensures coded { (result ≡ 1) ⊎ (result ≡ 3) }
     {
-        match self.words.leave_open(&mut token.seat, word, opened, permit, 1) {
+        match self
+            .words
+            .leave_open(&mut token.seat, word, opened, permit, 1)
+        {
             Ok(seen) => seen,
             Err(_) => unreachable!(),
         }
@@ -506,7 +509,10 @@ impl ParkingLot {
         ensures stepped { view_of token.new ≡ leaving_alone (view_of token.old) word result }
         ensures coded { (result ≡ 1) ⊎ (result ≡ 3) }
     {
-        match self.words.leave_open_alone(&mut token.seat, word, opened, permit, 1) {
+        match self
+            .words
+            .leave_open_alone(&mut token.seat, word, opened, permit, 1)
+        {
             Ok(seen) => seen,
             Err(_) => unreachable!(),
         }

@@ -364,10 +364,28 @@ fn rest_in_turn<R: Wait, C: Clock>(
     match course_of(*settings, *purpose, seen) {
         Course::Ends(answer) => answer,
         Course::GoesOn => {
-            rest_slow(rt, lot, token, word, &settings.admission, limit, purpose, seen)
+            rest_slow(
+                rt,
+                lot,
+                token,
+                word,
+                &settings.admission,
+                limit,
+                purpose,
+                seen,
+            )
         }
         Course::Takes => {
-            rest_slow(rt, lot, token, word, &settings.admission, limit, purpose, seen)
+            rest_slow(
+                rt,
+                lot,
+                token,
+                word,
+                &settings.admission,
+                limit,
+                purpose,
+                seen,
+            )
         }
     }
 }
@@ -394,7 +412,15 @@ pub fn call_in_turn<R: Wait, C: Clock>(
         → HasEndedRwLock (TimeIsUp C.tells limit.now) word.now settings.now.admission purpose result
         before token.new }
 {
-    rest_in_turn(rt, lot, token, word, settings, limit, static_purpose(purpose))
+    rest_in_turn(
+        rt,
+        lot,
+        token,
+        word,
+        settings,
+        limit,
+        static_purpose(purpose),
+    )
 }
 
 /// Does the fast half of a call of a thread that has the right that it needs: a step or two, which

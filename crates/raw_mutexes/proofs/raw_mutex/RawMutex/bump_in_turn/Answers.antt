@@ -53,14 +53,16 @@ bump_after-requires-clause-begun g c = let word = c.args.self.now.word in let is
     let told = by.ensures.untold ∙ kept.ensures.untold ∙ waits.4 in
     let parked : is_parked seen ≡ true = search rules in
     let again = ap (λ (v : View). v.owns) c.join.ensures.joined ∙ ap (λ os. mutex_ownership n ∷ os) owns in
-    let there = owns_it n (owns_of before) in
-    (before, (
-      c.join.ensures.own.0.1 ∙ number,
-      ap (λ (v : View). v.steps) c.join.ensures.joined ∙ first,
-      again,
-      (parked, subst (λ os. has (mutex_ownership n) os ≡ true) (sym again) there),
-      c.join.ensures.untold ∙ told,
-    ))
+    let there = owns_it n (owns_of before) in (
+      before,
+      (
+        c.join.ensures.own.0.1 ∙ number,
+        ap (λ (v : View). v.steps) c.join.ensures.joined ∙ first,
+        again,
+        (parked, subst (λ os. has (mutex_ownership n) os ≡ true) (sym again) there),
+        c.join.ensures.untold ∙ told,
+      ),
+    )
 
 pub returns-clause-over : goal.returns-clause-over
 returns-clause-over g c = let word = c.args.self.now.word in let is = c.args.self.now.drawn.1 in

@@ -23,22 +23,22 @@ go_on_timed-requires-clause-begun g c = let mutex = c.args.self.now in let n = m
     let number : new.number ≡ old.number = search rules in (
       old,
       (
-      (λ some. let stepped = c.in-Err.ensures.missed some in (
+        (λ some. let stepped = c.in-Err.ensures.missed some in (
           number,
           ap (λ (v : View). v.steps) stepped.0 ∙ ap (λ (k : WordKind). (view_of old).steps
               ++ step (word_index n k) (Exchange 0 1) seen) mutex.drawn.1,
           ap (λ (v : View). v.owns) stepped.0,
           omega (arith, some),
           c.enter_open.ensures.untold,
-      )),
-      (λ none. let same = c.in-Err.ensures.waits none in (
+        )),
+        (λ none. let same = c.in-Err.ensures.waits none in (
           number,
           ap (λ (v : View). v.steps) same,
           ap (λ (v : View). v.owns) same,
           c.enter_open.ensures.own.1,
           c.enter_open.ensures.untold,
-      )),
-    ),
+        )),
+      ),
     )
 
 pub returns-in-Err-clause-path : goal.returns-in-Err-clause-path
@@ -47,18 +47,18 @@ returns-in-Err-clause-path g c = let mutex = c.args.self.now in let n = mutex.wo
     let number : new.number ≡ old.number = search rules in
     (c.go_on_timed.ensures.over old (
       (λ some. let stepped = c.in-Err.ensures.missed some in (
-          number,
-          ap (λ (v : View). v.steps) stepped.0 ∙ ap (λ (k : WordKind). (view_of old).steps
-              ++ step (word_index n k) (Exchange 0 1) seen) mutex.drawn.1,
-          ap (λ (v : View). v.owns) stepped.0,
-          omega (arith, some),
-          c.enter_open.ensures.untold,
+        number,
+        ap (λ (v : View). v.steps) stepped.0 ∙ ap (λ (k : WordKind). (view_of old).steps
+            ++ step (word_index n k) (Exchange 0 1) seen) mutex.drawn.1,
+        ap (λ (v : View). v.owns) stepped.0,
+        omega (arith, some),
+        c.enter_open.ensures.untold,
       )),
       (λ none. let same = c.in-Err.ensures.waits none in (
-          number,
-          ap (λ (v : View). v.steps) same,
-          ap (λ (v : View). v.owns) same,
-          c.enter_open.ensures.own.1,
-          c.enter_open.ensures.untold,
+        number,
+        ap (λ (v : View). v.steps) same,
+        ap (λ (v : View). v.owns) same,
+        c.enter_open.ensures.own.1,
+        c.enter_open.ensures.untold,
       )),
     )).1

@@ -20,14 +20,17 @@ pub lock_timed_after-requires-clause-begun : goal.lock_timed_after-requires-clau
 lock_timed_after-requires-clause-begun g c = let mutex = c.args.self.now in let n = mutex.word.number in let old =
     c.args.token.now in let by = c.enter_now in let mid = by.new.token in
     let seen = c.in-Err.seen in let stepped = c.in-Err.ensures.stepped in let before = c.requires.waits.0 in
-    let waits = c.requires.waits.1 in (before, (
-      by.ensures.own.0.1 ∙ waits.0,
-      first_step_of mutex.word mutex.drawn.1 (Exchange 0 1) seen before old mid waits.1
-          (ap (λ (v : View). v.steps) stepped.1),
-      ap (λ (v : View). v.owns) stepped.1 ∙ waits.2,
-      omega (arith, stepped.0),
-      by.ensures.untold ∙ waits.4,
-    ))
+    let waits = c.requires.waits.1 in (
+      before,
+      (
+        by.ensures.own.0.1 ∙ waits.0,
+        first_step_of mutex.word mutex.drawn.1 (Exchange 0 1) seen before old mid waits.1
+            (ap (λ (v : View). v.steps) stepped.1),
+        ap (λ (v : View). v.owns) stepped.1 ∙ waits.2,
+        omega (arith, stepped.0),
+        by.ensures.untold ∙ waits.4,
+      ),
+    )
 
 pub returns-in-Err-clause-over : goal.returns-in-Err-clause-over
 returns-in-Err-clause-over g c = let mutex = c.args.self.now in let n = mutex.word.number in let old =

@@ -65,12 +65,12 @@ returns-clause-begun c = let mutex = c.args.self.now in let n = mutex.word.numbe
                   has_it,
             ),
             by.ensures.untold,
-      )),
+          )),
       (λ none. (
-          number,
-          ap (λ (v : View). v.steps) (by.ensures.waits none),
-          owns (ap (λ (v : View). v.owns) (by.ensures.waits none)),
-          by.ensures.own.1,
-          by.ensures.untold,
+        number,
+        ap (λ (v : View). v.steps) (by.ensures.waits none),
+        owns (ap (λ (v : View). v.owns) (by.ensures.waits none)),
+        by.ensures.own.1,
+        by.ensures.untold,
       )),
     )

@@ -41,17 +41,19 @@ hand_over-requires-clause-begun g c = let word = c.args.self.now.word in let is 
     ∷ v.owns) is ∙ ap (λ os. mutex_ownership word.number ∷ os) rest in
     let number = by.ensures.own.0.1 ∙ kept.ensures.own.0.1 ∙ waits.0 in
     let told = by.ensures.untold ∙ kept.ensures.untold ∙ waits.4 in
-    let there = owns_it word.number (owns_of before) in
-    (before, (
-      number,
-      first,
-      owns,
+    let there = owns_it word.number (owns_of before) in (
+      before,
       (
-        other,
-        subst (λ os. has (mutex_ownership word.number) os ≡ true) (sym owns) there,
+        number,
+        first,
+        owns,
+        (
+          other,
+          subst (λ os. has (mutex_ownership word.number) os ≡ true) (sym owns) there,
+        ),
+        told,
       ),
-      told,
-    ))
+    )
 
 pub returns-then-seen-ne-LOCKED-clause-over : goal.returns-then-seen-ne-LOCKED-clause-over
 returns-then-seen-ne-LOCKED-clause-over g c = let word = c.args.self.now.word in let is = c.args.self.now.drawn.1 in

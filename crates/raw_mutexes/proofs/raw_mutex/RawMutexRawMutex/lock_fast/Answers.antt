@@ -27,18 +27,18 @@ returns-in-Err-clause-begun c = let mutex = c.args.self.now in let n = mutex.wor
     c.args.token.now in let new = c.enter_open.new.token in let seen = c.in-Err.seen in
     let number : new.number ≡ old.number = search rules in (
       (λ some. let stepped = c.in-Err.ensures.missed some in (
-          number,
-          ap (λ (v : View). v.steps) stepped.0 ∙ ap (λ (k : WordKind). (view_of old).steps
-              ++ step (word_index n k) (Exchange 0 1) seen) mutex.drawn.1,
-          ap (λ (v : View). v.owns) stepped.0,
-          omega (arith, some),
-          c.enter_open.ensures.untold,
+        number,
+        ap (λ (v : View). v.steps) stepped.0 ∙ ap (λ (k : WordKind). (view_of old).steps
+            ++ step (word_index n k) (Exchange 0 1) seen) mutex.drawn.1,
+        ap (λ (v : View). v.owns) stepped.0,
+        omega (arith, some),
+        c.enter_open.ensures.untold,
       )),
       (λ none. let same = c.in-Err.ensures.waits none in (
-          number,
-          ap (λ (v : View). v.steps) same,
-          ap (λ (v : View). v.owns) same,
-          c.enter_open.ensures.own.1,
-          c.enter_open.ensures.untold,
+        number,
+        ap (λ (v : View). v.steps) same,
+        ap (λ (v : View). v.owns) same,
+        c.enter_open.ensures.own.1,
+        c.enter_open.ensures.untold,
       )),
     )

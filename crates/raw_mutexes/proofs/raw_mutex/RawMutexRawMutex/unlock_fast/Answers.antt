@@ -39,19 +39,19 @@ returns-clause-begun c = let mutex = c.args.self.now in let n = mutex.word.numbe
     let seen = left.result in let number : new.number ≡ old.number = search rules in
     let other = c.if-seen-eq-LOCKED.false in (
       (λ some. (
-          number,
-          ap (λ (v : View). v.steps) (left.ensures.stepped some) ∙ ap (λ (k : WordKind). steps_of old
-              ++ step (word_index n k) (Sub 1) seen) mutex.drawn.1,
-          ap (λ (v : View). v.owns) (left.ensures.stepped some),
-          omega (arith, some, other, left.ensures.coded),
-          left.ensures.untold,
+        number,
+        ap (λ (v : View). v.steps) (left.ensures.stepped some) ∙ ap (λ (k : WordKind). steps_of old
+            ++ step (word_index n k) (Sub 1) seen) mutex.drawn.1,
+        ap (λ (v : View). v.owns) (left.ensures.stepped some),
+        omega (arith, some, other, left.ensures.coded),
+        left.ensures.untold,
       )),
       (λ none. (
-          number,
-          ap (λ (v : View). v.steps) (left.ensures.waits none),
-          ap (λ (v : View). v.owns) (left.ensures.waits none) ∙ ap (λ (k : WordKind).
-              owning (word_index n k) Exclusive ∷ owns_of old) mutex.drawn.1,
-          left.ensures.own.1,
-          left.ensures.untold,
+        number,
+        ap (λ (v : View). v.steps) (left.ensures.waits none),
+        ap (λ (v : View). v.owns) (left.ensures.waits none) ∙ ap (λ (k : WordKind).
+            owning (word_index n k) Exclusive ∷ owns_of old) mutex.drawn.1,
+        left.ensures.own.1,
+        left.ensures.untold,
       )),
     )

@@ -22,27 +22,27 @@ returns-then-not-is_parked-clause-path g c = let mutex = c.args.self.now in let 
     mutex.drawn.1)
     (c.word_again-seen.ensures.untold ∙ c.may_begin.ensures.untold)
 
-pub bump_slow-then-not-may_begin-requires-clause-begun : goal.bump_slow-then-not-may_begin-requires-clause-begun
-bump_slow-then-not-may_begin-requires-clause-begun g c = let n = c.args.self.now.word.number in
+pub bump_slow-requires-clause-begun : goal.bump_slow-requires-clause-begun
+bump_slow-requires-clause-begun g c = let n = c.args.self.now.word.number in
     let old = c.args.token.now in let new = c.join.new.token in
     let number : new.number ≡ old.number = search rules in (
       old,
       (
         (λ some. absurd (some refl)),
         (λ none. (
-            number,
-            ap (λ (v : View). v.steps) c.join.ensures.joined
-                ∙ ap (λ (v : View). v.steps) c.may_begin.ensures.view,
-            ap (λ (v : View). v.owns) c.join.ensures.joined
-                ∙ ap (λ (v : View). mutex_ownership n ∷ v.owns) c.may_begin.ensures.view,
-            c.join.ensures.own.1 ∙ c.may_begin.ensures.own.1,
-            c.join.ensures.untold ∙ c.may_begin.ensures.untold,
+          number,
+          ap (λ (v : View). v.steps) c.join.ensures.joined
+              ∙ ap (λ (v : View). v.steps) c.may_begin.ensures.view,
+          ap (λ (v : View). v.owns) c.join.ensures.joined
+              ∙ ap (λ (v : View). mutex_ownership n ∷ v.owns) c.may_begin.ensures.view,
+          c.join.ensures.own.1 ∙ c.may_begin.ensures.own.1,
+          c.join.ensures.untold ∙ c.may_begin.ensures.untold,
         )),
       ),
     )
 
-pub bump_slow-requires-clause-begun : goal.bump_slow-requires-clause-begun
-bump_slow-requires-clause-begun g c = let mutex = c.args.self.now in let n = mutex.word.number in
+pub bump_slow-requires-2-clause-begun : goal.bump_slow-requires-2-clause-begun
+bump_slow-requires-2-clause-begun g c = let mutex = c.args.self.now in let n = mutex.word.number in
     let old = c.args.token.now in let mid = c.word_again-seen.new.token in let new = c.join-2.new.token in
     let seen = c.word_again-seen.result in let parked : is_parked seen ≡ true = search rules in
     let number : new.number ≡ old.number = search rules in
@@ -58,12 +58,12 @@ bump_slow-requires-clause-begun g c = let mutex = c.args.self.now in let n = mut
       old,
       (
         (λ some. (
-            number,
-            steps,
-            owns,
-            (parked, subst (λ os. has (mutex_ownership n) os ≡ true) (sym owns) has_it),
-            c.join-2.ensures.untold ∙ c.word_again-seen.ensures.untold ∙ c.may_begin.ensures.untold,
+          number,
+          steps,
+          owns,
+          (parked, subst (λ os. has (mutex_ownership n) os ≡ true) (sym owns) has_it),
+          c.join-2.ensures.untold ∙ c.word_again-seen.ensures.untold ∙ c.may_begin.ensures.untold,
         )),
-        (λ none. absurd (subst (λ k. is_parked k ≡ true) none parked)),
+        (λ none. let never : false ≡ true = subst (λ k. is_parked k ≡ true) none parked in absurd cc),
       ),
     )

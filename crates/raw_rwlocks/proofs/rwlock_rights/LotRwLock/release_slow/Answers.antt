@@ -49,12 +49,12 @@ returns-in-Missed-clause-over g c = λ before begun. let is : c.args.rest ≡ Mi
 
 pub call_in_turn-requires-clause-begun : goal.call_in_turn-requires-clause-begun
 call_in_turn-requires-clause-begun g c = let begun = c.requires.begun in let is : c.args.rest ≡ NotBegun = search rules in (
-      begun.1.0,
-      (view_of begun.0).owns,
-      begins_releasing c.args.self.now c.args.access begun.0 begun.1.0 begun.1.1 begun.1.2,
-      subst (λ (r : Rest). HasBegunRwLock c.args.self.now.word c.args.self.now.settings.admission
-          (Release c.args.access) r c.requires.begun.1.0 c.args.token.now) is begun.1.3,
-    )
+  begun.1.0,
+  (view_of begun.0).owns,
+  begins_releasing c.args.self.now c.args.access begun.0 begun.1.0 begun.1.1 begun.1.2,
+  subst (λ (r : Rest). HasBegunRwLock c.args.self.now.word c.args.self.now.settings.admission
+      (Release c.args.access) r c.requires.begun.1.0 c.args.token.now) is begun.1.3,
+)
 
 pub returns-in-NotBegun-clause-over : goal.returns-in-NotBegun-clause-over
 returns-in-NotBegun-clause-over g c = λ before begun. let is : c.args.rest ≡ NotBegun =

@@ -50,7 +50,7 @@ returns-then-has_parked-clause-woke g c =
       steps_in path.0,
       steps_since _ _ path.0 path.1 ∙ ap (λ (l : List WordStep). l ++ steps_in c.wake_first.ensures.path.0)
           (c.give-seen.ensures.added.1 ∙ ap (λ (v : View). v.steps ++ step (semaphore_at
-    c.args.self.semaphore.now.word.number) (Add 2) c.give-seen.result) c.may_begin.ensures.view
+          c.args.self.semaphore.now.word.number) (Add 2) c.give-seen.result) c.may_begin.ensures.view
           ∙ ap (λ (steps : List WordStep). steps ++ step (semaphore_at
           c.args.self.semaphore.now.word.number) (Add 2) c.give-seen.result) joined),
       subst (λ (b : Bool). WokeIfParked c.args.self.semaphore.now.word.number b
