@@ -218,7 +218,7 @@ length-standing key threads = length-map threads _
 pub length-threads_of : (waiters : List Waiter) → length (threads_of waiters) ≡ length waiters
 length-threads_of waiters = length-map waiters _
 
--- those that stood nowhere in a list have come to it
+-- threads that stood nowhere in a list have come to it
 pub seated_passed : (from to capacity : ℕ) (xs ys : List Waiter) → IsSeated xs capacity
     → IsSeated ys capacity → ((thread : ℕ) → 1 ≤ times thread (line from xs) → times thread ys ≡ 0)
     → IsSeated (ys ++ moved_to to (line from xs)) capacity

@@ -115,7 +115,7 @@ times_line : (thread key : ℕ) (xs : List Waiter) → times thread (line key xs
 times_line thread key [] = omega arith
 times_line thread key (x ∷ xs) = grind (arith, nat_tests, times_line thread key xs)
 
--- those that are marked, and those of a key that aren't
+-- threads that are marked, and threads of a key that are not
 pub none_marked : (key : ℕ) (xs ys : List Waiter) (marks : List Bool) → IsSeated xs (length marks)
     → ((thread : ℕ) → 1 ≤ times thread ys → thread < length marks
     → slice_index_or marks thread false ≡ true)

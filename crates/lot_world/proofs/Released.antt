@@ -119,7 +119,7 @@ module _ (w : State) (d : Progress) (s : Step) (ready : IsReady d.state) (b : Be
   unspent : IsSpent d.state b.thread → ⊥
   unspent none = begins_owns d.state s ready.strict b none.1
 
-  -- and the others have what they had
+  -- the other threads have what they had
   abbrev StaysSpent : ℕ → State → Type 0
   StaysSpent u v = IsOrdered v × IsSpent v u
 

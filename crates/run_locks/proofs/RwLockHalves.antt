@@ -83,7 +83,7 @@ module _ (up : Type 0) (word : Word) (is : word.kind ≡ kinds.RwLock) (a : Admi
           (steps_in walks.0) (steps_since _ _ walks.0 walks.1),
     )
 
-  -- its first step was all of the call
+  -- a call that is over by its first step has ended
   pub ended_at_once : (old new : Token) → SteppedAndFound word (first_op c) seen old new → (answer : Answer)
       → answer_of (next_act (rwlock_begin word.number a c) (Value seen)) ≡ Some answer
       → (base : List Ownership) → begins old base → HasEndedRwLock up word a c answer old new
