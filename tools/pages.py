@@ -10,6 +10,8 @@ import re
 import subprocess
 import sys
 
+import readers
+
 WRITTEN = {"docs/STEPS.md"}
 WIDTH = 110
 MARKED = re.compile(r"`([^`]+)`")
@@ -314,7 +316,7 @@ def number_in(path, pattern):
 TENS = {7: "Seventy", 8: "Eighty", 9: "Ninety"}
 UNITS = ["", "-one", "-two", "-three", "-four", "-five", "-six", "-seven", "-eight", "-nine"]
 WORDS = {10 * ten + unit: TENS[ten] + UNITS[unit] for ten in TENS for unit in range(10)}
-FIRST_PAGE = [f"crates/spec_locks/specs/{name}.antt" for name in ["Guarantees", "EachState", "EachStep", "CallTable"]]
+FIRST_PAGE = [f"crates/spec_locks/specs/{name}.antt" for name in ["Guarantees", "EachState", "EachStep", "CallTable", "Trade", "Owners", "Rest"]]
 PARSER = "crates/lot_program_text/src/parser.rt"
 SMALL = {1: "alone", 3: "three", 5: "five", 6: "six", 9: "nine", 10: "ten", 22: "twenty-two"}
 # Kinds of steps that PROVED counts, each with its law and its record in `core_words/specs/Laws`.
@@ -322,7 +324,7 @@ STEPS = [("on a mutex's word", "MutexSteps"), ("on a reader-writer", "RwLockStep
          ("on a condition", "CondvarSteps"), ("on a semaphore's", "SemaphoreSteps")]
 # Pages, what they say, and where the number is from.
 FACTS = [
-    ("README.md", r"The four files are (\d+) lines", lambda: sum(text_of(path).count("\n") for path in FIRST_PAGE)),
+    ("README.md", r"The seven\s+files\s+are (\d+) lines", lambda: sum(text_of(path).count("\n") for path in FIRST_PAGE)),
     ("README.md", r"`(\d+) \* \(N \+ 1\)\^2`", lambda: number_in("crates/lot_world/specs/Drains.antt", r"≤ (\d+) \*")),
     ("docs/PROVED.md", r"`(\d+) \* \(N \+ 1\)\^2`", lambda: number_in("crates/lot_world/specs/Drains.antt", r"≤ (\d+) \*")),
     ("README.md", r"within (\d+)\s+steps", lambda: number_in("crates/lot_world/src/world.rt", r"SOLO_STEPS: usize = (\d+)")),
@@ -363,6 +365,16 @@ def wrong_counts():
               f"{SMALL[programs_in('properties')]} properties")
     if counts not in proved:
         yield f"docs/PROVED.md: {counts} by the code"
+
+
+def wrong_readers():
+    """Checks README's counts of the definitions and lines that a reader of each promise needs."""
+    text = " ".join(text_of("README.md").split())
+    for promise, _, definitions, lines, _ in readers.rows():
+        if readers.TOLD.get(promise) and f"{readers.TOLD[promise]} {definitions}" not in text:
+            yield f"README.md: {readers.TOLD[promise]} {definitions} definitions, {lines} lines by the specs"
+        elif readers.TOLD.get(promise) and not re.search(rf"{readers.TOLD[promise]} {definitions}(?: definitions)? \({lines}(?: lines)?\)", text):
+            yield f"README.md: {readers.TOLD[promise]} {lines} lines by the specs"
 
 
 def wrong_facts():
@@ -421,7 +433,7 @@ def wrong_numbers():
 
 def main():
     wrong = [line for check in (wrong_blocks, wrong_widths, wrong_names, wrong_crates, wrong_files, wrong_links,
-                                  wrong_flags, wrong_arguments, wrong_counts, wrong_facts, wrong_clauses, wrong_tests,
+                                  wrong_flags, wrong_arguments, wrong_counts, wrong_readers, wrong_facts, wrong_clauses, wrong_tests,
                                   wrong_numbers) for line in check()]
     for line in wrong:
         print(line)

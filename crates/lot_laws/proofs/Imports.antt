@@ -62,7 +62,7 @@ pub use Rattle.spec_locks.proofs.SiteFacts.{fewer_share}
 pub use Rattle.spec_locks.proofs.SiteKeeps.{deed_keeps}
 pub use Rattle.spec_locks.specs.Bypass.{IsHandedOn, LetsGoWhileSomeWait, ReleasesFairly, ahead, in_hands}
 pub use Rattle.spec_locks.specs.Bypass.{passed, turns}
-pub use Rattle.spec_locks.specs.CallTable.{Trades}
+pub use Rattle.spec_locks.specs.Trade.{Trades}
 pub use Rattle.spec_locks.specs.Calls.{lock_in, mutex_named}
 pub use Rattle.spec_locks.specs.Codes.{HasLimit, IsHandOff, TellsTrue, aside_in, bars, bit, code, code_of}
 pub use Rattle.spec_locks.specs.Codes.{count_in, fills, has_aside, has_parked, has_writer, is_blocked}
@@ -407,7 +407,7 @@ pub use Rattle.lot_laws.specs.Owing.{LooksFirst, OnlyLooks, Owes, OwesSince, Rel
 pub use Rattle.lot_laws.specs.Owing.{TakesNext, line_let_in, sort_at, tells_by, tells_of}
 pub use Rattle.lot_laws.specs.Promises.{AreLookedAfterIn, GoesToWake, HasOrPends, IsAboutToMark, IsDebtorOf}
 pub use Rattle.lot_laws.specs.Promises.{IsHandedOverIn, IsKept, IsLookedAfterIn, IsOpenNow, IsOwedWake}
-pub use Rattle.lot_laws.specs.Promises.{IsToMark, IsTry, IsWaitingCall, IsWithinLimit, LeadsToSleep, SetsBit}
+pub use Rattle.lot_laws.specs.Promises.{IsToMark, IsTry, IsWaitingCall, LeadsToSleep, SetsBit}
 pub use Rattle.lot_laws.specs.Promises.{ShowsItsWaiters, WaitHasReleased, WaitsFor, WakesWaiters}
 pub use Rattle.lot_laws.specs.Promises.{WasNeverFull, holder, mutex_seen, want_of}
 pub use Rattle.lot_laws.specs.Refinement.{ChangesOneThing, RunsClosure, before_entry, call_at, call_on}

@@ -15,5 +15,6 @@ pub mod EachLock
 pub mod TriesPass
 pub mod LooksOnce
 pub mod Tries
+pub mod TriesEnd
 pub mod Spins
 pub mod Marked

@@ -1,5 +1,4 @@
 pub mod Refinement
-pub mod OnItsWay
 pub mod Promises
 pub mod MutexPromises
 pub mod Fair

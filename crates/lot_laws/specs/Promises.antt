@@ -20,7 +20,7 @@ use Rattle.spec_locks.specs.Codes.{word_by, parked_in, aside_in, has_aside, is_r
 use Rattle.steps_rwlock.specs.RwLockSteps.{plus}
 use Rattle.steps_once.specs.OnceSteps.{marked}
 use Rattle.spec_locks.specs.Runs.{AreLockStates, CallState, LetsGo, ShowsWaiters}
-use Rattle.spec_locks.specs.Sites.{Line, Main, Second, counts_some, has_readers}
+use Rattle.spec_locks.specs.Sites.{IsWithinLimit, Line, Main, Second, counts_some, has_readers}
 pub use Rattle.spec_locks.specs.Headline.{want_of, mutex_seen, WakesWaiters, IsOpenNow, HasOrPends}
 pub use Rattle.spec_locks.specs.Headline.{GoesFreely}
 use Rattle.spec_locks.specs.Purposes.{Purpose, Enters, Releases, Converts, Bumps, CallsOnce, Awaits}
@@ -29,7 +29,6 @@ use Rattle.spec_locks.specs.declared.calls.Patience.TheVariants.{Try}
 use Rattle.lot_laws.specs.Refinement.{RunsClosure, lock_state, locks_of, call_at}
 use Rattle.lot_laws.specs.Locations.{role_on}
 use Rattle.lot_laws.specs.SitesOf.{rules_in, key_of}
-use Rattle.lot_laws.specs.OnItsWay.{HeedsItsTime, IsOnItsWay}
 use Rattle.lot_laws.specs.Owing.{Owes, IsInside, IsWait, LetsOthersIn, sort_at}
 
 -- a thread stands in the queue of a lock
@@ -143,11 +142,6 @@ pub record IsHandedOverIn (w : State) (t : ℕ) : Type 0 where
   pub inside : section_at w (2 * lock) ≡ Some by
   pub in_hand : taker (place_at w t) ≡ Some by
   pub wakes : act_of (place_at w by) ≡ Leave (One (2 * lock)) (wakes.TheVariants.All HandOff)
-
--- as many share as the limit allows; on a recursive lock one more, where an upgrade gave up beside
--- a reader that came back
-abbrev pub IsWithinLimit : Rules → LockState → Type 0
-IsWithinLimit r s = (count s ≤ r.limit) ⊎ ((r.sort ≡ Recursive) × (count s ≡ r.limit + 1))
 
 -- a condition variable shows a mutex exactly while somebody waits for it, each in a call that waits
 -- with that mutex
@@ -269,7 +263,3 @@ pub record IsKept (w : State) : Type 0 where
   pub shows : (l : ℕ) → sort_at w l ≡ locks.Condvar → ShowsWaiters (locks_of w) l
   -- a wait that sleeps has released its mutex
   pub let_go : (t : ℕ) → LetsGo (locks_of w) t
-  -- A thread in a call owns what it owned as the call began, or what the call trades that for.
-  pub on_its_way : (t : ℕ) → IsOnItsWay (call_at w t).purpose (locks_of w) t (call_at w t)
-  -- a thread whose time was up gives up before it sleeps again
-  pub heeds : (t : ℕ) → HeedsItsTime (locks_of w) t

@@ -4,7 +4,7 @@ use Rattle.std.proofs.Common.{◌∷◌, ◌++◌, length, refl, sym, ◌∙◌,
 use Rattle.std.proofs.lemmas.Bool.Decides.{nat_tests}
 use Rattle.spec_locks.specs.declared.calls.Step.{Step}
 use Rattle.spec_locks.specs.declared.calls.Turn.TheVariants as turn
-use Rattle.spec_locks.specs.EachState.{IsQuiet}
+use Rattle.spec_locks.specs.Rest.{IsQuiet}
 use Rattle.spec_locks.specs.Runs.{MayGo}
 use Rattle.lot_machine.specs.Machine.{State, after, can_go, go_of, is_possible, kind_at, place_at, word_at}
 use Rattle.lot_machine.specs.Fits.{SameSize}

@@ -12,7 +12,7 @@ use Rattle.lot_machine.specs.Machine.{State, after, can_go, go_of, go_outcome, i
 use Rattle.lot_machine.specs.Machine.{step_outcome}
 use Rattle.lot_machine.specs.Machine.{filled_at}
 use Rattle.lot_machine.specs.Fits.{SameSize}
-use Rattle.spec_locks.specs.EachState.{WaitersWaitRightly}
+use Rattle.spec_locks.specs.Rest.{WaitersWaitRightly}
 use Rattle.lot_laws.specs.Refinement.{locks_of}
 use Rattle.lot_laws.proofs.promises.Headline.{holds_after}
 use Rattle.lot_laws.specs.SitesOf.{IsWorld}

@@ -5,7 +5,7 @@ use Rattle.spec_locks.specs.declared.calls.Turn as turn
 use Rattle.spec_locks.specs.declared.calls.Step.{Step}
 use Rattle.spec_locks.specs.declared.outcomes.Outcome.{Outcome}
 use Rattle.spec_locks.specs.declared.outcomes.Outcome as outcome
-use Rattle.spec_locks.specs.EachState.{IsQuiet}
+use Rattle.spec_locks.specs.Rest.{IsQuiet}
 use Rattle.lot_machine.specs.Machine.{State, after, go_of, is_possible}
 use Rattle.lot_laws.specs.Refinement.{locks_of}
 use Rattle.lot_laws.specs.SitesOf.{IsWorld}

@@ -29,7 +29,7 @@ ghost use Rattle.lot_laws.specs.Solo.{IsUnderWay, IsUnobstructed, HasWhatItReads
 ghost use Rattle.lot_laws.specs.Solo.{EndsOrSleeps, EndsAlone, IsSoloRun};
 ghost use Rattle.lot_machine.specs.Views.{StandUnder, owners_of, queue_of, debts_of};
 ghost use Rattle.lot_rests.specs.Rests.{ComesToRest, GoesRound, Settles, is_turn};
-ghost use Rattle.spec_locks.specs.EachState as each_state;
+ghost use Rattle.spec_locks.specs.Rest as rest;
 ghost use Rattle.lot_world.specs.Drains.{IsDrainable, IsDrain};
 ghost use Rattle.lot_world.specs.Drainable.{is_drainable};
 ghost use Rattle.lot_world.specs.Schedules.{schedule_of};
@@ -352,8 +352,8 @@ impl<Q: Queues + Drop> World<Q> {
         ensures settles { Settles self.old self.new }
 
         // Each thread in a call sleeps or runs a closure.
-        ensures quiet { each_state.IsQuiet (locks_of self.new) }
-        ensures rests { each_state.WaitersWaitRightly (locks_of self.new) (filled_at self.new) }
+        ensures quiet { rest.IsQuiet (locks_of self.new) }
+        ensures rests { rest.WaitersWaitRightly (locks_of self.new) (filled_at self.new) }
         ensures same_size { SameSize self.old self.new }
     {
         // Brings the world's invariant into the proof, as above.

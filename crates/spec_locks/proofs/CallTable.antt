@@ -33,8 +33,9 @@ use Rattle.spec_locks.specs.Purposes.{Purpose, Enters, Releases, Converts, Bumps
 use Rattle.spec_locks.specs.Purposes.{Notifies, Patience, Patient, Timed, Try, mutex_purpose, purpose_of}
 use Rattle.spec_locks.specs.Purposes.{rwlock_purpose}
 use Rattle.spec_locks.specs.Runs.{LocksState, CallState, AnswerHolds, EntersAnswer, ConvertsAnswer, Gains}
-use Rattle.spec_locks.specs.Runs.{HasRight, Keeps, Loses, MayBegin, MayTurn, purpose_at, rights_in}
-use Rattle.spec_locks.specs.CallTable.{CanBegin, IsPossible, IsTrue, Trades, goal_of}
+use Rattle.spec_locks.specs.Runs.{HasRight, Loses, MayBegin, MayTurn, purpose_at, rights_in}
+use Rattle.spec_locks.specs.CallTable.{CanBegin, IsPossible, IsTrue, goal_of}
+use Rattle.spec_locks.specs.Trade.{Trades}
 
 -- ---------------------------------------------------------------- goals
 
@@ -188,9 +189,6 @@ put_own f l k = either (k == l) refl
     either true e = ap f (sym (eqb-true k l e))
 
 module _ (v : LocksState) (t : ℕ) (c : CallState) (l : ℕ) where
-  keeps : Keeps v t c → Trades v t c l None None
-  keeps h k = put_own (rights_in v t) l k ∙ h k ∙ sym (put_own c.former l k)
-
   gains : (x : Want) → Gains v t c l x → Trades v t c l None (Some x)
   gains x h k = put_own (rights_in v t) l k ∙ h k
 
@@ -198,56 +196,56 @@ module _ (v : LocksState) (t : ℕ) (c : CallState) (l : ℕ) where
   loses x h k = h k ∙ sym (put_own c.former l k)
 
   tries : (x : Want) → EntersAnswer v t c l x Try No → IsTrue (Some (Enters l x Try)) No v t c
-  tries wants.Exclusive h = (h.0, keeps h.1)
-  tries wants.Upgradable h = (h.0, keeps h.1)
-  tries wants.Shared h = (h.0, keeps h.1)
-  tries wants.Wait h = (h.0, keeps h.1)
-  tries wants.CallOnce h = (h.0, keeps h.1)
+  tries wants.Exclusive h = h
+  tries wants.Upgradable h = h
+  tries wants.Shared h = h
+  tries wants.Wait h = h
+  tries wants.CallOnce h = h
 
   enters : (x : Want) (how : Patience) (a : Answer) → EntersAnswer v t c l x how a
       → IsTrue (Some (Enters l x how)) a v t c
   enters x Patient Ok h = (h.0, gains x h.1)
   enters x Timed Yes h = (h.0, gains x h.1)
-  enters x Timed No h = (h.0, keeps h.1)
+  enters x Timed No h = h
   enters x Try Yes h = (h.0, gains x h.1)
   enters x Try No h = tries x h
-  enters x Patient ReadersFull h = (h.0, keeps h.1)
-  enters x Timed ReadersFull h = (h.0, keeps h.1)
-  enters x Try ReadersFull h = (h.0, keeps h.1)
+  enters x Patient ReadersFull h = h
+  enters x Timed ReadersFull h = h
+  enters x Try ReadersFull h = h
   enters x how a h = absurd h
 
   converts : (x y : Want) (how : Patience) (a : Answer) → ConvertsAnswer v t c l x y how a
       → IsTrue (Some (Converts l x y how)) a v t c
-  converts x y Patient Ok h = h
-  converts x y Timed Yes h = h
-  converts x y Timed No h = (h.0, keeps h.1)
-  converts x y Try Yes h = h
-  converts x y Try No h = (h.0, keeps h.1)
+  converts x y Patient Ok h = (tt, h)
+  converts x y Timed Yes h = (tt, h)
+  converts x y Timed No h = h
+  converts x y Try Yes h = (tt, h)
+  converts x y Try No h = h
   converts x y how a h = absurd h
 
 pub answer_is : (o : Option Purpose) (v : LocksState) (t : ℕ) (c : CallState) (a : Answer)
     → AnswerHolds o v t c a → IsTrue o a v t c
 answer_is None v t c a h = absurd h
 answer_is (Some (Enters l x how)) v t c a h = enters v t c l x how a h
-answer_is (Some (Releases l x fair)) v t c Ok h = loses v t c l x h
+answer_is (Some (Releases l x fair)) v t c Ok h = (tt, loses v t c l x h)
 answer_is (Some (Converts l x y how)) v t c a h = converts v t c l x y how a h
-answer_is (Some (Bumps l x)) v t c Ok h = (h.0, keeps v t c l h.1)
+answer_is (Some (Bumps l x)) v t c Ok h = h
 answer_is (Some (Bumps l x)) v t c ReadersFull h = (h.0, loses v t c l x h.1)
-answer_is (Some (CallsOnce l forced)) v t c Ok h = (h.0, h.1, keeps v t c l h.2)
-answer_is (Some (CallsOnce l forced)) v t c Poisoned h = (h.0, h.1, h.2, keeps v t c l h.3)
-answer_is (Some (CallsOnce l forced)) v t c Failed h = (h.0, keeps v t c l h.1)
-answer_is (Some (Awaits l forced false)) v t c Ok h = (h.0, keeps v t c l h.1)
-answer_is (Some (Awaits l forced true)) v t c Yes h = (h.0, keeps v t c l h.1)
-answer_is (Some (Awaits l forced true)) v t c No h = (h.0, keeps v t c l h.1)
-answer_is (Some (Awaits l forced true)) v t c Poisoned h = (h.0, h.1, keeps v t c l h.2)
-answer_is (Some (Awaits l forced false)) v t c Poisoned h = (h.0, h.1, keeps v t c l h.2)
-answer_is (Some (Waits l m false)) v t c Ok h = (h.0, h.1.0, keeps v t c l h.1.1)
-answer_is (Some (Waits l m true)) v t c Notified h = (h.0, h.1.0, keeps v t c l h.1.1)
-answer_is (Some (Waits l m true)) v t c TimedOut h = (h.0, h.1, h.2.0, keeps v t c l h.2.1)
-answer_is (Some (Waits l m true)) v t c TwoMutexes h = (h.0, h.1, keeps v t c l h.2)
-answer_is (Some (Waits l m false)) v t c TwoMutexes h = (h.0, h.1, keeps v t c l h.2)
-answer_is (Some (Notifies l false)) v t c Yes h = (h.0, keeps v t c l h.1)
-answer_is (Some (Notifies l false)) v t c No h = (h.0, keeps v t c l h.1)
-answer_is (Some (Notifies l true)) v t c (Number n) (inl h) = inl (h.0, h.1, keeps v t c l h.2)
-answer_is (Some (Notifies l true)) v t c (Number n) (inr h) = inr (h.0, h.1, keeps v t c l h.2)
+answer_is (Some (CallsOnce l forced)) v t c Ok h = ((h.0, h.1), h.2)
+answer_is (Some (CallsOnce l forced)) v t c Poisoned h = ((h.0, h.1, h.2), h.3)
+answer_is (Some (CallsOnce l forced)) v t c Failed h = h
+answer_is (Some (Awaits l forced false)) v t c Ok h = h
+answer_is (Some (Awaits l forced true)) v t c Yes h = h
+answer_is (Some (Awaits l forced true)) v t c No h = h
+answer_is (Some (Awaits l forced true)) v t c Poisoned h = ((h.0, h.1), h.2)
+answer_is (Some (Awaits l forced false)) v t c Poisoned h = ((h.0, h.1), h.2)
+answer_is (Some (Waits l m false)) v t c Ok h = ((h.0, h.1.0), h.1.1)
+answer_is (Some (Waits l m true)) v t c Notified h = ((h.0, h.1.0), h.1.1)
+answer_is (Some (Waits l m true)) v t c TimedOut h = ((h.0, h.1, h.2.0), h.2.1)
+answer_is (Some (Waits l m true)) v t c TwoMutexes h = ((h.0, h.1), h.2)
+answer_is (Some (Waits l m false)) v t c TwoMutexes h = ((h.0, h.1), h.2)
+answer_is (Some (Notifies l false)) v t c Yes h = h
+answer_is (Some (Notifies l false)) v t c No h = h
+answer_is (Some (Notifies l true)) v t c (Number n) (inl h) = (inl (h.0, h.1), h.2)
+answer_is (Some (Notifies l true)) v t c (Number n) (inr h) = (inr (h.0, h.1), h.2)
 answer_is o v t c a h = absurd h

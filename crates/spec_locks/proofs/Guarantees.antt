@@ -30,8 +30,9 @@ use Rattle.spec_locks.specs.Sites.{Line, Main, Second, counts_some}
 use Rattle.spec_locks.specs.Runs.{LocksState, CallState, Event, Nothing, AtLock, Moves, AnswerHolds, Agrees}
 use Rattle.spec_locks.specs.Runs.{AreFree, Does, GoesOn, IsNotified, IsStep, IsTimely, MayBegin, MayDo, MayGo}
 use Rattle.spec_locks.specs.Runs.{MayHappen, MayTurn, MovedNobody, NotifiesAnswer, Turned, going_on, gives_up}
-use Rattle.spec_locks.specs.Runs.{new_call, rights_in, rules_at}
-use Rattle.spec_locks.specs.EachState.{IsQuiet, IsAwake, Opens, WaitersWaitRightly, WaitsForSome, full_by, sort_in}
+use Rattle.spec_locks.specs.Runs.{TriesEnd, new_call, rights_in, rules_at}
+use Rattle.spec_locks.specs.EachState.{IsAwake, Opens, full_by}
+use Rattle.spec_locks.specs.Rest.{IsQuiet, WaitersWaitRightly, WaitsForSome, sort_in}
 use Rattle.spec_locks.specs.EachStep.{Recalls, StepHolds}
 use Rattle.spec_locks.specs.Guarantees.{AllHold}
 use Rattle.spec_locks.proofs.CallTable.{answer_is, goal_is, is_possible, may_turn}
@@ -40,6 +41,7 @@ use Rattle.spec_locks.specs.GuaranteeLaws.{QuietWorldsRest, SafeStatesHold, Some
 use Rattle.spec_locks.specs.Headline.{Behaves, GoesFreely, IsDebtor, IsLookedAfter, IsOpenNow, IsSafe}
 use Rattle.spec_locks.specs.Headline.{WakesWaiters, want_of}
 use Rattle.spec_locks.proofs.LockKeeps.{opening_is_state}
+use Rattle.spec_locks.proofs.Owners.{exclude, stand}
 use Rattle.spec_locks.proofs.Runs.{run_keeps}
 use Rattle.spec_locks.proofs.QueueOrder.{queues_keep_order}
 use Rattle.spec_locks.proofs.Idle.{begins, ends, goes_on, is_late}
@@ -394,8 +396,8 @@ module _ (w v : LocksState) (t : ℕ) where
     nothing x (inr r) e = r.1.1
 
 pub step_holds : (w v : LocksState) (s : Step) (o : Outcome) (full : ℕ → Bool) → IsSafe w full
-    → IsStep w s o v → StepHolds w s o v
-step_holds w v s o full safe h = record {
+    → IsStep w s o v → TriesEnd w s o → StepHolds w s o v
+step_holds w v s o full safe h tries = record {
   same = (h.0.threads, h.0.size, h.0.kinds);
   goes = (
     λ e can. (refused w v s.thread o s.turn h.1).0 e (may_turn w s.thread s.turn can),
@@ -412,6 +414,7 @@ step_holds w v s o full safe h = record {
     answer_is (going_on g.event (w.calls s.thread)).purpose v s.thread (going_on g.event (w.calls s.thread))
         a (answered w v s.thread o a e g),
   ));
+  tries = tries;
   begins = λ begun e told. begins w v s o h.1 begun e told ∙ ap (λ p. new_call p (rights_in w s.thread))
       (goal_is w s.thread begun (may_begin begun e told).right);
   is_late = is_late w v s o h.1;
@@ -444,7 +447,8 @@ step_holds w v s o full safe h = record {
 
 pub safe_holds : SafeStatesHold
 safe_holds w full safe = record {
-  exclude = safe.exclude;
+  exclude = λ l. exclude (rules_at w l) (w.locks l) (safe.exclude l);
+  stand = λ l. stand (rules_at w l) (w.locks l) (safe.exclude l);
   rests = quiet_worlds_rest w full safe;
   goes = λ t. somebody_goes w full t safe;
   shown = safe.shown;
@@ -452,6 +456,9 @@ safe_holds w full safe = record {
   keeps = safe.keeps;
   runs = safe.runs;
   fair = safe.fair;
+  limited = safe.limited;
+  on_its_way = safe.on_its_way;
+  heeds = safe.heeds;
 }
 
 -- this state, and then those
@@ -465,12 +472,12 @@ behaves_hold : (full : ℕ → Bool) (w : LocksState) (ss : List Step) (os : Lis
 unfolding first_then
 behaves_hold full w [] [] v h = ((λ n. w), refl, safe_holds w full h.0)
 behaves_hold full w (s ∷ ss) (o ∷ os) v h =
-    let more = behaves_hold (full_by full h.1.0) h.1.0 ss os v h.1.2 in (
+    let more = behaves_hold (full_by full h.1.0) h.1.0 ss os v h.1.3 in (
       first_then w more.0,
       refl,
       (
         safe_holds w full h.0,
-        subst (StepHolds w s o) (sym more.1) (step_holds w h.1.0 s o full h.0 h.1.1),
+        subst (StepHolds w s o) (sym more.1) (step_holds w h.1.0 s o full h.0 h.1.1 h.1.2),
         subst (λ u. AllHold (full_by full u) more.0 ss os) (sym more.1) more.2,
       ),
     )

@@ -12,7 +12,7 @@ use Rattle.spec_locks.specs.Purposes.{Purpose, Releases, IsMadeOf, Timed, Try}
 use Rattle.spec_locks.proofs.Runs.{needs_of}
 use Rattle.spec_locks.specs.Runs.{LocksState, Event, Nothing, AtLock, Moves, MayDo, MayHappen, Does, Agrees}
 use Rattle.spec_locks.specs.Runs.{going_on, locks_after, rights_in, rules_at, no_rights}
-use Rattle.spec_locks.specs.Laws.{PossibleTurnsAreTaken, CallsTakeSteps, FairReleasesHandOver, OwnersExclude}
+use Rattle.spec_locks.specs.Laws.{PossibleTurnsAreTaken, CallsTakeSteps, FairReleasesHandOver, OwnersKeepOut}
 use Rattle.spec_locks.specs.Laws.{FreeMutexIsGot, trying}
 
 -- a deed is told, and never as a refusal
@@ -55,7 +55,7 @@ free_for : (r : Rules) (s : LockState) (t : ℕ) (x : Want) → Needs r (Enter x
 free_for r s t Exclusive n = n.0.0
 free_for r s t x n = n.0
 
-pub owners_exclude : OwnersExclude
+pub owners_exclude : OwnersKeepOut
 owners_exclude w t l x blocked may =
     blocked (free_for (rules_at w l) (w.locks l) t x (needs_of w t l (Enter x) (w.calls t).purpose may))
 

@@ -1,4 +1,5 @@
 pub mod LockKeeps
+pub mod Owners
 pub mod Left
 pub mod Moves
 pub mod Runs

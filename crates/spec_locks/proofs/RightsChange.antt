@@ -22,7 +22,7 @@ use Rattle.spec_locks.specs.Purposes.{NotifiesAtMutex, NotifiesAtCondvar, WaitsA
 use Rattle.spec_locks.specs.Runs.{LocksState, AreLockStates, Event, Nothing, AtLock, Moves, Does, GoesOn}
 use Rattle.spec_locks.specs.Runs.{MayDo, MayHappen, Turned, is_taken_by, joined_by, locks_after, rights_in}
 use Rattle.spec_locks.specs.Runs.{rules_at}
-use Rattle.spec_locks.specs.CallTable.{MayChange}
+use Rattle.spec_locks.specs.Trade.{MayChange}
 use Rattle.spec_locks.proofs.Idle.{same_number}
 use Rattle.spec_locks.proofs.Rights.{once_keeps, others_keep, rights_are}
 use Rattle.spec_locks.proofs.Runs.{needs_of}

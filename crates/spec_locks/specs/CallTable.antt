@@ -1,5 +1,5 @@
--- The goal of each call, the turns that are possible, the lock to which a call changes rights, and what each
--- answer says: the tables of which the first page is made.
+-- The goal of each call, the turns that are possible, and what each answer says: tables of which the first page
+-- is made.
 use Rattle.std.specs.Prelude.{ℕ, Bool, true, false, Option, Some, None, ◌≡◌, ◌≢◌, ◌≤◌, ◌<◌, ◌⊎◌}
 use Rattle.core_base.specs.declared.wants.Want.{Want}
 use Rattle.core_base.specs.declared.wants.Want.TheVariants.{Exclusive, Upgradable, Shared}
@@ -23,12 +23,12 @@ use Rattle.spec_locks.specs.declared.outcomes.Answer.TheVariants.{TwoMutexes}
 use Rattle.spec_locks.specs.Calls.{lock_in}
 use Rattle.spec_locks.specs.Kinds.{has_call, is_fair}
 use Rattle.spec_locks.specs.Onces.{Done, Poisoned}
-use Rattle.spec_locks.specs.Locks.{Mutex, Rights, IsBlocked, IsFree, Owns, count, putting, readers}
-use Rattle.spec_locks.specs.Locks.{with_right}
+use Rattle.spec_locks.specs.Locks.{Mutex, IsBlocked, IsFree, Owns, count, readers}
 use Rattle.spec_locks.specs.Purposes.{Purpose, Enters, Releases, Converts, Bumps, CallsOnce, Awaits, Waits}
 use Rattle.spec_locks.specs.Purposes.{Notifies, HasMoved, Patient, Timed, Try}
 use Rattle.spec_locks.specs.Runs.{LocksState, CallState, HasRight, IsNotified, MayBeLate, MayGo, MovedNobody}
-use Rattle.spec_locks.specs.Runs.{rights_in, rules_at}
+use Rattle.spec_locks.specs.Runs.{rules_at}
+use Rattle.spec_locks.specs.Trade.{OwnsBy, trade_of}
 
 -- ---------------------------------------------------------------- goals
 
@@ -85,83 +85,63 @@ IsPossible w t Late = MayBeLate w t
 IsPossible w t turn.Ok = (w.stances t).in_closure ≡ true
 IsPossible w t turn.Err = (w.stances t).in_closure ≡ true
 
--- ---------------------------------------------------------------- rights
-
--- the lock to which a call changes its thread's rights; a wait, to its mutex
-abbrev pub MayChange : Option Purpose → ℕ → Type 0
-MayChange None l = ⊥
-MayChange (Some (Enters k x how)) l = k ≡ l
-MayChange (Some (Releases k x fair)) l = k ≡ l
-MayChange (Some (Converts k x y how)) l = k ≡ l
-MayChange (Some (Bumps k x)) l = k ≡ l
-MayChange (Some (CallsOnce k forced)) l = ⊥
-MayChange (Some (Awaits k forced timed)) l = ⊥
-MayChange (Some (Waits k m timed)) l = m ≡ l
-MayChange (Some (Notifies k all)) l = ⊥
-
 -- ---------------------------------------------------------------- answers
-
-abbrev pub one_more : Option Want → Rights → Rights
-one_more None r = r
-one_more (Some x) r = with_right x r
-
--- the thread owns what it owned as its call c began, but for a right to l that it lost and one that it got
-abbrev pub Trades : LocksState → ℕ → CallState → ℕ → (lost got : Option Want) → Type 0
-Trades v t c l lost got = (k : ℕ) → putting (rights_in v t) l (one_more lost (rights_in v t l)) k
-    ≡ putting c.former l (one_more got (c.former l)) k
 
 -- only the limit keeps it out
 abbrev pub IsFullFor : LocksState → ℕ → Want → Type 0
 IsFullFor v l x = (x ≢ Exclusive) × IsFree (rules_at v l) (v.locks l) x
     × ((rules_at v l).limit ≤ count (v.locks l))
 
--- an answer is true of the state v in which the thread t is given it; c is what its call recalls
-abbrev pub IsTrue : Option Purpose → Answer → LocksState → ℕ → CallState → Type 0
-IsTrue (Some (Enters l x Patient)) Ok v t c = Owns (v.locks l) t x × Trades v t c l None (Some x)
-IsTrue (Some (Enters l x Timed)) Yes v t c = Owns (v.locks l) t x × Trades v t c l None (Some x)
-IsTrue (Some (Enters l x Try)) Yes v t c = Owns (v.locks l) t x × Trades v t c l None (Some x)
-IsTrue (Some (Enters l x Timed)) No v t c = (c.gave_up ≡ Some l) × Trades v t c l None None
-IsTrue (Some (Enters l Exclusive Try)) No v t c =
-    ((rules_at v l).sort ≡ Mutex → IsBlocked (rules_at v l) (v.locks l) Exclusive)
-    × Trades v t c l None None
-IsTrue (Some (Enters l x Try)) No v t c =
-    IsBlocked (rules_at v l) (v.locks l) x × Trades v t c l None None
-IsTrue (Some (Enters l x how)) ReadersFull v t c = IsFullFor v l x × Trades v t c l None None
-IsTrue (Some (Releases l x fair)) Ok v t c = Trades v t c l (Some x) None
-IsTrue (Some (Converts l x y Patient)) Ok v t c = Trades v t c l (Some x) (Some y)
-IsTrue (Some (Converts l x y Timed)) Yes v t c = Trades v t c l (Some x) (Some y)
-IsTrue (Some (Converts l x y Try)) Yes v t c = Trades v t c l (Some x) (Some y)
-IsTrue (Some (Converts l x y Timed)) No v t c = (c.gave_up ≡ Some l) × Trades v t c l None None
-IsTrue (Some (Converts l x y Try)) No v t c = (1 ≤ readers (v.locks l)) × Trades v t c l None None
-IsTrue (Some (Bumps l x)) Ok v t c = Owns (v.locks l) t x × Trades v t c l None None
-IsTrue (Some (Bumps l x)) ReadersFull v t c = IsFullFor v l x × Trades v t c l (Some x) None
-IsTrue (Some (CallsOnce l forced)) Ok v t c =
-    (c.failed ≡ false) × ((v.locks l).phase ≡ Done) × Trades v t c l None None
-IsTrue (Some (CallsOnce l forced)) IsPoisoned v t c =
-    (c.failed ≡ false) × ((v.locks l).phase ≡ Poisoned) × (forced ≡ false) × Trades v t c l None None
-IsTrue (Some (CallsOnce l forced)) Failed v t c = (c.failed ≡ true) × Trades v t c l None None
-IsTrue (Some (Awaits l forced false)) Ok v t c =
-    ((v.locks l).phase ≡ Done) × Trades v t c l None None
-IsTrue (Some (Awaits l forced true)) Yes v t c =
-    ((v.locks l).phase ≡ Done) × Trades v t c l None None
-IsTrue (Some (Awaits l forced true)) No v t c =
-    (c.gave_up ≡ Some l) × Trades v t c l None None
-IsTrue (Some (Awaits l forced timed)) IsPoisoned v t c =
-    ((v.locks l).phase ≡ Poisoned) × (forced ≡ false) × Trades v t c l None None
-IsTrue (Some (Waits l m false)) Ok v t c =
-    IsNotified c.recalls × (c.released ≡ true) × Trades v t c l None None
-IsTrue (Some (Waits l m true)) Notified v t c =
-    IsNotified c.recalls × (c.released ≡ true) × Trades v t c l None None
-IsTrue (Some (Waits l m true)) TimedOut v t c =
-    (c.gave_up ≡ Some l) × (IsNotified c.recalls → ⊥) × (c.released ≡ true) × Trades v t c l None None
-IsTrue (Some (Waits l m timed)) TwoMutexes v t c =
+-- what an answer says of the state v in which the thread t is given it, but for what the thread owns; c is what
+-- its call recalls
+abbrev pub Says : Purpose → Answer → LocksState → ℕ → CallState → Type 0
+Says (Enters l x Patient) Ok v t c = Owns (v.locks l) t x
+Says (Enters l x Timed) Yes v t c = Owns (v.locks l) t x
+Says (Enters l x Try) Yes v t c = Owns (v.locks l) t x
+Says (Enters l x Timed) No v t c = c.gave_up ≡ Some l
+Says (Enters l Exclusive Try) No v t c =
+    (rules_at v l).sort ≡ Mutex → IsBlocked (rules_at v l) (v.locks l) Exclusive
+Says (Enters l x Try) No v t c = IsBlocked (rules_at v l) (v.locks l) x
+Says (Enters l x how) ReadersFull v t c = IsFullFor v l x
+Says (Releases l x fair) Ok v t c = Unit {0}
+Says (Converts l x y Patient) Ok v t c = Unit {0}
+Says (Converts l x y Timed) Yes v t c = Unit {0}
+Says (Converts l x y Try) Yes v t c = Unit {0}
+Says (Converts l x y Timed) No v t c = c.gave_up ≡ Some l
+Says (Converts l x y Try) No v t c = 1 ≤ readers (v.locks l)
+Says (Bumps l x) Ok v t c = Owns (v.locks l) t x
+Says (Bumps l x) ReadersFull v t c = IsFullFor v l x
+Says (CallsOnce l forced) Ok v t c = (c.failed ≡ false) × ((v.locks l).phase ≡ Done)
+Says (CallsOnce l forced) IsPoisoned v t c =
+    (c.failed ≡ false) × ((v.locks l).phase ≡ Poisoned) × (forced ≡ false)
+Says (CallsOnce l forced) Failed v t c = c.failed ≡ true
+Says (Awaits l forced false) Ok v t c = (v.locks l).phase ≡ Done
+Says (Awaits l forced true) Yes v t c = (v.locks l).phase ≡ Done
+Says (Awaits l forced true) No v t c = c.gave_up ≡ Some l
+Says (Awaits l forced timed) IsPoisoned v t c = ((v.locks l).phase ≡ Poisoned) × (forced ≡ false)
+Says (Waits l m false) Ok v t c = IsNotified c.recalls × (c.released ≡ true)
+Says (Waits l m true) Notified v t c = IsNotified c.recalls × (c.released ≡ true)
+Says (Waits l m true) TimedOut v t c =
+    (c.gave_up ≡ Some l) × (IsNotified c.recalls → ⊥) × (c.released ≡ true)
+Says (Waits l m timed) TwoMutexes v t c =
     (c.released ≡ false) × (((v.locks l).shown ≢ None) × ((v.locks l).shown ≢ Some m))
-    × Trades v t c l None None
-IsTrue (Some (Notifies l false)) Yes v t c =
-    ((m : ℕ) × (c.recalls ≡ HasMoved m 1)) × Trades v t c l None None
-IsTrue (Some (Notifies l false)) No v t c =
-    MovedNobody (v.locks l) c.recalls × Trades v t c l None None
-IsTrue (Some (Notifies l true)) (Number n) v t c =
-    ((n ≡ 0) × MovedNobody (v.locks l) c.recalls × Trades v t c l None None)
-    ⊎ ((n ≢ 0) × ((m : ℕ) × (c.recalls ≡ HasMoved m n)) × Trades v t c l None None)
-IsTrue goal a v t c = ⊥
+Says (Notifies l false) Yes v t c = (m : ℕ) × (c.recalls ≡ HasMoved m 1)
+Says (Notifies l false) No v t c = MovedNobody (v.locks l) c.recalls
+Says (Notifies l true) (Number n) v t c = ((n ≡ 0) × MovedNobody (v.locks l) c.recalls)
+    ⊎ ((n ≢ 0) × ((m : ℕ) × (c.recalls ≡ HasMoved m n)))
+Says goal a v t c = ⊥
+
+-- whether the thread has made the trade of its call, where it is answered so
+abbrev pub has_traded : Purpose → Answer → Bool
+has_traded (Enters l x how) Ok = true
+has_traded (Enters l x how) Yes = true
+has_traded (Releases l x fair) Ok = true
+has_traded (Converts l x y how) Ok = true
+has_traded (Converts l x y how) Yes = true
+has_traded (Bumps l x) ReadersFull = true
+has_traded goal a = false
+
+-- an answer is true: of the state, and of what the thread owns
+abbrev pub IsTrue : Option Purpose → Answer → LocksState → ℕ → CallState → Type 0
+IsTrue None a v t c = ⊥
+IsTrue (Some goal) a v t c = Says goal a v t c × OwnsBy (has_traded goal a) (trade_of goal) v t c

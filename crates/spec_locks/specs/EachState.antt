@@ -1,64 +1,33 @@
 -- The guarantees of each state: exclusion, quiescence, no stuck world, what condition variables show, what
 -- their sleepers own, which thread runs a `Once`, and that a fair mutex is kept for its waiters.
-use Rattle.std.specs.Prelude.{ℕ, Bool, true, false, None, Some, ◌||◌, ◌≡◌, ◌≢◌, ◌≤◌, ◌⊎◌, ◌↔◌, List, length}
+use Rattle.std.specs.Prelude.{ℕ, Bool, true, false, None, Some, ◌||◌, ◌≡◌, ◌≢◌, ◌≤◌, ◌↔◌, List, length}
 use Rattle.std.specs.Prelude.{get_or}
 use Rattle.core_base.specs.declared.wants.Want.TheVariants.{Exclusive}
 use Rattle.spec_locks.specs.declared.kinds.Kind.{Kind}
 use Rattle.spec_locks.specs.declared.kinds.Kind.TheVariants as kind
-use Rattle.spec_locks.specs.CallTable.{Trades}
+use Rattle.spec_locks.specs.Trade.{IsOnItsWay, Trades}
 use Rattle.spec_locks.specs.Kinds.{is_fair}
-use Rattle.spec_locks.specs.Onces.{Done, InProgress, IsRunning}
-use Rattle.spec_locks.specs.Locks.{Sort, Mutex, Normal, Recursive, Semaphore, Once, Condvar, LockState}
-use Rattle.spec_locks.specs.Locks.{has_caller, readers, standing, times}
+use Rattle.spec_locks.specs.Onces.{InProgress}
+use Rattle.spec_locks.specs.Owners.{Condvar, OwnersExclude}
+use Rattle.spec_locks.specs.Locks.{WaitersStand, owners_of, standing}
 use Rattle.spec_locks.specs.Purposes.{CallsOnce, Waits}
-use Rattle.spec_locks.specs.Sites.{has_readers, is_full}
-use Rattle.spec_locks.specs.Runs.{LocksState, Status, AreLockStates, IsNotified, IsOpening, LetsGo, MayGo}
-use Rattle.spec_locks.specs.Runs.{ShowsWaiters, rules_at}
-
--- ---------------------------------------------------------------- a world at rest
-
-abbrev pub sort_in : LocksState → ℕ → Sort
-sort_in w l = (rules_at w l).sort
+use Rattle.spec_locks.specs.Sites.{IsWithinLimit, has_readers, is_full}
+use Rattle.spec_locks.specs.Rest.{IsQuiet, WaitersWaitRightly, sort_in}
+use Rattle.spec_locks.specs.Runs.{LocksState, Status, IsNotified, IsOpening, LetsGo, MayGo, ShowsWaiters}
+use Rattle.spec_locks.specs.Runs.{HeedsItsTime, rules_at}
 
 -- a thread is awake, and runs no closure
 abbrev pub IsAwake : Status → Type 0
 IsAwake stance = (stance.asleep ≡ false) × (stance.in_closure ≡ false)
 
--- no thread has anything to do: each one in a call sleeps, or runs a closure
-abbrev pub IsQuiet : LocksState → Type 0
-IsQuiet w = (t : ℕ) → (w.calls t).purpose ≢ None
-    → ((w.stances t).asleep ≡ true) ⊎ ((w.stances t).in_closure ≡ true)
-
--- a waiter of the main line waits that an owner leaves, that a permit is given back or that it is notified;
--- at a `Once`, that a run ends, or that one begins, where nobody is there to run it
-abbrev pub WaitsForSome : Sort → ℕ → LockState → Type 0
-WaitsForSome Mutex limit s = s.exclusive ≢ None
-WaitsForSome Normal limit s = (s.exclusive ≢ None) ⊎ ((s.pending ≢ None) ⊎ (s.upgradable ≢ None))
-WaitsForSome Recursive limit s =
-    (s.exclusive ≢ None) ⊎ ((s.pending ≢ None) ⊎ (s.upgradable ≢ None))
-WaitsForSome Semaphore limit s = limit ≤ readers s
-WaitsForSome Once limit s = (s.phase ≢ Done) × (has_caller s.queue ≡ true → IsRunning s.phase)
-WaitsForSome Condvar limit s = s.shown ≢ None
-
-pub record WaitersWaitRightly (w : LocksState) (was_full : ℕ → Bool) : Type 0 where
-  -- a lock that is shared and was once at its limit is left out
-  pub waits : (t l : ℕ) → 1 ≤ times t (w.locks l).queue
-      → (has_readers (sort_in w l) ≡ true → was_full l ≡ false)
-      → WaitsForSome (sort_in w l) (rules_at w l).limit (w.locks l)
-  -- a writer aside waits for readers
-  pub aside : (l : ℕ) → (w.locks l).aside ≢ None → 1 ≤ readers (w.locks l)
-  -- nobody is in the hand of another
-  pub in_no_hand : (t l : ℕ) → (w.locks l).taken t ≡ None
-  -- A thread that sleeps stands in a queue or aside.
-  pub somewhere : (t : ℕ) → (w.stances t).asleep ≡ true
-      → (l : ℕ) × ((1 ≤ times t (w.locks l).queue) ⊎ ((w.locks l).aside ≡ Some t))
-
 -- ---------------------------------------------------------------- each state
 
 -- in a state in which these locks were once at their limit
 pub record StateHolds (w : LocksState) (was_full : ℕ → Bool) : Type 0 where
-  -- owners exclude each other, and each thread stands once in a queue at most
-  pub exclude : AreLockStates w
+  -- owners exclude each other
+  pub exclude : (l : ℕ) → OwnersExclude (rules_at w l) (owners_of (w.locks l))
+  -- each thread stands once in a queue at most, for what the lock has
+  pub stand : (l : ℕ) → WaitersStand (sort_in w l) (w.locks l)
   -- where no thread has anything to do, nobody waits for a lock that is open
   pub rests : IsQuiet w → WaitersWaitRightly w was_full
   -- While a thread is awake in a call, some thread can go on.
@@ -76,6 +45,12 @@ pub record StateHolds (w : LocksState) (was_full : ℕ → Bool) : Type 0 where
   -- A fair mutex is owned while somebody waits for it, also in a hand.
   pub fair : (t l : ℕ) → is_fair (w.kinds l) ≡ true → 1 ≤ standing t (w.locks l)
       → (w.locks l).exclusive ≢ None
+  -- as many share as the limit allows
+  pub limited : (l : ℕ) → has_readers (sort_in w l) ≡ true → IsWithinLimit (rules_at w l) (w.locks l)
+  -- A thread in a call owns what it owned as the call began, or what the call trades that for.
+  pub on_its_way : (t : ℕ) → IsOnItsWay (w.calls t).purpose w t (w.calls t)
+  -- a thread whose time was up gives up before it sleeps again
+  pub heeds : (t : ℕ) → HeedsItsTime w t
 
 -- ---------------------------------------------------------------- the first state
 

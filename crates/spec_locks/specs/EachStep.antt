@@ -19,9 +19,10 @@ use Rattle.spec_locks.specs.Locks.{times}
 use Rattle.spec_locks.specs.Onces.{Phase, New, Poisoned, InProgress, Done, MayRest}
 use Rattle.spec_locks.specs.Purposes.{CallsOnce, HasMoved, MayWait, Notifies, Saw, Waits}
 use Rattle.spec_locks.specs.Runs.{LocksState, CallState, IsNotified, MayWake, SectionChanges, is_closure}
-use Rattle.spec_locks.specs.Runs.{is_taken_by}
+use Rattle.spec_locks.specs.Runs.{TriesEnd, is_taken_by}
 use Rattle.spec_locks.specs.Runs.{new_call, no_call, rights_in, rules_at}
-use Rattle.spec_locks.specs.CallTable.{IsPossible, IsTrue, MayChange, goal_of}
+use Rattle.spec_locks.specs.CallTable.{IsPossible, IsTrue, goal_of}
+use Rattle.spec_locks.specs.Trade.{MayChange}
 use Rattle.spec_locks.specs.CondvarLaws.{NobodyWakesByItself}
 use Rattle.spec_locks.specs.UserLaws.{ReadersStayOut}
 
@@ -143,6 +144,8 @@ pub record StepHolds (w : LocksState) (step : Step) (o : Outcome) (v : LocksStat
   pub answer : (a : Answer) → o ≡ End a
       → (now : CallState) × Recalls w step.thread now × RecallsTruly w v step.thread now
       × Tells w v step.thread now × IsTrue now.purpose a v step.thread now
+  -- a try to lock a mutex, or to write, ends as its thread goes on
+  pub tries : TriesEnd w step o
   -- a call begins, and its time is up, by these turns alone; it is forgotten as it ends, and else goes on
   pub begins : (begun : Call) → step.turn ≡ Begin begun → o ≢ NotNow
       → v.calls step.thread

@@ -9,7 +9,8 @@ use Rattle.spec_locks.specs.declared.outcomes.Outcome as outcome
 use Rattle.spec_locks.specs.Locks.{Condvar, times}
 use Rattle.spec_locks.specs.Purposes.{Blank, Notifies, Saw}
 use Rattle.spec_locks.specs.Runs.{LocksState, AreLockStates, IsBeingEmptied, IsOpening, IsRun, IsStep, MayGo}
-use Rattle.spec_locks.specs.EachState.{IsAwake, IsQuiet, WaitersWaitRightly, StateHolds, sort_in}
+use Rattle.spec_locks.specs.EachState.{IsAwake, StateHolds}
+use Rattle.spec_locks.specs.Rest.{IsQuiet, WaitersWaitRightly, sort_in}
 use Rattle.spec_locks.specs.Guarantees.{IsGuaranteed}
 use Rattle.spec_locks.specs.Headline.{IsSafe, MayTell}
 

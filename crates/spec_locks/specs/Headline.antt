@@ -10,7 +10,7 @@ use Rattle.core_base.specs.Keys.{key_of}
 use Rattle.spec_locks.specs.declared.calls.Step.{Step}
 use Rattle.spec_locks.specs.declared.kinds.Kind.{Kind}
 use Rattle.spec_locks.specs.declared.outcomes.Outcome.{Outcome}
-use Rattle.spec_locks.specs.CallTable.{Trades}
+use Rattle.spec_locks.specs.Trade.{IsOnItsWay, Trades}
 use Rattle.spec_locks.specs.Kinds.{is_fair}
 use Rattle.spec_locks.specs.Onces.{Done, InProgress}
 use Rattle.spec_locks.specs.Locks.{Sort, Semaphore, Once, Condvar, LockState, Rules, Taken, Owns}
@@ -19,10 +19,11 @@ use Rattle.spec_locks.specs.Purposes.{Purpose, Enters, Releases, Converts, Bumps
 use Rattle.spec_locks.specs.Purposes.{Notifies, CondvarMemory, Blank, Saw, SawOwner, HasMoved, WasMoved}
 use Rattle.spec_locks.specs.Purposes.{WasNotified}
 use Rattle.spec_locks.specs.Purposes.{MayWait}
-use Rattle.spec_locks.specs.Sites.{Line, Main, Second, IsOpen, counts_some, has_readers}
+use Rattle.spec_locks.specs.Sites.{IsWithinLimit, Line, Main, Second, IsOpen, counts_some, has_readers}
 use Rattle.spec_locks.specs.Runs.{LocksState, Status, AreLockStates, IsNotified, IsStep, LetsGo, ShowsWaiters}
-use Rattle.spec_locks.specs.Runs.{rules_at}
-pub use Rattle.spec_locks.specs.EachState.{IsAwake, Opens, full_by, sort_in}
+use Rattle.spec_locks.specs.Runs.{HeedsItsTime, TriesEnd, rules_at}
+pub use Rattle.spec_locks.specs.EachState.{IsAwake, Opens, full_by}
+pub use Rattle.spec_locks.specs.Rest.{sort_in}
 
 -- ---------------------------------------------------------------- threads that wake the next waiter
 
@@ -163,16 +164,22 @@ pub record IsSafe (w : LocksState) (was_full : ℕ → Bool) : Type 0 where
   -- A fair mutex is owned while somebody waits for it, also in a hand.
   pub fair : (t l : ℕ) → is_fair (w.kinds l) ≡ true → 1 ≤ standing t (w.locks l)
       → (w.locks l).exclusive ≢ None
+  -- as many share as the limit allows
+  pub limited : (l : ℕ) → has_readers (sort_in w l) ≡ true → IsWithinLimit (rules_at w l) (w.locks l)
+  -- A thread in a call owns what it owned as the call began, or what the call trades that for.
+  pub on_its_way : (t : ℕ) → IsOnItsWay (w.calls t).purpose w t (w.calls t)
+  -- a thread whose time was up gives up before it sleeps again
+  pub heeds : (t : ℕ) → HeedsItsTime w t
 
 -- ---------------------------------------------------------------- every list of steps
 
--- the steps with their outcomes lead from w to v by steps of the abstract locks, and in each state
--- on the way owners exclude each other and nobody is forgotten
+-- the steps with their outcomes lead from w to v by steps of the abstract locks, of which those of a try
+-- end it; and in each state on the way owners exclude each other and nobody is forgotten
 abbrev pub Behaves : (ℕ → Bool) → LocksState → List Step → List Outcome → LocksState → Type 0
 Behaves full w [] [] v = IsSafe w full × (v ≡ w)
 Behaves full w (s ∷ ss) (o ∷ os) v =
     IsSafe w full
-    × ((u : LocksState) × IsStep w s o u × Behaves (full_by full u) u ss os v)
+    × ((u : LocksState) × IsStep w s o u × TriesEnd w s o × Behaves (full_by full u) u ss os v)
 Behaves full w [] (o ∷ os) v = ⊥
 Behaves full w (s ∷ ss) [] v = ⊥
 

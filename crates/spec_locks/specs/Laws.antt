@@ -35,8 +35,8 @@ FairReleasesHandOver =
     → ⊥
 
 -- nobody enters a lock that isn't free for what it wants
-abbrev pub OwnersExclude : Type 0
-OwnersExclude =
+abbrev pub OwnersKeepOut : Type 0
+OwnersKeepOut =
     (w : LocksState) (t l : ℕ) (x : Want) → (IsFree (rules_at w l) (w.locks l) x → ⊥)
     → MayHappen w t (AtLock l (Enter x)) → ⊥
 

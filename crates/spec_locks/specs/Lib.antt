@@ -1,3 +1,4 @@
+pub mod Owners
 pub mod Locks
 pub mod Purposes
 pub mod Runs
@@ -19,6 +20,8 @@ pub mod Calls
 pub mod Kinds
 pub mod States
 pub mod Bypass
+pub mod Trade
 pub mod CallTable
+pub mod Rest
 pub mod EachState
 pub mod EachStep

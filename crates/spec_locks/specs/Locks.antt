@@ -5,6 +5,9 @@ use Rattle.std.specs.Prelude.{slice_index, slice_set, take, drop, length, replic
 use Rattle.std.specs.List.{prefix_len}
 use Rattle.core_base.specs.declared.wants.Want.{Want}
 use Rattle.core_base.specs.declared.wants.Want.TheVariants.{Exclusive, Upgradable, Shared, Wait, CallOnce}
+pub use Rattle.spec_locks.specs.Owners.{Pending, Rules, Sort, Mutex, Normal, Recursive, Semaphore, Once}
+pub use Rattle.spec_locks.specs.Owners.{Condvar}
+use Rattle.spec_locks.specs.Owners.{Owners}
 use Rattle.spec_locks.specs.Onces.{Phase, New, InProgress, OnceCase, Start, Finish, Fail, Rest, TakeAll}
 use Rattle.spec_locks.specs.Onces.{MayStart, MayRest, phase_after, wants_to_run}
 
@@ -17,12 +20,6 @@ pub record Queued : Type 0 where
 pub record Taken : Type 0 where
   pub by : ℕ
   pub want : Want
-
--- a writer that waits for the last readers, and whether it falls back to the upgradable right when
--- it gives up
-pub record Pending : Type 0 where
-  pub thread : ℕ
-  pub falls_back : Bool
 
 -- The owners: one exclusive, pending and upgradable at most, and each thread's number of shared rights, by
 -- the thread's number. The waiters: the main queue from its front, the pending writer that sleeps aside, and
@@ -39,21 +36,13 @@ pub record LockState : Type 0 where
   pub phase : Phase
   pub shown : Option ℕ
 
--- the sorts of lock: one owner; many readers beside each other; the same, where a reader may come
--- back beside a pending writer; a number of permits; a run that completes once; a list of those that
--- wait, each with a mutex, to be notified
-pub data Sort : Type 0 where
-  Mutex : Sort
-  Normal : Sort
-  Recursive : Sort
-  Semaphore : Sort
-  Once : Sort
-  Condvar : Sort
-
--- a sort, and how many may share
-pub record Rules : Type 0 where
-  pub sort : Sort
-  pub limit : ℕ
+abbrev pub owners_of : LockState → Owners
+owners_of s = record {
+  exclusive = s.exclusive;
+  pending = s.pending;
+  upgradable = s.upgradable;
+  shared = s.shared;
+}
 
 -- ---------------------------------------------------------------- counting
 
@@ -514,6 +503,14 @@ abbrev pub KnowsAll : Sort → List Queued → Type 0
 KnowsAll sort [] = Unit {0}
 KnowsAll sort (x ∷ xs) = Knows sort x.want × KnowsAll sort xs
 
+-- each thread stands at most once, and wants what a lock of its sort knows; a sleeper aside is pending
+pub record WaitersStand (sort : Sort) (s : LockState) : Type 0 where
+  pub once : (t : ℕ) → standing t s ≤ 1
+  pub known_queue : KnowsAll sort s.queue
+  pub known_taken : (u : ℕ) (h : Taken) → s.taken u ≡ Some h → Knows sort h.want
+  pub aside_pending : (t : ℕ) → s.aside ≡ Some t → IsSomePending s.pending t
+
+-- owners exclude each other, and waiters stand: OwnersExclude and WaitersStand, as the steps keep them
 pub record IsLockState (r : Rules) (s : LockState) : Type 0 where
   -- an exclusive owner has no owner beside it
   pub exclusive_alone : (t : ℕ) → s.exclusive ≡ Some t

@@ -557,6 +557,19 @@ LetsGo w t =
     (l m : ℕ) (timed : Bool) → (w.calls t).purpose ≡ Some (Waits l m timed)
     → (w.stances t).asleep ≡ true → (w.calls t).released ≡ true
 
+-- the thread sleeps no more once its time was up, but for a wait that has given up and is to have its mutex
+-- again
+abbrev pub HeedsItsTime : LocksState → ℕ → Type 0
+HeedsItsTime w t = (w.stances t).asleep ≡ true → (w.calls t).late ≡ true
+    → (l m : ℕ) × ((w.calls t).purpose ≡ Some (Waits l m true)) × ((w.calls t).gave_up ≡ Some l)
+
+-- a try to lock a mutex, or to write, ends as its thread goes on
+abbrev pub TriesEnd : LocksState → Step → Outcome → Type 0
+TriesEnd w s o = (l : ℕ) → (w.calls s.thread).purpose ≡ Some (Enters l Exclusive Try)
+    → s.turn ≡ turn.TheVariants.Go
+    → (o ≡ outcome.TheVariants.End answer.TheVariants.Yes)
+    ⊎ (o ≡ outcome.TheVariants.End answer.TheVariants.No)
+
 -- a thread inside the section notifies all, and so is about to move each thread that is there
 pub record IsBeingEmptied (w : LocksState) (c : ℕ) : Type 0 where
   pub thread : ℕ

@@ -1,7 +1,7 @@
 -- A lock of the lot: its abstract state, its parked bits, and what each thread does about it. No
 -- word, no place and no loop.
 use Rattle.std.specs.Prelude.{ℕ, Bool, true, false, Option, Some, None, if◌then◌else◌, ◌==◌, ◌&&◌, ◌||◌, not}
-use Rattle.std.specs.Prelude.{◌≤◌, ◌≡◌, ◌≢◌, ◌⊎◌, length, ◌<◌, List, [], ◌∷◌, ◌++◌, nat_le, is_none}
+use Rattle.std.specs.Prelude.{◌≤◌, ◌≡◌, ◌≢◌, ◌⊎◌, ◌+◌, length, ◌<◌, List, [], ◌∷◌, ◌++◌, nat_le, is_none}
 pub use Rattle.core_base.specs.declared.keys.Line.{Line}
 pub use Rattle.core_base.specs.declared.keys.Line.TheVariants.{Main, Second}
 use Rattle.core_base.specs.declared.wants.Want.{Want}
@@ -116,6 +116,11 @@ has_readers Condvar = false
 
 abbrev pub is_full : Rules → LockState → Bool
 is_full r s = has_readers r.sort && nat_le r.limit (count s)
+
+-- as many share as the limit allows; on a recursive lock one more, where an upgrade gave up beside
+-- a reader that came back
+abbrev pub IsWithinLimit : Rules → LockState → Type 0
+IsWithinLimit r s = (count s ≤ r.limit) ⊎ ((r.sort ≡ Recursive) × (count s ≡ r.limit + 1))
 
 abbrev pub Holds : LockState → ℕ → Claim → Type 0
 Holds s t (Has x) = Owns s t x

@@ -6,7 +6,7 @@ pub mod calls;
 pub mod kinds;
 pub mod outcomes;
 
-ghost use Rattle.spec_locks.specs.Laws.{CallsTakeSteps, FairReleasesHandOver, FreeMutexIsGot, OwnersExclude};
+ghost use Rattle.spec_locks.specs.Laws.{CallsTakeSteps, FairReleasesHandOver, FreeMutexIsGot, OwnersKeepOut};
 ghost use Rattle.spec_locks.specs.Laws.{PossibleTurnsAreTaken};
 ghost use Rattle.spec_locks.specs.UserLaws.{DowngradesOwn, OfEachStep, ReadersStayOut, RereadersPass};
 ghost use Rattle.spec_locks.specs.UserLaws.{UpgradesLetNobodyWrite};
@@ -106,7 +106,7 @@ pub fn a_free_mutex_is_got()
 
 /// Proves that nobody enters a lock whose owners bar what it wants.
 pub fn owners_exclude()
-    ensures { OwnersExclude }
+    ensures { OwnersKeepOut }
 {}
 
 /// Proves that a fair release wakes nobody to try again: it hands the lock over, or lets it go.

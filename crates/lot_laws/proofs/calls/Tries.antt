@@ -41,13 +41,13 @@ module _ (w : State) (t : ℕ) (p : Place) (is : place_at w t ≡ p) (single : I
   possible : can_do w (act_of p) ≡ true → is_possible w (go_of t) ≡ true
   possible can = rw (lt-ltb t (length w.places) there, is) can
 
-  told : can_do w (act_of p) ≡ true → step_outcome w (go_of t) ≡ outcome_of
+  pub told : can_do w (act_of p) ≡ true → step_outcome w (go_of t) ≡ outcome_of
       (next_act p (reply_to w t (act_of p)))
   told can = ap (λ b. if b then go_outcome w t else outcome.NotNow) (possible can) ∙ ap (going_outcome w t) is
       ∙ told_from_there w t p is single
 
 module _ (w : State) (t l : ℕ) (inductive : IsInductive w) where
-  locks_told : place_at w t ≡ first_place (kind_at w l) (call.Mutex l TryLock) → step_outcome w (go_of t)
+  pub locks_told : place_at w t ≡ first_place (kind_at w l) (call.Mutex l TryLock) → step_outcome w (go_of t)
       ≡ tried (is_none (lock_state w l).exclusive)
   locks_told is = told w t (Mutex l mutex.TryLock) is tt
       (stands_there w.places t (first_busy (kind_at w l) (call.Mutex l TryLock) (place_at w t) is)) refl

@@ -45,7 +45,7 @@ never_upgrades a seen = by_count (count_in seen == 1)
     by_count true e = cc
     by_count false e = cc
 
-abbrev place : RwLockPurpose → Bool → RwLockAt → RwLockCallPlace
+abbrev pub place : RwLockPurpose → Bool → RwLockAt → RwLockCallPlace
 place q again to = fair.Plain (record { purpose = q; retries = again; at = to })
 
 writes_free : (l : ℕ) (a : Admission) (again : Bool) (to : RwLockAt)

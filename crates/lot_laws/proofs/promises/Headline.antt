@@ -18,6 +18,9 @@ use Rattle.lot_laws.specs.Refinement.{runs_closure}
 use Rattle.lot_laws.proofs.sites.Opening.{kind_is, unfilled_0}
 use Rattle.lot_laws.proofs.promises.PromisesKept.{opening_is}
 use Rattle.lot_laws.proofs.alone.WorldRuns.{step_is, world_after, world_kept}
+use Rattle.lot_laws.proofs.promises.Heeds.{heeds}
+use Rattle.lot_laws.proofs.promises.OnItsWay.{on_its_way}
+use Rattle.lot_laws.proofs.calls.TriesEnd.{tries_end}
 use Rattle.lot_laws.proofs.condvar.SleepersOwn.{sleepers_own}
 use Rattle.lot_laws.proofs.mutex.FairHands.{fair_kind, fair_owned}
 
@@ -178,6 +181,9 @@ safe_now w h = let k = world_kept w h in record {
     (λ runs. (k.runs t l).1 (runs_there w k t l runs)),
   );
   fair = λ t l fair. fair_owned w h l (fair_kind (kind_at w l) fair) t;
+  limited = k.limited;
+  on_its_way = on_its_way w h.inductive;
+  heeds = heeds w h.inductive;
 }
 
 -- ---------------------------------------------------------------- a run
@@ -190,6 +196,7 @@ run_behaves (s ∷ ss) w h = (
   (
     locks_of (after w s),
     step_is w s h,
+    tries_end w s h.inductive,
     subst (λ full. Behaves full (locks_of (after w s)) ss (step_outcomes (after w s) ss)
         (locks_of (after_steps (after w s) ss))) (λ i l. filled_after w s (world_after w s h) l i)
         (run_behaves ss (after w s) (world_after w s h)),
@@ -257,7 +264,7 @@ holds_after ss w v h led = safe_holds (locks_of v) (filled_at v) (safe_after ss 
 pub step_guaranteed : (w : State) (s : Step) → IsWorld w → StepHolds (locks_of w) s (step_outcome w s)
     (locks_of (after w s))
 step_guaranteed w s h = step_holds (locks_of w) (locks_of (after w s)) s (step_outcome w s) (filled_at w)
-    (safe_now w h) (step_is w s h)
+    (safe_now w h) (step_is w s h) (tries_end w s h.inductive)
 
 -- ---------------------------------------------------------------- the first page, of the world's own states
 

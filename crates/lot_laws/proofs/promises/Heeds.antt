@@ -36,7 +36,7 @@ use Rattle.steps_semaphore.specs.declared.places.SemaphorePlace.TheVariants as s
 use Rattle.steps_semaphore.specs.declared.release.ReleaseAt.TheVariants as release
 use Rattle.steps_condvar.specs.declared.wait.WaitAt.TheVariants as wait
 use Rattle.lot_steps.specs.declared.places.Place.TheVariants as places
-use Rattle.lot_laws.specs.OnItsWay.{HeedsItsTime}
+use Rattle.spec_locks.specs.Runs.{HeedsItsTime}
 use Rattle.lot_laws.proofs.calls.CallEvents.{rights}
 use Rattle.lot_laws.proofs.condvar.LetsGo.{asleep_is, no_sleep}
 use Rattle.lot_laws.proofs.machine.Parts.{IsSingle, fits_two, single_or_two}

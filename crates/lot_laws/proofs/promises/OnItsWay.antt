@@ -63,7 +63,7 @@ use Rattle.steps_semaphore.specs.declared.places.SemaphorePlace.{SemaphorePlace}
 use Rattle.steps_semaphore.specs.declared.places.SemaphorePlace.TheVariants as semaphore
 use Rattle.steps_condvar.specs.CondvarProfiles.{wait_row}
 use Rattle.lot_steps.specs.declared.places.Place.TheVariants as places
-use Rattle.lot_laws.specs.OnItsWay.{IsOnItsWay, with_pending}
+use Rattle.spec_locks.specs.Trade.{IsOnItsWay, with_pending}
 use Rattle.lot_laws.proofs.calls.CallEvents.{rights}
 use Rattle.lot_laws.proofs.promises.PlacePromises.{role_own}
 

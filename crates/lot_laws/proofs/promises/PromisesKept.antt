@@ -12,7 +12,7 @@ use Imports.{has_readers, IsDebtorRole, IsSite, LooksAfter, HasLimit, Enters, Co
 use Imports.{Awaits, Purpose, MayWait, Waits, RunsClosure, locks_of, lock_state, lock_seen, taken_at, call_at}
 use Imports.{call_on, call_state, stance_of, Owes, sort_at, AreLookedAfterIn, IsKept, WaitsFor, WakesWaiters}
 use Imports.{IsDebtorOf, IsLookedAfterIn, IsOpenNow, WasNeverFull, HasOrPends, IsHandedOverIn, IsOwedWake}
-use Imports.{IsWithinLimit, want_of, WaitHasReleased, KnowsRights, CondvarPlace, line_owed, FitsItsLock, One}
+use Imports.{want_of, WaitHasReleased, KnowsRights, CondvarPlace, line_owed, FitsItsLock, One}
 use Imports.{condvar_profile, condvar_place_purpose, condvar_recalls, condvar_released, condvar_row}
 use Imports.{mutex_beside, idle_at, none_at, empty_at, nobody_owns, opening_shares, cases_lt, eqb-true}
 use Rattle.steps_base.specs.declared.acts.Act.TheVariants.{Leave, Rest}
@@ -29,9 +29,8 @@ use Rattle.lot_laws.proofs.calls.LooksOnce.{looks}
 use Rattle.lot_laws.proofs.calls.Spins.{spins}
 use Rattle.lot_laws.proofs.calls.TriesPass.{tries_go}
 use Rattle.lot_laws.proofs.condvar.ShownMutex.{shows_always, shows_waiters}
+use Rattle.spec_locks.specs.Sites.{IsWithinLimit}
 use Rattle.lot_laws.proofs.condvar.LetsGo.{lets_go}
-use Rattle.lot_laws.proofs.promises.Heeds.{heeds}
-use Rattle.lot_laws.proofs.promises.OnItsWay.{on_its_way}
 use Rattle.lot_laws.proofs.promises.SitesPromise.{not_empty}
 use Rattle.lot_laws.proofs.promises.RowPromises.{CallsOneLock, IsDebtorIn, HasClaimed, HasDebt, WasHanded}
 use Rattle.lot_laws.proofs.promises.RowPromises.{RowLooksAfter}
@@ -620,8 +619,6 @@ module _ (w : State) (inductive : IsInductive w) where
     shown = λ l sort free. shows_waiters w l (condvars l sort) free;
     shows = λ l sort. shows_always w l (condvars l sort);
     let_go = lets_go w inductive;
-    on_its_way = on_its_way w inductive;
-    heeds = heeds w inductive;
   }
 
 -- ---------------------------------------------------------------- the opening state, of the abstract locks
