@@ -3,7 +3,7 @@
 use Rattle.steps_base.specs.Rows.{KnowsRights, WakesAside}
 use Rattle.spec_locks.specs.Locks as locks
 use Rattle.std.specs.Prelude.{ℕ, Bool, false, true, None, Option, ◌≡◌, ◌≢◌, ◌≤◌, ◌<◌, ◌-◌, ◌⊎◌, ◌↔◌, Some}
-use Rattle.std.specs.Prelude.{◌*◌, ◌+◌, []}
+use Rattle.std.specs.Prelude.{◌*◌, []}
 use Rattle.core_base.specs.declared.keys.Keys.TheVariants.{One}
 use Rattle.core_base.specs.declared.wants.Want.{Want}
 use Rattle.core_base.specs.declared.ops.Op.TheVariants.{Exchange}
@@ -13,8 +13,8 @@ use Rattle.steps_base.specs.declared.acts.Wakes as wakes
 use Rattle.core_base.specs.declared.notes.Note.TheVariants.{HandOff}
 use Rattle.lot_steps.specs.Steps.{act_of, taker, retries_on}
 use Rattle.lot_machine.specs.Machine.{State, place_at, word_at, filled_at, section_at}
-use Rattle.spec_locks.specs.Locks.{LockState, Sort, Recursive, Once, Rules, Taken, times, standing, readers}
-use Rattle.spec_locks.specs.Locks.{count, has_caller}
+use Rattle.spec_locks.specs.Locks.{Sort, Once, Taken, times, standing, readers}
+use Rattle.spec_locks.specs.Locks.{has_caller}
 use Rattle.spec_locks.specs.Onces.{InProgress, IsRunning}
 use Rattle.spec_locks.specs.Codes.{word_by, parked_in, aside_in, has_aside, is_running}
 use Rattle.steps_rwlock.specs.RwLockSteps.{plus}
