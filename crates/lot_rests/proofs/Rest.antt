@@ -11,7 +11,7 @@ use Rattle.lot_machine.specs.Fits.{SameSize}
 use Rattle.lot_machine.proofs.Shape.{after_size}
 use Rattle.lot_laws.specs.Refinement.{locks_of}
 use Rattle.lot_laws.specs.SitesOf.{IsWorld}
-use Rattle.lot_laws.proofs.alone.WorldRuns.{world_after}
+use Rattle.lot_laws.proofs.promises.WorldRuns.{world_after}
 use Rattle.lot_laws.proofs.machine.Possible.{go_possible, turner_there}
 use Rattle.lot_laws.proofs.promises.Headline.{holds_after}
 use Rattle.lot_rests.specs.Rests.{AllGo, GoesOnward, NobodyGoes, WorldsComeToRest, after_goes, most_steps}

@@ -29,12 +29,12 @@ use Rattle.steps_semaphore.specs.SemaphoreSteps.{decided}
 use Rattle.steps_semaphore.specs.SemaphoreSteps.{looked}
 use Rattle.steps_semaphore.proofs.SemaphoreWords as words
 use Rattle.lot_laws.proofs.machine.Parts.{put_here, same}
-use Rattle.lot_laws.proofs.alone.TwoLines.{Comes, StepsAlone, leads_into, leave_comes, park_comes, parks_last}
-use Rattle.lot_laws.proofs.alone.TwoLines.{take_comes, word_comes}
+use Rattle.lot_alone.proofs.TwoLines.{Comes, StepsAlone, leads_into, leave_comes, park_comes, parks_last}
+use Rattle.lot_alone.proofs.TwoLines.{take_comes, word_comes}
 use Rattle.lot_laws.proofs.sites.OneStep.{queued_after}
-use Rattle.lot_laws.proofs.alone.Leads.{Leads, leads_more, leads_rest, leads_step, or_so}
-use Rattle.lot_laws.proofs.alone.Answers.{HasAnswered, answered}
-use Rattle.lot_laws.proofs.alone.WorldRuns.{RunsAlone, run_refines}
+use Rattle.lot_alone.proofs.Leads.{Leads, leads_more, leads_rest, leads_step, or_so}
+use Rattle.lot_laws.proofs.calls.Answers.{HasAnswered, answered}
+use Rattle.lot_laws.proofs.promises.WorldRuns.{RunsAlone, run_refines}
 
 -- to take the first of a line changes no word
 taken_word : (b : State) (t l : ℕ) (o : Option ℕ) → word_at (state_after_taking b t o) l ≡ word_at b l

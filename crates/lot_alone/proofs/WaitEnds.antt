@@ -18,10 +18,10 @@ use Rattle.steps_mutex.specs.declared.unlock.UnlockAt.TheVariants as unlock
 use Rattle.steps_condvar.specs.declared.wait.WaiterFate.TheVariants as stands
 use Rattle.steps_condvar.specs.declared.wait.WaitAt.TheVariants as wait
 use Rattle.spec_locks.specs.Locks.{times}
-use Rattle.lot_laws.proofs.alone.Condvar.{Afterwards, GoesAlone, Keeps, mutex_there, queue_then, so_then}
+use Rattle.lot_alone.proofs.Condvar.{Afterwards, GoesAlone, Keeps, mutex_there, queue_then, so_then}
 use Rattle.lot_laws.proofs.condvar.Replies.{at_it, word_is}
-use Rattle.lot_laws.proofs.alone.Leads.{Leads, leads_more, leads_so}
-use Rattle.lot_laws.proofs.alone.Wait.{goes, into_section, releasing, subtracts}
+use Rattle.lot_alone.proofs.Leads.{Leads, leads_more, leads_so}
+use Rattle.lot_alone.proofs.Wait.{goes, into_section, releasing, subtracts}
 
 module _ (t l m : ℕ) (keeps : Keeps t) (timed : Bool) where
   abbrev Alone : State → WaitAt → Type 0

@@ -16,7 +16,7 @@ use Rattle.steps_base.specs.declared.acts.Act.TheVariants as act
 use Rattle.steps_base.specs.declared.acts.Wakes.TheVariants as notes
 use Rattle.lot_laws.proofs.calls.OwnPlace.{goes_from_there, told_from_there}
 use Rattle.lot_laws.proofs.mutex.FairMutexes.{settled_after}
-use Rattle.lot_laws.proofs.alone.Leads.{Leads, leads_barred, leads_step}
+use Rattle.lot_alone.proofs.Leads.{Leads, leads_barred, leads_step}
 use Rattle.lot_laws.proofs.machine.Parts.{nothing_at, next_single, IsSingle}
 use Rattle.lot_laws.proofs.hands.Counts.{without_absent}
 use Rattle.lot_laws.proofs.condvar.StepsKeep.{after_condvars}

@@ -33,9 +33,9 @@ use Rattle.lot_laws.proofs.calls.PlainCalls.{plain_goes, plain_does}
 use Rattle.spec_locks.specs.Locks.{Mutex, Normal, Semaphore, Once}
 use Rattle.spec_locks.specs.Locks.{Condvar}
 use Rattle.lot_laws.proofs.machine.Parts.{same}
-use Rattle.lot_laws.proofs.alone.Leads.{Leads, leads_rest, leads_step, leads_more, leads_so}
-use Rattle.lot_laws.proofs.alone.TwoLines.{StepsAlone, Comes, leads_into, word_comes, leave_comes, park_comes}
-use Rattle.lot_laws.proofs.alone.TwoLines.{parks_last, remove_comes, take_comes}
+use Rattle.lot_alone.proofs.Leads.{Leads, leads_rest, leads_step, leads_more, leads_so}
+use Rattle.lot_alone.proofs.TwoLines.{StepsAlone, Comes, leads_into, word_comes, leave_comes, park_comes}
+use Rattle.lot_alone.proofs.TwoLines.{parks_last, remove_comes, take_comes}
 
 -- ---------------------------------------------------------------- runs of a thread alone
 
@@ -802,37 +802,6 @@ module _ (t l : ℕ) (a : Admission) where
           (give_way_rests p.purpose p.retries v w q ready f)
       by_at (at.Wake m x) ready f = leads_more 5 11 w t Resting (omega arith)
           (leads_so 5 w t (Ends p.purpose) Resting (ends_so p.purpose) (wakes_end p m x v w q f))
-
--- ---------------------------------------------------------------- words of 64 bits
-
-few_bits : (b : Bool) → bit b ≤ 1
-few_bits true = omega arith
-few_bits false = omega arith
-
-code_small : (r : Rules) (s : Site) → has_readers r.sort ≡ true → IsSite r s → r.limit < 2 ^ 60 - 1
-    → count s.lock ≤ r.limit + 1 → code r s < 2 ^ 64
-code_small r s readers site few top = by_sort r.sort readers
-  where
-    few_writers : writers s.lock ≤ 1
-    few_writers = grind (arith, site.state.exclusive_alone)
-
-    packed_small : rw_code s < 2 ^ 64
-    packed_small = let a = few_writers in let b = few_bits s.parked in let c = few_bits s.aside_parked
-        in let d : one_if_some s.lock.upgradable ≤ 1 = grind arith in omega arith
-
-    by_sort : (sort : Sort) → has_readers sort ≡ true → code_of sort r.limit s < 2 ^ 64
-    by_sort Normal h = packed_small
-    by_sort Recursive h = packed_small
-    by_sort Mutex h = absurd cc
-    by_sort Semaphore h = absurd cc
-    by_sort Once h = absurd cc
-    by_sort Condvar h = absurd cc
-
-pub word_small : (w : State) (l : ℕ) → IsInductive w → has_readers (rules_in w l).sort ≡ true
-    → word_at w l < 2 ^ 64
-word_small w l inductive readers = let limits = inductive.sites.limits l readers in
-    subst (λ n. n < 2 ^ 64) (sym (inductive.sites.word l)) (code_small (rules_in w l) (site_of w l) readers
-    (inductive.sites.site l) limits.0.1 limits.1.top)
 
 -- a thread that isn't asleep has something to do
 pub is_ready : (t l : ℕ) (a : Admission) (p : RwLockPlace) → MayStand a p → act_of (RwLock l a (Plain p))

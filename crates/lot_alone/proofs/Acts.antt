@@ -19,7 +19,7 @@ use Rattle.steps_base.specs.declared.acts.Wakes as wakes
 use Rattle.spec_locks.specs.declared.outcomes.Outcome as outcome
 use Rattle.steps_base.specs.declared.acts.TakeWhich as whoms
 use Rattle.lot_laws.proofs.machine.Parts.{IsSingle, next_single, nothing_at}
-use Rattle.lot_laws.proofs.alone.Leads.{Leads, leads_barred, leads_step}
+use Rattle.lot_alone.proofs.Leads.{Leads, leads_barred, leads_step}
 use Rattle.lot_laws.proofs.calls.OwnPlace.{goes_from_there, told_from_there}
 use Rattle.lot_laws.proofs.condvar.StepsKeep.{after_condvars}
 use Rattle.lot_laws.proofs.hands.CountsKept.{counted_after}

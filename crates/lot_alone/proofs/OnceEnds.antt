@@ -22,10 +22,10 @@ use Rattle.steps_once.specs.OnceSteps.{looked}
 use Rattle.steps_once.specs.OnceSteps.{want_of}
 use Rattle.steps_once.proofs.OnceWords as words
 use Rattle.lot_laws.proofs.machine.Parts.{same}
-use Rattle.lot_laws.proofs.alone.TwoLines.{Comes, StepsAlone, leads_into, leave_comes, park_comes, parks_last}
-use Rattle.lot_laws.proofs.alone.TwoLines.{word_comes}
+use Rattle.lot_alone.proofs.TwoLines.{Comes, StepsAlone, leads_into, leave_comes, park_comes, parks_last}
+use Rattle.lot_alone.proofs.TwoLines.{word_comes}
 use Rattle.lot_laws.proofs.sites.OneStep.{queued_after}
-use Rattle.lot_laws.proofs.alone.Leads.{Leads, leads_more, leads_rest, leads_step, or_so}
+use Rattle.lot_alone.proofs.Leads.{Leads, leads_more, leads_rest, leads_step, or_so}
 
 -- a thread that waits for a run still does so while none has ended
 none_yet : (forced : Bool) → holds (check_of (Wait forced)) 8 ≡ true

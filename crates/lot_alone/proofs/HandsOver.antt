@@ -29,10 +29,10 @@ use Rattle.steps_rwlock_fair.specs.FairSteps.{released}
 use Rattle.lot_laws.proofs.machine.Parts.{same}
 use Rattle.lot_laws.proofs.machine.KindsStay.{after_kinds}
 use Rattle.lot_laws.proofs.rwlock.RwLockRows.{of}
-use Rattle.lot_laws.proofs.alone.RwLock.{taken_word}
-use Rattle.lot_laws.proofs.alone.Leads.{Leads, leads_barred, leads_rest, leads_step, leads_more, leads_so}
-use Rattle.lot_laws.proofs.alone.TwoLines.{StepsAlone, Comes, word_comes, enter_comes, leave_comes}
-use Rattle.lot_laws.proofs.alone.TwoLines.{take_comes, hand_comes, accept_comes, finds_free}
+use Rattle.lot_alone.proofs.RwLock.{taken_word}
+use Rattle.lot_alone.proofs.Leads.{Leads, leads_barred, leads_rest, leads_step, leads_more, leads_so}
+use Rattle.lot_alone.proofs.TwoLines.{StepsAlone, Comes, word_comes, enter_comes, leave_comes}
+use Rattle.lot_alone.proofs.TwoLines.{take_comes, hand_comes, accept_comes, finds_free}
 
 abbrev pub Resting : State → Outcome → Type 0
 Resting v x = EndsOrSleeps x

@@ -15,7 +15,7 @@ use Rattle.steps_base.specs.declared.acts.Next.TheVariants as next
 use Rattle.lot_laws.proofs.condvar.Replies.{fits_here, may_hear, location_beside}
 use Rattle.lot_laws.proofs.condvar.Sites.{location_there}
 use Rattle.lot_laws.proofs.condvar.MachineFollows.{goes_led}
-use Rattle.lot_laws.proofs.alone.Leads.{Leads, leads_more, leads_rest, leads_step}
+use Rattle.lot_alone.proofs.Leads.{Leads, leads_more, leads_rest, leads_step}
 
 -- ---------------------------------------------------------------- a step
 

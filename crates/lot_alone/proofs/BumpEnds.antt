@@ -25,17 +25,18 @@ use Rattle.spec_locks.specs.Locks.{Mutex as Mutual, Normal}
 use Rattle.spec_locks.specs.Locks.{Semaphore, Once}
 use Rattle.spec_locks.specs.Locks.{Condvar}
 use Rattle.lot_laws.proofs.machine.Parts.{role_here, inside_is, put_here}
-use Rattle.lot_laws.proofs.alone.Leads.{Leads, or_so}
-use Rattle.lot_laws.proofs.alone.TwoLines.{StepsAlone}
-use Rattle.lot_laws.proofs.alone.Answers.{HasAnswered, answered, former_kept}
-use Rattle.lot_laws.proofs.alone.WorldRuns.{RunsAlone, run_refines, runs_alone, world_run}
-use Rattle.lot_laws.proofs.alone.HandsOver.{EntersAgain, Ends, Resting, glance_rests, hands_over_rest}
-use Rattle.lot_laws.proofs.alone.Bump.{SameEnd, again_rests, as_first, as_plain, first_may, first_seen}
-use Rattle.lot_laws.proofs.alone.Bump.{plain_alone}
-use Rattle.lot_laws.proofs.alone.RwLock.{downgrade_ends, load_leads, release_ends, upgrade_leads, word_small}
-use Rattle.lot_laws.proofs.alone.RwLockEnds.{downgrades_alone, enters_alone, exclusive_released, no_mutex}
-use Rattle.lot_laws.proofs.alone.RwLockEnds.{releases_alone, tries_upgrade, upgradable_released}
-use Rattle.lot_laws.proofs.alone.RwLockEnds.{upgrades_alone}
+use Rattle.lot_alone.proofs.Leads.{Leads, or_so}
+use Rattle.lot_alone.proofs.TwoLines.{StepsAlone}
+use Rattle.lot_laws.proofs.calls.Answers.{HasAnswered, answered, former_kept}
+use Rattle.lot_laws.proofs.promises.WorldRuns.{RunsAlone, run_refines, runs_alone, world_run}
+use Rattle.lot_alone.proofs.HandsOver.{EntersAgain, Ends, Resting, glance_rests, hands_over_rest}
+use Rattle.lot_alone.proofs.Bump.{SameEnd, again_rests, as_first, as_plain, first_may, first_seen}
+use Rattle.lot_alone.proofs.Bump.{plain_alone}
+use Rattle.lot_alone.proofs.RwLock.{downgrade_ends, load_leads, release_ends, upgrade_leads}
+use Rattle.lot_laws.proofs.rwlock.Words.{word_small}
+use Rattle.lot_alone.proofs.RwLockEnds.{downgrades_alone, enters_alone, exclusive_released, no_mutex}
+use Rattle.lot_alone.proofs.RwLockEnds.{releases_alone, tries_upgrade, upgradable_released}
+use Rattle.lot_alone.proofs.RwLockEnds.{upgrades_alone}
 
 -- --------------------------------------------- some steps of a thread alone, after each of which it goes on
 

@@ -4,7 +4,6 @@ pub mod SemaphoreEnds
 pub mod Semaphore
 pub mod Leads
 pub mod Acts
-pub mod Answers
 pub mod TwoLines
 pub mod RwLock
 pub mod HandsOver
@@ -21,6 +20,5 @@ pub mod Wait
 pub mod NotifyEnds
 pub mod WaitEnds
 pub mod CondvarEnds
-pub mod WorldRuns
 pub mod Tries
 pub mod WayKept

@@ -10,12 +10,12 @@ use Rattle.spec_locks.specs.declared.kinds.Kind.TheVariants as kind
 use Rattle.spec_locks.specs.declared.outcomes.Outcome.TheVariants as outcome
 use Rattle.steps_base.specs.declared.acts.Next.TheVariants as next
 use Rattle.steps_condvar.specs.declared.notify.NotifyAt.TheVariants as notify
-use Rattle.lot_laws.proofs.alone.Condvar.{Afterwards, GoesAlone, Keeps, leads_afterwards, lock_there}
-use Rattle.lot_laws.proofs.alone.Condvar.{queue_then}
-use Rattle.lot_laws.proofs.alone.Condvar.{so_then}
+use Rattle.lot_alone.proofs.Condvar.{Afterwards, GoesAlone, Keeps, leads_afterwards, lock_there}
+use Rattle.lot_alone.proofs.Condvar.{queue_then}
+use Rattle.lot_alone.proofs.Condvar.{so_then}
 use Rattle.lot_laws.proofs.condvar.Replies.{fits_here, free_inside, word_is}
-use Rattle.lot_laws.proofs.alone.Leads.{Leads, leads_more, leads_so}
-use Rattle.lot_laws.proofs.alone.Notify.{Ends, enters_seeing, left_then, moved_number}
+use Rattle.lot_alone.proofs.Leads.{Leads, leads_more, leads_so}
+use Rattle.lot_alone.proofs.Notify.{Ends, enters_seeing, left_then, moved_number}
 
 shown_one : (m : ℕ) → (shown_as m == 0) ≡ false
 shown_one m = grind (arith, nat_tests)

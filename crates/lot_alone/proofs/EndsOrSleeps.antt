@@ -22,14 +22,14 @@ use Rattle.spec_locks.specs.declared.outcomes.Outcome as outcome
 use Rattle.steps_mutex.specs.declared.lock.Entry.TheVariants as entries
 use Rattle.steps_mutex.specs.declared.places.MutexPlace.TheVariants.{Bump}
 use Rattle.steps_mutex.specs.declared.places.MutexPlace.TheVariants.{HandOff}
-use Rattle.lot_laws.proofs.alone.OnceEnds.{once_alone}
-use Rattle.lot_laws.proofs.alone.Once.{once_rests}
-use Rattle.lot_laws.proofs.alone.SemaphoreEnds.{semaphore_alone}
-use Rattle.lot_laws.proofs.alone.Semaphore.{semaphore_rests}
+use Rattle.lot_alone.proofs.OnceEnds.{once_alone}
+use Rattle.lot_alone.proofs.Once.{once_rests}
+use Rattle.lot_alone.proofs.SemaphoreEnds.{semaphore_alone}
+use Rattle.lot_alone.proofs.Semaphore.{semaphore_rests}
 use Rattle.spec_locks.specs.Locks as locks
-use Rattle.lot_laws.proofs.alone.Mutex.{LockEnds, UnlockEnds, bump_leads, bump_rests, first_leads}
-use Rattle.lot_laws.proofs.alone.Mutex.{hand_off_rests, lock_rests, subtract_leads, try_leads}
-use Rattle.lot_laws.proofs.alone.Mutex.{unlock_fair_leads, unlock_fair_rests, unlock_rests}
+use Rattle.lot_alone.proofs.Mutex.{LockEnds, UnlockEnds, bump_leads, bump_rests, first_leads}
+use Rattle.lot_alone.proofs.Mutex.{hand_off_rests, lock_rests, subtract_leads, try_leads}
+use Rattle.lot_alone.proofs.Mutex.{unlock_fair_leads, unlock_fair_rests, unlock_rests}
 use Rattle.lot_laws.proofs.machine.Parts.{mutex}
 use Rattle.lot_laws.proofs.sites.OneStep.{queued_after}
 use Rattle.lot_laws.proofs.sites.StandsMoved.{mutex_rules}
@@ -39,19 +39,19 @@ use Rattle.lot_laws.proofs.calls.Begins.{purpose_is}
 use Rattle.lot_laws.proofs.hands.Counts.{first_times}
 use Rattle.lot_laws.proofs.machine.Parts.{IsSingle, nothing_at}
 use Rattle.lot_laws.proofs.sites.SitesKept.{mutex_unshared}
-use Rattle.lot_laws.proofs.alone.TwoLines.{StepsAlone}
-use Rattle.lot_laws.proofs.alone.Bump.{call_rests}
-use Rattle.lot_laws.proofs.alone.RwLock.{word_small}
-use Rattle.lot_laws.proofs.alone.BumpEnds.{rwlock_alone}
-use Rattle.lot_laws.proofs.alone.CondvarEnds.{condvar_alone, condvar_rests}
-use Rattle.lot_laws.proofs.alone.WorldRuns.{runs_alone, world_after}
+use Rattle.lot_alone.proofs.TwoLines.{StepsAlone}
+use Rattle.lot_alone.proofs.Bump.{call_rests}
+use Rattle.lot_laws.proofs.rwlock.Words.{word_small}
+use Rattle.lot_alone.proofs.BumpEnds.{rwlock_alone}
+use Rattle.lot_alone.proofs.CondvarEnds.{condvar_alone, condvar_rests}
+use Rattle.lot_laws.proofs.promises.WorldRuns.{runs_alone, world_after}
 use Rattle.lot_laws.proofs.rwlock.RwLockStaysASite.{admits_by}
 use Rattle.lot_laws.proofs.machine.AtPlaces.{coded as words_coded, coded_for, absent}
-use Rattle.lot_laws.proofs.alone.Leads.{Leads, OrBarred, leads_more, leads_so, or_so}
+use Rattle.lot_alone.proofs.Leads.{Leads, OrBarred, leads_more, leads_so, or_so}
 use Rattle.lot_laws.proofs.machine.ReadsOwn.{reads_its_own}
-use Rattle.lot_laws.proofs.alone.Acts.{Facing}
-use Rattle.lot_laws.proofs.alone.Tries.{tries_freely}
-use Rattle.lot_laws.proofs.alone.WayKept.{unbarred}
+use Rattle.lot_alone.proofs.Acts.{Facing}
+use Rattle.lot_alone.proofs.Tries.{tries_freely}
+use Rattle.lot_alone.proofs.WayKept.{unbarred}
 
 -- ---------------------------------------------------------------- the laws
 

@@ -37,11 +37,12 @@ use Rattle.lot_laws.proofs.machine.Parts.{parts_at}
 use Rattle.lot_laws.proofs.sites.OneStep.{steps_by}
 use Rattle.lot_laws.proofs.calls.PlainCalls.{never_given}
 use Rattle.lot_laws.proofs.rwlock.RwLockRows.{of}
-use Rattle.lot_laws.proofs.alone.RwLock.{is_ready, rwlock_rests, word_small}
-use Rattle.lot_laws.proofs.alone.Leads.{Leads, OrBarred, barred_as, leads_more, leads_so, leads_then}
-use Rattle.lot_laws.proofs.alone.TwoLines.{StepsAlone}
-use Rattle.lot_laws.proofs.alone.HandsOver.{Ends, Resting, Shares, shares_on, accepts_rest, gives_rest}
-use Rattle.lot_laws.proofs.alone.HandsOver.{glance_rests, hands_over_rest, wakes_rest}
+use Rattle.lot_alone.proofs.RwLock.{is_ready, rwlock_rests}
+use Rattle.lot_laws.proofs.rwlock.Words.{word_small}
+use Rattle.lot_alone.proofs.Leads.{Leads, OrBarred, barred_as, leads_more, leads_so, leads_then}
+use Rattle.lot_alone.proofs.TwoLines.{StepsAlone}
+use Rattle.lot_alone.proofs.HandsOver.{Ends, Resting, Shares, shares_on, accepts_rest, gives_rest}
+use Rattle.lot_alone.proofs.HandsOver.{glance_rests, hands_over_rest, wakes_rest}
 use Rattle.lot_laws.proofs.condvar.StepsKeep.{after_condvars}
 use Rattle.lot_laws.proofs.hands.CountsKept.{counted_after}
 use Rattle.lot_laws.proofs.hands.Counting.{nothing}

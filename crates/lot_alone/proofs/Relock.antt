@@ -14,14 +14,14 @@ use Rattle.steps_mutex.specs.declared.places.MutexPlace.TheVariants as mutex
 use Rattle.steps_mutex.specs.MutexSteps.{decided}
 use Rattle.steps_condvar.specs.declared.wait.WaitAt.TheVariants as wait
 use Rattle.lot_laws.proofs.machine.AtPlaces.{coded}
-use Rattle.lot_laws.proofs.alone.Condvar.{Afterwards, GoesAlone, Keeps, free_beside, leads_afterwards}
-use Rattle.lot_laws.proofs.alone.Condvar.{reached}
-use Rattle.lot_laws.proofs.alone.Condvar.{so_then, word_then}
+use Rattle.lot_alone.proofs.Condvar.{Afterwards, GoesAlone, Keeps, free_beside, leads_afterwards}
+use Rattle.lot_alone.proofs.Condvar.{reached}
+use Rattle.lot_alone.proofs.Condvar.{so_then, word_then}
 use Rattle.lot_laws.proofs.condvar.Replies.{fits_here}
 use Rattle.lot_laws.proofs.condvar.OwnStand.{calm_waiter}
 use Rattle.lot_laws.proofs.promises.ExclusiveOwners.{by_code}
 use Rattle.lot_laws.proofs.machine.Parts.{differ, plain_rules}
-use Rattle.lot_laws.proofs.alone.Leads.{leads_barred, Leads, leads_more}
+use Rattle.lot_alone.proofs.Leads.{leads_barred, Leads, leads_more}
 
 module _ (t l m : ℕ) (keeps : Keeps t) (timed late : Bool) where
   abbrev pub relocks : Bool → LockAt → CondvarPlace

@@ -12,11 +12,11 @@ use Rattle.spec_locks.specs.declared.outcomes.Outcome.TheVariants as outcome
 use Rattle.steps_base.specs.declared.acts.Act.TheVariants as act
 use Rattle.steps_base.specs.declared.acts.Next.TheVariants as next
 use Rattle.steps_condvar.specs.declared.notify.NotifyAt.TheVariants as notify
-use Rattle.lot_laws.proofs.alone.Condvar.{Afterwards, GoesAlone, Keeps, free_beside, free_here, hears}
-use Rattle.lot_laws.proofs.alone.Condvar.{leads_afterwards, queue_then, reached, so_then, word_then}
+use Rattle.lot_alone.proofs.Condvar.{Afterwards, GoesAlone, Keeps, free_beside, free_here, hears}
+use Rattle.lot_alone.proofs.Condvar.{leads_afterwards, queue_then, reached, so_then, word_then}
 use Rattle.lot_laws.proofs.condvar.OwnStand.{notifier_still}
 use Rattle.lot_laws.proofs.machine.Parts.{same}
-use Rattle.lot_laws.proofs.alone.Leads.{leads_barred, Leads, leads_more, leads_so}
+use Rattle.lot_alone.proofs.Leads.{leads_barred, Leads, leads_more, leads_so}
 
 -- how many it moves of those that wait, and the waiters that are left
 abbrev pub moved_number : Bool → List Queued → ℕ

@@ -17,13 +17,13 @@ use Rattle.steps_semaphore.specs.declared.tries.TryAt.TheVariants as tries
 use Rattle.steps_semaphore.specs.declared.release.ReleaseAt.TheVariants as release
 use Rattle.steps_semaphore.specs.declared.places.SemaphorePlace.TheVariants.{Try}
 use Rattle.steps_semaphore.specs.SemaphoreSteps.{looked}
-use Rattle.lot_laws.proofs.alone.TwoLines.{Comes, StepsAlone, leads_into, leave_comes, park_comes}
-use Rattle.lot_laws.proofs.alone.TwoLines.{remove_comes, word_comes}
-use Rattle.lot_laws.proofs.alone.SemaphoreEnds.{Answers, Ended, decides, goes_inside, loads, release_adds}
-use Rattle.lot_laws.proofs.alone.SemaphoreEnds.{release_clears, release_enters, release_leaves, release_takes}
-use Rattle.lot_laws.proofs.alone.SemaphoreEnds.{sets_bit, steps_on, takes_free, tried, tries_so, try_decides}
-use Rattle.lot_laws.proofs.alone.SemaphoreEnds.{try_loads, try_looks}
-use Rattle.lot_laws.proofs.alone.Leads.{Leads, leads_more, leads_rest, leads_so, leads_step}
+use Rattle.lot_alone.proofs.TwoLines.{Comes, StepsAlone, leads_into, leave_comes, park_comes}
+use Rattle.lot_alone.proofs.TwoLines.{remove_comes, word_comes}
+use Rattle.lot_alone.proofs.SemaphoreEnds.{Answers, Ended, decides, goes_inside, loads, release_adds}
+use Rattle.lot_alone.proofs.SemaphoreEnds.{release_clears, release_enters, release_leaves, release_takes}
+use Rattle.lot_alone.proofs.SemaphoreEnds.{sets_bit, steps_on, takes_free, tried, tries_so, try_decides}
+use Rattle.lot_alone.proofs.SemaphoreEnds.{try_loads, try_looks}
+use Rattle.lot_alone.proofs.Leads.{Leads, leads_more, leads_rest, leads_so, leads_step}
 
 module _ (t l : ℕ) where
   abbrev Queues : Type 0

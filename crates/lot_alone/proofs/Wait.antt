@@ -17,12 +17,12 @@ use Rattle.steps_mutex.specs.declared.places.MutexPlace.TheVariants as mutex
 use Rattle.steps_mutex.specs.declared.unlock.UnlockAt.TheVariants as unlock
 use Rattle.steps_condvar.specs.declared.wait.WaiterFate.TheVariants as stands
 use Rattle.steps_condvar.specs.declared.wait.WaitAt.TheVariants as wait
-use Rattle.lot_laws.proofs.alone.Condvar.{Afterwards, GoesAlone, Keeps, free_beside, free_here}
-use Rattle.lot_laws.proofs.alone.Condvar.{leads_afterwards}
-use Rattle.lot_laws.proofs.alone.Condvar.{reached}
+use Rattle.lot_alone.proofs.Condvar.{Afterwards, GoesAlone, Keeps, free_beside, free_here}
+use Rattle.lot_alone.proofs.Condvar.{leads_afterwards}
+use Rattle.lot_alone.proofs.Condvar.{reached}
 use Rattle.lot_laws.proofs.condvar.OwnStand.{calm_waiter, is_release}
-use Rattle.lot_laws.proofs.alone.Leads.{leads_barred, Leads, leads_more}
-use Rattle.lot_laws.proofs.alone.Relock.{relock_rests}
+use Rattle.lot_alone.proofs.Leads.{leads_barred, Leads, leads_more}
+use Rattle.lot_alone.proofs.Relock.{relock_rests}
 
 module _ (t l m : ℕ) (keeps : Keeps t) (timed : Bool) where
   abbrev pub Alone : State → WaitAt → Type 0

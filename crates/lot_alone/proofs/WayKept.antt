@@ -20,8 +20,8 @@ use Rattle.steps_condvar.specs.declared.notify.NotifyAt.TheVariants as notifies
 use Rattle.lot_laws.proofs.condvar.Replies.{word_is}
 use Rattle.lot_laws.proofs.machine.EntersOwn.{enters_own}
 use Rattle.lot_laws.proofs.machine.KindsStay.{after_kinds}
-use Rattle.lot_laws.proofs.alone.NotifyEnds.{shown_again}
-use Rattle.lot_laws.proofs.alone.WorldRuns.{world_after}
+use Rattle.lot_alone.proofs.NotifyEnds.{shown_again}
+use Rattle.lot_laws.proofs.promises.WorldRuns.{world_after}
 
 -- ---------------------------------------------------------------- sections
 

@@ -34,10 +34,10 @@ use Rattle.steps_base.specs.declared.acts.TakeWhich as whoms
 use Rattle.lot_laws.proofs.sites.SitesKept.{go_by, unshared_at, single_at, alone_at}
 use Rattle.lot_laws.proofs.mutex.MutexStaysASite.{goes_mutex}
 use Rattle.lot_laws.proofs.machine.AtPlaces.{coded_for, rules_for, owns}
-use Rattle.lot_laws.proofs.alone.Leads.{Leads, leads_rest, leads_step, leads_more, leads_so}
-use Rattle.lot_laws.proofs.alone.Acts.{Facing, Faces, word_faces, faces_into, leave_faces, wake_faces}
-use Rattle.lot_laws.proofs.alone.Acts.{hand_faces, accept_faces, park_faces, unparked_faces, remove_faces}
-use Rattle.lot_laws.proofs.alone.Acts.{take_faces, act_led}
+use Rattle.lot_alone.proofs.Leads.{Leads, leads_rest, leads_step, leads_more, leads_so}
+use Rattle.lot_alone.proofs.Acts.{Facing, Faces, word_faces, faces_into, leave_faces, wake_faces}
+use Rattle.lot_alone.proofs.Acts.{hand_faces, accept_faces, park_faces, unparked_faces, remove_faces}
+use Rattle.lot_alone.proofs.Acts.{take_faces, act_led}
 
 -- ---------------------------------------------------------------- lock
 

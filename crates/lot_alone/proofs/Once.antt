@@ -23,10 +23,10 @@ use Rattle.steps_once.specs.declared.look.Course.TheVariants.{Runs, Parks}
 use Rattle.steps_once.specs.declared.run.RunAt.TheVariants as run
 use Rattle.steps_once.specs.declared.places.OncePlace.TheVariants.{Look}
 use Rattle.steps_once.specs.OnceSteps.{is_mark, looked, want_of}
-use Rattle.lot_laws.proofs.alone.TwoLines.{Comes, StepsAlone, leads_into, leave_comes, park_comes}
-use Rattle.lot_laws.proofs.alone.TwoLines.{remove_comes, take_comes, word_comes}
-use Rattle.lot_laws.proofs.alone.OnceEnds.{Ended, Looked, decides, loads, looks, told_by_word}
-use Rattle.lot_laws.proofs.alone.Leads.{Leads, leads_more, leads_rest, leads_so, leads_step}
+use Rattle.lot_alone.proofs.TwoLines.{Comes, StepsAlone, leads_into, leave_comes, park_comes}
+use Rattle.lot_alone.proofs.TwoLines.{remove_comes, take_comes, word_comes}
+use Rattle.lot_alone.proofs.OnceEnds.{Ended, Looked, decides, loads, looks, told_by_word}
+use Rattle.lot_alone.proofs.Leads.{Leads, leads_more, leads_rest, leads_so, leads_step}
 
 module _ (t l : ℕ) where
   abbrev Queues : Type 0

@@ -30,12 +30,13 @@ use Rattle.spec_locks.specs.Locks.{Semaphore, Once}
 use Rattle.spec_locks.specs.Locks.{Condvar}
 use Rattle.lot_laws.proofs.machine.Parts.{put_here, same}
 use Rattle.lot_laws.proofs.sites.OneStep.{queued_after}
-use Rattle.lot_laws.proofs.alone.TwoLines.{StepsAlone}
-use Rattle.lot_laws.proofs.alone.Answers.{HasAnswered, answered}
-use Rattle.lot_laws.proofs.alone.WorldRuns.{RunsAlone, run_refines}
-use Rattle.lot_laws.proofs.alone.Leads.{or_so}
-use Rattle.lot_laws.proofs.alone.RwLock.{Decides, Takes, Settles, Sleeps, Tries, Upgrades, place_for}
-use Rattle.lot_laws.proofs.alone.RwLock.{load_leads, first_leads, word_small}
+use Rattle.lot_alone.proofs.TwoLines.{StepsAlone}
+use Rattle.lot_laws.proofs.calls.Answers.{HasAnswered, answered}
+use Rattle.lot_laws.proofs.promises.WorldRuns.{RunsAlone, run_refines}
+use Rattle.lot_alone.proofs.Leads.{or_so}
+use Rattle.lot_alone.proofs.RwLock.{Decides, Takes, Settles, Sleeps, Tries, Upgrades, place_for}
+use Rattle.lot_alone.proofs.RwLock.{load_leads, first_leads}
+use Rattle.lot_laws.proofs.rwlock.Words.{word_small}
 
 same_answer : (how : Patience) → entered how ≡ entered_answer how
 same_answer Patient = refl

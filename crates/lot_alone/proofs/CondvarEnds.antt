@@ -7,14 +7,14 @@ use Imports.{Line, Main, State, place_at, section_at, lock_state, IsWorld, EndsA
 use Imports.{EndsOrSleeps, location_at, Location}
 use Rattle.spec_locks.specs.declared.calls.CondvarCall.TheVariants as condvar_call
 use Rattle.steps_base.specs.declared.acts.Act.TheVariants as act
-use Rattle.lot_laws.proofs.alone.Condvar.{GoesAlone, Keeps}
+use Rattle.lot_alone.proofs.Condvar.{GoesAlone, Keeps}
 use Rattle.lot_laws.proofs.condvar.Replies.{fits_here}
 use Rattle.lot_laws.proofs.condvar.Sites.{location_there}
-use Rattle.lot_laws.proofs.alone.Leads.{Leads, leads_more}
-use Rattle.lot_laws.proofs.alone.NotifyEnds.{look_rests, notifies_alone}
-use Rattle.lot_laws.proofs.alone.Notify.{notify_rests}
-use Rattle.lot_laws.proofs.alone.WaitEnds.{wait_alone}
-use Rattle.lot_laws.proofs.alone.Wait.{wait_rests}
+use Rattle.lot_alone.proofs.Leads.{Leads, leads_more}
+use Rattle.lot_alone.proofs.NotifyEnds.{look_rests, notifies_alone}
+use Rattle.lot_alone.proofs.Notify.{notify_rests}
+use Rattle.lot_alone.proofs.WaitEnds.{wait_alone}
+use Rattle.lot_alone.proofs.Wait.{wait_rests}
 
 module _ (t : ℕ) (keeps : Keeps t) (w : State) (world : IsWorld w) (there : t < length w.places) (l : ℕ) where
   goes_alone : (m : ℕ) (p : CondvarPlace) → place_at w t ≡ Condvar l p → GoesAlone w t l m p

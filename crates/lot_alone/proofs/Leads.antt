@@ -6,7 +6,7 @@ use Imports.{Outcome, act_of, State, after, can_do, go_of, go_outcome, place_at,
 use Imports.{key_of, EntersSection, IsBarred, EndsOrSleeps}
 use Rattle.steps_base.specs.declared.acts.Act.TheVariants as act
 use Rattle.spec_locks.specs.declared.outcomes.Outcome as outcome
-use Rattle.lot_laws.proofs.alone.AloneSteps.{rests_after}
+use Rattle.lot_alone.proofs.AloneSteps.{rests_after}
 
 -- after at most k steps of the thread alone its call rests, and then this holds
 abbrev pub LeadsSurely : ℕ → State → ℕ → (State → Outcome → Type 0) → Type 0
