@@ -27,7 +27,7 @@ use Rattle.spec_locks.specs.Locks.{Condvar}
 use Rattle.lot_laws.proofs.machine.Parts.{role_here, inside_is, put_here}
 use Rattle.lot_alone.proofs.Leads.{Leads, or_so}
 use Rattle.lot_alone.proofs.TwoLines.{StepsAlone}
-use Rattle.lot_laws.proofs.calls.Answers.{HasAnswered, answered, former_kept}
+use Rattle.lot_alone.proofs.Answers.{HasAnswered, answered, former_kept}
 use Rattle.lot_laws.proofs.promises.WorldRuns.{RunsAlone, run_refines, runs_alone, world_run}
 use Rattle.lot_alone.proofs.HandsOver.{EntersAgain, Ends, Resting, glance_rests, hands_over_rest}
 use Rattle.lot_alone.proofs.Bump.{SameEnd, again_rests, as_first, as_plain, first_may, first_seen}

@@ -4,6 +4,7 @@ pub mod SemaphoreEnds
 pub mod Semaphore
 pub mod Leads
 pub mod Acts
+pub mod Answers
 pub mod TwoLines
 pub mod RwLock
 pub mod HandsOver

@@ -31,7 +31,7 @@ use Rattle.spec_locks.specs.Locks.{Condvar}
 use Rattle.lot_laws.proofs.machine.Parts.{put_here, same}
 use Rattle.lot_laws.proofs.sites.OneStep.{queued_after}
 use Rattle.lot_alone.proofs.TwoLines.{StepsAlone}
-use Rattle.lot_laws.proofs.calls.Answers.{HasAnswered, answered}
+use Rattle.lot_alone.proofs.Answers.{HasAnswered, answered}
 use Rattle.lot_laws.proofs.promises.WorldRuns.{RunsAlone, run_refines}
 use Rattle.lot_alone.proofs.Leads.{or_so}
 use Rattle.lot_alone.proofs.RwLock.{Decides, Takes, Settles, Sleeps, Tries, Upgrades, place_for}

@@ -33,7 +33,7 @@ use Rattle.lot_alone.proofs.TwoLines.{Comes, StepsAlone, leads_into, leave_comes
 use Rattle.lot_alone.proofs.TwoLines.{take_comes, word_comes}
 use Rattle.lot_laws.proofs.sites.OneStep.{queued_after}
 use Rattle.lot_alone.proofs.Leads.{Leads, leads_more, leads_rest, leads_step, or_so}
-use Rattle.lot_laws.proofs.calls.Answers.{HasAnswered, answered}
+use Rattle.lot_alone.proofs.Answers.{HasAnswered, answered}
 use Rattle.lot_laws.proofs.promises.WorldRuns.{RunsAlone, run_refines}
 
 -- to take the first of a line changes no word

@@ -20,7 +20,8 @@ use Rattle.steps_base.specs.declared.acts.Act.TheVariants as act
 use Rattle.steps_condvar.specs.declared.places.CondvarPlace.TheVariants as condvar
 use Rattle.lot_laws.proofs.machine.Parts.{same}
 use Rattle.lot_laws.proofs.calls.TriesPass.{tries_go}
-use Rattle.lot_laws.proofs.calls.Answers.{gone, purpose_stays, woken_purpose}
+use Rattle.lot_alone.proofs.Answers.{gone}
+use Rattle.lot_laws.proofs.calls.Purposes.{purpose_stays, woken_purpose}
 use Rattle.lot_laws.proofs.promises.WorldRuns.{world_after, world_step}
 
 -- ---------------------------------------------------------------- a step of it

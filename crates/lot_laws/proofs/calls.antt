@@ -18,4 +18,4 @@ pub mod Tries
 pub mod TriesEnd
 pub mod Spins
 pub mod Marked
-pub mod Answers
+pub mod Purposes

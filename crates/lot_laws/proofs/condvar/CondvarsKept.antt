@@ -24,7 +24,7 @@ use Rattle.lot_laws.proofs.machine.KindsStay.{after_kinds}
 use Rattle.lot_laws.proofs.calls.LockSteps.{IsTurn, after_step}
 use Rattle.lot_laws.proofs.promises.PlacePromises.{row_promises}
 use Rattle.lot_laws.proofs.calls.SingleCalls.{call_here}
-use Rattle.lot_laws.proofs.calls.Answers.{purpose_stays, woken_purpose}
+use Rattle.lot_laws.proofs.calls.Purposes.{purpose_stays, woken_purpose}
 use Rattle.lot_laws.proofs.condvar.SameCondvars.{Kept, same_condvar}
 use Rattle.lot_laws.proofs.sites.TurnsKept.{after_inductive}
 use Rattle.lot_laws.proofs.condvar.WaitersAside.{plain_sort}

@@ -1,16 +1,11 @@
--- The answer of a call that has stepped alone to its end is true.
+-- An event of a call leaves what the call is for, and what its thread owned as it began.
 use Rattle.lot_laws.proofs.Imports
-use Imports.{Some, None, ℕ, zero, suc, Bool, true, false, Option, if◌then◌else◌, ◌≡◌, ◌≢◌, inl, inr, List, []}
-use Imports.{◌∷◌, length, replicate, refl, sym, ◌∙◌, ap, subst, Answer, Outcome, Rights, Pend, Settle, Leave}
+use Imports.{Some, None, ℕ, Bool, true, false, Option, if◌then◌else◌, ◌≡◌, refl, Rights, Pend, Settle, Leave}
 use Imports.{Park, Aside, Wake, HandOff, OfOnce, OnceCase, Start, Finish, Fail, Rest, TakeAll, Purpose}
-use Imports.{CondvarMemory}
-use Imports.{WasMoved, moved_of, LocksState, CallState, Event, Nothing, AtLock, IsStep, IsRun, GoesOn}
-use Imports.{AnswerHolds, after_wake, going_on, is_among, is_taken_by, woken, Moves, gives_up, go_of}
-use Imports.{GoesOnUntil, last_told}
-use Rattle.spec_locks.specs.declared.outcomes.Outcome.TheVariants as outcome
+use Imports.{CondvarMemory, WasMoved, moved_of, LocksState, CallState, Event, Nothing, AtLock, after_wake}
+use Imports.{going_on, is_among, is_taken_by, woken, Moves, gives_up}
 use Rattle.spec_locks.specs.Locks.{Enter, Late}
 use Rattle.spec_locks.specs.Locks as locks
-use Rattle.lot_laws.proofs.machine.Parts.{same}
 
 once_keeps_purpose : (case : OnceCase) (l : ℕ) (c : CallState) → (going_on (AtLock l (OfOnce case)) c).purpose
     ≡ c.purpose
@@ -57,7 +52,7 @@ purpose_stays (AtLock l (HandOff x h)) c = refl
 purpose_stays (AtLock l (OfOnce case)) c = once_keeps_purpose case l c
 purpose_stays (AtLock l case) c = refl
 
-former_stays : (e : Event) (c : CallState) → (going_on e c).former ≡ c.former
+pub former_stays : (e : Event) (c : CallState) → (going_on e c).former ≡ c.former
 former_stays Nothing c = refl
 former_stays (AtLock l Late) c = late_keeps_former l c.recalls c
 former_stays (AtLock l (locks.OfCondvar (locks.Look None))) c = refl
@@ -102,7 +97,7 @@ woken_purpose w t (Moves l m all owned number) c = either (is_among t (moved_of 
 woken_purpose w t Nothing c = refl
 woken_purpose w t (AtLock l case) c = refl
 
-woken_former : (w : LocksState) (t : ℕ) (e : Event) (c : CallState) → (woken w t e t c).former ≡ c.former
+pub woken_former : (w : LocksState) (t : ℕ) (e : Event) (c : CallState) → (woken w t e t c).former ≡ c.former
 woken_former w t (AtLock l Wake) c = either (is_taken_by t ((w.locks l).taken t))
   where
     either : (b : Bool) → (if b then record c {
@@ -126,73 +121,3 @@ woken_former w t (Moves l m all owned number) c = either (is_among t (moved_of a
     either false = refl
 woken_former w t Nothing c = refl
 woken_former w t (AtLock l case) c = refl
-
--- a call for this has ended with this answer, of a thread that owned so much as it began
-pub record HasAnswered (t : ℕ) (purpose : Option Purpose) (former : ℕ → Rights) (a : Answer)
-    (v : LocksState) : Type 0 where
-  pub call : CallState
-  pub purpose_is : call.purpose ≡ purpose
-  pub former_is : call.former ≡ former
-  pub holds : AnswerHolds purpose v t call a
-
--- a step of the thread that was possible
-pub gone : (w v : LocksState) (t : ℕ) (o : Outcome) → o ≢ outcome.NotNow → IsStep w (go_of t) o v
-    → GoesOn w t o v
-gone w v t o possible step = elim step.1 [
-  | inl does ↦ does.1
-  | inr refused ↦ absurd (possible refused.1.0)
-]
-
-call_then : (w v : LocksState) (t : ℕ) (g : GoesOn w t outcome.Step v)
-    → v.calls t ≡ woken w t g.event t (going_on g.event (w.calls t))
-call_then w v t g = g.calls t ∙ ap (λ (b : Bool). if b then woken w t g.event t (going_on g.event (w.calls t))
-    else woken w t g.event t (w.calls t)) (same t)
-
-purpose_then : (w v : LocksState) (t : ℕ) → GoesOn w t outcome.Step v → (v.calls t).purpose
-    ≡ (w.calls t).purpose
-purpose_then w v t g = ap (λ (x : CallState). x.purpose) (call_then w v t g)
-    ∙ woken_purpose w t g.event (going_on g.event (w.calls t)) ∙ purpose_stays g.event (w.calls t)
-
-former_then : (w v : LocksState) (t : ℕ) → GoesOn w t outcome.Step v → (v.calls t).former ≡ (w.calls t).former
-former_then w v t g = ap (λ (x : CallState). x.former) (call_then w v t g)
-    ∙ woken_former w t g.event (going_on g.event (w.calls t)) ∙ former_stays g.event (w.calls t)
-
-pub answered : (told : List Outcome) (w v : LocksState) (t : ℕ) (a : Answer)
-    → IsRun w (replicate (length told) (go_of t)) told v
-    → GoesOnUntil told → last_told told ≡ outcome.End a → HasAnswered t (w.calls t).purpose (w.calls t).former
-    a v
-answered [] w v t a run goes is = absurd cc
-answered (o ∷ []) w v t a run goes is =
-    let g : GoesOn w t o run.0 = gone w run.0 t o goes run.1 in
-    ended (subst (λ x. GoesOn w t x run.0) is g)
-  where
-    ended : GoesOn w t (outcome.End a) run.0 → HasAnswered t (w.calls t).purpose (w.calls t).former a v
-    ended g = record {
-      call = going_on g.event (w.calls t);
-      purpose_is = purpose_stays g.event (w.calls t);
-      former_is = former_stays g.event (w.calls t);
-      holds = subst (λ (x : LocksState). AnswerHolds (w.calls t).purpose x t (going_on g.event (w.calls t)) a)
-          (sym run.2) (subst (λ p. AnswerHolds p run.0 t (going_on g.event (w.calls t)) a)
-          (purpose_stays g.event (w.calls t)) g.agrees.0);
-    }
-answered (o ∷ o2 ∷ os) w v t a run goes is =
-    let g : GoesOn w t outcome.Step run.0 = subst (λ x. GoesOn w t x run.0) goes.0
-    (gone w run.0 t o (λ e. let f : outcome.NotNow ≡ outcome.Step = sym e ∙ goes.0 in cc) run.1) in
-    let ih = answered (o2 ∷ os) run.0 v t a run.2 goes.1 is in
-    let p : (run.0.calls t).purpose ≡ (w.calls t).purpose = purpose_then w run.0 t g in
-    let f : (run.0.calls t).former ≡ (w.calls t).former = former_then w run.0 t g in
-    record {
-      call = ih.call;
-      purpose_is = ih.purpose_is ∙ p;
-      former_is = ih.former_is ∙ f;
-      holds = subst (λ x. AnswerHolds x v t ih.call a) p ih.holds;
-    }
-
--- as long as it goes on, its thread owned as it began what it owned then
-pub former_kept : (n : ℕ) (w v : LocksState) (t : ℕ) → IsRun w (replicate n (go_of t))
-    (replicate n outcome.Step) v
-    → (v.calls t).former ≡ (w.calls t).former
-former_kept zero w v t run = ap (λ (x : LocksState). (x.calls t).former) run
-former_kept (suc n) w v t run =
-    let g : GoesOn w t outcome.Step run.0 = gone w run.0 t outcome.Step (λ e. cc) run.1 in
-    former_kept n run.0 v t run.2 ∙ former_then w run.0 t g
