@@ -2,7 +2,8 @@
 //!
 //! The slow half of `lock` returns no right: it leaves the ownership in the token's view, and `lock`
 //! splits it off, since a place for the right would cost the fast half. `unlock` asks of its
-//! subtraction whether it found 1; an owner finds 1 or 3, so the slow half is told 3.
+//! subtraction whether it found 1; an owner finds 1 or 3, so the slow half is told 3, or 0 where the
+//! thread waits for its turn.
 ghost use Rattle.std.specs.Prelude.{◌≡◌, ◌<◌, ◌*◌, ◌++◌, List, None, true, IfNone, IfSome};
 ghost use Rattle.std.specs.Arc.{arc_value};
 ghost use Rattle.core_clocks.specs.Clocks.{TimeIsUp};

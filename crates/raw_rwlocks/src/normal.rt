@@ -263,7 +263,7 @@ impl lock_raw::RawRwLock for RawRwLock<false> {
         }
     }
 
-    #[inline]
+    #[inline(always)]
     fn unlock_shared<R: Wait>(&self, rt: &R, token: &mut Token, guard: RawSharedGuard) {
         if let Some(rest) = self.unlock_shared_fast(token, guard) {
             self.unlock_slow(rt, token, Access::Shared, rest);
@@ -278,7 +278,7 @@ impl lock_raw::RawRwLock for RawRwLock<false> {
         }
     }
 
-    #[inline]
+    #[inline(always)]
     fn unlock_exclusive<R: Wait>(&self, rt: &R, token: &mut Token, guard: RawExclusiveGuard) {
         if let Some(rest) = self.unlock_exclusive_fast(token, guard) {
             self.unlock_slow(rt, token, Access::Exclusive, rest);

@@ -53,7 +53,7 @@ impl lock_raw::RawRwLockUpgrade for RawRwLock<true> {
         }
     }
 
-    #[inline]
+    #[inline(always)]
     fn unlock_upgradable<R: Wait>(&self, rt: &R, token: &mut Token, guard: RawUpgradableGuard) {
         if let Some(rest) = self.unlock_upgradable_fast(token, guard) {
             self.lock.release_slow(rt, token, Access::Upgradable, rest);
