@@ -68,7 +68,7 @@ pub trait RawMutex {
         → number_of new ≡ number_of old };
     // A guard is of this mutex.
     ghost is_guard_of: { Self → Self.Guard → Type 0 };
-    // That a guard is of a mutex has one proof at most, so a struct may keep it as a ghost field.
+    // The fact that a guard is of a mutex has one proof at most: a struct may keep it as a ghost field.
     ghost guard_once: { (mutex : Self) (guard : Self.Guard) → IsProp (is_guard_of mutex guard) };
     // Which permit opens the value that a mutex guards.
     ghost permit_of: { Self → PermitId };

@@ -38,7 +38,7 @@ pub trait RawRwLock: RawRwLockHalves {
     ghost looked: { Self → Bool → Self.Token → Self.Token → Type 0 };
     // What a look for an exclusive owner saw.
     ghost looked_for_writer: { Self → Bool → Self.Token → Self.Token → Type 0 };
-    // This call gave up: it left no section after a last step that saw nobody to wake, or one in
+    // A call that gave up: it left no section after a last step that saw nobody to wake, or one in
     // which it took those that it had kept out, or that of the main queue, where it took nobody.
     ghost gave_up: { Self → RwLockCall → Self.Token → Type 0 };
 

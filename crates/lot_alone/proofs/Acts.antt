@@ -13,11 +13,11 @@ use Imports.{owners_handed_over, is_there, going_outcome, state_after_going, IsW
 use Imports.{Main, EntersSection, location, location_at, AreCondvars, AreCounted, IsInductive}
 use Imports.{after_well_formed, after_size, main_key_there, main_line_there, Owners, with_exclusive}
 use Imports.{owners_after}
-use Rattle.spec_locks.specs.declared.kinds.Kind as kind
-use Rattle.steps_base.specs.declared.acts.Act as act
-use Rattle.steps_base.specs.declared.acts.Wakes as wakes
-use Rattle.spec_locks.specs.declared.outcomes.Outcome as outcome
-use Rattle.steps_base.specs.declared.acts.TakeWhich as whoms
+use Rattle.spec_locks.specs.declared.kinds.Kind.TheVariants as kind
+use Rattle.steps_base.specs.declared.acts.Act.TheVariants as act
+use Rattle.steps_base.specs.declared.acts.Wakes.TheVariants as wakes
+use Rattle.spec_locks.specs.declared.outcomes.Outcome.TheVariants as outcome
+use Rattle.steps_base.specs.declared.acts.TakeWhich.TheVariants as whoms
 use Rattle.lot_laws.proofs.machine.Parts.{IsSingle, next_single, nothing_at}
 use Rattle.lot_alone.proofs.Leads.{Leads, leads_barred, leads_step}
 use Rattle.lot_laws.proofs.calls.OwnPlace.{goes_from_there, told_from_there}
@@ -60,7 +60,7 @@ module _ (w : State) (t l : ℕ) (p : Place) (v : ℕ) (o s : Option ℕ) (q : L
 
   told : can_do w (act_of p) ≡ true → step_outcome w (go_of t) ≡ outcome_of
       (next_act p (reply_to w t (act_of p)))
-  told can = ap (λ b. if b then go_outcome w t else outcome.TheVariants.NotNow) (possible can)
+  told can = ap (λ b. if b then go_outcome w t else outcome.NotNow) (possible can)
       ∙ ap (going_outcome w t) f.place ∙ told_from_there w t p f.place f.single
 
   pub act_led : can_do w (act_of p) ≡ true
@@ -92,7 +92,7 @@ module _ (w : State) (t l : ℕ) (p : Place) (v : ℕ) (o s : Option ℕ) (q : L
       led = act_led can ∙ (λ i. put (does i) t (to i))
 
   pub hand_faces : (x : Op) (u : ℕ) → takes_effect x (word_at w l) ≡ true → act_of p
-      ≡ act.TheVariants.HandOver l x
+      ≡ act.HandOver l x
       → ((o : Owners) → owners_handed_over w t l o ≡ with_exclusive o (Some u))
       → Faces w t l (next_place p (Value v)) (outcome_of (next_act p (Value v))) (apply x v) (Some u) s q
   hand_faces x u takes is heir = (
@@ -101,9 +101,9 @@ module _ (w : State) (t l : ℕ) (p : Place) (v : ℕ) (o s : Option ℕ) (q : L
         (next_place p (Value v)) (apply x v) (Some u) s q can (ap (state_after_act w t p) is
         ∙ ap (λ b. state_after_hand_over_by b w t p l x) takes)
         (length-map w.places (place_after_telling t (hand_over_told w t l))) (ap (next_place p) heard)
-        (ap (λ y. y.word) (get_or-set_same w.locks l _ (unlocked kind.TheVariants.Mutex) f.lock)
+        (ap (λ y. y.word) (get_or-set_same w.locks l _ (unlocked kind.Mutex) f.lock)
         ∙ ap (apply x) f.word)
-        (ap (λ y. y.owners.exclusive) (get_or-set_same w.locks l _ (unlocked kind.TheVariants.Mutex) f.lock)
+        (ap (λ y. y.owners.exclusive) (get_or-set_same w.locks l _ (unlocked kind.Mutex) f.lock)
         ∙ ap (λ (o : Owners). o.exclusive) (heir (owners_after p t (word_at w l) (owners_at w l))))
         f.section f.queue,
   )
@@ -114,7 +114,7 @@ module _ (w : State) (t l : ℕ) (p : Place) (v : ℕ) (o s : Option ℕ) (q : L
       heard : reply_to w t (act_of p) ≡ Value v
       heard = ap (reply_to w t) is ∙ ap Value f.word
 
-  pub accept_faces : act_of p ≡ act.TheVariants.Accept → Faces w t l (next_place p Done)
+  pub accept_faces : act_of p ≡ act.Accept → Faces w t l (next_place p Done)
       (outcome_of (next_act p Done)) v o s q
   accept_faces is = (
     told can ∙ ap (λ r. outcome_of (next_act p r)) heard,
@@ -128,7 +128,7 @@ module _ (w : State) (t l : ℕ) (p : Place) (v : ℕ) (o s : Option ℕ) (q : L
       heard : reply_to w t (act_of p) ≡ Done
       heard = ap (reply_to w t) is
 
-  pub enter_faces : act_of p ≡ act.TheVariants.Enter (One (2 * l)) → s ≡ None
+  pub enter_faces : act_of p ≡ act.Enter (One (2 * l)) → s ≡ None
       → Faces w t l (next_place p Done) (outcome_of (next_act p Done)) v o (Some t) q
   enter_faces is free = (
     told can ∙ ap (λ r. outcome_of (next_act p r)) heard,
@@ -144,8 +144,8 @@ module _ (w : State) (t l : ℕ) (p : Place) (v : ℕ) (o s : Option ℕ) (q : L
       heard = ap (reply_to w t) is
 
   -- outside of the section it enters it, or is barred
-  pub faces_into : (P : State → Outcome → Type 0) (k : ℕ) → act_of p ≡ act.TheVariants.Enter (One (2 * l))
-      → (location p).inside ≡ None → outcome_of (next_act p Done) ≡ outcome.TheVariants.Step
+  pub faces_into : (P : State → Outcome → Type 0) (k : ℕ) → act_of p ≡ act.Enter (One (2 * l))
+      → (location p).inside ≡ None → outcome_of (next_act p Done) ≡ outcome.Step
       → (Facing (after w (go_of t)) t l (next_place p Done) v o (Some t) q → Leads k (after w (go_of t)) t P)
       → Leads (k + 1) w t P
   faces_into P k is outside steps on = by_who s f.section
@@ -165,7 +165,7 @@ module _ (w : State) (t l : ℕ) (p : Place) (v : ℕ) (o s : Option ℕ) (q : L
             (ap (λ x. (location x).inside) f.place ∙ outside) in cc;
       })
 
-  pub leave_faces : act_of p ≡ act.TheVariants.Leave (One (2 * l)) wakes.TheVariants.Nobody
+  pub leave_faces : act_of p ≡ act.Leave (One (2 * l)) wakes.Nobody
       → Faces w t l (next_place p Done) (outcome_of (next_act p Done)) v o None q
   leave_faces is = (
     told can ∙ ap (λ r. outcome_of (next_act p r)) heard,
@@ -180,7 +180,7 @@ module _ (w : State) (t l : ℕ) (p : Place) (v : ℕ) (o s : Option ℕ) (q : L
       heard : reply_to w t (act_of p) ≡ Done
       heard = ap (reply_to w t) is
 
-  pub wake_faces : (note : Note) → act_of p ≡ act.TheVariants.Leave (One (2 * l)) (wakes.TheVariants.All note)
+  pub wake_faces : (note : Note) → act_of p ≡ act.Leave (One (2 * l)) (wakes.All note)
       → Faces w t l (next_place p Done) (outcome_of (next_act p Done)) v o None q
   wake_faces note is = (
     told can ∙ ap (λ r. outcome_of (next_act p r)) heard,
@@ -196,7 +196,7 @@ module _ (w : State) (t l : ℕ) (p : Place) (v : ℕ) (o s : Option ℕ) (q : L
       heard : reply_to w t (act_of p) ≡ Done
       heard = ap (reply_to w t) is
 
-  pub park_faces : act_of p ≡ act.TheVariants.Park l (2 * l) (WordIs 3) Exclusive → v ≡ 3
+  pub park_faces : act_of p ≡ act.Park l (2 * l) (WordIs 3) Exclusive → v ≡ 3
       → (location p).stands ≡ None
       → Faces w t l (next_place p (Parked true)) (outcome_of (next_act p (Parked true))) v o s
       (q ++ waiter (2 * l) t Exclusive ∷ [])
@@ -227,7 +227,7 @@ module _ (w : State) (t l : ℕ) (p : Place) (v : ℕ) (o s : Option ℕ) (q : L
           (ap (λ x. (location x).stands) f.place ∙ nowhere) l ∙ f.queue)
 
   -- the word was another
-  pub unparked_faces : act_of p ≡ act.TheVariants.Park l (2 * l) (WordIs 3) Exclusive → (v == 3) ≡ false
+  pub unparked_faces : act_of p ≡ act.Park l (2 * l) (WordIs 3) Exclusive → (v == 3) ≡ false
       → Faces w t l (next_place p (Parked false)) (outcome_of (next_act p (Parked false))) v o s q
   unparked_faces is other = (
     told can ∙ ap (λ r. outcome_of (next_act p r)) heard,
@@ -245,7 +245,7 @@ module _ (w : State) (t l : ℕ) (p : Place) (v : ℕ) (o s : Option ℕ) (q : L
       heard : reply_to w t (act_of p) ≡ Parked false
       heard = ap (reply_to w t) is ∙ ap Parked is_other
 
-  pub remove_faces : act_of p ≡ act.TheVariants.Remove (2 * l)
+  pub remove_faces : act_of p ≡ act.Remove (2 * l)
       → Faces w t l (next_place p (Removed (length (without t q) == 0)))
       (outcome_of (next_act p (Removed (length (without t q) == 0)))) v o s (without t q)
   remove_faces is = (
@@ -262,7 +262,7 @@ module _ (w : State) (t l : ℕ) (p : Place) (v : ℕ) (o s : Option ℕ) (q : L
       heard : reply_to w t (act_of p) ≡ Removed (length (without t q) == 0)
       heard = ap (reply_to w t) is ∙ ap (λ x. Removed (length (without t x) == 0)) f.queue
 
-  pub take_faces : act_of p ≡ act.TheVariants.Take (2 * l) whoms.TheVariants.First
+  pub take_faces : act_of p ≡ act.Take (2 * l) whoms.First
       → Faces w t l (next_place p (Took (is_there (first_of q)) (length (drop 1 q) == 0)))
       (outcome_of (next_act p (Took (is_there (first_of q)) (length (drop 1 q) == 0)))) v o s (drop 1 q)
   take_faces is = by_first (first_of q) refl
@@ -304,15 +304,15 @@ module _ (w : State) (t l : ℕ) (at : MutexPlace) (v : ℕ) (o s : Option ℕ) 
   there = Mutex l at
 
   word_led : (x : Op) → word_at (state_after_operation w t there l x) l ≡ apply x v
-  word_led x = ap (λ y. y.word) (get_or-set_same w.locks l _ (unlocked kind.TheVariants.Mutex) f.lock)
+  word_led x = ap (λ y. y.word) (get_or-set_same w.locks l _ (unlocked kind.Mutex) f.lock)
       ∙ ap (apply x) f.word
 
   owner_led : (x : Op) → owner_at (state_after_operation w t there l x) l ≡ mutex_owner_after at t v o
-  owner_led x = ap (λ y. y.owners.exclusive) (get_or-set_same w.locks l _ (unlocked kind.TheVariants.Mutex)
+  owner_led x = ap (λ y. y.owners.exclusive) (get_or-set_same w.locks l _ (unlocked kind.Mutex)
       f.lock) ∙ mutex_is at t (word_at w l) (owners_at w l)
       ∙ (λ i. mutex_owner_after at t (f.word i) (f.owner i))
 
-  pub word_faces : (x : Op) → act_of there ≡ act.TheVariants.Word l x
+  pub word_faces : (x : Op) → act_of there ≡ act.Word l x
       → Faces w t l (next_place there (Value v)) (outcome_of (next_act there (Value v))) (apply x v)
       (mutex_owner_after at t v o) s q
   word_faces x is = (

@@ -524,7 +524,7 @@ module _ (t l : ℕ) (a : Admission) (x : Access) where
       (same_run k (after w (go_of t)) next.0.retries next.0.at outcome.Step
       (again_then w retries to g next.1.0 next.0 next.1.1))))
 
--- ---------------------------------------------------------------- it comes to rest
+-- ---------------------------------------------------------------- the thread comes to rest
 
 module _ (t l : ℕ) (a : Admission) where
   -- the thread's place in a call that only enters is as good

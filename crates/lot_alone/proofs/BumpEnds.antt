@@ -166,8 +166,8 @@ module _ (w : State) (t l : ℕ) (a : Admission) (x : Access) (holds : IsWorld w
   site = holds.inductive.sites.site l
 
   -- a thread that is to set the bit of a lock that is shared has taken waiters
-  covers : (u : ℕ) → ((site_of w l).role u).sets ≡ true → ((site_of w l).role u).covers ≡ true
-  covers u sets = elim (site.setting u sets) [
+  owes_taken : (u : ℕ) → ((site_of w l).role u).bit_pending ≡ true → ((site_of w l).role u).owes_taken ≡ true
+  owes_taken u bit_pending = elim (site.setting u bit_pending) [
     | inl has ↦ has
     | inr once ↦ absurd (let f : has_readers Once ≡ true = subst (λ sort. has_readers sort ≡ true) once.0
         admits.0 in cc)
@@ -179,12 +179,12 @@ module _ (w : State) (t l : ℕ) (a : Admission) (x : Access) (holds : IsWorld w
   has_waiter way some = elim (site.parked some) [
     | inl h ↦ ap has_parked coded ∙ tells.parked ∙ h
     | inr h ↦ absurd (
-        let covered = site.covered h.0 (covers h.0 h.1) in
+        let covered = site.covered h.0 (owes_taken h.0 h.1) in
         let inside : section_at w (key_of l Main) ≡ Some h.0 = (holds.inductive.stands.sections h.0 l Main).0
         (sym (inside_is (place_at w h.0) l) ∙ covered.0) in
-        let here : (role_on (place_at w t) l).sets ≡ true =
-        subst (λ u. (role_on (place_at w u) l).sets ≡ true) (way h.0 inside) h.1 in
-        let f : false ≡ true = sym (ap (λ (d : Role). d.sets) role_now) ∙ here in cc)
+        let here : (role_on (place_at w t) l).bit_pending ≡ true =
+        subst (λ u. (role_on (place_at w u) l).bit_pending ≡ true) (way h.0 inside) h.1 in
+        let f : false ≡ true = sym (ap (λ (d : Role). d.bit_pending) role_now) ∙ here in cc)
   ]
 
   few_writers : writers s ≤ 1
@@ -260,7 +260,7 @@ module _ (w : State) (t l : ℕ) (a : Admission) (x : Access) (holds : IsWorld w
   keeps_so access.Upgradable e none = none
   keeps_so access.Exclusive e none = none
 
-  -- ---------------------------------------------------------------- it comes back
+  -- ---------------------------------------------------------------- the thread comes back
 
   module _ (e : EntersAgain t l a x w v2 o) where
     abbrev between : State

@@ -13,12 +13,12 @@ use Imports.{Patient, Timed, Try, IsFull, rules_at, purpose_at, queued_of, lock_
 use Imports.{BumpsAlone, EndsAlone, EntersAlone, IsUnobstructed, HasWhatItReads, IsBarred, IsOnly, IsUnderWay}
 use Imports.{OnlyTries, EndsOrSleeps, successor, MutexPlace, RwLockCall, Admission, admission_of_kind, RwLockCallPlace}
 use Imports.{call_first}
-use Rattle.steps_base.specs.declared.acts.Act as act
-use Rattle.spec_locks.specs.declared.outcomes.Answer as answer
-use Rattle.spec_locks.specs.declared.calls.Call as call
-use Rattle.spec_locks.specs.declared.calls.MutexCall as mutex_call
+use Rattle.steps_base.specs.declared.acts.Act.TheVariants as act
+use Rattle.spec_locks.specs.declared.outcomes.Answer.TheVariants as answer
+use Rattle.spec_locks.specs.declared.calls.Call.TheVariants as call
+use Rattle.spec_locks.specs.declared.calls.MutexCall.TheVariants as mutex_call
 use Rattle.spec_locks.specs.declared.kinds.Kind.TheVariants as kinds
-use Rattle.spec_locks.specs.declared.outcomes.Outcome as outcome
+use Rattle.spec_locks.specs.declared.outcomes.Outcome.TheVariants as outcome
 use Rattle.steps_mutex.specs.declared.lock.Entry.TheVariants as entries
 use Rattle.steps_mutex.specs.declared.places.MutexPlace.TheVariants.{Bump}
 use Rattle.steps_mutex.specs.declared.places.MutexPlace.TheVariants.{HandOff}
@@ -56,8 +56,8 @@ use Rattle.lot_alone.proofs.WayKept.{unbarred}
 -- ---------------------------------------------------------------- the laws
 
 try_so : (b : Bool) (x : Outcome)
-    → x ≡ (if b then outcome.TheVariants.End answer.TheVariants.No else outcome.TheVariants.End
-    answer.TheVariants.Yes) → EndsOrSleeps x
+    → x ≡ (if b then outcome.End answer.No else outcome.End
+    answer.Yes) → EndsOrSleeps x
 try_so true x h = rw h tt
 try_so false x h = rw h tt
 
@@ -144,13 +144,13 @@ module _ (w : State) (t : ℕ) (shape : IsWellFormed w) (inductive : IsInductive
 
   mutex_place_rests : (l : ℕ) (c : MutexPlace) → place_at w t ≡ Mutex l c → PlaceFits (length w.locks)
       (Mutex l c)
-      → act_of (Mutex l c) ≢ act.TheVariants.Sleep → Leads 12 w t (λ v x. EndsOrSleeps x)
+      → act_of (Mutex l c) ≢ act.Sleep → Leads 12 w t (λ v x. EndsOrSleeps x)
   mutex_place_rests l (Lock entry retries a) is fits up = leads_more 8 12 w t (λ v x. EndsOrSleeps x) (omega arith)
       (lock_rests t l entry retries a (word_at w l) (owner_at w l) (section_at w (2 * l)) (queue_at w (2 * l))
       w (facing l (Mutex l (Lock entry retries a)) tt is fits.0) up)
   mutex_place_rests l TryLock is fits up = leads_more 1 12 w t (λ v x. EndsOrSleeps x) (omega arith)
-      (leads_so 1 w t (λ v x. (x ≡ (if is_locked (word_at w l) then outcome.TheVariants.End
-      answer.TheVariants.No else outcome.TheVariants.End answer.TheVariants.Yes))
+      (leads_so 1 w t (λ v x. (x ≡ (if is_locked (word_at w l) then outcome.End
+      answer.No else outcome.End answer.Yes))
       × (owner_at v l ≡ (if is_locked (word_at w l) then owner_at w l else Some t))) (λ v x. EndsOrSleeps x)
       (λ v x h. try_so (is_locked (word_at w l)) x h.0) (try_leads t l (queue_at w (2 * l))
       (section_at w (2 * l)) (word_at w l) (owner_at w l) w (facing l (Mutex l TryLock) tt is fits.0)))
@@ -165,7 +165,7 @@ module _ (w : State) (t : ℕ) (shape : IsWellFormed w) (inductive : IsInductive
       (section_at w (2 * l)) (queue_at w (2 * l)) w (facing l (Mutex l (HandOff bumps a)) tt is fits.0)
 
   place_rests : (p : Place) → place_at w t ≡ p → PlaceFits (length w.locks) p → p ≢ Idle → act_of p
-      ≢ act.TheVariants.Sleep
+      ≢ act.Sleep
       → runs_closure (act_of p) ≡ false → Leads 18 w t (λ v x. EndsOrSleeps x)
   place_rests Idle is fits busy up outside = absurd (busy refl)
   place_rests (Condvar l at) is fits busy up outside = leads_more 17 18 w t (λ v x. EndsOrSleeps x) (omega arith)
@@ -270,8 +270,8 @@ module _ (w : State) (t : ℕ) (shape : IsWellFormed w) (inductive : IsInductive
     }
 
     try_alone : (b : Bool) → is_locked (word_at w l) ≡ b
-        → (x ≡ (if b then outcome.TheVariants.End answer.TheVariants.No else outcome.TheVariants.End
-        answer.TheVariants.Yes))
+        → (x ≡ (if b then outcome.End answer.No else outcome.End
+        answer.Yes))
         × (owner_at v l ≡ (if b then owner_at w l else Some t))
         → EntersAlone (word_at w l ≡ 0) (locks_of w) t l Exclusive Try x (locks_of v)
     try_alone true e h = record {
@@ -342,43 +342,43 @@ module _ (w : State) (t : ℕ) (shape : IsWellFormed w) (inductive : IsInductive
       → is_mutex (kind_at w l) ≡ true → HasWhatItReads w t (Some (mutex_purpose fair l c))
       → (n : ℕ) (last : Outcome) → 12 ≤ n
       → Comes n last (Some (mutex_purpose fair l c))
-  call_alone l fair mutex_call.TheVariants.Lock is lt kind reads n last le =
+  call_alone l fair mutex_call.Lock is lt kind reads n last le =
       or_so (lock_alone l kind (solo n w t last).state (solo n w t last).outcome entries.Lock (owner_at w l)
       refl)
       (first_leads t l entries.Lock (queue_at w (2 * l)) false (word_at w l) (owner_at w l)
       (coded_for w inductive t l _ is) (section_at w (2 * l)) w (facing l _ tt is lt) n last (omega arith))
-  call_alone l fair mutex_call.TheVariants.LockTimed is lt kind reads n last le =
+  call_alone l fair mutex_call.LockTimed is lt kind reads n last le =
       or_so (lock_alone l kind (solo n w t last).state (solo n w t last).outcome entries.LockTimed
       (owner_at w l) refl)
       (first_leads t l entries.LockTimed (queue_at w (2 * l)) false (word_at w l) (owner_at w l)
       (coded_for w inductive t l _ is) (section_at w (2 * l)) w (facing l _ tt is lt) n last (omega arith))
-  call_alone l fair mutex_call.TheVariants.TryLock is lt kind reads n last le =
+  call_alone l fair mutex_call.TryLock is lt kind reads n last le =
       or_so (try_alone l kind (solo n w t last).state (solo n w t last).outcome (is_locked (word_at w l))
       refl)
       (try_leads t l (queue_at w (2 * l)) (section_at w (2 * l)) (word_at w l) (owner_at w l) w
       (facing l _ tt is lt) n last (omega arith))
-  call_alone l false mutex_call.TheVariants.Unlock is lt kind reads n last le =
+  call_alone l false mutex_call.Unlock is lt kind reads n last le =
       or_so (unlock_alone l kind (solo n w t last).state (solo n w t last).outcome)
       (subtract_leads t l (queue_at w (2 * l)) (word_at w l) (owner_at w l) (section_at w (2 * l)) w
       (facing l _ tt is lt) n last (omega arith))
-  call_alone l true mutex_call.TheVariants.Unlock is lt kind reads n last le =
+  call_alone l true mutex_call.Unlock is lt kind reads n last le =
       fairly l is lt kind (reads (ap (λ (r : Rules). r.sort) (mutex_rules (kind_at w l) kind))) n last le
-  call_alone l fair mutex_call.TheVariants.UnlockFair is lt kind reads n last le =
+  call_alone l fair mutex_call.UnlockFair is lt kind reads n last le =
       fairly l is lt kind (reads (ap (λ (r : Rules). r.sort) (mutex_rules (kind_at w l) kind))) n last le
-  call_alone l fair mutex_call.TheVariants.Bump is lt kind reads n last le =
+  call_alone l fair mutex_call.Bump is lt kind reads n last le =
       or_so (bump_alone l kind (solo n w t last).state (solo n w t last).outcome)
       (bump_leads t l (queue_at w (2 * l)) (word_at w l) (owner_at w l) w (at_first l _ tt is refl reads lt) n
       last (omega arith))
 
   -- the run of a call from its beginning
   abbrev Ends : Option Purpose → Type 0
-  Ends purpose = HasWhatItReads w t purpose → Comes 64 outcome.TheVariants.NotNow purpose
+  Ends purpose = HasWhatItReads w t purpose → Comes 64 outcome.NotNow purpose
 
   -- a call that begins, stepped alone
   mutex_ends : (l : ℕ) (c : MutexCall) → place_at w t ≡ Mutex l (mutex_first (is_fair (kind_at w l)) c)
-      → Ends (purpose_at (locks_of w) (call.TheVariants.Mutex l c))
+      → Ends (purpose_at (locks_of w) (call.Mutex l c))
   mutex_ends l c is = subst Ends (sym (purpose_is (kind_at w l) l c calls))
-      (λ reads. call_alone l (is_fair (kind_at w l)) c is fits.0 calls reads 64 outcome.TheVariants.NotNow
+      (λ reads. call_alone l (is_fair (kind_at w l)) c is fits.0 calls reads 64 outcome.NotNow
       (omega arith))
     where
       calls : FitsItsLock w (Mutex l (mutex_first (is_fair (kind_at w l)) c))
@@ -389,7 +389,7 @@ module _ (w : State) (t : ℕ) (shape : IsWellFormed w) (inductive : IsInductive
 
   rwlock_ends : (l : ℕ) (c : RwLockCall) → place_at w t ≡ RwLock l (admission_of_kind (kind_at w l))
       (call_first c)
-      → Ends (purpose_at (locks_of w) (call.TheVariants.RwLock l c))
+      → Ends (purpose_at (locks_of w) (call.RwLock l c))
   rwlock_ends l c is = by_kind (kind_at w l) refl
     where
       fits : l < length w.locks
@@ -397,11 +397,11 @@ module _ (w : State) (t : ℕ) (shape : IsWellFormed w) (inductive : IsInductive
 
       ends : has_readers (rules_in w l).sort ≡ true → Ends (Some (rwlock_purpose l c))
       ends readers reads = rwlock_alone w t l (admission_of_kind (kind_at w l)) c 64
-          outcome.TheVariants.NotNow (omega arith) inductive (admits_by (kind_at w l) readers) is
+          outcome.NotNow (omega arith) inductive (admits_by (kind_at w l) readers) is
           (steps_alone l (RwLock l (admission_of_kind (kind_at w l)) (call_first c)) tt is fits)
           (runs_alone 64 w t world) reads
 
-      by_kind : (k : Kind) → kind_at w l ≡ k → Ends (purpose_of k (call.TheVariants.RwLock l c))
+      by_kind : (k : Kind) → kind_at w l ≡ k → Ends (purpose_of k (call.RwLock l c))
       by_kind kinds.Mutex e = λ reads. inl tt
       by_kind kinds.Fair e = λ reads. inl tt
       by_kind (kinds.RwLock limit) e = ends (ap (λ k. has_readers (rules_of k).sort) e)
@@ -409,35 +409,35 @@ module _ (w : State) (t : ℕ) (shape : IsWellFormed w) (inductive : IsInductive
       by_kind k e = λ reads. inl tt
 
   condvar_ends : (l : ℕ) (c : CondvarCall) → place_at w t ≡ Condvar l (condvar_first c)
-      → Ends (purpose_at (locks_of w) (call.TheVariants.Condvar l c))
+      → Ends (purpose_at (locks_of w) (call.Condvar l c))
   condvar_ends l c is = by_kind (kind_at w l)
     where
-      by_kind : (k : Kind) → Ends (purpose_of k (call.TheVariants.Condvar l c))
+      by_kind : (k : Kind) → Ends (purpose_of k (call.Condvar l c))
       by_kind kinds.Condvar = λ reads. condvar_alone t stays_world w world there l c is reads 64
-          outcome.TheVariants.NotNow (omega arith)
+          outcome.NotNow (omega arith)
       by_kind k = λ reads. inl tt
 
   once_ends : (l : ℕ) (c : OnceCall) → place_at w t ≡ Once l (once_first c)
-      → Ends (purpose_at (locks_of w) (call.TheVariants.Once l c))
+      → Ends (purpose_at (locks_of w) (call.Once l c))
   once_ends l c is = by_kind (kind_at w l)
     where
       fits : l < length w.locks
       fits = subst (PlaceFits (length w.locks)) is (shape.places t)
 
-      by_kind : (k : Kind) → Ends (purpose_of k (call.TheVariants.Once l c))
-      by_kind kinds.Once = λ reads. once_alone w t l c 64 outcome.TheVariants.NotNow (omega arith)
+      by_kind : (k : Kind) → Ends (purpose_of k (call.Once l c))
+      by_kind kinds.Once = λ reads. once_alone w t l c 64 outcome.NotNow (omega arith)
           (steps_alone l (Once l (once_first c)) tt is fits)
       by_kind k = λ reads. inl tt
 
   semaphore_ends : (l : ℕ) (c : SemaphoreCall) → place_at w t ≡ Semaphore l (semaphore_first c)
-      → Ends (purpose_at (locks_of w) (call.TheVariants.Semaphore l c))
+      → Ends (purpose_at (locks_of w) (call.Semaphore l c))
   semaphore_ends l c is = by_kind (kind_at w l)
     where
       fits : l < length w.locks
       fits = subst (PlaceFits (length w.locks)) is (shape.places t)
 
-      by_kind : (k : Kind) → Ends (purpose_of k (call.TheVariants.Semaphore l c))
-      by_kind (kinds.Semaphore permits) = λ reads. semaphore_alone w t l c 64 outcome.TheVariants.NotNow
+      by_kind : (k : Kind) → Ends (purpose_of k (call.Semaphore l c))
+      by_kind (kinds.Semaphore permits) = λ reads. semaphore_alone w t l c 64 outcome.NotNow
           (omega arith) inductive (of_semaphore l (semaphore_first c) is) is
           (steps_alone l (Semaphore l (semaphore_first c)) tt is fits) (runs_alone 64 w t world)
       by_kind k = λ reads. inl tt
@@ -445,11 +445,11 @@ module _ (w : State) (t : ℕ) (shape : IsWellFormed w) (inductive : IsInductive
   -- a call from its beginning ends so, or is barred
   pub solo_ends : (c : Call) → place_at w t ≡ first_place (kind_at w (lock_in c)) c
       → Ends (purpose_at (locks_of w) c)
-  solo_ends (call.TheVariants.Condvar l c) is = condvar_ends l c is
-  solo_ends (call.TheVariants.Once l c) is = once_ends l c is
-  solo_ends (call.TheVariants.Semaphore l c) is = semaphore_ends l c is
-  solo_ends (call.TheVariants.Mutex l c) is = mutex_ends l c is
-  solo_ends (call.TheVariants.RwLock l c) is = rwlock_ends l c is
+  solo_ends (call.Condvar l c) is = condvar_ends l c is
+  solo_ends (call.Once l c) is = once_ends l c is
+  solo_ends (call.Semaphore l c) is = semaphore_ends l c is
+  solo_ends (call.Mutex l c) is = mutex_ends l c is
+  solo_ends (call.RwLock l c) is = rwlock_ends l c is
 
 -- ---------------------------------------------------------------- as the world is told them
 
@@ -457,25 +457,25 @@ module _ (w : State) (t : ℕ) (shape : IsWellFormed w) (inductive : IsInductive
     (condvars : AreCondvars w)
     (settled : IsSettled w) where
   pub rests_or_barred : IsUnderWay w t
-      → EndsOrSleeps (solo 64 w t outcome.TheVariants.NotNow).outcome
-      ⊎ IsBarred (solo 64 w t outcome.TheVariants.NotNow).state t
+      → EndsOrSleeps (solo 64 w t outcome.NotNow).outcome
+      ⊎ IsBarred (solo 64 w t outcome.NotNow).state t
   rests_or_barred up = solo_rests w t shape inductive counted condvars settled (stands_there w.places t up.0)
       up
-      64 outcome.TheVariants.NotNow (omega arith)
+      64 outcome.NotNow (omega arith)
 
   pub ends_or_barred : (c : Call) → place_at w t ≡ first_place (kind_at w (lock_in c)) c
       → HasWhatItReads w t (purpose_at (locks_of w) c)
-      → EndsAlone w t (purpose_at (locks_of w) c) (solo 64 w t outcome.TheVariants.NotNow).outcome
-      (solo 64 w t outcome.TheVariants.NotNow).state
-      ⊎ IsBarred (solo 64 w t outcome.TheVariants.NotNow).state t
+      → EndsAlone w t (purpose_at (locks_of w) c) (solo 64 w t outcome.NotNow).outcome
+      (solo 64 w t outcome.NotNow).state
+      ⊎ IsBarred (solo 64 w t outcome.NotNow).state t
   ends_or_barred c is reads = solo_ends w t shape inductive counted condvars settled
       (stands_there w.places t (first_busy (kind_at w (lock_in c)) c (place_at w t) is)) c is reads
 
   -- a thread that has its way isn't barred
   unless_barred : {A : Type 0} → IsUnobstructed w t → A
-      ⊎ IsBarred (solo 64 w t outcome.TheVariants.NotNow).state t → A
+      ⊎ IsBarred (solo 64 w t outcome.NotNow).state t → A
   unless_barred way (inl a) = a
-  unless_barred way (inr b) = absurd (unbarred 64 w t outcome.TheVariants.NotNow (record {
+  unless_barred way (inr b) = absurd (unbarred 64 w t outcome.NotNow (record {
     well_formed = shape;
     inductive = inductive;
     counted = counted;
@@ -484,26 +484,26 @@ module _ (w : State) (t : ℕ) (shape : IsWellFormed w) (inductive : IsInductive
   }) way b)
 
   pub rests_alone : IsUnderWay w t → IsUnobstructed w t
-      → EndsOrSleeps (solo 64 w t outcome.TheVariants.NotNow).outcome
+      → EndsOrSleeps (solo 64 w t outcome.NotNow).outcome
   rests_alone up way = unless_barred way (rests_or_barred up)
 
   pub ends_alone : (c : Call) → place_at w t ≡ first_place (kind_at w (lock_in c)) c → IsUnobstructed w t
-      → EndsAlone w t (purpose_at (locks_of w) c) (solo 64 w t outcome.TheVariants.NotNow).outcome
-      (solo 64 w t outcome.TheVariants.NotNow).state
+      → EndsAlone w t (purpose_at (locks_of w) c) (solo 64 w t outcome.NotNow).outcome
+      (solo 64 w t outcome.NotNow).state
   ends_alone c is way = unless_barred way (ends_or_barred c is (reads_its_own w t c is way))
 
   -- a try ends so, whatever thread is inside a section
   pub tries_alone : (c : Call) → place_at w t ≡ first_place (kind_at w (lock_in c)) c
       → OnlyTries (purpose_at (locks_of w) c)
-      → EndsAlone w t (purpose_at (locks_of w) c) (solo 64 w t outcome.TheVariants.NotNow).outcome
-      (solo 64 w t outcome.TheVariants.NotNow).state
+      → EndsAlone w t (purpose_at (locks_of w) c) (solo 64 w t outcome.NotNow).outcome
+      (solo 64 w t outcome.NotNow).state
   tries_alone c is only = let free = tries_freely w t c (record {
     well_formed = shape;
     inductive = inductive;
     counted = counted;
     condvars = condvars;
     settled = settled;
-  }) is only 64 outcome.TheVariants.NotNow in elim (ends_or_barred c is free.0) [
+  }) is only 64 outcome.NotNow in elim (ends_or_barred c is free.0) [
     | inl ends ↦ ends
     | inr barred ↦ absurd (free.1 barred)
   ]

@@ -5,14 +5,14 @@ use Imports.{length, is_none, inl, inr, refl, sym, ◌∙◌, ap, subst, arith, 
 use Imports.{Outcome, act_of, State, after, can_do, go_of, go_outcome, place_at, section_at, solo, step_outcome}
 use Imports.{key_of, EntersSection, IsBarred, EndsOrSleeps}
 use Rattle.steps_base.specs.declared.acts.Act.TheVariants as act
-use Rattle.spec_locks.specs.declared.outcomes.Outcome as outcome
+use Rattle.spec_locks.specs.declared.outcomes.Outcome.TheVariants as outcome
 use Rattle.lot_alone.proofs.AloneSteps.{rests_after}
 
 -- after at most k steps of the thread alone its call rests, and then this holds
 abbrev pub LeadsSurely : ℕ → State → ℕ → (State → Outcome → Type 0) → Type 0
 LeadsSurely k w t P = (n : ℕ) (last : Outcome) → k ≤ n → P (solo n w t last).state (solo n w t last).outcome
 
--- this holds, or the thread is barred
+-- a fact holds, or the thread is barred
 abbrev pub OrBarred : ℕ → (State → Outcome → Type 0) → State → Outcome → Type 0
 OrBarred t P v x = P v x ⊎ IsBarred v t
 
@@ -41,11 +41,11 @@ full_cannot w key u inside (act.Enter (Two j k)) (inr e) = neither (is_none (sec
 full_cannot w key u inside a e = absurd e
 
 -- no step of it is possible
-pub barred_stays : (w : State) (t : ℕ) → IsBarred w t → step_outcome w (go_of t) ≡ outcome.TheVariants.NotNow
+pub barred_stays : (w : State) (t : ℕ) → IsBarred w t → step_outcome w (go_of t) ≡ outcome.NotNow
 barred_stays w t b = ap (λ c. if nat_lt t (length w.places) && c then go_outcome w t
-    else outcome.TheVariants.NotNow) (full_cannot w (key_of b.lock b.line) b.other b.inside
+    else outcome.NotNow) (full_cannot w (key_of b.lock b.line) b.other b.inside
     (act_of (place_at w t)) b.enters)
-    ∙ ap (λ (c : Bool). if c then go_outcome w t else outcome.TheVariants.NotNow)
+    ∙ ap (λ (c : Bool). if c then go_outcome w t else outcome.NotNow)
     (neither (nat_lt t (length w.places)) refl)
 
 -- another state in which it does the same, with the same threads inside
@@ -71,23 +71,23 @@ module _ (w : State) (t : ℕ) (P : State → Outcome → Type 0) where
       rw (
         told,
         rests_after o w (after w (go_of t)) last
-            (solo n (after w (go_of t)) t outcome.TheVariants.Step) (λ e. subst EndsOrSleeps e rest)
+            (solo n (after w (go_of t)) t outcome.Step) (λ e. subst EndsOrSleeps e rest)
             (λ e. subst EndsOrSleeps e rest),
       ) h
 
-  pub surely_step : (k : ℕ) → step_outcome w (go_of t) ≡ outcome.TheVariants.Step
+  pub surely_step : (k : ℕ) → step_outcome w (go_of t) ≡ outcome.Step
       → LeadsSurely k (after w (go_of t)) t P
       → LeadsSurely (k + 1) w t P
   unfolding solo
   surely_step k told more zero last le = absurd (omega arith)
-  surely_step k told more (suc n) last le = rw told (more n outcome.TheVariants.Step (omega arith))
+  surely_step k told more (suc n) last le = rw told (more n outcome.Step (omega arith))
 
 module _ (w : State) (t : ℕ) (P : State → Outcome → Type 0) where
   pub leads_rest : (o : Outcome) → step_outcome w (go_of t) ≡ o → EndsOrSleeps o → P (after w (go_of t)) o
       → Leads 1 w t P
   leads_rest o told rest h = surely_rest w t (OrBarred t P) o told rest (inl h)
 
-  pub leads_step : (k : ℕ) → step_outcome w (go_of t) ≡ outcome.TheVariants.Step
+  pub leads_step : (k : ℕ) → step_outcome w (go_of t) ≡ outcome.Step
       → Leads k (after w (go_of t)) t P
       → Leads (k + 1) w t P
   leads_step k told more = surely_step w t (OrBarred t P) k told more

@@ -11,10 +11,10 @@ use Imports.{queued, IsInductive, Goes, hand_at, first_thread, queued_of, owner_
 use Imports.{MutexPlace, Owners, with_exclusive}
 use Rattle.core_base.specs.declared.notes.Note.TheVariants as note
 use Rattle.core_base.specs.declared.ops.Op as op
-use Rattle.steps_base.specs.declared.acts.Act as act
-use Rattle.steps_base.specs.declared.acts.Next as next
-use Rattle.spec_locks.specs.declared.outcomes.Answer as answer
-use Rattle.spec_locks.specs.declared.outcomes.Outcome as outcome
+use Rattle.steps_base.specs.declared.acts.Act.TheVariants as act
+use Rattle.steps_base.specs.declared.acts.Next.TheVariants as next
+use Rattle.spec_locks.specs.declared.outcomes.Answer.TheVariants as answer
+use Rattle.spec_locks.specs.declared.outcomes.Outcome.TheVariants as outcome
 use Rattle.steps_mutex.specs.declared.lock.Entry.TheVariants as entries
 use Rattle.steps_mutex.specs.declared.places.MutexPlace.TheVariants.{Bump}
 use Rattle.steps_mutex.specs.declared.places.MutexPlace.TheVariants.{HandOff}
@@ -30,7 +30,7 @@ use Rattle.lot_laws.proofs.hands.Counts.{first_times}
 use Rattle.lot_laws.proofs.machine.Parts.{taken_held, put_here, own_stance, differ, aparts}
 use Rattle.lot_laws.proofs.hands.Handed.{successor_one, of_carries}
 use Rattle.lot_laws.proofs.promises.SitesPromise.{parked_at}
-use Rattle.steps_base.specs.declared.acts.TakeWhich as whoms
+use Rattle.steps_base.specs.declared.acts.TakeWhich.TheVariants as whoms
 use Rattle.lot_laws.proofs.sites.SitesKept.{go_by, unshared_at, single_at, alone_at}
 use Rattle.lot_laws.proofs.mutex.MutexStaysASite.{goes_mutex}
 use Rattle.lot_laws.proofs.machine.AtPlaces.{coded_for, rules_for, owns}
@@ -43,8 +43,8 @@ use Rattle.lot_alone.proofs.Acts.{take_faces, act_led}
 
 -- where nobody owns the mutex it is entered, else the thread sleeps as the last of the queue
 abbrev pub LockEnds : ℕ → ℕ → Entry → Option ℕ → List Waiter → State → Outcome → Type 0
-LockEnds t l entry None q v x = (x ≡ outcome.TheVariants.End (entered entry)) × (owner_at v l ≡ Some t)
-LockEnds t l entry (Some u) q v x = (x ≡ outcome.TheVariants.Sleep) × (owner_at v l ≡ Some u)
+LockEnds t l entry None q v x = (x ≡ outcome.End (entered entry)) × (owner_at v l ≡ Some t)
+LockEnds t l entry (Some u) q v x = (x ≡ outcome.Sleep) × (owner_at v l ≡ Some u)
     × (queue_at v (2 * l) ≡ q ++ waiter (2 * l) t Exclusive ∷ [])
 
 module _ (t l : ℕ) (entry : Entry) (q : List Waiter) where
@@ -54,7 +54,7 @@ module _ (t l : ℕ) (entry : Entry) (q : List Waiter) where
       (q ++ waiter (2 * l) t Exclusive ∷ [])
       → Leads 1 w t (LockEnds t l entry (Some u) q)
   sleep_leads retries u w f = let h = leave_faces w t l _ 3 (Some u) (Some t) _ f refl
-      in leads_rest w t (LockEnds t l entry (Some u) q) outcome.TheVariants.Sleep h.0 tt (
+      in leads_rest w t (LockEnds t l entry (Some u) q) outcome.Sleep h.0 tt (
         refl,
         h.1.owner,
         h.1.queue,
@@ -79,13 +79,13 @@ module _ (t l : ℕ) (entry : Entry) (q : List Waiter) where
       → Facing w t l (Mutex l (Lock entry retries (Decide v))) v o s q → Leads 4 w t (LockEnds t l entry o q))
       (λ s w f. let h = word_faces w t l _ 0 None s q f (op.TheVariants.Exchange 0 1) refl
       in leads_more 1 4 w t (LockEnds t l entry None q) (omega arith)
-      (leads_rest w t (LockEnds t l entry None q) (outcome.TheVariants.End (entered entry)) h.0 tt (
+      (leads_rest w t (LockEnds t l entry None q) (outcome.End (entered entry)) h.0 tt (
         refl,
         h.1.owner,
       )))
       (λ s w f. let h = word_faces w t l _ 2 None s q f (op.TheVariants.Exchange 2 3) refl
       in leads_more 1 4 w t (LockEnds t l entry None q) (omega arith)
-      (leads_rest w t (LockEnds t l entry None q) (outcome.TheVariants.End (entered entry)) h.0 tt (
+      (leads_rest w t (LockEnds t l entry None q) (outcome.End (entered entry)) h.0 tt (
         refl,
         h.1.owner,
       )))
@@ -114,7 +114,7 @@ module _ (t l : ℕ) (entry : Entry) (q : List Waiter) where
       → Facing w t l (Mutex l (Lock entry retries First)) v o s q → Leads 6 w t (LockEnds t l entry o q))
       (λ s w f. let h = word_faces w t l _ 0 None s q f (op.TheVariants.Exchange 0 1) refl
       in leads_more 1 6 w t (LockEnds t l entry None q) (omega arith)
-      (leads_rest w t (LockEnds t l entry None q) (outcome.TheVariants.End (entered entry)) h.0 tt (
+      (leads_rest w t (LockEnds t l entry None q) (outcome.End (entered entry)) h.0 tt (
         refl,
         h.1.owner,
       )))
@@ -149,7 +149,7 @@ module _ (t l : ℕ) (entry : Entry) where
   leave_rests : (b : Bool) → RestsFrom (Leave b) 6
   leave_rests true retries v o s q w f = let h = leave_faces w t l _ v o s q f refl
       in leads_more 1 6 w t (λ x y. EndsOrSleeps y) (omega arith)
-      (leads_rest w t (λ x y. EndsOrSleeps y) outcome.TheVariants.Sleep h.0 tt tt)
+      (leads_rest w t (λ x y. EndsOrSleeps y) outcome.Sleep h.0 tt tt)
   leave_rests false retries v o s q w f = let h = leave_faces w t l _ v o s q f refl
       in leads_step w t (λ x y. EndsOrSleeps y) 5 h.0 (load_rests t l entry q retries v o None _ h.1)
 
@@ -164,7 +164,7 @@ module _ (t l : ℕ) (entry : Entry) where
 
   gives_up_rests : RestsFrom GiveUp 1
   gives_up_rests retries v o s q w f =
-      leads_rest w t (λ x y. EndsOrSleeps y) (outcome.TheVariants.End answer.TheVariants.No)
+      leads_rest w t (λ x y. EndsOrSleeps y) (outcome.End answer.No)
       (leave_faces w t l _ v o s q f refl).0 tt tt
 
   clear_rests : RestsFrom Clear 2
@@ -201,7 +201,7 @@ module _ (t l : ℕ) (entry : Entry) where
       here = Mutex l (Lock entry retries (Decide x))
 
       -- the exchange fails, and it decides by what it has seen
-      exchanged : (y : op.Op) → act_of (Mutex l (Lock entry retries (Decide x))) ≡ act.TheVariants.Word l y
+      exchanged : (y : op.Op) → act_of (Mutex l (Lock entry retries (Decide x))) ≡ act.Word l y
           → apply y v ≡ v
           → (v == x) ≡ false → Leads 8 w t (λ a z. EndsOrSleeps z)
       exchanged y is stays no_more = again (word_faces w t l (Lock entry retries (Decide x)) v o s q f y is)
@@ -211,7 +211,7 @@ module _ (t l : ℕ) (entry : Entry) where
               (mutex_owner_after (Lock entry retries (Decide x)) t v o) s q
               → Leads 8 w t (λ a z. EndsOrSleeps z)
           again h = let told : outcome_of (next_act (Mutex l (Lock entry retries (Decide x))) (Value v))
-              ≡ outcome.TheVariants.Step = rw no_more (decides l v) in
+              ≡ outcome.Step = rw no_more (decides l v) in
               let to : next_place (Mutex l (Lock entry retries (Decide x))) (Value v) ≡ Mutex l
               (Lock entry retries (Decide v)) = rw no_more refl in
               let own : mutex_owner_after (Lock entry retries (Decide x)) t v o ≡ o = rw no_more refl in
@@ -239,7 +239,7 @@ module _ (t l : ℕ) (entry : Entry) where
 
   pub lock_rests : (retries : Bool) (a : LockAt) (v : ℕ) (o s : Option ℕ) (q : List Waiter) (w : State)
       → Facing w t l (Mutex l (Lock entry retries a)) v o s q
-      → act_of (Mutex l (Lock entry retries a)) ≢ act.TheVariants.Sleep → Leads 8 w t (λ c y. EndsOrSleeps y)
+      → act_of (Mutex l (Lock entry retries a)) ≢ act.Sleep → Leads 8 w t (λ c y. EndsOrSleeps y)
   lock_rests retries First v o s q w f up = leads_more 6 8 w t (λ c y. EndsOrSleeps y) (omega arith)
       (leads_so 6 w t (LockEnds t l entry o q) (λ c y. EndsOrSleeps y) (rests_so t l entry q o)
       (first_leads t l entry q retries v o (coded t l entry q w _ v o s f) s w f))
@@ -255,7 +255,7 @@ module _ (t l : ℕ) (entry : Entry) where
   lock_rests retries (Handed by) v o s q w f up = absurd (up refl)
   lock_rests retries Accept v o s q w f up = let h = accept_faces w t l (Mutex l (Lock entry retries Accept))
       v o s q f refl in leads_more 1 8 w t (λ c y. EndsOrSleeps y) (omega arith) (leads_rest w t (λ c y. EndsOrSleeps y)
-      (outcome.TheVariants.End (entered entry)) h.0 tt tt)
+      (outcome.End (entered entry)) h.0 tt tt)
   lock_rests retries Remove v o s q w f up = leads_more 3 8 w t (λ c y. EndsOrSleeps y) (omega arith)
       (remove_rests retries v o s q w f)
   lock_rests retries Clear v o s q w f up = leads_more 2 8 w t (λ c y. EndsOrSleeps y) (omega arith)
@@ -269,39 +269,39 @@ module _ (t l : ℕ) (entry : Entry) where
 pub try_leads : (t l : ℕ) (q : List Waiter) (s : Option ℕ) (v : ℕ) (o : Option ℕ) (w : State)
     → Facing w t l (Mutex l TryLock) v o s q
     → Leads 1 w t
-    (λ x y. (y ≡ (if is_locked v then outcome.TheVariants.End answer.TheVariants.No
-    else outcome.TheVariants.End answer.TheVariants.Yes))
+    (λ x y. (y ≡ (if is_locked v then outcome.End answer.No
+    else outcome.End answer.Yes))
     × (owner_at x l ≡ (if is_locked v then o else Some t)))
 try_leads t l q s v o w f = either (is_locked v) refl
   where
     either : (b : Bool) → is_locked v ≡ b
         → Leads 1 w t
-        (λ x y. (y ≡ (if b then outcome.TheVariants.End answer.TheVariants.No else outcome.TheVariants.End
-        answer.TheVariants.Yes)) × (owner_at x l ≡ (if b then o else Some t)))
+        (λ x y. (y ≡ (if b then outcome.End answer.No else outcome.End
+        answer.Yes)) × (owner_at x l ≡ (if b then o else Some t)))
     either true e = let h = word_faces w t l TryLock v o s q f (op.TheVariants.Or 1) refl in
-        leads_rest w t (λ x y. (y ≡ outcome.TheVariants.End answer.TheVariants.No) × (owner_at x l ≡ o))
-        (outcome.TheVariants.End answer.TheVariants.No) (h.0 ∙ rw e refl) tt (refl, h.1.owner ∙ rw e refl)
+        leads_rest w t (λ x y. (y ≡ outcome.End answer.No) × (owner_at x l ≡ o))
+        (outcome.End answer.No) (h.0 ∙ rw e refl) tt (refl, h.1.owner ∙ rw e refl)
     either false e = let h = word_faces w t l TryLock v o s q f (op.TheVariants.Or 1) refl in
-        leads_rest w t (λ x y. (y ≡ outcome.TheVariants.End answer.TheVariants.Yes) × (owner_at x l ≡ Some t))
-        (outcome.TheVariants.End answer.TheVariants.Yes) (h.0 ∙ rw e refl) tt (
+        leads_rest w t (λ x y. (y ≡ outcome.End answer.Yes) × (owner_at x l ≡ Some t))
+        (outcome.End answer.Yes) (h.0 ∙ rw e refl) tt (
           refl,
           h.1.owner
               ∙ rw e refl,
         )
 
 abbrev pub UnlockEnds : ℕ → Option ℕ → State → Outcome → Type 0
-UnlockEnds l o x y = (y ≡ outcome.TheVariants.End answer.TheVariants.Ok) × (owner_at x l ≡ o)
+UnlockEnds l o x y = (y ≡ outcome.End answer.Ok) × (owner_at x l ≡ o)
 
 module _ (t l : ℕ) where
   woke_leads : (any : Bool) (q : List Waiter) (v : ℕ) (o s : Option ℕ) (w : State)
       → Facing w t l (Mutex l (Unlock (unlock.Leave any))) v o s q → Leads 1 w t (UnlockEnds l o)
   woke_leads false q v o s w f = let h = leave_faces w t l (Mutex l (Unlock (unlock.Leave false))) v o s q f
-      refl in leads_rest w t (UnlockEnds l o) (outcome.TheVariants.End answer.TheVariants.Ok) h.0 tt (
+      refl in leads_rest w t (UnlockEnds l o) (outcome.End answer.Ok) h.0 tt (
         refl,
         h.1.owner,
       )
   woke_leads true q v o s w f = let h = wake_faces w t l (Mutex l (Unlock (unlock.Leave true))) v o s q f
-      note.Normal refl in leads_rest w t (UnlockEnds l o) (outcome.TheVariants.End answer.TheVariants.Ok) h.0
+      note.Normal refl in leads_rest w t (UnlockEnds l o) (outcome.End answer.Ok) h.0
       tt (refl, h.1.owner)
 
   cleared_leads : (any : Bool) (q : List Waiter) (v : ℕ) (o s : Option ℕ) (w : State)
@@ -339,14 +339,14 @@ module _ (t l : ℕ) where
     where
       either : (b : Bool)
           → Faces w t l
-          (mutex_goes l (in_unlock (if b then next.TheVariants.At unlock.Enter else next.TheVariants.End
-          answer.TheVariants.Ok)))
-          (outcome_of (mutex_does l (in_unlock (if b then next.TheVariants.At unlock.Enter
-          else next.TheVariants.End answer.TheVariants.Ok))))
+          (mutex_goes l (in_unlock (if b then next.At unlock.Enter else next.End
+          answer.Ok)))
+          (outcome_of (mutex_does l (in_unlock (if b then next.At unlock.Enter
+          else next.End answer.Ok))))
           (apply (op.TheVariants.Sub 1) v) None s q → Leads 5 w t (UnlockEnds l None)
       either true h = leads_step w t (UnlockEnds l None) 4 h.0 (enter_leads q _ None s _ h.1)
       either false h = leads_more 1 5 w t (UnlockEnds l None) (omega arith)
-          (leads_rest w t (UnlockEnds l None) (outcome.TheVariants.End answer.TheVariants.Ok) h.0 tt (
+          (leads_rest w t (UnlockEnds l None) (outcome.End answer.Ok) h.0 tt (
             refl,
             h.1.owner,
           ))
@@ -411,11 +411,11 @@ module _ (t l : ℕ) where
   told_leads false false q v o s w f = let h =
       leave_faces w t l (Mutex l (HandOff false (hand_off.Leave false))) v o s q f refl in
       leads_more 1 7 w t (UnlockEnds l o) (omega arith) (leads_rest w t (UnlockEnds l o)
-      (outcome.TheVariants.End answer.TheVariants.Ok) h.0 tt (refl, h.1.owner))
+      (outcome.End answer.Ok) h.0 tt (refl, h.1.owner))
   told_leads false true q v o s w f = let h = wake_faces w t l (Mutex l (HandOff false (hand_off.Leave true)))
       v o s q f note.HandOff refl in
       leads_more 1 7 w t (UnlockEnds l o) (omega arith) (leads_rest w t (UnlockEnds l o)
-      (outcome.TheVariants.End answer.TheVariants.Ok) h.0 tt (refl, h.1.owner))
+      (outcome.End answer.Ok) h.0 tt (refl, h.1.owner))
 
   -- the store, where the heir is this one, if there is any
   store_leads : (bumps none_left : Bool) (to : Option ℕ) (q : List Waiter) (v : ℕ) (o s : Option ℕ)
@@ -440,7 +440,7 @@ module _ (t l : ℕ) where
     taking = HandOff bumps hand_off.Take
 
     abbrev taken_then : State
-    taken_then = go_by w t (Mutex l taking) (act.TheVariants.Take (2 * l) whoms.TheVariants.First)
+    taken_then = go_by w t (Mutex l taking) (act.Take (2 * l) whoms.First)
 
     first_held : (whom : Option ℕ) → Goes w taken_then l (acts t (take_deeds whom))
         → hand_at (place_at taken_then x.thread) l ≡ hand t false
@@ -524,7 +524,7 @@ module _ (t l : ℕ) where
       either true e h = let one : v ≡ 1 = eqb-true v 1 e in let none : first_of q ≡ None =
           ap first_of (none_waits t l UnlockFair v o q w f (omega arith)) in
           leads_more 1 11 w t (UnlockEnds l (first_of q)) (omega arith)
-          (leads_rest w t (UnlockEnds l (first_of q)) (outcome.TheVariants.End answer.TheVariants.Ok) h.0
+          (leads_rest w t (UnlockEnds l (first_of q)) (outcome.End answer.Ok) h.0
           tt (refl, h.1.owner ∙ sym none))
       either false e h = leads_step w t (UnlockEnds l (first_of q)) 10 h.0
           (fair_enter_leads false q v o None _ h.1)
@@ -546,8 +546,8 @@ module _ (t l : ℕ) where
       either false e h = let empty : q ≡ [] = none_waits t l Bump v o q w f
           (unparked v o (coded t l entries.Bump q w _ v o None f) e) in
           leads_more 1 11 w t (FairEnds true t l (first_of q) (drop 1 q)) (omega arith)
-          (leads_rest w t (FairEnds true t l (first_of q) (drop 1 q)) (outcome.TheVariants.End
-          answer.TheVariants.Ok) h.0 tt (rw empty (refl, h.1.owner ∙ owned)))
+          (leads_rest w t (FairEnds true t l (first_of q) (drop 1 q)) (outcome.End
+          answer.Ok) h.0 tt (rw empty (refl, h.1.owner ∙ owned)))
 
   fair_so : (bumps : Bool) (o : Option ℕ) (q : List Waiter) (v : State) (x : Outcome)
       → FairEnds bumps t l o q v x → EndsOrSleeps x
@@ -577,7 +577,7 @@ module _ (t l : ℕ) where
           (if v == 1 then 0 else v) (if b then None else o) s q
           → Leads 12 w t (λ c y. EndsOrSleeps y)
       either true h = leads_more 1 12 w t (λ c y. EndsOrSleeps y) (omega arith) (leads_rest w t (λ c y. EndsOrSleeps y)
-          (outcome.TheVariants.End answer.TheVariants.Ok) h.0 tt tt)
+          (outcome.End answer.Ok) h.0 tt tt)
       either false h = leads_more 11 12 w t (λ c y. EndsOrSleeps y) (omega arith)
           (leads_step w t (λ c y. EndsOrSleeps y) 10 h.0 (entered_rests false q _ o s _ h.1))
 
@@ -592,7 +592,7 @@ module _ (t l : ℕ) where
       either true h = leads_more 11 12 w t (λ c y. EndsOrSleeps y) (omega arith) (leads_step w t (λ c y. EndsOrSleeps y) 10
           h.0 (entered_rests true q v o s _ h.1))
       either false h = leads_more 1 12 w t (λ c y. EndsOrSleeps y) (omega arith) (leads_rest w t (λ c y. EndsOrSleeps y)
-          (outcome.TheVariants.End answer.TheVariants.Ok) h.0 tt tt)
+          (outcome.End answer.Ok) h.0 tt tt)
 
   pub hand_off_rests : (bumps : Bool) (a : HandOffAt) (v : ℕ) (o s : Option ℕ) (q : List Waiter) (w : State)
       → Facing w t l (Mutex l (HandOff bumps a)) v o s q
@@ -606,7 +606,7 @@ module _ (t l : ℕ) where
   hand_off_rests bumps (hand_off.Store true none_left) v o s q w f =
       let one : (u : ℕ) × (hand_at (place_at w u) l ≡ hand t false) = f.inductive.stands.hands.carried t l
       false
-      (ap (λ (x : Location). x.carries)
+      (ap (λ (x : Location). x.has_taken)
       (own_stance l (place_at w t) (HandOff bumps (hand_off.Store true none_left)) f.place)) in
       fair_rests 8 bumps (Some one.0) q w (omega arith) (store_leads bumps none_left (Some one.0) q v o s w f
       (λ u e o2. successor_one w t l one.0 false (aparts w f.inductive) f.inductive.stands.hands

@@ -86,7 +86,7 @@ module _ (t l m : ℕ) (keeps : Keeps t) where
             g refl ∙ e) h,
       ))
 
-  -- ---------------------------------------------------------------- its move
+  -- ---------------------------------------------------------------- the move
 
   -- the first is moved or taken
   module _ (w : State) (locked : Bool) (q : List Queued) (g : Alone w false (notify.Move locked))
@@ -186,9 +186,9 @@ module _ (t l m : ℕ) (keeps : Keeps t) where
         → can_do w (notify_act all l m at) ≡ true → word_at (after w (go_of t)) m ≡ apply x (word_at w m)
     word_of_mutex w at g x is can = word_then t l m keeps w (Notify all m at) g can x refl is
 
-    sets : (w : State) (seen : ℕ) → (lock_state w l).queue ≡ q → Alone w all (notify.Set seen)
+    bit_pending : (w : State) (seen : ℕ) → (lock_state w l).queue ≡ q → Alone w all (notify.Set seen)
         → Leads 5 w t Moves
-    sets w seen e g = either (word_at w m == seen) refl
+    bit_pending w seen e g = either (word_at w m == seen) refl
       where
         left : (lock_state (after w (go_of t)) l).queue ≡ q
         left = queue_is w all (notify.Set seen) g refl ∙ e
@@ -303,7 +303,7 @@ module _ (t l m : ℕ) (keeps : Keeps t) where
   notify_rests w all notify.Mark g = ends_rest 5 w all _ _ (omega arith) (begins_marking all
       (lock_state w l).queue w refl g)
   notify_rests w all (notify.Set seen) g = ends_rest 5 w all _ _ (omega arith)
-      (sets all (lock_state w l).queue w seen refl g)
+      (bit_pending all (lock_state w l).queue w seen refl g)
   notify_rests w all (notify.Move locked) g = ends_rest 3 w all _ _ (omega arith)
       (moves w all locked (lock_state w l).queue refl g)
   notify_rests w all (notify.Clear any) g = ends_rest 2 w all _ _ (omega arith)

@@ -39,7 +39,7 @@ module _ (t l m : ℕ) (keeps : Keeps t) (w : State) (all : Bool) (g : GoesAlone
       (look_next all v)) (sym e)
       (refl, queue_then t l m keeps w (Look all) g refl))
 
-  -- this mutex is
+  -- the mutex is the one that is shown
   module _ (shown : word_at w l ≡ shown_as m) where
     abbrev Moves : State → Outcome → Type 0
     Moves = Ends t l m keeps all (moved_number all (lock_state w l).queue)

@@ -73,7 +73,7 @@ module _ (t l m : ℕ) (keeps : Keeps t) (timed : Bool) where
     goes P k calm can left = leads_afterwards t l m keeps w (Wait m timed at) g can P k (Wait m timed at)
         (calm_waiter w t l m timed at g.place (reached t l m keeps w (Wait m timed at) g) g.thread calm) left
 
-  -- ---------------------------------------------------------------- its release
+  -- ---------------------------------------------------------------- the release
 
   -- tells what holds of a state from the release on, and what it comes to after it
   module _ (P : State → Outcome → Type 0) (J : State → Type 0)

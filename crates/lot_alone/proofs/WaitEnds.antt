@@ -37,7 +37,7 @@ module _ (t l m : ℕ) (keeps : Keeps t) (timed : Bool) where
   -- ---------------------------------------------------------------- from where it stands after the last
 
   module _ (q : List Queued) where
-    -- they wait, and nobody owns the mutex
+    -- threads wait, and nobody owns the mutex
     abbrev LetGo : State → Type 0
     LetGo v = ((lock_state v l).queue ≡ q) × (owner_at v m ≡ None)
 

@@ -214,7 +214,7 @@ given_up t x fair w h rest = elim h.either [
   )
 ]
 
--- ---------------------------------------------------------------- it begins
+-- ---------------------------------------------------------------- the call begins
 
 pub one_thread : (t : ℕ) → one_if_thread t (Some t) ≡ 1
 one_thread t = grind (arith, nat_tests)

@@ -137,11 +137,11 @@ impl Once {
             from: 0,
             to: LOCKED,
         };
-        let seen = self.lot.word(token, self.word, start);
+        let seen = self.lot.step_word(token, self.word, start);
         if seen != 0 {
             return false;
         }
-        let _running = self.lot.word(token, self.word, Op::Swap(DONE));
+        let _running = self.lot.step_word(token, self.word, Op::Swap(DONE));
         self.lot.declares(self.word, Sort::DoneOnce);
         true
     }

@@ -4,7 +4,7 @@ use Imports.{ℕ, zero, suc, ◌≡◌, ◌≤◌, List, [], ◌∷◌, ◌++◌
 use Imports.{Step, Outcome, IsRun, IsStep, LocksState, OfEachStep, State, after, step_outcome, after_steps}
 use Imports.{step_outcomes, alone_after, go_of, solo, IsKept, locks_of, IsWorldStep, IsWorldRun, Tells}
 use Imports.{IsSoloRun, GoesOnUntil, last_told, IsWorld, after_well_formed}
-use Rattle.spec_locks.specs.declared.outcomes.Outcome as outcome
+use Rattle.spec_locks.specs.declared.outcomes.Outcome.TheVariants as outcome
 use Rattle.lot_laws.proofs.condvar.StepsKeep.{after_condvars}
 use Rattle.lot_laws.proofs.hands.CountsKept.{counted_after}
 use Rattle.lot_laws.proofs.promises.OwingStays.{owes_since}
@@ -102,9 +102,9 @@ record GoesFor (n : ℕ) (w : State) (t : ℕ) (last result : Outcome) (v : Stat
   pub goes_on : GoesOnUntil told
   pub result_is : result ≡ last_told (last ∷ told)
 
-goes_more : (o : Outcome) (told : List Outcome) → o ≡ outcome.TheVariants.Step → GoesOnUntil told
+goes_more : (o : Outcome) (told : List Outcome) → o ≡ outcome.Step → GoesOnUntil told
     → GoesOnUntil (o ∷ told)
-goes_more o [] e h = λ f. let g : outcome.TheVariants.Step ≡ outcome.TheVariants.NotNow = sym e ∙ f in cc
+goes_more o [] e h = λ f. let g : outcome.Step ≡ outcome.NotNow = sym e ∙ f in cc
 goes_more o (x ∷ told) e h = (e, h)
 
 goes_for : (n : ℕ) (w : State) (t : ℕ) (last : Outcome) → IsWorld w
@@ -112,26 +112,26 @@ goes_for : (n : ℕ) (w : State) (t : ℕ) (last : Outcome) → IsWorld w
 unfolding solo
 goes_for zero w t last h = record { told = []; few = omega arith; run = refl; goes_on = tt; result_is = refl }
 goes_for (suc n) w t last h = by_outcome (step_outcome w (go_of t)) refl (goes_for n (after w (go_of t)) t
-    outcome.TheVariants.Step (world_after w (go_of t) h))
+    outcome.Step (world_after w (go_of t) h))
   where
     by_outcome : (o : Outcome) → step_outcome w (go_of t) ≡ o
-        → GoesFor n (after w (go_of t)) t outcome.TheVariants.Step (solo n (after w (go_of t)) t
-        outcome.TheVariants.Step).outcome
-        (solo n (after w (go_of t)) t outcome.TheVariants.Step).state
+        → GoesFor n (after w (go_of t)) t outcome.Step (solo n (after w (go_of t)) t
+        outcome.Step).outcome
+        (solo n (after w (go_of t)) t outcome.Step).state
         → GoesFor (suc n) w t last
         (alone_after o w (after w (go_of t)) last (solo n (after w (go_of t)) t
-        outcome.TheVariants.Step)).outcome
+        outcome.Step)).outcome
         (alone_after o w (after w (go_of t)) last (solo n (after w (go_of t)) t
-        outcome.TheVariants.Step)).state
-    by_outcome outcome.TheVariants.NotNow e more = record {
+        outcome.Step)).state
+    by_outcome outcome.NotNow e more = record {
       told = [];
       few = omega arith;
       run = refl;
       goes_on = tt;
       result_is = refl;
     }
-    by_outcome outcome.TheVariants.Step e more = record {
-      told = outcome.TheVariants.Step ∷ more.told;
+    by_outcome outcome.Step e more = record {
+      told = outcome.Step ∷ more.told;
       few = let le : length more.told ≤ n = more.few in omega arith;
       run = (
         after w (go_of t),
@@ -139,7 +139,7 @@ goes_for (suc n) w t last h = by_outcome (step_outcome w (go_of t)) refl (goes_f
             (world_step w (go_of t) h),
         more.run,
       );
-      goes_on = goes_more outcome.TheVariants.Step more.told refl more.goes_on;
+      goes_on = goes_more outcome.Step more.told refl more.goes_on;
       result_is = more.result_is;
     }
     by_outcome o e more = record {
@@ -162,30 +162,30 @@ pub record RunsAlone (w : State) (t : ℕ) (result : Outcome) (v : State) : Type
   pub goes_on : GoesOnUntil told
   pub last : result ≡ last_told told
 
-last_is : (result : Outcome) (told : List Outcome) → result ≡ last_told (outcome.TheVariants.NotNow ∷ told)
+last_is : (result : Outcome) (told : List Outcome) → result ≡ last_told (outcome.NotNow ∷ told)
     → result ≡ last_told told
 last_is result [] e = e
 last_is result (o ∷ told) e = e
 
 pub runs_alone : (n : ℕ) (w : State) (t : ℕ) → IsWorld w
-    → RunsAlone w t (solo n w t outcome.TheVariants.NotNow).outcome
-    (solo n w t outcome.TheVariants.NotNow).state
-runs_alone n w t h = let g = goes_for n w t outcome.TheVariants.NotNow h in
+    → RunsAlone w t (solo n w t outcome.NotNow).outcome
+    (solo n w t outcome.NotNow).state
+runs_alone n w t h = let g = goes_for n w t outcome.NotNow h in
     record {
       told = g.told;
       run = g.run;
       goes_on = g.goes_on;
-      last = last_is (solo n w t outcome.TheVariants.NotNow).outcome g.told g.result_is;
+      last = last_is (solo n w t outcome.NotNow).outcome g.told g.result_is;
     }
 
 pub solo_runs : (w : State) (t : ℕ) → IsWorld w
-    → IsSoloRun w t (solo 64 w t outcome.TheVariants.NotNow).outcome
-    (solo 64 w t outcome.TheVariants.NotNow).state
-solo_runs w t h = let g = goes_for 64 w t outcome.TheVariants.NotNow h in
+    → IsSoloRun w t (solo 64 w t outcome.NotNow).outcome
+    (solo 64 w t outcome.NotNow).state
+solo_runs w t h = let g = goes_for 64 w t outcome.NotNow h in
     record {
       told = g.told;
       few = g.few;
       run = g.run;
       goes_on = g.goes_on;
-      last = last_is (solo 64 w t outcome.TheVariants.NotNow).outcome g.told g.result_is;
+      last = last_is (solo 64 w t outcome.NotNow).outcome g.told g.result_is;
     }
