@@ -352,7 +352,11 @@ impl LotWords {
     /// Locks where others may wait. Returns what the step saw, and writes nothing to a mutex that
     /// it sees locked.
     #[inline]
-    pub fn try_lock_with_permit(&self, seat: &mut Seat, word: Word) -> (u64, Option<(OpenHeld, Permit)>)
+    pub fn try_lock_with_permit(
+        &self,
+        seat: &mut Seat,
+        word: Word,
+    ) -> (u64, Option<(OpenHeld, Permit)>)
         requires own { IsSeatOf self.now seat.old × IsWordOf self.now word × (word.kind ≡ Mutex) }
         ensures own { IsSeatOf self.now seat.new }
         ensures stepped { shown seat.new.me.0

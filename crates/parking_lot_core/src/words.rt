@@ -381,7 +381,11 @@ impl ParkingLot {
     /// Locks where others may wait. Returns what the step saw, and writes nothing to a mutex that
     /// it sees locked.
     #[inline]
-    pub fn try_lock_with_permit(&self, token: &mut Token, word: Word) -> (u64, Option<(OpenHeld, Permit)>)
+    pub fn try_lock_with_permit(
+        &self,
+        token: &mut Token,
+        word: Word,
+    ) -> (u64, Option<(OpenHeld, Permit)>)
         requires { IsTokenOf self.now token.old × IsWordOf self.now.words word
             × (word.kind ≡ Mutex) }
         ensures own { IsSameThread self.now token.old token.new × (last_of token.new ≡ None) }
