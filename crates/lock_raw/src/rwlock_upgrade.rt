@@ -94,7 +94,7 @@ pub trait RawRwLockUpgrade: RawRwLock {
     fn lock_upgradable_fast(
         &self,
         token: &mut Self::Token,
-    ) -> Result<Result<Self::UpgradableGuard, Fault>, Self::Rest>
+    ) -> Result<Result<Self::UpgradableGuard, Fault>, Self::SlowPart>
         requires { Self.RawRwLockHalves.is_token_of (Self.RawRwLockHalves.lot_of self.now) token.old }
         ensures token { Self.RawRwLockHalves.is_token_of (Self.RawRwLockHalves.lot_of self.now) token.new }
         ensures over { IfOk result
@@ -118,7 +118,7 @@ pub trait RawRwLockUpgrade: RawRwLock {
         &self,
         rt: &R,
         token: &mut Self::Token,
-        rest: Self::Rest,
+        rest: Self::SlowPart,
     ) -> Result<Self::UpgradableGuard, Fault>
         requires token { Self.RawRwLockHalves.is_token_of (Self.RawRwLockHalves.lot_of self.now) token.old }
         requires begun { (before : Self.Token)
@@ -139,7 +139,7 @@ pub trait RawRwLockUpgrade: RawRwLock {
         &self,
         token: &mut Self::Token,
         guard: Self::UpgradableGuard,
-    ) -> Option<Self::Rest>
+    ) -> Option<Self::SlowPart>
         requires token { Self.RawRwLockHalves.is_token_of (Self.RawRwLockHalves.lot_of self.now) token.old }
         requires guard { is_upgradable_of self.now guard }
         ensures token { Self.RawRwLockHalves.is_token_of (Self.RawRwLockHalves.lot_of self.now) token.new }
