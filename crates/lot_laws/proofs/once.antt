@@ -5,3 +5,4 @@ pub mod OnceRows
 pub mod OnceOwes
 pub mod Runs
 pub mod Marks
+pub mod RunEnds

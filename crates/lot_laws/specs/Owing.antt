@@ -10,15 +10,15 @@ use Rattle.core_base.specs.declared.keys.Keys.TheVariants.{One}
 use Rattle.core_base.specs.declared.ops.Op.{Op}
 use Rattle.core_base.specs.declared.wants.Want.{Want}
 use Rattle.steps_base.specs.declared.acts.Act.TheVariants.{Enter, Take, Word}
-use Rattle.steps_base.specs.declared.acts.TakeWhich.TheVariants.{Picked}
+use Rattle.steps_base.specs.declared.acts.TakeWhich.TheVariants.{All, Picked}
 use Rattle.lot_steps.specs.Steps.{act_of, line_owed}
 use Rattle.lot_machine.specs.Machine.{State, place_at, word_at, section_at}
-use Rattle.lot_laws.specs.Refinement.{call_at}
+use Rattle.lot_laws.specs.Refinement.{RunsClosure, call_at}
 use Rattle.lot_laws.specs.SitesOf.{rules_in, key_of}
 use Rattle.spec_locks.specs.Codes.{parked_in, aside_in, count_in}
 use Rattle.spec_locks.specs.Locks.{Sort}
 use Rattle.spec_locks.specs.Sites.{Line, Main, Second, has_readers}
-use Rattle.spec_locks.specs.Purposes.{Purpose, Releases, Converts, Bumps, Waits, IsReleasing}
+use Rattle.spec_locks.specs.Purposes.{Purpose, Releases, Converts, Bumps, CallsOnce, Waits, IsReleasing}
 
 abbrev pub sort_at : State → ℕ → Sort
 sort_at w l = (rules_in w l).sort
@@ -112,6 +112,11 @@ pub record GivesWayWhileSomeWait (w : State) (t l : ℕ) : Type 0 where
   pub works : (op : Op) × (act_of (place_at w t) ≡ Word l op)
   pub told : parked_in (sort_at w l) (word_at w l) ≡ true
 
+-- the thread's call runs the closure of a `Once`, or has run it
+abbrev pub RunsOrRan : State → ℕ → ℕ → Type 0
+RunsOrRan w t l = ((forced : Bool) × ((call_at w t).purpose ≡ Some (CallsOnce l forced)))
+    × ((call_at w t).released ≡ true)
+
 -- in a step from w to v its thread begins and ends to owe by what it sees and where it is, and no
 -- other thread does
 pub record OwesSince (w : State) (t : ℕ) (o : Outcome) (v : State) : Type 0 where
@@ -122,4 +127,10 @@ pub record OwesSince (w : State) (t : ℕ) (o : Outcome) (v : State) : Type 0 wh
   -- As such a thread comes into the section it takes all that the lock lets in.
   pub takes : (l : ℕ) → LetsMoreIn w t l → (IsInside w t l Main → ⊥) → IsInside v t l Main
       → TakesNext v t l (kept_by (call_at w t).purpose)
+  -- Nor does a call end as its run of a `Once` ends, well or not, while threads wait; and as it comes into the
+  -- section it takes them all.
+  pub run_goes_on : (l : ℕ) → o ≢ told.NotNow → RunsClosure w t l
+      → parked_in (sort_at w l) (word_at w l) ≡ true → o ≡ told.Step
+  pub takes_all : (l : ℕ) → RunsOrRan w t l → (IsInside w t l Main → ⊥) → IsInside v t l Main
+      → act_of (place_at v t) ≡ Take (key_of l Main) All
   pub others : (u l : ℕ) → u ≢ t → line_owed (place_at v u) l ≡ line_owed (place_at w u) l

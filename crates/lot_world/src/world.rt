@@ -117,12 +117,14 @@ impl<Q: Queues + Drop> World<Q> {
         // The first page. In each state owners exclude each other. Where no thread has anything to
         // do, nobody waits for a lock that is open; while one has, some thread can go on. No waiter
         // of a condition variable is left, and a fair mutex is owned while somebody waits for it.
+        // Counts keep to the limit. A thread in a call owns what it owned as the call began, or what
+        // the call trades that for. One whose time was up gives up before it sleeps again.
         ensures stays { StateHolds (locks_of self.new) (filled_at self.new) }
 
-        // A turn is refused exactly where it isn't possible, and an answer is true. Rights change
-        // by their thread's own call of the lock, or are handed over. No other thread wakes or falls
-        // asleep by itself. In a queue those that stay keep their order, and a thread that joins
-        // stands last.
+        // A turn is refused exactly where it isn't possible, and an answer is true. A try to lock a
+        // mutex, or to write, ends as its thread goes on. Rights change by their thread's own call
+        // of the lock, or are handed over. No other thread wakes or falls asleep by itself. In a
+        // queue those that stay keep their order, and a thread that joins stands last.
         ensures holds { StepHolds (locks_of self.old) step result (locks_of self.new) }
 
         // One step of the headline: nobody is forgotten before it, nor after it.
@@ -179,7 +181,8 @@ impl<Q: Queues + Drop> World<Q> {
             (locks_of self.new) }
 
         // A thread owes a wake since the step that saw waiters, or since it entered the section,
-        // until it leaves it.
+        // until it leaves it. While threads wait, a run of a `Once` that ends wakes them all, whether
+        // it succeeded or not.
         ensures owing { OwesSince self.old step.thread result self.new }
         ensures same_size { SameSize self.old self.new }
     {
@@ -193,6 +196,7 @@ impl<Q: Queues + Drop> World<Q> {
         ensures state { self.new ≡ (solo SOLO_STEPS self.old thread Outcome.NotNow).state }
         ensures outcome { result ≡ (solo SOLO_STEPS self.old thread Outcome.NotNow).outcome }
         ensures run { IsSoloRun self.old thread result self.new }
+        ensures stays { StateHolds (locks_of self.new) (filled_at self.new) }
 
         // A call under way ends or sleeps, where nobody else is inside the section that it enters.
         ensures rests { IsUnderWay self.old thread → IsUnobstructed self.old thread → EndsOrSleeps result }

@@ -7,7 +7,7 @@ use Imports.{runs_one, Rights, rights_of, standing, CallsOnce, MayTell, Behaves,
 use Imports.{unlocked, place_at, filled_at, after, step_outcome, after_steps, step_outcomes, RunsClosure}
 use Imports.{call_at, call_on_both, call_state, keys_entered, lock_state, locks_of, sleeps, AreLookedAfterIn}
 use Imports.{IsKept, IsDebtorOf, IsLookedAfterIn, IsHandedOverIn, Owes, IsWorld, Tells, states_of, StateHolds}
-use Imports.{StepHolds, AllHold, IsGuaranteed, IsSafe, safe_holds, step_holds}
+use Imports.{StepHolds, AllHold, IsGuaranteed, IsSafe, safe_holds, step_holds, solo}
 use Rattle.core_base.specs.declared.keys.Line.{Line}
 use Rattle.core_base.specs.declared.keys.Line.TheVariants.{Main, Second}
 use Rattle.steps_once.specs.declared.run.RunAt.TheVariants as running
@@ -17,7 +17,7 @@ use Rattle.spec_locks.specs.Headline as headline
 use Rattle.lot_laws.specs.Refinement.{runs_closure}
 use Rattle.lot_laws.proofs.sites.Opening.{kind_is, unfilled_0}
 use Rattle.lot_laws.proofs.promises.PromisesKept.{opening_is}
-use Rattle.lot_laws.proofs.promises.WorldRuns.{step_is, world_after, world_kept}
+use Rattle.lot_laws.proofs.promises.WorldRuns.{solo_world, step_is, world_after, world_kept}
 use Rattle.lot_laws.proofs.promises.Heeds.{heeds}
 use Rattle.lot_laws.proofs.promises.OnItsWay.{on_its_way}
 use Rattle.lot_laws.proofs.calls.TriesEnd.{tries_end}
@@ -259,6 +259,12 @@ safe_after (s ∷ ss) w v h led = safe_after ss (after w s) v (world_after w s h
 pub holds_after : (ss : List Step) (w v : State) → IsWorld w → v ≡ after_steps w ss
     → StateHolds (locks_of v) (filled_at v)
 holds_after ss w v h led = safe_holds (locks_of v) (filled_at v) (safe_after ss w v h led)
+
+-- a state that a thread alone leads to
+pub solo_holds : (n : ℕ) (w : State) (t : ℕ) (last : Outcome) → IsWorld w
+    → StateHolds (locks_of (solo n w t last).state) (filled_at (solo n w t last).state)
+solo_holds n w t last h = safe_holds (locks_of (solo n w t last).state) (filled_at (solo n w t last).state)
+    (safe_now (solo n w t last).state (solo_world n w t last h))
 
 -- each step holds what the first page promises
 pub step_guaranteed : (w : State) (s : Step) → IsWorld w → StepHolds (locks_of w) s (step_outcome w s)

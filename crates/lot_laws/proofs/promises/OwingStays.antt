@@ -19,6 +19,7 @@ use Rattle.spec_locks.specs.declared.calls.Call.TheVariants as call
 use Rattle.spec_locks.specs.declared.calls.Turn.TheVariants as turn
 use Rattle.spec_locks.specs.declared.outcomes.Outcome.TheVariants as outcome
 use Rattle.lot_laws.proofs.machine.Befallen.{others_keep_it}
+use Rattle.lot_laws.proofs.once.RunEnds.{ran_takes, run_goes_on}
 use Rattle.lot_laws.proofs.rwlock.GoesOn.{goes_on_waking, takes_next}
 use Rattle.lot_laws.proofs.sites.TurnsKept.{idle_is, after_inductive}
 use Rattle.lot_laws.proofs.calls.SingleCalls.{call_none}
@@ -348,6 +349,9 @@ owes_since w s shape inductive counted condvars = record {
   takes = λ l lets out inside. takes_next w s inductive (after_inductive w s shape inductive counted condvars)
       l lets
       out inside;
+  run_goes_on = λ l possible runs waits. run_goes_on w s inductive l possible runs waits;
+  takes_all = λ l ran out inside. ran_takes w s inductive (after_inductive w s shape inductive counted condvars)
+      l ran out inside;
   others = λ u l ne. others_owe w s u l ne;
 }
   where

@@ -155,6 +155,20 @@ goes_for (suc n) w t last h = by_outcome (step_outcome w (go_of t)) refl (goes_f
       result_is = refl;
     }
 
+pub solo_world : (n : ℕ) (w : State) (t : ℕ) (last : Outcome) → IsWorld w → IsWorld (solo n w t last).state
+unfolding solo
+solo_world zero w t last h = h
+solo_world (suc n) w t last h = by_outcome (step_outcome w (go_of t)) (solo_world n (after w (go_of t)) t
+    outcome.TheVariants.Step (world_after w (go_of t) h))
+  where
+    by_outcome : (o : Outcome)
+        → IsWorld (solo n (after w (go_of t)) t outcome.TheVariants.Step).state
+        → IsWorld (alone_after o w (after w (go_of t)) last (solo n (after w (go_of t)) t
+        outcome.TheVariants.Step)).state
+    by_outcome outcome.TheVariants.NotNow on = h
+    by_outcome outcome.TheVariants.Step on = on
+    by_outcome o on = world_after w (go_of t) h
+
 -- a run of a thread alone, and what it comes to
 pub record RunsAlone (w : State) (t : ℕ) (result : Outcome) (v : State) : Type 0 where
   pub told : List Outcome

@@ -1,6 +1,7 @@
 use Rattle.lot_laws.specs.SitesOf.{IsWorld}
 use Rattle.lot_alone.proofs.EndsOrSleeps.{ends_alone, ends_or_barred, rests_alone, rests_or_barred, tries_alone}
 use Rattle.lot_laws.proofs.promises.WorldRuns.{solo_runs}
+use Rattle.lot_laws.proofs.promises.Headline.{solo_holds}
 use Rattle.lot_world.proofs.world.World.solo.Goals as goal
 
 pub returns-clause-run : goal.returns-clause-run
@@ -42,3 +43,9 @@ returns-clause-tries g c =
     rw (c.step_alone.ensures.outcome, c.step_alone.ensures.state, ← c.self.view_is)
     (tries_alone c.self.inside.machine c.args.thread before.well_formed before.inductive before.counted
     before.condvars before.settled)
+
+pub returns-clause-stays : goal.returns-clause-stays
+returns-clause-stays g c =
+    let before : IsWorld c.self.inside.machine = c.self.invariant in
+    rw (c.step_alone.ensures.state, ← c.self.view_is) (solo_holds _ c.self.inside.machine c.args.thread
+    _ before)
