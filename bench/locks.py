@@ -49,6 +49,11 @@ COLLECTED = re.compile(r"Collected\s*:\s*(\d+)")
 def build():
     """Both programs; ours with its proofs, over what earlier checks kept."""
     subprocess.run(["rt", "run"], cwd=CRATE, check=True, stdout=subprocess.DEVNULL, stderr=subprocess.DEVNULL)
+    build_theirs()
+
+
+def build_theirs():
+    """The programs over the Rust crate."""
     source = ['source.crates-io.replace-with="debian"', f'source.debian.directory="{REGISTRY}"']
     flags = [word for setting in source for word in ("--config", setting)]
     cargo = ["cargo", "build", "--quiet", "--release", "--offline", "--target-dir", "out"]

@@ -1,0 +1,5 @@
+use Rattle.parking_lot.specs.LotOf.{IsTokenOf, lot_of}
+use Rattle.timedbench.proofs.sleeps.wake.Given as goal
+
+abbrev pub invariant-loop : goal.invariant-loop
+invariant-loop g l = IsTokenOf (lot_of l.room.ball) l.token
